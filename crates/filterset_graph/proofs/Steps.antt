@@ -1,0 +1,163 @@
+-- The steps of the search over plain lists.
+use Rattle.std.proofs.Common.{zero, suc, Vec, ◌≡◌, ◌≢◌, ◌+◌, ◌<◌, ◌⊎◌, ℕ, Bool, true, false, List, [], ◌∷◌, ◌++◌, Some, length, get_or, take, refl, sym, ◌∙◌, ap, subst, inl, inr, arith, length-append, ◌↔◌}
+use Rattle.std.specs.Prelude.{Contains, slice_get}
+use Rattle.std.proofs.Math.Seq.{take-append_seam}
+use Rattle.std.proofs.Math.ListN.{set, length-set}
+use Rattle.std.proofs.lemmas.Grind.{common_steps}
+use Rattle.std.proofs.lemmas.List.{get_or-set_same, take_more}
+use Rattle.std.proofs.lemmas.List.Elements.{Contains-append_left, Contains-push, Contains-push_cases}
+use Rattle.std.proofs.lemmas.List.Sums.{sum_by-set}
+use Rattle.std.proofs.lemmas.Bool.{cases_eq}
+use Rattle.std.proofs.lemmas.Option.{same_Some, gets, slice_get-get_or, slice_get_within, get_or_from_slice_get}
+use Rattle.std.specs.declared.alloc.Global.{Global}
+use Rattle.filterset_graph.specs.Walks.{Follows, HasEdge, IsMarked, IsReached, Walk}
+use Rattle.filterset_graph.specs.Marking.{unmarked, MarksAll, Spreads}
+
+pub slice_get-set_same : {X : Type 0} (xs : List X) (i : ℕ) (x : X) → i < length xs → slice_get (set xs i x) i ≡ Some x
+slice_get-set_same xs i x h =
+    let long : i < length (set xs i x) = rw length-set h in
+    slice_get-get_or (set xs i x) i x long ∙ ap Some (get_or-set_same xs i x x h)
+
+pub slice_get-set_other : {X : Type 0} (xs : List X) (i : ℕ) (x : X) (k : ℕ) → k ≢ i → slice_get (set xs i x) k ≡ slice_get xs k
+slice_get-set_other [] i x k apart = refl
+slice_get-set_other (y ∷ ys) zero x zero apart = absurd (apart refl)
+slice_get-set_other (y ∷ ys) zero x (suc k) apart = refl
+slice_get-set_other (y ∷ ys) (suc i) x zero apart = refl
+slice_get-set_other (y ∷ ys) (suc i) x (suc k) apart = slice_get-set_other ys i x k (λ e. apart (ap suc e))
+
+-- a place that is marked anew, or was marked before
+pub marked-set_cases : (marks : List Bool) (place k : ℕ) → place < length marks → IsMarked (set marks place true) k → (k ≡ place) ⊎ IsMarked marks k
+marked-set_cases marks place k h m = grind (arith, common_steps, gets)
+
+pub marked-set_kept : (marks : List Bool) (place k : ℕ) → place < length marks → IsMarked marks k → IsMarked (set marks place true) k
+marked-set_kept marks place k h m = grind (arith, common_steps, gets)
+
+pub unmarked-set : (marks : List Bool) (place : ℕ) → place < length marks → get_or marks place false ≡ false → unmarked (set marks place true) + 1 ≡ unmarked marks
+unmarked-set marks place h e = grind (arith, common_steps, sum_by-set)
+
+pub MarksAll-none : (marks : List Bool) (pending : List ℕ) → MarksAll [] marks marks pending pending
+MarksAll-none marks pending = record {
+  size = refl;
+  kept = λ k m. m;
+  marked = λ k c. absurd (omega (arith, c.1));
+  only = λ k m. inl m;
+  pending = λ k m. inl m;
+  pending_kept = λ k c. c;
+  pending_marked = λ k c. inl c;
+  falls = omega arith;
+}
+
+pub MarksAll-again : (places : List ℕ) (old new : List Bool) (before after : List ℕ) (place : ℕ) → MarksAll places old new before after → IsMarked new place → MarksAll (places ++ place ∷ []) old new before after
+MarksAll-again places old new before after place done marked = record {
+  size = done.size;
+  kept = done.kept;
+  marked = λ k c. elim (Contains-push_cases places place k c) [ inl h ↦ done.marked k h | inr e ↦ subst (λ (p : ℕ). IsMarked new p) e marked ];
+  only = λ k m. elim (done.only k m) [ inl h ↦ inl h | inr h ↦ inr (Contains-append_left places (place ∷ []) k h) ];
+  pending = done.pending;
+  pending_kept = done.pending_kept;
+  pending_marked = done.pending_marked;
+  falls = done.falls;
+}
+
+pub MarksAll-more : (places : List ℕ) (old new : List Bool) (before after : List ℕ) (place : ℕ) → MarksAll places old new before after → place < length new → get_or new place false ≡ false → MarksAll (places ++ place ∷ []) old (set new place true) before (after ++ place ∷ [])
+MarksAll-more places old new before after place done within fresh = record {
+  size = length-set new place true ∙ done.size;
+  kept = λ k m. marked-set_kept new place k within (done.kept k m);
+  marked = λ k c. elim (Contains-push_cases places place k c) [ inl h ↦ marked-set_kept new place k within (done.marked k h) | inr e ↦ subst (λ (p : ℕ). IsMarked (set new place true) p) e (slice_get-set_same new place true within) ];
+  only = λ k m. elim (marked-set_cases new place k within m) [ inl e ↦ inr (subst (λ (p : ℕ). Contains (places ++ place ∷ []) p) (sym e) (Contains-push places place)) | inr h ↦ elim (done.only k h) [ inl g ↦ inl g | inr g ↦ inr (Contains-append_left places (place ∷ []) k g) ] ];
+  pending = λ k m. elim (marked-set_cases new place k within m) [ inl e ↦ inr (subst (λ (p : ℕ). Contains (after ++ place ∷ []) p) (sym e) (Contains-push after place)) | inr h ↦ elim (done.pending k h) [ inl g ↦ inl g | inr g ↦ inr (Contains-append_left after (place ∷ []) k g) ] ];
+  pending_kept = λ k c. Contains-append_left after (place ∷ []) k (done.pending_kept k c);
+  pending_marked = λ k c. elim (Contains-push_cases after place k c) [ inl h ↦ (elim (done.pending_marked k h) [ inl g ↦ inl g | inr g ↦ inr (marked-set_kept new place k within g) ]) | inr e ↦ inr (subst (λ (p : ℕ). IsMarked (set new place true) p) e (slice_get-set_same new place true within)) ];
+  falls = omega (arith, done.falls, unmarked-set new place within fresh, length-append after (place ∷ []));
+}
+
+pub marked_at : (marks : List Bool) (place : ℕ) → get_or marks place false ≡ true → IsMarked marks place
+marked_at marks place e = grind (arith, common_steps, gets)
+
+-- one more place of the row, which was marked before or is marked now
+pub MarksAll-step_again : (places : List ℕ) (i : ℕ) (old new : List Bool) (before after : List ℕ) → i < length places → MarksAll (take i places) old new before after → get_or new (get_or places i 0) false ≡ true → MarksAll (take (i + 1) places) old new before after
+MarksAll-step_again places i old new before after h done marked =
+    rw (take_more places i 0 h) (MarksAll-again (take i places) old new before after (get_or places i 0) done (marked_at new (get_or places i 0) marked))
+
+pub MarksAll-step_more : (places : List ℕ) (i : ℕ) (old new : List Bool) (before after : List ℕ) → i < length places → MarksAll (take i places) old new before after → get_or places i 0 < length new → get_or new (get_or places i 0) false ≡ false → MarksAll (take (i + 1) places) old (set new (get_or places i 0) true) before (after ++ get_or places i 0 ∷ [])
+MarksAll-step_more places i old new before after h done within fresh =
+    rw (take_more places i 0 h) (MarksAll-more (take i places) old new before after (get_or places i 0) done within fresh)
+
+follows_on : (edges : List (Vec ℕ Global)) (a : ℕ) (rest : List ℕ) (b c : ℕ) → Follows (HasEdge edges) a rest b → HasEdge edges b c → Follows (HasEdge edges) a (rest ++ c ∷ []) c
+follows_on edges a [] b c e edge = (subst (λ (p : ℕ). HasEdge edges p c) (sym e) edge, refl)
+follows_on edges a (next ∷ rest) b c walk edge = (walk.0, follows_on edges next rest b c walk.1 edge)
+
+-- a walk goes on along one more edge
+pub Walk-push : (edges : List (Vec ℕ Global)) (a b c : ℕ) → Walk edges a b → HasEdge edges b c → Walk edges a c
+Walk-push edges a b c walk edge = (walk.0 ++ c ∷ [], follows_on edges a walk.0 b c walk.1 edge)
+
+-- marks that every edge keeps hold all that is reached
+pub closed_along : (edges : List (Vec ℕ Global)) (marks : List Bool) → ((a b : ℕ) → IsMarked marks a → HasEdge edges a b → IsMarked marks b) → (a : ℕ) (rest : List ℕ) (b : ℕ) → IsMarked marks a → Follows (HasEdge edges) a rest b → IsMarked marks b
+closed_along edges marks closed a [] b m e = subst (λ (p : ℕ). IsMarked marks p) e m
+closed_along edges marks closed a (next ∷ rest) b m walk = closed_along edges marks closed next rest b (closed a next m walk.0) walk.1
+
+-- the marked places below i
+abbrev pub ListsMarked : List Bool → ℕ → List ℕ → Type 0
+ListsMarked marks i places = (k : ℕ) → Contains places k ↔ ((k < i) × IsMarked marks k)
+
+pub ListsMarked-push : (marks : List Bool) (i : ℕ) (places : List ℕ) → get_or marks i false ≡ true → ListsMarked marks i places → ListsMarked marks (i + 1) (places ++ i ∷ [])
+ListsMarked-push marks i places e lists = λ k. (
+  (λ c. elim (Contains-push_cases places i k c) [ inl h ↦ (omega (arith, ((lists k).0 h).0), ((lists k).0 h).1) | inr same ↦ (omega (arith, same), subst (λ (p : ℕ). IsMarked marks p) same (marked_at marks i e)) ]),
+  (λ m. elim (cases_eq k i) [ inl same ↦ subst (λ (p : ℕ). Contains (places ++ i ∷ []) p) (sym same) (Contains-push places i) | inr apart ↦ (let below : k < i = omega (arith, m.0, apart) in Contains-append_left places (i ∷ []) k ((lists k).1 (below, m.1))) ]),
+)
+
+pub ListsMarked-skip : (marks : List Bool) (i : ℕ) (places : List ℕ) → get_or marks i false ≡ false → ListsMarked marks i places → ListsMarked marks (i + 1) places
+ListsMarked-skip marks i places e lists = λ k. (
+  (λ c. (omega (arith, ((lists k).0 c).0), ((lists k).0 c).1)),
+  (λ m. elim (cases_eq k i) [ inl same ↦ absurd (let at : get_or marks k false ≡ true = get_or_from_slice_get marks k true false m.1 in let fails : get_or marks k false ≡ false = subst (λ (p : ℕ). get_or marks p false ≡ false) (sym same) e in cc) | inr apart ↦ (let below : k < i = omega (arith, m.0, apart) in (lists k).1 (below, m.1)) ]),
+)
+
+-- the search after all that the row of one pending place names was marked
+pub Spreads-step : (edges : List (Vec ℕ Global)) (starts marks new : List Bool) (pending rest after : List ℕ) (place : ℕ) (row : Vec ℕ Global) → pending ≡ rest ++ place ∷ [] → slice_get edges place ≡ Some row → Spreads edges starts marks pending → MarksAll row.items marks new rest after → Spreads edges starts new after
+Spreads-step edges starts marks new pending rest after place row popped here far done =
+    let was_pending : Contains pending place = rw popped (Contains-push rest place) in
+    let reached : IsReached edges starts place = far.sound place (far.pending_marked place was_pending) in
+    record {
+      size = done.size ∙ far.size;
+      started = λ k m. done.kept k (far.started k m);
+      sound = λ k m. elim (done.only k m) [ inl old ↦ far.sound k old | inr c ↦ (reached.0, reached.1, Walk-push edges reached.0 place k reached.2 (row, here, c)) ];
+      pending_marked = λ k c. elim (done.pending_marked k c) [ inl h ↦ done.kept k (far.pending_marked k (rw popped (Contains-append_left rest (place ∷ []) k h))) | inr m ↦ m ];
+      closed = λ k m. elim (done.pending k m) [
+        | inl old ↦ elim (far.closed k old) [
+          | inl h ↦ elim (Contains-push_cases rest place k (subst (λ (l : List ℕ). Contains l k) popped h)) [
+            | inl g ↦ inl (done.pending_kept k g)
+            | inr same ↦ inr (λ b edge. done.marked b (subst (λ (r : Vec ℕ Global). Contains r.items b) (same_Some edge.0 row (sym edge.1 ∙ ap (slice_get edges) (sym same) ∙ here)) edge.2))
+          ]
+          | inr all ↦ inr (λ b edge. done.kept b (all b edge))
+        ]
+        | inr c ↦ inl c
+      ];
+    }
+
+-- a pending place is a place of the graph
+pub Spreads-pending_within : (edges : List (Vec ℕ Global)) (starts marks : List Bool) (pending rest : List ℕ) (place : ℕ) → pending ≡ rest ++ place ∷ [] → Spreads edges starts marks pending → place < length edges
+Spreads-pending_within edges starts marks pending rest place popped far =
+    let was_pending : Contains pending place = rw popped (Contains-push rest place) in
+    let within : place < length marks = slice_get_within marks place true (far.pending_marked place was_pending) in
+    omega (arith, far.size)
+
+-- the search with nothing pending
+pub Spreads-done : (edges : List (Vec ℕ Global)) (starts marks : List Bool) (pending : List ℕ) → length pending ≡ 0 → Spreads edges starts marks pending → (k : ℕ) → IsMarked marks k ↔ IsReached edges starts k
+Spreads-done edges starts marks pending empty far = λ k. (
+  far.sound k,
+  (λ reached. closed_along edges marks (λ a b m edge. elim (far.closed a m) [ inl c ↦ absurd (omega (arith, c.1, empty)) | inr all ↦ all b edge ]) reached.0 reached.2.0 k (far.started reached.0 reached.1) reached.2.1),
+)
+
+-- what a slice wrote over a whole list leaves
+pub take-append_all : {X : Type 0} (n : ℕ) (xs ys : List X) → n ≡ length xs → take n (xs ++ ys) ≡ xs
+take-append_all n xs ys e = rw e (take-append_seam xs ys)
+
+-- the search before its first step
+pub Spreads-none : (edges : List (Vec ℕ Global)) (starts : List Bool) (pending : List ℕ) → length starts ≡ length edges → ((k : ℕ) → Contains pending k ↔ IsMarked starts k) → Spreads edges starts starts pending
+Spreads-none edges starts pending size all = record {
+  size = size;
+  started = λ k m. m;
+  sound = λ k m. (k, m, ([], refl));
+  pending_marked = λ k c. (all k).0 c;
+  closed = λ k m. inl ((all k).1 m);
+}

@@ -1,0 +1,9 @@
+-- The texts of kinds.
+use Rattle.std.specs.Prelude.{List, ℕ, string_bytes}
+use Rattle.filterset_graph.specs.declared.binary.KindText.{KindText}
+use Rattle.filterset_graph.specs.declared.binary.KindText.TheVariants.{Fixed, Owned}
+
+-- the text of a kind
+abbrev pub text_of : KindText → List ℕ
+text_of (Fixed text) = text.now
+text_of (Owned text) = string_bytes text

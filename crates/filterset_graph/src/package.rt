@@ -1,0 +1,208 @@
+//! Packages of a workspace: their ids, their build targets, and what they depend on.
+ghost use Rattle.std.specs.Prelude.{◌≡◌, IfOk, string_bytes};
+ghost use Rattle.std.proofs.Common.{refl, rules};
+ghost use Rattle.std.specs.Cmp as laws;
+ghost use Rattle.std.specs.Cmp.Lexicographic.{slice_cmp, nat_list_cmp_total, nat_list_eq_equiv, texts_po, texts_ties};
+ghost use Rattle.std.specs.Cmp.Rules.{comparing, hashing};
+ghost use Rattle.std.specs.Hash as fed;
+ghost use Rattle.std.specs.Ordering.{nat_cmp};
+ghost use Rattle.std.specs.Str.{bytes_eq};
+
+use crate::binary::RustTestBinaryKind;
+use std::alloc::{AllocError, Global};
+use std::cmp::Ordering;
+use std::fmt;
+use std::hash::{Hash, Hasher};
+use std::marker::Model;
+
+/// The id of a package: any text. Contracts see it as that text, and ids are equal, ordered and
+/// hashed as their texts are, byte by byte.
+#[derive(Debug, Drop)]
+pub struct PackageId {
+    repr: String,
+}
+
+impl Model for PackageId {
+    ghost use Rattle.std.specs.Prelude.{List, ℕ, string_bytes};
+
+    ghost Value = { List ℕ };
+
+    ghost view = { λ id. string_bytes id.repr };
+}
+
+impl PackageId {
+    /// The id that is written so. The text is kept as it is.
+    pub fn new(repr: String) -> PackageId
+        ensures { result ≡ string_bytes repr }
+    {
+        PackageId { repr }
+    }
+
+    /// The text of the id.
+    pub fn repr(&self) -> &str
+        ensures { result.now ≡ self.now }
+    {
+        self.repr.as_str()
+    }
+
+    /// An equal id. The only error is want of memory.
+    pub fn try_clone(&self, alloc: Global) -> Result<PackageId, AllocError>
+        ensures { IfOk result (λ copy. copy ≡ self.now) }
+    {
+        Ok(PackageId {
+            repr: String::from_str(alloc, self.repr())?,
+        })
+    }
+}
+
+impl PartialEq for PackageId {
+    ghost eq = { bytes_eq };
+
+    ghost laws = { laws.partial_equiv_from_equiv nat_list_eq_equiv };
+
+    fn eq(&self, other: &PackageId) -> bool {
+        self.repr() == other.repr()
+    }
+}
+
+impl Eq for PackageId {
+    ghost laws = { nat_list_eq_equiv };
+}
+
+impl PartialOrd for PackageId {
+    ghost use Rattle.std.specs.Cmp.Lexicographic.{slice_cmp, texts_po};
+    ghost use Rattle.std.specs.Ordering.{nat_cmp};
+    ghost use Rattle.std.specs.Prelude.{Some};
+
+    ghost partial_cmp = { λ x y. Some (slice_cmp nat_cmp x y) };
+
+    ghost laws = { texts_po };
+
+    fn partial_cmp(&self, other: &PackageId) -> Option<Ordering> {
+        Some(self.cmp(other))
+    }
+}
+
+impl Ord for PackageId {
+    ghost cmp = { slice_cmp nat_cmp };
+
+    ghost total = { nat_list_cmp_total };
+
+    ghost matches_partial_cmp = { λ x y. refl };
+
+    ghost matches_eq = { texts_ties };
+
+    fn cmp(&self, other: &PackageId) -> Ordering {
+        self.repr().cmp(other.repr())
+    }
+}
+
+impl Hash for PackageId {
+    ghost hash_input = { fed.str };
+
+    ghost respects_eq = { Prim.search (hashing, rules) };
+
+    fn hash<H: Hasher>(&self, state: &mut H) {
+        self.repr().hash(state);
+    }
+}
+
+/// Which platform a test binary is built for. Displays as `target` or `host`.
+#[derive(Clone, Copy, Debug, PartialEq, Eq)]
+pub enum BuildPlatform {
+    /// The platform on which the built programs are to run.
+    Target,
+    /// The platform that builds, as for procedural macros.
+    Host,
+}
+
+impl fmt::Display for BuildPlatform {
+    ghost use Rattle.std.specs.Prelude.{Some};
+    ghost use Rattle.filterset_graph.specs.Platforms.{platform_text};
+
+    ghost output = { λ platform. Some (platform_text platform) };
+
+    fn fmt<W: fmt::Write>(&self, f: &mut fmt::Formatter<W>) -> fmt::Result {
+        match self {
+            BuildPlatform::Target => f.write_str("target"),
+            BuildPlatform::Host => f.write_str("host"),
+        }
+    }
+}
+
+/// What a build target of a package is.
+#[derive(Clone, Copy, Debug, PartialEq, Eq)]
+pub enum BuildTargetId {
+    /// The library, also one that is a procedural macro.
+    Library,
+    /// A program.
+    Binary,
+    /// A program under `examples/`.
+    Example,
+    /// An integration test.
+    Test,
+    /// A benchmark.
+    Benchmark,
+    /// The program that runs before the package is built.
+    BuildScript,
+}
+
+impl BuildTargetId {
+    ghost use Rattle.std.specs.Prelude.{◌≡◌};
+    ghost use Rattle.filterset_graph.specs.Binaries.{kind_of};
+
+    /// The kind of the test binary that is made of such a target: `lib`, `bin`, `example`, `test` or
+    /// `bench`. No test binary is made of a build script.
+    pub fn binary_kind(self) -> Option<RustTestBinaryKind>
+        ensures { result ≡ kind_of self }
+    {
+        match self {
+            BuildTargetId::Library => Some(RustTestBinaryKind::LIB),
+            BuildTargetId::Binary => Some(RustTestBinaryKind::BIN),
+            BuildTargetId::Example => Some(RustTestBinaryKind::EXAMPLE),
+            BuildTargetId::Test => Some(RustTestBinaryKind::TEST),
+            BuildTargetId::Benchmark => Some(RustTestBinaryKind::BENCH),
+            BuildTargetId::BuildScript => None,
+        }
+    }
+}
+
+/// A build target of a package.
+#[derive(Debug, Drop)]
+pub struct BuildTarget {
+    /// What it is.
+    pub id: BuildTargetId,
+    /// Its name, which is the name of the test binary that is made of it.
+    pub name: String,
+}
+
+/// What is known of a package.
+#[derive(Debug, Drop)]
+pub struct PackageMetadata {
+    /// The id, by which links name the package.
+    pub id: PackageId,
+    /// The name, which matchers are held against. Packages may share a name.
+    pub name: String,
+    /// Whether it belongs to the workspace, or is only depended on.
+    pub in_workspace: bool,
+    /// Its build targets.
+    pub build_targets: Vec<BuildTarget>,
+    /// The ids of the packages that it directly depends on.
+    pub links: Vec<PackageId>,
+}
+
+impl PackageMetadata {
+    /// The id.
+    pub fn id(&self) -> &PackageId
+        ensures { result.now ≡ self.now.id }
+    {
+        &self.id
+    }
+
+    /// The name.
+    pub fn name(&self) -> &str
+        ensures { result.now ≡ string_bytes self.now.name }
+    {
+        self.name.as_str()
+    }
+}

@@ -1,0 +1,10 @@
+//! Tests of the public calls of the crates below, in one crate, so that none of these is proved twice.
+//!
+//! Expected values come from the specification. A test whose name ends in `_or_wants_memory` passes
+//! where a call answers want of memory too, since a script refuses each request for memory in turn.
+#![tactic(auto)]
+
+#[cfg(test)]
+mod graph;
+#[cfg(test)]
+mod support;

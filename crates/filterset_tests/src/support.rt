@@ -1,0 +1,96 @@
+//! What the tests share: why one ends early, and values written out.
+use filterset_graph::{DependsRefusal, GraphRefusal, PackageGraph, PackageId, PackageMetadata};
+use std::alloc::{AllocError, AllocFailed, Global};
+
+/// Why a test ends early.
+#[derive(Debug, Drop)]
+pub enum Failure {
+    Memory(AllocError),
+    Graph(GraphRefusal),
+    Depends(DependsRefusal),
+}
+
+impl From<AllocError> for Failure {
+    fn from(error: AllocError) -> Failure {
+        Failure::Memory(error)
+    }
+}
+
+impl<T: Drop> From<AllocFailed<T>> for Failure {
+    fn from(error: AllocFailed<T>) -> Failure {
+        Failure::Memory(AllocError::from(error))
+    }
+}
+
+impl From<GraphRefusal> for Failure {
+    fn from(refusal: GraphRefusal) -> Failure {
+        Failure::Graph(refusal)
+    }
+}
+
+impl From<DependsRefusal> for Failure {
+    fn from(refusal: DependsRefusal) -> Failure {
+        Failure::Depends(refusal)
+    }
+}
+
+/// The id with this text.
+pub fn id(alloc: Global, text: &str) -> Result<PackageId, AllocError> {
+    Ok(PackageId::new(String::from_str(alloc, text)?))
+}
+
+/// A package whose id is its name.
+pub fn package(
+    alloc: Global,
+    name: &str,
+    in_workspace: bool,
+    links: &[&str],
+) -> Result<PackageMetadata, AllocError> {
+    let mut ids = Vec::new(alloc);
+    for link in links {
+        ids.push(id(alloc, link)?)?;
+    }
+    Ok(PackageMetadata {
+        id: id(alloc, name)?,
+        name: String::from_str(alloc, name)?,
+        in_workspace,
+        build_targets: Vec::new(alloc),
+        links: ids,
+    })
+}
+
+/// A package of a list: its name, whether it belongs to the workspace, and its links.
+pub type Row<'a> = (&'a str, bool, &'a [&'a str]);
+
+/// These packages.
+pub fn packages(alloc: Global, rows: &[Row<'_>]) -> Result<Vec<PackageMetadata>, AllocError> {
+    let mut all = Vec::new(alloc);
+    for (name, in_workspace, links) in rows {
+        all.push(package(alloc, name, *in_workspace, links)?)?;
+    }
+    Ok(all)
+}
+
+/// The graph of these packages.
+pub fn graph(alloc: Global, rows: &[Row<'_>]) -> Result<PackageGraph, Failure> {
+    Ok(PackageGraph::new(alloc, packages(alloc, rows)?)?)
+}
+
+/// `a` and `b` depend on each other; `c` depends on `a` through `x`, which is outside the workspace.
+pub const FOUR: [Row<'static>; 4] = [
+    ("a", true, &["b"]),
+    ("b", true, &["a"]),
+    ("c", true, &["x"]),
+    ("x", false, &["a"]),
+];
+
+/// A workspace of seven: `g` stands on `e`, `e` and `f` on `d`, `d` on `b` and `c`, `c` on `a`.
+pub const SEVEN: [Row<'static>; 7] = [
+    ("crate_a", true, &[]),
+    ("crate_b", true, &[]),
+    ("crate_c", true, &["crate_a"]),
+    ("crate_d", true, &["crate_b", "crate_c"]),
+    ("crate_e", true, &["crate_d"]),
+    ("crate_f", true, &["crate_d"]),
+    ("crate_g", true, &["crate_e"]),
+];
