@@ -5,6 +5,14 @@
 #![tactic(auto)]
 
 #[cfg(test)]
+mod filtersets;
+#[cfg(test)]
+mod globs;
+#[cfg(test)]
 mod graph;
+#[cfg(test)]
+mod language;
+#[cfg(test)]
+mod recovery;
 #[cfg(test)]
 mod support;

@@ -1,0 +1,28 @@
+use Rattle.std.proofs.Common.{rules, codes, string_bytes}
+use Rattle.std.proofs.lemmas.Result.{err_from_is_err_and}
+use Rattle.serde_json.specs.Find.{get}
+use Rattle.serde_json.specs.View.{view}
+use Rattle.filterset_cli.specs.Shape.{IsText}
+use Rattle.filterset_cli.specs.Record.{IsBinary}
+use Rattle.filterset_cli.specs.Rows.{binary_row}
+use Rattle.filterset_cli.proofs.ShapeLemmas.{Required-rows, Required-shape, Optional-rows, Optional-shape}
+use Rattle.filterset_cli.proofs.record.RecordEntry.read.Goals as goal
+
+pub returns-in_err-required_list-clause-refused : goal.returns-in_err-required_list-clause-refused
+returns-in_err-required_list-clause-refused c = λ refused (row, is).
+    let p = err_from_is_err_and c.from_residual.result c.from_residual.ensures.1 in
+    c.in_err-required_list.ensures.refused (search (rules, refused, p.1, p.2))
+    (Required-shape IsText (get (codes "filtersets") (view c.args.value.now)) row.filtersets is.1)
+
+pub returns-in_err-optional_list-clause-refused : goal.returns-in_err-optional_list-clause-refused
+returns-in_err-optional_list-clause-refused c = λ refused (row, is).
+    let p = err_from_is_err_and c.from_residual-in_err-optional_list.result c.from_residual-in_err-optional_list.ensures.1 in
+    c.in_err-optional_list.ensures.refused (search (rules, refused, p.1, p.2))
+    (Optional-shape IsBinary (get (codes "binaries") (view c.args.value.now)) row.binaries is.2)
+
+pub returns-clause-read : goal.returns-clause-read
+returns-clause-read c = (
+  search rules,
+  Required-rows IsText string_bytes (get (codes "filtersets") (view c.args.value.now)) c.in_ok-required_list.field-0.items c.in_ok-required_list.ensures.read,
+  Optional-rows IsBinary binary_row (get (codes "binaries") (view c.args.value.now)) c.in_ok-optional_list.field-0.items c.in_ok-optional_list.ensures.read,
+)

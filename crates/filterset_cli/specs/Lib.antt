@@ -1,0 +1,7 @@
+pub mod Ending
+pub mod Marks
+pub mod Shape
+pub mod Record
+pub mod Rows
+pub mod Library
+pub mod Report

@@ -1,0 +1,58 @@
+-- What the library says of the program's texts and tests: with no packages, each text as a filterset of kind test, and with a default filter
+-- that holds every test.
+use Rattle.std.specs.Prelude.{◌≡◌, ◌↔◌, Bool, false, IsTrue, List, []}
+use Rattle.nextest_filtering.specs.Compiling.{Refute, packages_of}
+use Rattle.nextest_filtering.specs.Contexts.{default_of}
+use Rattle.nextest_filtering.specs.Expression.{has_leaf, is_group, no_groups}
+use Rattle.nextest_filtering.specs.Groups.{IsKnown}
+use Rattle.nextest_filtering.specs.Meaning.{IsCompiled, Meaning}
+use Rattle.nextest_filtering.specs.Scope.{ReadsToday}
+use Rattle.nextest_filtering.specs.Tree.{Tree, tree_of}
+use Rattle.filterset_faults.specs.declared.error.ParseSingleError.{ParseSingleError}
+use Rattle.filterset_faults.specs.declared.span.SourceSpan.{SourceSpan}
+use Rattle.nextest_filtering.specs.declared.compile.filterset.Filterset as filtersets
+use Rattle.nextest_filtering.specs.declared.expression.CompiledExpr.{CompiledExpr}
+use Rattle.nextest_filtering.specs.declared.expression.CompiledExpr.TheVariants as compiled
+use Rattle.nextest_filtering.specs.declared.expression.FiltersetLeaf.TheVariants as leaf
+use Rattle.nextest_filtering.specs.declared.expression.query.TestQuery.{TestQuery}
+use Rattle.filterset_cli.specs.declared.report.Setting.{Setting}
+use Rattle.filterset_cli.specs.Shape.{Text}
+use Rattle.filterset_cli.specs.Record.{BinaryRow, TestRow}
+
+-- the text is a filterset, and this is its tree
+abbrev pub IsFilterset : Text → Tree SourceSpan → Type 0
+IsFilterset text tree = ReadsToday text tree
+
+-- the text is no filterset, and these are its faults
+abbrev pub HasFaults : Text → List ParseSingleError → Type 0
+HasFaults text faults = Refute text faults
+
+-- the filterset may be asked, and its answers are those of its tree
+pub record IsAskable (filterset : filtersets.Filterset) : Type 0 where
+  pub compiled : IsCompiled [] (tree_of filterset.parsed) filterset.compiled
+  pub ungrouped : has_leaf is_group filterset.compiled ≡ false
+
+-- the default filter, which holds every test
+abbrev pub every_test : CompiledExpr
+every_test = compiled.Set leaf.All
+
+-- no packages, known groups, and a default filter that holds every test
+pub record IsPlain (setting : Setting) : Type 0 where
+  pub no_packages : packages_of setting.parse_context ≡ []
+  pub known : IsKnown setting.known_groups
+  pub holds_all : default_of setting.eval_context ≡ every_test
+
+-- the query is about the test of the binary
+pub record IsAbout (binary : BinaryRow) (test : TestRow) (query : TestQuery) : Type 0 where
+  pub package_id : query.binary_query.package_id.now ≡ binary.package_id
+  pub binary_id : query.binary_query.binary_id.now ≡ binary.id
+  pub binary_name : query.binary_query.binary_name.now ≡ binary.name
+  pub kind : query.binary_query.kind.now ≡ binary.kind
+  pub platform : query.binary_query.platform ≡ binary.platform
+  pub test_name : query.test_name.now ≡ test.name
+
+-- the answer tells whether the tree is true of the test of the binary
+pub record Tells (tree : Tree SourceSpan) (binary : BinaryRow) (test : TestRow) (answer : Bool) : Type 0 where
+  pub query : TestQuery
+  pub about : IsAbout binary test query
+  pub says : IsTrue answer ↔ Meaning tree [] query every_test no_groups

@@ -1,0 +1,310 @@
+use crate::fault::RunFault;
+use crate::outcome::Outcome;
+use crate::run::run;
+use crate::sink::{Sink, ToWriter};
+use crate::source::{FromReader, Source};
+use crate::status;
+use std::alloc::{AllocError, Global};
+use std::io;
+use std::io::ErrorKind;
+use std::test::Fail;
+
+/// Gives one byte a read, and fails at the read before which so many were good.
+#[derive(Drop)]
+struct Dropping<'a> {
+    rest: &'a [u8],
+    good_reads: usize,
+    failed: bool,
+    ended: bool,
+}
+
+impl<'a> Dropping<'a> {
+    fn new(rest: &'a [u8], good_reads: usize) -> Dropping<'a> {
+        Dropping {
+            rest,
+            good_reads,
+            failed: false,
+            ended: false,
+        }
+    }
+}
+
+impl Source for Dropping<'_> {
+    ghost use Rattle.std.specs.Prelude.{None};
+
+    ghost left = { λ _. None };
+
+    ghost failed = { λ s. s.failed };
+
+    ghost ended = { λ s. s.ended };
+
+    fn read_some(&mut self, buf: &mut [u8]) -> io::Result<usize> {
+        if self.good_reads == 0 {
+            self.failed = true;
+            return Err(io::Error::from(ErrorKind::Other));
+        }
+        self.good_reads -= 1;
+        if buf.is_empty() {
+            return Ok(0);
+        }
+        match self.rest {
+            [] => {
+                self.ended = true;
+                Ok(0)
+            }
+            [first, others @ ..] => {
+                buf[0] = *first;
+                self.rest = others;
+                Ok(1)
+            }
+        }
+    }
+}
+
+/// Takes so many bytes one by one, and then fails, or takes no byte.
+#[derive(Drop)]
+struct Stopping<'a> {
+    taken: &'a mut Vec<u8>,
+    room: usize,
+    answers_none: bool,
+    failed: bool,
+}
+
+impl Sink for Stopping<'_> {
+    ghost use Rattle.std.specs.Prelude.{Some};
+
+    ghost taken = { λ s. Some s.taken.now.items };
+
+    ghost failed = { λ s. s.failed };
+
+    fn write_some(&mut self, piece: &[u8]) -> io::Result<usize> {
+        let [first, ..] = piece else {
+            return Ok(0);
+        };
+        if self.room == 0 {
+            self.failed = true;
+            return if self.answers_none {
+                Ok(0)
+            } else {
+                Err(io::Error::from(ErrorKind::Other))
+            };
+        }
+        match self.taken.push(*first) {
+            Ok(()) => {
+                self.room -= 1;
+                Ok(1)
+            }
+            Err(_) => {
+                self.failed = true;
+                Err(io::Error::from(ErrorKind::OutOfMemory))
+            }
+        }
+    }
+}
+
+const STORED: &str =
+    r#"{"binaries":[{"package":"p","id":"p","name":"p","kind":"lib","platform":"target","tests":[{"name":"slow_sum"},{"name":"quick"}]}],"filtersets":["not test(~slow) and all()"]}"#;
+
+const STORED_REPORT: &str =
+    "filterset 0 accepted: not test(~slow) and all()\n  test p slow_sum: no\n  test p quick: yes\n";
+
+const MISPLACED: &str =
+    "filterset 0 refused: 2\n  fault 0 3 ExprFoundBinaryOp: `and` is a binary operator\n  help: use `<expr> and <expr>` instead\n  fault 3 6 ExpectedEndOfExpression: unparsed input\n";
+
+const NO_JSON: &str = "record refused: not JSON\n";
+
+const NO_RECORD: &str = "record refused: not a record\n";
+
+/// How a run over memory ends, and what it writes.
+fn answer(
+    alloc: Global,
+    record: &[u8],
+) -> Result<(Result<Outcome, RunFault>, Vec<u8>), AllocError> {
+    let mut written = Vec::with_capacity(alloc, 1024)?;
+    let mut input = FromReader::new(record);
+    let mut output = ToWriter::new(&mut written);
+    let ended = run(alloc, &mut input, &mut output);
+    drop(output);
+    Ok((ended, written))
+}
+
+#[test]
+fn reports(rt: HostRuntime) -> Result<(), Fail> {
+    for (record, report, outcome) in [
+        (STORED, STORED_REPORT, Outcome::AllAccepted),
+        (
+            r#"{"filtersets":["and(a, b)"]}"#,
+            MISPLACED,
+            Outcome::SomeRefused,
+        ),
+        (
+            r#"{"filtersets":["all()"]}"#,
+            "filterset 0 accepted: all()\n",
+            Outcome::AllAccepted,
+        ),
+        (r#"{"filtersets":[]}"#, "", Outcome::AllAccepted),
+        // The last value of a key is the one that is read.
+        (
+            r#"{"filtersets":1,"filtersets":[]}"#,
+            "",
+            Outcome::AllAccepted,
+        ),
+        (
+            r#"{"filtersets":["x"],"filtersets":[]}"#,
+            "",
+            Outcome::AllAccepted,
+        ),
+        (
+            r#"{"binaries":[{"package":"p","id":"i","name":"n","kind":"odd","platform":"host"},{"package":"","id":"","name":"","kind":"","platform":"target","tests":[{"name":"a\nb"}]}],"filtersets":["all()"]}"#,
+            "filterset 0 accepted: all()\n  test  a\nb: yes\n",
+            Outcome::AllAccepted,
+        ),
+    ] {
+        let (ended, written) = answer(rt.alloc(), record.as_bytes())?;
+        assert_eq!(rt; ended, Ok(outcome), "at {record}");
+        assert!(rt; written.as_slice() == report.as_bytes(), "at {record}");
+    }
+    Ok(())
+}
+
+/// An object whose one value is a list of lists, so many in all.
+fn nested(alloc: Global, lists: usize) -> Result<String, AllocError> {
+    let mut text = String::from_str(alloc, "{\"x\":")?;
+    for _ in 0..lists {
+        text.push('[')?;
+    }
+    for _ in 0..lists {
+        text.push(']')?;
+    }
+    text.push('}')?;
+    Ok(text)
+}
+
+#[test]
+fn refused_records(rt: HostRuntime) -> Result<(), Fail> {
+    let deep = nested(rt.alloc(), 126)?;
+    let too_deep = nested(rt.alloc(), 127)?;
+    for record in [
+        deep.as_str(),
+        "1",
+        "null",
+        "[1.5]",
+        r#""all()""#,
+        "{}",
+        r#"{"binaries":[]}"#,
+        r#"{"filtersets":null}"#,
+        r#"{"filtersets":"all()"}"#,
+        r#"{"filtersets":[1.5]}"#,
+        r#"{"filtersets":[1e-400]}"#,
+        r#"{"filtersets":[null]}"#,
+        r#"{"filtersets":[["all()"]]}"#,
+        r#"{"filtersets":[],"filterset":[]}"#,
+        r#"{"filtersets":[],"binaries":null}"#,
+        r#"{"filtersets":[],"binaries":[{}]}"#,
+        r#"{"filtersets":[],"binaries":[{"package":"p","id":"p","name":"p","kind":"lib"}]}"#,
+        r#"{"filtersets":[],"binaries":[{"package":"p","id":"p","name":"p","kind":"lib","platform":"Host"}]}"#,
+        r#"{"filtersets":[],"binaries":[{"package":"p","id":"p","name":"p","kind":1,"platform":"host"}]}"#,
+        r#"{"filtersets":[],"binaries":[{"package":"p","id":"p","name":"p","kind":"lib","platform":"host","tests":null}]}"#,
+        r#"{"filtersets":[],"binaries":[{"package":"p","id":"p","name":"p","kind":"lib","platform":"host","tests":["x"]}]}"#,
+        r#"{"filtersets":[],"binaries":[{"package":"p","id":"p","name":"p","kind":"lib","platform":"host","tests":[{"name":"x","ignored":true}]}]}"#,
+    ] {
+        let (ended, written) = answer(rt.alloc(), record.as_bytes())?;
+        assert_eq!(rt; ended, Ok(Outcome::RecordRefused), "at {record}");
+        assert!(rt; written.as_slice() == NO_RECORD.as_bytes(), "at {record}");
+    }
+    for record in [
+        too_deep.as_bytes(),
+        b"{\"filtersets\":",
+        b"{\"filtersets\":[]}}",
+        b"{\"filtersets\":[1e400]}",
+        b"{\"filtersets\":[\"\xff\"]}",
+    ] {
+        let (ended, written) = answer(rt.alloc(), record)?;
+        assert_eq!(rt; ended, Ok(Outcome::RecordRefused));
+        assert!(rt; written.as_slice() == NO_JSON.as_bytes());
+    }
+    Ok(())
+}
+
+#[test]
+fn fronts(rt: HostRuntime) -> Result<(), Fail> {
+    for len in 0..STORED.len() {
+        let (ended, written) = answer(rt.alloc(), &STORED.as_bytes()[..len])?;
+        assert_eq!(rt; ended, Ok(Outcome::RecordRefused));
+        assert!(rt; written.as_slice() == NO_JSON.as_bytes(), "at {len}");
+    }
+    Ok(())
+}
+
+#[test]
+fn failing_reads(rt: HostRuntime) -> Result<(), Fail> {
+    // The last read finds the end.
+    for good_reads in 0..STORED.len() + 2 {
+        let mut written = Vec::with_capacity(rt.alloc(), 1024)?;
+        let mut input = Dropping::new(STORED.as_bytes(), good_reads);
+        let mut output = ToWriter::new(&mut written);
+        let ended = run(rt.alloc(), &mut input, &mut output);
+        drop(output);
+        if good_reads <= STORED.len() {
+            assert_eq!(rt; ended, Err(RunFault::Read), "at {good_reads}");
+            assert!(rt; written.is_empty());
+        } else {
+            assert_eq!(rt; ended, Ok(Outcome::AllAccepted));
+            assert!(rt; written.as_slice() == STORED_REPORT.as_bytes());
+        }
+    }
+    Ok(())
+}
+
+#[test]
+fn failing_writes(rt: HostRuntime) -> Result<(), Fail> {
+    for answers_none in [false, true] {
+        for room in 0..STORED_REPORT.len() {
+            let mut taken = Vec::with_capacity(rt.alloc(), 1024)?;
+            let mut input = FromReader::new(STORED.as_bytes());
+            let mut output = Stopping {
+                taken: &mut taken,
+                room,
+                answers_none,
+                failed: false,
+            };
+            let ended = run(rt.alloc(), &mut input, &mut output);
+            drop(output);
+            assert_eq!(rt; ended, Err(RunFault::Write), "at {room}");
+            assert!(rt; taken.as_slice() == &STORED_REPORT.as_bytes()[..room]);
+        }
+    }
+    Ok(())
+}
+
+#[test]
+fn a_run_reports_or_wants_memory(rt: HostRuntime) {
+    for (record, report, outcome) in [
+        (STORED, STORED_REPORT, Outcome::AllAccepted),
+        (
+            r#"{"filtersets":["and(a, b)"]}"#,
+            MISPLACED,
+            Outcome::SomeRefused,
+        ),
+        ("{}", NO_RECORD, Outcome::RecordRefused),
+    ] {
+        // Without memory for the writer there is nothing to test.
+        let Ok((ended, written)) = answer(rt.alloc(), record.as_bytes()) else {
+            return;
+        };
+        if matches!(ended, Err(RunFault::Memory(_))) {
+            assert!(rt; written.is_empty());
+        } else {
+            assert_eq!(rt; ended, Ok(outcome));
+            assert!(rt; written.as_slice() == report.as_bytes());
+        }
+    }
+}
+
+#[test]
+fn statuses(rt: HostRuntime) {
+    assert_eq!(rt; status(Ok(Outcome::AllAccepted)), 0);
+    assert_eq!(rt; status(Ok(Outcome::SomeRefused)), 1);
+    assert_eq!(rt; status(Ok(Outcome::RecordRefused)), 2);
+    assert_eq!(rt; status(Err(RunFault::Memory(AllocError))), 3);
+}

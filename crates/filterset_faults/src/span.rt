@@ -1,0 +1,54 @@
+//! Stretches of a filterset text.
+ghost use Rattle.std.specs.Prelude.{◌≡◌, ◌↔◌, IsTrue};
+
+/// A stretch of a text: its offset and its length, in bytes.
+#[derive(Clone, Copy, Debug, PartialEq, Eq)]
+pub struct SourceSpan {
+    offset: usize,
+    len: usize,
+}
+
+impl SourceSpan {
+    ghost use Rattle.filterset_faults.specs.Span.{span, offset_of, length_of};
+
+    /// The stretch of this length from this offset on.
+    pub fn new(offset: usize, length: usize) -> SourceSpan
+        ensures { result ≡ span offset length }
+    {
+        SourceSpan {
+            offset,
+            len: length,
+        }
+    }
+
+    /// How many bytes stand before it.
+    pub fn offset(&self) -> usize
+        ensures { result ≡ offset_of self.now }
+    {
+        self.offset
+    }
+
+    /// How many bytes it has.
+    pub fn len(&self) -> usize
+        ensures { result ≡ length_of self.now }
+    {
+        self.len
+    }
+
+    /// Whether it has no bytes, and is a place alone.
+    pub fn is_empty(&self) -> bool
+        ensures { IsTrue result ↔ (length_of self.now ≡ 0) }
+    {
+        self.len == 0
+    }
+}
+
+impl From<(usize, usize)> for SourceSpan {
+    ghost use Rattle.filterset_faults.specs.Span.{IsSpanOf};
+
+    ghost from_gives = { IsSpanOf };
+
+    fn from(pair: (usize, usize)) -> SourceSpan {
+        SourceSpan::new(pair.0, pair.1)
+    }
+}

@@ -1,0 +1,12 @@
+pub mod Codes
+pub mod Equality
+pub mod FaultTexts
+pub mod Faults
+pub mod Glob
+pub mod Grammar
+pub mod Laws
+pub mod Matching
+pub mod Opened
+pub mod Places
+pub mod Reading
+pub mod Tokens

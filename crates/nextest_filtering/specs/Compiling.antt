@@ -1,0 +1,76 @@
+-- Which leaves are compiled, and what is promised of a filterset that was read, or refused.
+use Rattle.std.specs.Prelude.{◌≡◌, ◌≢◌, ◌↔◌, ℕ, Bool, List, [], All, Option, Some, None, option_map, IsTrue, string_bytes}
+use Rattle.std.specs.List.{filter_map}
+use Rattle.std.specs.declared.alloc.Global.{Global}
+use Rattle.std.specs.declared.string.String.{String}
+use Rattle.filterset_faults.specs.declared.error.ParseSingleError.{ParseSingleError}
+use Rattle.filterset_faults.specs.declared.error.ParseSingleError.TheVariants.{UnsupportedExpression}
+use Rattle.filterset_faults.specs.declared.span.SourceSpan.{SourceSpan}
+use Rattle.filterset_graph.specs.declared.package.PackageMetadata.{PackageMetadata}
+use Rattle.nextest_filtering.specs.Expression.{Holds}
+use Rattle.nextest_filtering.specs.Faults.{Stands}
+use Rattle.nextest_filtering.specs.Formula.{leaves}
+use Rattle.nextest_filtering.specs.Matcher.{Matcher}
+use Rattle.nextest_filtering.specs.Meaning.{tree_formula, Meaning}
+use Rattle.nextest_filtering.specs.Scope.{SpellsToday}
+use Rattle.nextest_filtering.specs.Tree as tree
+use Rattle.nextest_filtering.specs.Tree.{Leaf, Tree, Test, Matching, Platform, Default, Not, Union, Join, Parens, Set}
+use Rattle.nextest_filtering.specs.declared.compile.context.ParseContext.{ParseContext}
+use Rattle.nextest_filtering.specs.declared.compile.filterset.ParseRefusal.{ParseRefusal}
+use Rattle.nextest_filtering.specs.declared.compile.filterset.ParseRefusal.TheVariants.{Faults, OutOfMemory}
+use Rattle.nextest_filtering.specs.declared.compile.Stop.{Stop}
+use Rattle.nextest_filtering.specs.declared.compile.Stop.TheVariants as stop
+use Rattle.nextest_filtering.specs.declared.expression.CompiledExpr.{CompiledExpr}
+use Rattle.nextest_filtering.specs.declared.expression.query.TestQuery.{TestQuery}
+
+-- the packages that a context knows
+abbrev pub packages_of : ParseContext → List PackageMetadata
+packages_of cx = cx.graph.now
+
+-- the span of a leaf that is not compiled yet: only `test`, `all` and `none` are
+abbrev pub unsupported_span : Leaf SourceSpan → Option SourceSpan
+unsupported_span (Matching Test matcher span) = None
+unsupported_span (Matching predicate matcher span) = Some span
+unsupported_span (Platform platform span) = Some span
+unsupported_span (Default span) = Some span
+unsupported_span tree.All = None
+unsupported_span tree.None = None
+
+-- a fault for each leaf that is not compiled yet, from left to right
+abbrev pub unsupported_faults : Tree SourceSpan → List ParseSingleError
+unsupported_faults e = filter_map (λ leaf. option_map UnsupportedExpression (unsupported_span leaf)) (leaves (tree_formula e))
+
+-- each leaf of the tree is compiled today
+abbrev pub IsSupported : Tree SourceSpan → Type 0
+IsSupported (Not op e) = IsSupported e
+IsSupported (Union op a b) = IsSupported a × IsSupported b
+IsSupported (Join op a b) = IsSupported a × IsSupported b
+IsSupported (Parens e) = IsSupported e
+IsSupported (Set leaf) = unsupported_span leaf ≡ None
+
+-- the expression says of each test what the tree says, for every default filter and every lookup of groups
+abbrev pub SaysTheSame : List PackageMetadata → Tree SourceSpan → CompiledExpr → Type 0
+SaysTheSame packages e compiled =
+    (test : TestQuery) (default : CompiledExpr) (lookup : TestQuery → Matcher → Bool)
+    → Holds compiled test default (λ t m. IsTrue (lookup t m)) ↔ Meaning e packages test default (λ t m. IsTrue (lookup t m))
+
+-- the faults are some, each is one of the text, and the text spells no tree that is read today
+pub record Refute (text : List ℕ) (faults : List ParseSingleError) : Type 0 where
+  pub some : faults ≢ []
+  pub stand : All (Stands text) faults
+  pub unspelled : (e : Tree SourceSpan) → SpellsToday text e → ⊥
+
+-- the refusal hands the input back, and its faults refute it
+abbrev pub IsRefusalOf : String Global → ParseRefusal → Type 0
+IsRefusalOf input (Faults found) = (found.input ≡ input) × Refute (string_bytes input) found.errors.items
+IsRefusalOf input (OutOfMemory given) = given ≡ input
+
+-- what a stopped reading says of the text
+abbrev pub IsStopOf : List ℕ → Stop → Type 0
+IsStopOf text (stop.Faults faults) = Refute text faults.items
+IsStopOf text stop.OutOfMemory = Unit {0}
+
+-- a stopped compiler has a fault for each leaf that is not compiled yet, and one at least
+abbrev pub IsUnsupported : Tree SourceSpan → Stop → Type 0
+IsUnsupported e (stop.Faults faults) = (faults.items ≡ unsupported_faults e) × (faults.items ≢ [])
+IsUnsupported e stop.OutOfMemory = Unit {0}

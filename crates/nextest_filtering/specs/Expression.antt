@@ -1,0 +1,96 @@
+-- What a compiled expression is, without where its parts lie in memory, and what it means.
+use Rattle.std.specs.Prelude.{◌≡◌, ℕ, Bool, true, false, List, Contains}
+use Rattle.std.specs.List.{list_any}
+use Rattle.filterset_faults.specs.declared.span.SourceSpan.{SourceSpan}
+use Rattle.filterset_graph.specs.declared.package.BuildPlatform.{BuildPlatform}
+use Rattle.nextest_filtering.specs.Formula.{Formula, Leaf, Negation, Disjunction, Conjunction, leaves, replaced, TrueWhere}
+use Rattle.nextest_filtering.specs.Matcher.{Matcher, Hits}
+use Rattle.nextest_filtering.specs.Matchers.{matcher_of}
+use Rattle.nextest_filtering.specs.declared.expression.CompiledExpr.{CompiledExpr}
+use Rattle.nextest_filtering.specs.declared.expression.CompiledExpr.TheVariants.{Not', Union', Intersection', Set}
+use Rattle.nextest_filtering.specs.declared.expression.FiltersetLeaf.{FiltersetLeaf}
+use Rattle.nextest_filtering.specs.declared.expression.FiltersetLeaf.TheVariants as leaf
+use Rattle.nextest_filtering.specs.declared.expression.query.BinaryQuery.{BinaryQuery}
+use Rattle.nextest_filtering.specs.declared.expression.query.TestQuery.{TestQuery}
+
+-- a leaf of a compiled expression; a set of packages is the ids that it holds, in their order
+pub data CompiledLeaf : Type 0 where
+  Packages : List (List ℕ) → CompiledLeaf
+  Kind Binary BinaryId Test Group : Matcher → SourceSpan → CompiledLeaf
+  Platform : BuildPlatform → SourceSpan → CompiledLeaf
+  Default All None : CompiledLeaf
+
+abbrev pub compiled_leaf : FiltersetLeaf → CompiledLeaf
+compiled_leaf (leaf.Packages ids) = Packages ids.keys
+compiled_leaf (leaf.Kind m s) = Kind (matcher_of m) s
+compiled_leaf (leaf.Platform p s) = Platform p s
+compiled_leaf (leaf.Binary m s) = Binary (matcher_of m) s
+compiled_leaf (leaf.BinaryId m s) = BinaryId (matcher_of m) s
+compiled_leaf (leaf.Test m s) = Test (matcher_of m) s
+compiled_leaf (leaf.Group m s) = Group (matcher_of m) s
+compiled_leaf leaf.Default = Default
+compiled_leaf leaf.All = All
+compiled_leaf leaf.None = None
+
+-- the expression as a formula over its leaves
+abbrev pub formula : CompiledExpr → Formula CompiledLeaf
+formula (Not' p e) = Negation (formula e)
+formula (Union' p a q b) = Disjunction (formula a) (formula b)
+formula (Intersection' p a q b) = Conjunction (formula a) (formula b)
+formula (Set leaf) = Leaf (compiled_leaf leaf)
+
+-- a leaf, and the default filter in the place of a `default` leaf
+abbrev pub leaf_with_default : CompiledExpr → CompiledLeaf → Formula CompiledLeaf
+leaf_with_default default Default = formula default
+leaf_with_default default leaf = Leaf leaf
+
+-- the expression with the default filter in the place of each `default` leaf
+abbrev pub with_default : CompiledExpr → CompiledExpr → Formula CompiledLeaf
+with_default default e = replaced (leaf_with_default default) (formula e)
+
+abbrev pub is_default : CompiledLeaf → Bool
+is_default Default = true
+is_default _ = false
+
+abbrev pub is_group : CompiledLeaf → Bool
+is_group (Group matcher span) = true
+is_group _ = false
+
+-- whether what the leaf says may depend on more than the binary: on the test, its group, or the default filter
+abbrev pub is_known_at_runtime : CompiledLeaf → Bool
+is_known_at_runtime (Test matcher span) = true
+is_known_at_runtime (Group matcher span) = true
+is_known_at_runtime Default = true
+is_known_at_runtime _ = false
+
+-- whether a leaf of the expression passes the test
+abbrev pub has_leaf : (CompiledLeaf → Bool) → CompiledExpr → Bool
+has_leaf test e = list_any test (leaves (formula e))
+
+-- what a leaf says of a binary; what it says of a test alone is not said here, nor what the default filter says
+abbrev pub HoldsOfBinary : BinaryQuery → CompiledLeaf → Type 0
+HoldsOfBinary binary (Packages ids) = Contains ids binary.package_id.now
+HoldsOfBinary binary (Kind matcher span) = Hits matcher binary.kind.now
+HoldsOfBinary binary (Platform platform span) = binary.platform ≡ platform
+HoldsOfBinary binary (Binary matcher span) = Hits matcher binary.binary_name.now
+HoldsOfBinary binary (BinaryId matcher span) = Hits matcher binary.binary_id.now
+HoldsOfBinary binary All = Unit {0}
+HoldsOfBinary binary _ = ⊥
+
+-- what a lookup of groups says: that the matcher hits the group of the test
+abbrev pub Lookup : Type 1
+Lookup = TestQuery → Matcher → Type 0
+
+-- no test is in a group
+abbrev pub no_groups : Lookup
+no_groups test matcher = ⊥
+
+-- what a leaf says of a test
+abbrev pub HoldsOfTest : TestQuery → Lookup → CompiledLeaf → Type 0
+HoldsOfTest test lookup (Test matcher span) = Hits matcher test.test_name.now
+HoldsOfTest test lookup (Group matcher span) = lookup test matcher
+HoldsOfTest test lookup leaf = HoldsOfBinary test.binary_query leaf
+
+-- the expression holds of a test
+abbrev pub Holds : CompiledExpr → TestQuery → CompiledExpr → Lookup → Type 0
+Holds e test default lookup = TrueWhere (HoldsOfTest test lookup) (with_default default e)

@@ -1,0 +1,7 @@
+-- A text, and what is left of it. It serves the proof of the parser alone.
+use Rattle.std.specs.Prelude.{◌≡◌, ℕ, ◌≤◌, List, length, drop}
+
+-- the rest of a text, from an offset on
+pub record IsSeam (text rest : List ℕ) (offset : ℕ) : Type 0 where
+  pub within : offset ≤ length text
+  pub onward : drop offset text ≡ rest

@@ -1,0 +1,11 @@
+//! Reading filtersets.
+
+mod expressions;
+mod leaves;
+mod operators;
+mod parse;
+mod tree;
+mod words;
+
+pub use parse::{ParseStop, Parsed};
+pub use tree::{AndOperator, DifferenceOperator, NotOperator, OrOperator, ParsedExpr, ParsedLeaf};
