@@ -13,11 +13,11 @@ use Rattle.nextest_filtering.specs.declared.parsing.parse.ParseStop.TheVariants.
 abbrev pub Comes : Parsed → Tree SourceSpan → Type 0
 Comes p e = option_map tree_of p.tree ≡ Some e
 
--- no tree is spelled by the text
+-- no tree of today's language is spelled by the text
 abbrev pub SpellsNothing : List ℕ → Type 0
 SpellsNothing text = (e : Tree SourceSpan) → SpellsToday text e → ⊥
 
--- why a text has no tree: it spells none, and has faults that all stand; or memory was wanting
+-- why a text has no tree: it spells none of today's language, and has faults that all stand; or memory was wanting
 abbrev pub Stops : List ℕ → ParseStop → Type 0
 Stops text (Faults faults) = (faults.items ≢ []) × All (Stands text) faults.items × SpellsNothing text
 Stops text (OutOfMemory error) = Unit {0}

@@ -4,7 +4,7 @@ ghost use Rattle.nextest_filtering.specs.Tree.{Tree};
 ghost use Rattle.nextest_filtering.specs.Scope.{SpellsToday};
 ghost use Rattle.filterset_faults.specs.declared.span.SourceSpan.{SourceSpan};
 
-/// One text spells at most one tree, spans included.
+/// One text of today's language spells at most one tree, spans included.
 pub fn one_tree()
     ensures { (text : List ℕ) (d e : Tree SourceSpan) → SpellsToday text d → SpellsToday text e → d ≡ e }
 {}

@@ -36,11 +36,11 @@ pub enum ParseStop {
 impl ParsedExpr {
     /// Reads a text, and drops the faults where a tree was recovered all the same.
     pub fn parse(alloc: Global, input: &str) -> Result<ParsedExpr, ParseStop>
-        // A tree that the text spells is the one that comes.
+        // A tree of today's language that the text spells is the one that comes.
         ensures spelled { (e : Tree SourceSpan) → SpellsToday input.now e → IfOk result (λ tree. tree_of tree ≡ e) }
-        // The tree is spelled by the text, or was recovered from a text that spells none.
+        // The tree is spelled by the text, or was recovered from a text that spells no tree of today's language.
         ensures tree { IfOk result (λ tree. Spells input.now (tree_of tree) ⊎ SpellsNothing input.now) }
-        // Without a tree there are faults, which all stand, and the text spells no tree.
+        // Without a tree there are faults, which all stand, and the text spells no tree of today's language.
         ensures stop { IfErr result (Stops input.now) }
     {
         let Parsed { tree, faults } = ParsedExpr::parse_with_faults(alloc, input).map_err(
@@ -56,7 +56,7 @@ impl ParsedExpr {
     pub fn parse_with_faults(alloc: Global, input: &str) -> Result<Parsed, AllocError>
         // Without a fault the tree is one that the text spells.
         ensures clean { IfOk result (λ p. p.faults.items ≡ [] → (e : Tree SourceSpan) × Comes p e × ReadsToday input.now e) }
-        // A tree that the text spells comes, and no fault.
+        // A tree of today's language that the text spells comes, and no fault.
         ensures spelled { IfOk result (λ p. (e : Tree SourceSpan) → SpellsToday input.now e → Comes p e × (p.faults.items ≡ [])) }
         // Every fault stands.
         ensures stand { IfOk result (λ p. All (Stands input.now) p.faults.items) }
