@@ -1,13 +1,13 @@
 -- What the library says of the program's texts and tests: with no packages, each text as a filterset of kind test, and with a default filter
 -- that holds every test.
 use Rattle.std.specs.Prelude.{◌≡◌, ◌↔◌, Bool, false, IsTrue, List, []}
-use Rattle.nextest_filtering.specs.Compiling.{Refute, packages_of}
+use Rattle.nextest_filtering.specs.Compiling.{IsRefusedWith, packages_of, unsupported_faults}
 use Rattle.nextest_filtering.specs.Contexts.{default_of}
 use Rattle.nextest_filtering.specs.Expression.{has_leaf, is_group, no_groups}
 use Rattle.nextest_filtering.specs.Groups.{IsKnown}
 use Rattle.nextest_filtering.specs.Meaning.{IsCompiled, Meaning}
-use Rattle.nextest_filtering.specs.Scope.{ReadsToday}
-use Rattle.nextest_filtering.specs.Tree.{Tree, tree_of}
+use Rattle.filterset_language.specs.Parsed.{Reads}
+use Rattle.filterset_language.specs.Tree.{Tree, tree_of}
 use Rattle.filterset_faults.specs.declared.error.ParseSingleError.{ParseSingleError}
 use Rattle.filterset_faults.specs.declared.span.SourceSpan.{SourceSpan}
 use Rattle.nextest_filtering.specs.declared.compile.filterset.Filterset as filtersets
@@ -19,13 +19,14 @@ use Rattle.filterset_cli.specs.declared.report.Setting.{Setting}
 use Rattle.filterset_cli.specs.Shape.{Text}
 use Rattle.filterset_cli.specs.Record.{BinaryRow, TestRow}
 
--- the text is a filterset, and this is its tree
-abbrev pub IsFilterset : Text → Tree SourceSpan → Type 0
-IsFilterset text tree = ReadsToday text tree
+-- the text is a filterset, this is its tree, and each leaf of it is compiled
+pub record IsFilterset (text : Text) (tree : Tree SourceSpan) : Type 0 where
+  pub reads : Reads text tree
+  pub supported : unsupported_faults tree ≡ []
 
 -- the text is no filterset, and these are its faults
 abbrev pub HasFaults : Text → List ParseSingleError → Type 0
-HasFaults text faults = Refute text faults
+HasFaults text faults = IsRefusedWith text faults
 
 -- the filterset may be asked, and its answers are those of its tree
 pub record IsAskable (filterset : filtersets.Filterset) : Type 0 where

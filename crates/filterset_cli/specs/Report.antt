@@ -4,8 +4,8 @@ use Rattle.std.specs.List.{flat_map}
 use Rattle.std.specs.Str.{IsUtf8}
 use Rattle.serde_json.specs.Data.{Data}
 use Rattle.serde_json.specs.Read.{read}
-use Rattle.nextest_filtering.specs.Tree.{Tree}
-use Rattle.nextest_filtering.specs.Printing.{printed}
+use Rattle.filterset_language.specs.Tree.{Tree}
+use Rattle.filterset_language.specs.Printing.{printed}
 use Rattle.filterset_faults.specs.Faults.{code_of, span_of, label_of, help_of}
 use Rattle.filterset_faults.specs.Span.{offset_of, length_of}
 use Rattle.filterset_faults.specs.declared.span.SourceSpan.{SourceSpan}

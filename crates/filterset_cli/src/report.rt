@@ -1,7 +1,7 @@
 //! The report of a record.
 ghost use Rattle.std.specs.Prelude.{◌≡◌, ◌++◌, Bool, IfOk, OnOk, [], false, length, map, string_bytes};
 ghost use Rattle.std.specs.List.{flat_map};
-ghost use Rattle.nextest_filtering.specs.Tree.{tree_of};
+ghost use Rattle.filterset_language.specs.Tree.{tree_of};
 ghost use Rattle.nextest_filtering.specs.Contexts.{default_of};
 ghost use Rattle.filterset_cli.specs.Shape.{Text};
 ghost use Rattle.filterset_cli.specs.Rows.{binary_row, record_row, test_row};

@@ -5,14 +5,10 @@
 #![tactic(auto)]
 
 #[cfg(test)]
-mod filtersets;
-#[cfg(test)]
 mod globs;
 #[cfg(test)]
 mod graph;
 #[cfg(test)]
-mod language;
-#[cfg(test)]
-mod recovery;
+mod matchers;
 #[cfg(test)]
 mod support;

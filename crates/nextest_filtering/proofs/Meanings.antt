@@ -1,16 +1,17 @@
 -- What a compiled expression says is what its tree means.
-use Rattle.std.proofs.Common.{◌≡◌, ◌↔◌, List, refl, sym, subst, IsTrue}
+use Rattle.std.proofs.Common.{◌≡◌, ◌↔◌, List, refl, sym, ◌∙◌, ap, subst, IsTrue}
+use Rattle.std.specs.List.{list_any}
 use Rattle.filterset_faults.specs.declared.span.SourceSpan.{SourceSpan}
 use Rattle.filterset_graph.specs.declared.package.PackageMetadata.{PackageMetadata}
 use Rattle.nextest_filtering.specs.Compiling.{SaysTheSame}
 use Rattle.nextest_filtering.specs.Expression as compiled
 use Rattle.nextest_filtering.specs.Expression.{CompiledLeaf, formula, leaf_with_default, with_default, has_leaf, Lookup, HoldsOfTest, Holds}
-use Rattle.nextest_filtering.specs.Formula.{TrueWhere}
-use Rattle.nextest_filtering.specs.Matcher.{Hits}
+use Rattle.nextest_filtering.specs.Formula.{leaves, TrueWhere}
+use Rattle.filterset_matchers.specs.Matcher.{Hits}
 use Rattle.nextest_filtering.specs.Meaning as meaning
 use Rattle.nextest_filtering.specs.Meaning.{tree_formula, has_tree_leaf, MeansOfTest, Meaning, IsCompiledLeaf, IsCompiled}
-use Rattle.nextest_filtering.specs.Tree as tree
-use Rattle.nextest_filtering.specs.Tree.{Leaf, Tree, Predicate, Package, Deps, Rdeps, Kind, Binary, BinaryId, Test, Group, Matching, Platform, Default}
+use Rattle.filterset_language.specs.Tree as tree
+use Rattle.filterset_language.specs.Tree.{Leaf, Tree, Predicate, Package, Deps, Rdeps, Kind, Binary, BinaryId, Test, Group, Matching, Platform, Default, Both, Without, Not, Union, Join, Parens, Set, tree_leaves}
 use Rattle.nextest_filtering.specs.declared.expression.CompiledExpr.{CompiledExpr}
 use Rattle.nextest_filtering.specs.declared.expression.query.TestQuery.{TestQuery}
 use Rattle.nextest_filtering.proofs.Shapes.{same_truth, same_test, truth-replaced}
@@ -50,6 +51,15 @@ module _ (packages : List PackageMetadata) (test : TestQuery) (default : Compile
 pub says_the_same : (packages : List PackageMetadata) (e : Tree SourceSpan) (c : CompiledExpr) → IsCompiled packages e c → SaysTheSame packages e c
 says_the_same packages e c is = λ test default lookup. compiled_means packages test default (λ t m. IsTrue (lookup t m)) e c is
 
+-- the leaves of a tree are those of its formula
+leaves-formula : {S : Type 0} (e : Tree S) → leaves (tree_formula e) ≡ tree_leaves e
+leaves-formula (Not op e) = leaves-formula e
+leaves-formula (Union op a b) = rw (leaves-formula a, leaves-formula b) refl
+leaves-formula (Join (Both op) a b) = rw (leaves-formula a, leaves-formula b) refl
+leaves-formula (Join (Without op) a b) = rw (leaves-formula a, leaves-formula b) refl
+leaves-formula (Parens e) = leaves-formula e
+leaves-formula (Set leaf) = refl
+
 module _ (packages : List PackageMetadata) where
   default_alike : (l : Leaf SourceSpan) (c : CompiledLeaf) → IsCompiledLeaf packages l c → meaning.is_default l ≡ compiled.is_default c
   default_alike (Matching Package m s) (compiled.Packages ids) are = refl
@@ -83,8 +93,10 @@ module _ (packages : List PackageMetadata) where
 
   -- a `default` leaf is held by both or by neither
   pub same_defaults : (e : Tree SourceSpan) (c : CompiledExpr) → IsCompiled packages e c → has_leaf compiled.is_default c ≡ has_tree_leaf meaning.is_default e
-  same_defaults e c is = sym (same_test (IsCompiledLeaf packages) meaning.is_default compiled.is_default default_alike (tree_formula e) (formula c) is)
+  same_defaults e c is =
+      sym (same_test (IsCompiledLeaf packages) meaning.is_default compiled.is_default default_alike (tree_formula e) (formula c) is) ∙ ap (list_any meaning.is_default) (leaves-formula e)
 
   -- a `group` leaf is held by both or by neither
   pub same_groups : (e : Tree SourceSpan) (c : CompiledExpr) → IsCompiled packages e c → has_leaf compiled.is_group c ≡ has_tree_leaf meaning.is_group e
-  same_groups e c is = sym (same_test (IsCompiledLeaf packages) meaning.is_group compiled.is_group group_alike (tree_formula e) (formula c) is)
+  same_groups e c is =
+      sym (same_test (IsCompiledLeaf packages) meaning.is_group compiled.is_group group_alike (tree_formula e) (formula c) is) ∙ ap (list_any meaning.is_group) (leaves-formula e)

@@ -1,5 +1,5 @@
 -- Which leaves are compiled, and what is promised of a filterset that was read, or refused.
-use Rattle.std.specs.Prelude.{◌≡◌, ◌≢◌, ◌↔◌, ℕ, Bool, List, [], All, Option, Some, None, option_map, IsTrue, string_bytes}
+use Rattle.std.specs.Prelude.{◌≡◌, ◌≢◌, ◌↔◌, ◌⊎◌, ℕ, Bool, List, [], All, Option, Some, None, option_map, IsTrue, string_bytes}
 use Rattle.std.specs.List.{filter_map}
 use Rattle.std.specs.declared.alloc.Global.{Global}
 use Rattle.std.specs.declared.string.String.{String}
@@ -8,13 +8,11 @@ use Rattle.filterset_faults.specs.declared.error.ParseSingleError.TheVariants.{U
 use Rattle.filterset_faults.specs.declared.span.SourceSpan.{SourceSpan}
 use Rattle.filterset_graph.specs.declared.package.PackageMetadata.{PackageMetadata}
 use Rattle.nextest_filtering.specs.Expression.{Holds}
-use Rattle.nextest_filtering.specs.Faults.{Stands}
-use Rattle.nextest_filtering.specs.Formula.{leaves}
-use Rattle.nextest_filtering.specs.Matcher.{Matcher}
-use Rattle.nextest_filtering.specs.Meaning.{tree_formula, Meaning}
-use Rattle.nextest_filtering.specs.Scope.{SpellsToday}
-use Rattle.nextest_filtering.specs.Tree as tree
-use Rattle.nextest_filtering.specs.Tree.{Leaf, Tree, Test, Matching, Platform, Default, Not, Union, Join, Parens, Set}
+use Rattle.filterset_matchers.specs.Matcher.{Matcher}
+use Rattle.nextest_filtering.specs.Meaning.{Meaning}
+use Rattle.filterset_language.specs.Parsed.{Reads, LiesOnBody, Refutes}
+use Rattle.filterset_language.specs.Tree as tree
+use Rattle.filterset_language.specs.Tree.{Leaf, Tree, Test, Matching, Platform, Default, Not, Union, Join, Parens, Set, tree_leaves}
 use Rattle.nextest_filtering.specs.declared.compile.context.ParseContext.{ParseContext}
 use Rattle.nextest_filtering.specs.declared.compile.filterset.ParseRefusal.{ParseRefusal}
 use Rattle.nextest_filtering.specs.declared.compile.filterset.ParseRefusal.TheVariants.{Faults, OutOfMemory}
@@ -38,9 +36,9 @@ unsupported_span tree.None = None
 
 -- a fault for each leaf that is not compiled yet, from left to right
 abbrev pub unsupported_faults : Tree SourceSpan → List ParseSingleError
-unsupported_faults e = filter_map (λ leaf. option_map UnsupportedExpression (unsupported_span leaf)) (leaves (tree_formula e))
+unsupported_faults e = filter_map (λ leaf. option_map UnsupportedExpression (unsupported_span leaf)) (tree_leaves e)
 
--- each leaf of the tree is compiled today
+-- each leaf of the tree is compiled
 abbrev pub IsSupported : Tree SourceSpan → Type 0
 IsSupported (Not op e) = IsSupported e
 IsSupported (Union op a b) = IsSupported a × IsSupported b
@@ -54,20 +52,27 @@ SaysTheSame packages e compiled =
     (test : TestQuery) (default : CompiledExpr) (lookup : TestQuery → Matcher → Bool)
     → Holds compiled test default (λ t m. IsTrue (lookup t m)) ↔ Meaning e packages test default (λ t m. IsTrue (lookup t m))
 
--- the faults are some, each is one of the text, and the text spells no tree that is read today
-pub record Refute (text : List ℕ) (faults : List ParseSingleError) : Type 0 where
-  pub some : faults ≢ []
-  pub stand : All (Stands text) faults
-  pub unspelled : (e : Tree SourceSpan) → SpellsToday text e → ⊥
+-- why a text is refused with these faults
+pub data IsRefusedWith (text : List ℕ) (faults : List ParseSingleError) : Type 0 where
+  -- the parser found them
+  found : Refutes text faults → IsRefusedWith text faults
+  -- the text reads as a tree, and there is one for each leaf of it that is not compiled yet, and one at least
+  unsupported : (e : Tree SourceSpan) → Reads text e → faults ≡ unsupported_faults e → faults ≢ [] → IsRefusedWith text faults
 
--- the refusal hands the input back, and its faults refute it
+-- the refusal hands the input back, and its faults are ones that refuse it
 abbrev pub IsRefusalOf : String Global → ParseRefusal → Type 0
-IsRefusalOf input (Faults found) = (found.input ≡ input) × Refute (string_bytes input) found.errors.items
+IsRefusalOf input (Faults refused) = (refused.input ≡ input) × IsRefusedWith (string_bytes input) refused.errors.items
 IsRefusalOf input (OutOfMemory given) = given ≡ input
+
+-- The refusal of a text that spells the tree: its faults lie on bodies of the tree's regular expressions, or there is
+-- exactly one for each of its leaves that is not compiled yet, and one at least.
+abbrev pub IsRefusalOfTree : List ℕ → Tree SourceSpan → ParseRefusal → Type 0
+IsRefusalOfTree text e (Faults refused) = All (LiesOnBody text e) refused.errors.items ⊎ ((refused.errors.items ≡ unsupported_faults e) × (unsupported_faults e ≢ []))
+IsRefusalOfTree text e (OutOfMemory given) = Unit {0}
 
 -- what a stopped reading says of the text
 abbrev pub IsStopOf : List ℕ → Stop → Type 0
-IsStopOf text (stop.Faults faults) = Refute text faults.items
+IsStopOf text (stop.Faults faults) = IsRefusedWith text faults.items
 IsStopOf text stop.OutOfMemory = Unit {0}
 
 -- a stopped compiler has a fault for each leaf that is not compiled yet, and one at least

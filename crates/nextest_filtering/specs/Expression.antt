@@ -4,8 +4,8 @@ use Rattle.std.specs.List.{list_any}
 use Rattle.filterset_faults.specs.declared.span.SourceSpan.{SourceSpan}
 use Rattle.filterset_graph.specs.declared.package.BuildPlatform.{BuildPlatform}
 use Rattle.nextest_filtering.specs.Formula.{Formula, Leaf, Negation, Disjunction, Conjunction, leaves, replaced, TrueWhere}
-use Rattle.nextest_filtering.specs.Matcher.{Matcher, Hits}
-use Rattle.nextest_filtering.specs.Matchers.{matcher_of}
+use Rattle.filterset_matchers.specs.Matcher.{Matcher, Hits}
+use Rattle.filterset_matchers.specs.Matchers.{matcher_of}
 use Rattle.nextest_filtering.specs.declared.expression.CompiledExpr.{CompiledExpr}
 use Rattle.nextest_filtering.specs.declared.expression.CompiledExpr.TheVariants.{Not', Union', Intersection', Set}
 use Rattle.nextest_filtering.specs.declared.expression.FiltersetLeaf.{FiltersetLeaf}

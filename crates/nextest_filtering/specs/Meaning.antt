@@ -7,9 +7,9 @@ use Rattle.filterset_graph.specs.declared.package.PackageMetadata.{PackageMetada
 use Rattle.nextest_filtering.specs.Expression as compiled
 use Rattle.nextest_filtering.specs.Expression.{CompiledLeaf, Lookup, HoldsOfTest, formula}
 use Rattle.nextest_filtering.specs.Formula as formulas
-use Rattle.nextest_filtering.specs.Formula.{Formula, Negation, Disjunction, Conjunction, leaves, TrueWhere, SameShape}
-use Rattle.nextest_filtering.specs.Matcher.{Matcher, Hits}
-use Rattle.nextest_filtering.specs.Tree.{Leaf, Tree, Package, Deps, Rdeps, Kind, Binary, BinaryId, Test, Group, Matching, Platform, Default, All, None, Both, Without, Not, Union, Join, Parens, Set}
+use Rattle.nextest_filtering.specs.Formula.{Formula, Negation, Disjunction, Conjunction, TrueWhere, SameShape}
+use Rattle.filterset_matchers.specs.Matcher.{Matcher, Hits}
+use Rattle.filterset_language.specs.Tree.{Leaf, Tree, Package, Deps, Rdeps, Kind, Binary, BinaryId, Test, Group, Matching, Platform, Default, All, None, Both, Without, Not, Union, Join, Parens, Set, tree_leaves}
 use Rattle.nextest_filtering.specs.declared.expression.CompiledExpr.{CompiledExpr}
 use Rattle.nextest_filtering.specs.declared.expression.query.TestQuery.{TestQuery}
 
@@ -24,7 +24,7 @@ tree_formula (Set leaf) = formulas.Leaf leaf
 
 -- whether a leaf of the tree passes the test
 abbrev pub has_tree_leaf : {S : Type 0} → (Leaf S → Bool) → Tree S → Bool
-has_tree_leaf test e = list_any test (leaves (tree_formula e))
+has_tree_leaf test e = list_any test (tree_leaves e)
 
 abbrev pub is_default : {S : Type 0} → Leaf S → Bool
 is_default (Default span) = true

@@ -5,11 +5,11 @@ ghost use Rattle.nextest_filtering.specs.Compiling.{unsupported_faults, unsuppor
 ghost use Rattle.nextest_filtering.specs.Expression.{compiled_leaf, formula};
 ghost use Rattle.nextest_filtering.specs.Formula.{Negation, Disjunction, Conjunction};
 ghost use Rattle.nextest_filtering.specs.Meaning.{IsCompiled, IsCompiledLeaf};
-ghost use Rattle.nextest_filtering.specs.Tree.{leaf_of, tree_of};
+ghost use Rattle.filterset_language.specs.Tree.{leaf_of, tree_of};
 
 use crate::expression::{CompiledExpr, FiltersetLeaf};
-use crate::parsing::{ParsedExpr, ParsedLeaf};
 use filterset_faults::ParseSingleError;
+use filterset_language::{ParsedExpr, ParsedLeaf};
 use std::alloc::{AllocError, Global};
 
 mod context;
@@ -52,7 +52,7 @@ fn compile(alloc: Global, expr: &ParsedExpr) -> Result<CompiledExpr, Stop>
     Ok(compile_expr(alloc, expr)?)
 }
 
-/// The compiled expression of a tree whose leaves are all compiled today: `a - b` becomes `a` and not `b`, and
+/// The compiled expression of a tree whose leaves are all compiled: `a - b` becomes `a` and not `b`, and
 /// parentheses become what they hold.
 fn compile_expr(alloc: Global, expr: &ParsedExpr) -> Result<CompiledExpr, AllocError>
     requires { IsSupported (tree_of expr.now) }
@@ -122,7 +122,7 @@ fn difference(
     conjunction(alloc, left, negation(alloc, right)?)
 }
 
-/// The compiled leaf of a leaf that is compiled today.
+/// The compiled leaf of one that is compiled.
 fn compile_leaf(alloc: Global, leaf: &ParsedLeaf) -> Result<FiltersetLeaf, AllocError>
     requires { unsupported_span (leaf_of leaf.now) ≡ None }
     ensures { IfOk result (λ compiled. (packages : List PackageMetadata) → IsCompiledLeaf packages (leaf_of leaf.now) (compiled_leaf compiled)) }

@@ -3,9 +3,9 @@ ghost use Rattle.std.specs.Prelude.{◌≡◌, ◌↔◌, false, IfOk, IsTrue};
 ghost use Rattle.nextest_filtering.specs.Expression.{compiled_leaf, formula, has_leaf, is_default, is_group, is_known_at_runtime, no_groups, HoldsOfTest, Holds};
 ghost use Rattle.nextest_filtering.specs.Formula.{TrueWhere};
 
-use crate::matcher::NameMatcher;
 use filterset_faults::SourceSpan;
 use filterset_graph::{BuildPlatform, PackageId};
+use filterset_matchers::NameMatcher;
 use std::alloc::{AllocError, Global};
 use std::collections::BTreeSet;
 

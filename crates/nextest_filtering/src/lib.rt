@@ -3,11 +3,6 @@
 
 mod compile;
 mod expression;
-pub mod laws;
-mod matcher;
-mod parsing;
-mod printing;
-mod text;
 
 pub use compile::{Filterset, ParseContext, ParseRefusal};
 pub use expression::{
@@ -23,8 +18,8 @@ pub use filterset_graph::{
     BuildPlatform, BuildTarget, BuildTargetId, DependsRefusal, GLOBAL_TEST_GROUP, GraphRefusal,
     PackageGraph, PackageId, PackageMetadata, RustBinaryId, RustTestBinaryKind, TestCaseName,
 };
-pub use matcher::{NameMatcher, PatternRefusal, PatternRegex};
-pub use parsing::{
-    AndOperator, DifferenceOperator, NotOperator, OrOperator, ParseStop, Parsed, ParsedExpr,
-    ParsedLeaf,
+pub use filterset_language::{
+    AndOperator, DifferenceOperator, FILTERSET_REFERENCE_MD, NotOperator, OrOperator, ParseStop,
+    Parsed, ParsedExpr, ParsedLeaf, laws,
 };
+pub use filterset_matchers::{NameMatcher, PatternRefusal, PatternRegex};

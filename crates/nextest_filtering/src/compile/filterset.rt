@@ -1,22 +1,24 @@
 //! Filtersets: a text, its tree, and the compiled expression.
-ghost use Rattle.std.specs.Prelude.{◌≡◌, ◌↔◌, false, List, IfOk, IfErr, IsTrue, codes, string_bytes};
+ghost use Rattle.std.specs.Prelude.{◌≡◌, ◌↔◌, false, List, [], IfOk, IfErr, IsTrue, codes, string_bytes};
 ghost use Rattle.std.specs.Str.Iter.{HasSubslice};
 ghost use Rattle.filterset_faults.specs.declared.kind.FiltersetKind.TheVariants as kinds;
 ghost use Rattle.filterset_graph.specs.declared.package.PackageMetadata.{PackageMetadata};
-ghost use Rattle.nextest_filtering.specs.Compiling.{packages_of, IsRefusalOf, IsStopOf, SaysTheSame};
+ghost use Rattle.filterset_faults.specs.declared.span.SourceSpan.{SourceSpan};
+ghost use Rattle.nextest_filtering.specs.Compiling.{packages_of, unsupported_faults, IsRefusalOf, IsRefusalOfTree, IsStopOf, SaysTheSame};
 ghost use Rattle.nextest_filtering.specs.Contexts.{default_of};
 ghost use Rattle.nextest_filtering.specs.Expression.{formula, has_leaf, is_default, is_group, no_groups, Holds};
+ghost use Rattle.filterset_language.specs.Grammar.{Spells};
 ghost use Rattle.nextest_filtering.specs.Groups.{IsKnown};
 ghost use Rattle.nextest_filtering.specs.Meaning.{has_tree_leaf, IsCompiled, Meaning};
 ghost use Rattle.nextest_filtering.specs.Meaning as tree;
-ghost use Rattle.nextest_filtering.specs.Scope.{ReadsToday};
-ghost use Rattle.nextest_filtering.specs.Tree.{tree_of};
+ghost use Rattle.filterset_language.specs.Parsed.{Reads};
+ghost use Rattle.filterset_language.specs.Tree.{Tree, tree_of};
 
 use crate::compile::context::ParseContext;
 use crate::compile::{Stop, compile};
 use crate::expression::{CompiledExpr, EvalContext, KnownGroups, TestQuery};
-use crate::parsing::{Parsed, ParsedExpr};
 use filterset_faults::{FiltersetKind, FiltersetParseErrors};
+use filterset_language::{Parsed, ParsedExpr};
 use std::alloc::{AllocError, Global};
 
 /// A filterset that was read and compiled.
@@ -41,7 +43,7 @@ pub enum ParseRefusal {
 
 /// Reads a text.
 fn read_tree(alloc: Global, text: &str) -> Result<ParsedExpr, Stop>
-    ensures spelled { IfOk result (λ parsed. ReadsToday text.now (tree_of parsed)) }
+    ensures spelled { IfOk result (λ parsed. Reads text.now (tree_of parsed)) }
     ensures refused { IfErr result (IsStopOf text.now) }
 {
     let Parsed { tree, faults } = ParsedExpr::parse_with_faults(alloc, text)?;
@@ -56,7 +58,8 @@ fn read_tree(alloc: Global, text: &str) -> Result<ParsedExpr, Stop>
 
 /// Reads and compiles a text.
 fn read(alloc: Global, text: &str) -> Result<(ParsedExpr, CompiledExpr), Stop>
-    ensures spelled { IfOk result (λ made. ReadsToday text.now (tree_of made.0)) }
+    ensures spelled { IfOk result (λ made. Reads text.now (tree_of made.0)) }
+    ensures supported { IfOk result (λ made. unsupported_faults (tree_of made.0) ≡ []) }
     ensures compiled { IfOk result (λ made. (packages : List PackageMetadata) → IsCompiled packages (tree_of made.0) made.1) }
     ensures refused { IfErr result (IsStopOf text.now) }
 {
@@ -68,8 +71,9 @@ fn read(alloc: Global, text: &str) -> Result<(ParsedExpr, CompiledExpr), Stop>
 impl Filterset {
     /// Reads a filterset and compiles it.
     ///
-    /// The text is accepted exactly where the language spells it with the predicates that are compiled today; any
-    /// fault refuses it. A refusal hands the text back.
+    /// A text is accepted exactly where the language spells it, `regex` builds each of its patterns, and each of its
+    /// predicates is one that is compiled for now: `test`, `all` or `none`. Each other predicate of a text that was read
+    /// is answered by one `UnsupportedExpression` at its span, from left to right. A refusal hands the text back.
     ///
     /// For now the kind is `Test`, and the groups are known.
     pub fn parse(
@@ -82,9 +86,10 @@ impl Filterset {
         requires kind { kind ≡ kinds.Test }
         requires known { IsKnown known_groups.now }
 
-        // What was accepted is the text, its tree, and what this is compiled to.
+        // What was accepted is the text, its tree, each leaf of which is compiled, and what this is compiled to.
         ensures input { IfOk result (λ made. made.input ≡ input) }
-        ensures spelled { IfOk result (λ made. ReadsToday (string_bytes input) (tree_of made.parsed)) }
+        ensures spelled { IfOk result (λ made. Reads (string_bytes input) (tree_of made.parsed)) }
+        ensures supported { IfOk result (λ made. unsupported_faults (tree_of made.parsed) ≡ []) }
         ensures compiled { IfOk result (λ made. IsCompiled (packages_of cx.now) (tree_of made.parsed) made.compiled) }
 
         // So the compiled expression says of each test what the tree says, and holds the same leaves.
@@ -92,12 +97,16 @@ impl Filterset {
         ensures defaults { IfOk result (λ made. has_leaf is_default made.compiled ≡ has_tree_leaf tree.is_default (tree_of made.parsed)) }
         ensures groups { IfOk result (λ made. has_leaf is_group made.compiled ≡ has_tree_leaf tree.is_group (tree_of made.parsed)) }
 
-        // Today no text has a `default()` or a `group(..)`.
+        // As `default` and `group` are not compiled yet, what was accepted holds neither.
         ensures no_default { IfOk result (λ made. has_leaf is_default made.compiled ≡ false) }
         ensures no_group { IfOk result (λ made. has_leaf is_group made.compiled ≡ false) }
 
-        // A refusal by faults comes where no tree is spelled, and each fault is one of the text.
+        // A refusal is by faults that the parser found, or by leaves that are not compiled yet.
         ensures refused { IfErr result (IsRefusalOf input) }
+
+        // Where the text spells a tree, only the bodies of its regular expressions, its leaves that are not compiled yet
+        // and want of memory refuse it.
+        ensures complete { (e : Tree SourceSpan) → Spells (string_bytes input) e → IfErr result (IsRefusalOfTree (string_bytes input) e) }
     {
         match read(alloc, input.as_str()) {
             Ok((parsed, compiled)) => Ok(Filterset {

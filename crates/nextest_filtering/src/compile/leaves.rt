@@ -1,10 +1,10 @@
 //! Leaves that are not compiled yet.
 ghost use Rattle.std.specs.Prelude.{◌≡◌, ◌++◌, OnOk};
 ghost use Rattle.nextest_filtering.specs.Compiling.{unsupported_faults, unsupported_span};
-ghost use Rattle.nextest_filtering.specs.Tree.{leaf_of, tree_of};
+ghost use Rattle.filterset_language.specs.Tree.{leaf_of, tree_of};
 
-use crate::parsing::{ParsedExpr, ParsedLeaf};
 use filterset_faults::{ParseSingleError, SourceSpan};
+use filterset_language::{ParsedExpr, ParsedLeaf};
 use std::alloc::AllocError;
 
 /// Adds a fault for each leaf that is not compiled yet, from left to right.

@@ -2,7 +2,7 @@ use Rattle.std.proofs.Common.{subst, ◌↔◌, IsTrue, []}
 use Rattle.std.proofs.lemmas.Result.{IfOk-weaker}
 use Rattle.nextest_filtering.specs.Expression.{no_groups}
 use Rattle.nextest_filtering.specs.Meaning.{Meaning}
-use Rattle.nextest_filtering.specs.Tree.{tree_of}
+use Rattle.filterset_language.specs.Tree.{tree_of}
 use Rattle.filterset_cli.proofs.report.holds_test.Goals as goal
 
 pub returns : goal.returns

@@ -1,5 +1,5 @@
 use Rattle.std.proofs.Common.{◌≡◌, ◌++◌, map, string_bytes, take}
-use Rattle.nextest_filtering.specs.Tree.{tree_of}
+use Rattle.filterset_language.specs.Tree.{tree_of}
 use Rattle.filterset_cli.specs.Shape.{Text}
 use Rattle.filterset_cli.specs.Report.{BinaryLines, Pieces}
 use Rattle.filterset_cli.specs.Rows.{binary_row}

@@ -1,5 +1,5 @@
 use Rattle.std.proofs.Common.{rules, arith, ◌≡◌, ◌<◌, ◌++◌, length, get_or}
-use Rattle.nextest_filtering.specs.Tree.{tree_of}
+use Rattle.filterset_language.specs.Tree.{tree_of}
 use Rattle.filterset_cli.specs.Report.{TestLine}
 use Rattle.filterset_cli.specs.Rows.{binary_row, test_row}
 use Rattle.filterset_cli.proofs.ReportLemmas.{Pieces-more, added_twice}

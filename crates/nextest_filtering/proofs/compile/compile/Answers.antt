@@ -1,7 +1,7 @@
 use Rattle.std.proofs.Common.{◌≡◌, [], arith}
 use Rattle.std.proofs.lemmas.Grind.{common_steps}
 use Rattle.nextest_filtering.specs.Compiling.{unsupported_faults}
-use Rattle.nextest_filtering.specs.Tree.{tree_of}
+use Rattle.filterset_language.specs.Tree.{tree_of}
 use Rattle.nextest_filtering.proofs.Supported.{supported}
 use Rattle.nextest_filtering.proofs.compile.compile.Goals as goal
 

@@ -1,6 +1,6 @@
 use Rattle.std.proofs.Common.{inl, inr}
 use Rattle.std.proofs.lemmas.Result.{IfOk-weaker}
-use Rattle.nextest_filtering.specs.Tree.{tree_of}
+use Rattle.filterset_language.specs.Tree.{tree_of}
 use Rattle.nextest_filtering.proofs.Supported.{added}
 use Rattle.nextest_filtering.proofs.compile.leaves.+add_unsupported.Goals as goal
 

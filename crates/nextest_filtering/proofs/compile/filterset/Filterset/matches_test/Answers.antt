@@ -4,7 +4,7 @@ use Rattle.filterset_graph.specs.declared.package.PackageMetadata.{PackageMetada
 use Rattle.nextest_filtering.specs.Contexts.{default_of}
 use Rattle.nextest_filtering.specs.Expression.{no_groups}
 use Rattle.nextest_filtering.specs.Meaning.{IsCompiled, Meaning}
-use Rattle.nextest_filtering.specs.Tree.{tree_of}
+use Rattle.filterset_language.specs.Tree.{tree_of}
 use Rattle.nextest_filtering.proofs.Meanings.{compiled_means}
 use Rattle.nextest_filtering.proofs.compile.filterset.Filterset.matches_test.Goals as goal
 

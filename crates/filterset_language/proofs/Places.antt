@@ -1,0 +1,119 @@
+-- Steps over a text.
+use Rattle.std.proofs.Common.{◌≡◌, ◌≢◌, ℕ, zero, ◌+◌, ◌<◌, ◌≤◌, Bool, true, false, cond, eqb, List, [], ◌∷◌, ◌++◌, length, drop, get_or, IsUtf8, IsCharBoundary, Some, None, refl, sym, ap, ◌∙◌, arith, ⊎_elim}
+use Rattle.std.specs.Prelude.{◌||◌, ◌&&◌}
+use Rattle.std.proofs.lemmas.Bool.{eq-eqb}
+use Rattle.std.proofs.lemmas.Bool.Decides.{eqb_tells, nat_tests}
+use Rattle.std.proofs.lemmas.Str.{IsCharBoundary-after_ascii, IsCharBoundary-start}
+use Rattle.filterset_language.specs.Front.{blank_len}
+use Rattle.filterset_language.specs.declared.text.Input.{Input}
+use Rattle.filterset_language.specs.Text.{Blanks, no_blank, space, newline, return_newline}
+use Rattle.filterset_language.specs.Place.{place, behind, skip_from, IsBehind, IsAtOrBehind}
+
+pub behind_same : (w t : List ℕ) → behind w (w ++ t) ≡ Some t
+behind_same [] t = refl
+behind_same (b ∷ w) t = let e : eqb b b ≡ true = eq-eqb b b refl in rw e (behind_same w t)
+
+pub behind_some : (w t u : List ℕ) → t ≡ w ++ u → behind w t ≡ Some u
+behind_some w t u e = ap (behind w) e ∙ behind_same w u
+
+pub behind_none : (w t : List ℕ) → ((u : List ℕ) → t ≢ w ++ u) → behind w t ≡ None
+behind_none [] t h = absurd (h t refl)
+behind_none (b ∷ w) [] h = refl
+behind_none (b ∷ w) (c ∷ t) h =
+    ⊎_elim
+    (λ yes. rw yes.0 (behind_none w t (λ u e. h u (let f : b ≡ c = yes.1 in cc))))
+    (λ no. rw no.0 refl)
+    (eqb_tells b c)
+
+-- one turn of the loop over blanks
+pub skip_step : (n at : ℕ) (t : List ℕ) → n ≡ blank_len t → 0 < n → skip_from at t ≡ skip_from (at + n) (drop n t)
+skip_step n at [] e p = absurd (omega arith)
+skip_step n at (b ∷ []) e p = one_step ((eqb b 32) || (eqb b 10)) n at b e p
+  where
+    one_step : (v : Bool) (n at b : ℕ) → n ≡ cond v 1 0 → 0 < n → cond v (place (at + 1) []) (place at (b ∷ [])) ≡ skip_from (at + n) (drop n (b ∷ []))
+    one_step true n at b e p = rw e refl
+    one_step false n at b e p = absurd (omega arith)
+skip_step n at (b ∷ c ∷ t) e p = two_step ((eqb b 32) || (eqb b 10)) ((eqb b 13) && (eqb c 10)) n at b c t e p
+  where
+    two_step : (v w : Bool) (n at b c : ℕ) (t : List ℕ) → n ≡ cond v 1 (cond w 2 0) → 0 < n
+        → cond v (skip_from (at + 1) (c ∷ t)) (cond w (skip_from (at + 2) t) (place at (b ∷ c ∷ t))) ≡ skip_from (at + n) (drop n (b ∷ c ∷ t))
+    two_step true w n at b c t e p = rw e refl
+    two_step false true n at b c t e p = rw e refl
+    two_step false false n at b c t e p = absurd (omega arith)
+
+pub skip_stop : (at : ℕ) (t : List ℕ) → blank_len t ≡ 0 → skip_from at t ≡ place at t
+skip_stop at [] e = refl
+skip_stop at (b ∷ []) e = one_stop ((eqb b 32) || (eqb b 10)) at b e
+  where
+    one_stop : (v : Bool) (at b : ℕ) → cond v 1 0 ≡ zero → cond v (place (at + 1) []) (place at (b ∷ [])) ≡ place at (b ∷ [])
+    one_stop true at b e = absurd (omega arith)
+    one_stop false at b e = refl
+skip_stop at (b ∷ c ∷ t) e = two_stop ((eqb b 32) || (eqb b 10)) ((eqb b 13) && (eqb c 10)) at b c t e
+  where
+    two_stop : (v w : Bool) (at b c : ℕ) (t : List ℕ) → cond v 1 (cond w 2 0) ≡ zero
+        → cond v (skip_from (at + 1) (c ∷ t)) (cond w (skip_from (at + 2) t) (place at (b ∷ c ∷ t))) ≡ place at (b ∷ c ∷ t)
+    two_stop true w at b c t e = absurd (omega arith)
+    two_stop false true at b c t e = absurd (omega arith)
+    two_stop false false at b c t e = refl
+
+-- a text may be cut behind a blank
+pub blank_boundary : (n : ℕ) (t : List ℕ) → IsUtf8 t → n ≡ blank_len t → IsCharBoundary t n
+blank_boundary n t utf8 e = rw e (at_blank t utf8)
+  where
+    one : (v : Bool) (b : ℕ) (t : List ℕ) → IsUtf8 (b ∷ t) → ((eqb b 32) || (eqb b 10)) ≡ v → (w : Bool) → (w ≡ true → 1 < length (b ∷ t) × (get_or t 0 0 ≡ 10)) → IsCharBoundary (b ∷ t) (cond v 1 (cond w 2 0))
+    one true b t utf8 e w h = IsCharBoundary-after_ascii (b ∷ t) 0 utf8 (omega arith) (low b e)
+      where
+        low : (b : ℕ) → ((eqb b 32) || (eqb b 10)) ≡ true → b < 128
+        low b e = grind (arith, nat_tests)
+    one false b t utf8 e true h =
+        let p = h refl in
+        IsCharBoundary-after_ascii (b ∷ t) 1 utf8 p.0 (omega (arith, p.1))
+    one false b t utf8 e false h = IsCharBoundary-start (b ∷ t) utf8
+
+    two : (b c : ℕ) (t : List ℕ) → ((eqb b 13) && (eqb c 10)) ≡ true → 1 < length (b ∷ c ∷ t) × (c ≡ 10)
+    two b c t e = grind (arith, nat_tests)
+
+    at_blank : (t : List ℕ) → IsUtf8 t → IsCharBoundary t (blank_len t)
+    at_blank [] utf8 = IsCharBoundary-start [] utf8
+    at_blank (b ∷ []) utf8 = one _ b [] utf8 refl false (λ e. absurd cc)
+    at_blank (b ∷ c ∷ t) utf8 = one _ b (c ∷ t) utf8 refl ((eqb b 13) && (eqb c 10)) (two b c t)
+
+pub AtOrBehind-then : (a b c : Input) → IsAtOrBehind a b → IsAtOrBehind b c → IsAtOrBehind a c
+AtOrBehind-then a b c ab bc = record { text = bc.text ∙ ab.text; end = bc.end ∙ ab.end; shorter = omega (arith, ab.shorter, bc.shorter) }
+
+pub AtOrBehind-of : (a b : Input) → IsBehind a b → IsAtOrBehind a b
+AtOrBehind-of a b ab = record { text = ab.text; end = ab.end; shorter = omega (arith, ab.shorter) }
+
+pub blank_within : (n : ℕ) (t : List ℕ) → n ≡ blank_len t → n ≤ length t
+blank_within n [] e = omega arith
+blank_within n (b ∷ []) e = one ((eqb b 32) || (eqb b 10)) e
+  where
+    one : (v : Bool) → n ≡ cond v 1 0 → n ≤ 1
+    one true e = omega arith
+    one false e = omega arith
+blank_within n (b ∷ c ∷ t) e = two ((eqb b 32) || (eqb b 10)) ((eqb b 13) && (eqb c 10)) e
+  where
+    two : (v w : Bool) → n ≡ cond v 1 (cond w 2 0) → n ≤ length (b ∷ c ∷ t)
+    two true w e = omega arith
+    two false true e = omega arith
+    two false false e = omega arith
+
+pub one_blank : (t : List ℕ) → blank_len (32 ∷ t) ≡ 1
+one_blank [] = refl
+one_blank (b ∷ t) = refl
+
+pub one_newline : (t : List ℕ) → blank_len (10 ∷ t) ≡ 1
+one_newline [] = refl
+one_newline (b ∷ t) = refl
+
+-- behind blanks stands what begins with no blank
+pub skip_again : {b : List ℕ} → Blanks b → (at : ℕ) (u : List ℕ) → blank_len u ≡ 0 → skip_from at (b ++ u) ≡ place (at + length b) u
+skip_again no_blank at u stop = skip_stop at u stop ∙ ap (λ (n : ℕ). place n u) (omega arith)
+skip_again (space {t} r) at u stop =
+    let lt : 0 < 1 = omega arith in
+    skip_step 1 at (32 ∷ (t ++ u)) (sym (one_blank (t ++ u))) lt ∙ skip_again r (at + 1) u stop ∙ ap (λ (n : ℕ). place n u) (omega arith)
+skip_again (newline {t} r) at u stop =
+    let lt : 0 < 1 = omega arith in
+    skip_step 1 at (10 ∷ (t ++ u)) (sym (one_newline (t ++ u))) lt ∙ skip_again r (at + 1) u stop ∙ ap (λ (n : ℕ). place n u) (omega arith)
+skip_again (return_newline {t} r) at u stop =
+    skip_again r (at + 2) u stop ∙ ap (λ (n : ℕ). place n u) (omega arith)

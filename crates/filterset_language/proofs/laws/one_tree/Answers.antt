@@ -1,0 +1,5 @@
+use Rattle.filterset_language.proofs.Again.{one_tree}
+use Rattle.filterset_language.proofs.laws.one_tree.Goals as goal
+
+pub returns : goal.returns
+returns c = one_tree

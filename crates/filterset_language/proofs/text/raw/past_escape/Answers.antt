@@ -1,0 +1,18 @@
+use Rattle.std.proofs.Common.{◌≡◌, ◌∙◌, None, sym, ap, subst, IsUtf8}
+use Rattle.filterset_language.specs.Escapes.{escape_at}
+use Rattle.filterset_language.proofs.EscapeReading.{escape_within, escape_boundary}
+use Rattle.filterset_language.proofs.Recovering.{reported}
+use Rattle.filterset_language.proofs.TextFaults.{unescaped_found}
+use Rattle.filterset_language.proofs.text.raw.past_escape.Goals as goal
+
+pub advance-requires-clause-within : goal.advance-requires-clause-within
+advance-requires-clause-within c = escape_within _ c.in-Some.escape.character _ (sym (c.in-Some.ensures ∙ ap escape_at c.as_bytes.ensures.value))
+
+pub advance-requires-clause-boundary : goal.advance-requires-clause-boundary
+advance-requires-clause-boundary c =
+    escape_boundary _ c.in-Some.escape.character _ (subst IsUtf8 c.as_bytes.ensures.value c.as_bytes.ensures.utf8) (sym (c.in-Some.ensures ∙ ap escape_at c.as_bytes.ensures.value))
+
+pub returns-in_ok-push-in-None-clause-stand : goal.returns-in_ok-push-in-None-clause-stand
+returns-in_ok-push-in-None-clause-stand c =
+    let none : None ≡ escape_at c.args.behind.rest.now = c.in-None.ensures ∙ ap escape_at c.as_bytes.ensures.value in
+    reported _ _ _ _ c.in_ok-push-in-None.ensures.items (rw c.backslash.ensures (unescaped_found c.args.backslash c.args.behind c.requires none))

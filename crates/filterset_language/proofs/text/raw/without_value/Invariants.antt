@@ -1,0 +1,14 @@
+use Rattle.std.proofs.Common.{◌≤◌, length}
+use Rattle.filterset_language.specs.Place.{IsAtOrBehind}
+use Rattle.filterset_language.specs.Recovery.{Keeps}
+use Rattle.filterset_language.proofs.text.raw.without_value.Given as goal
+
+abbrev pub invariant-loop-behind : goal.invariant-loop-behind
+invariant-loop-behind l = record {
+  grows : length l.fn.faults.items ≤ length l.faults.items;
+  stand : Keeps l.fn.input.text.now l.fn.faults.items l.faults.items;
+  behind : IsAtOrBehind l.fn.input l.end;
+}
+
+abbrev pub decreases-loop-behind : goal.decreases-loop-behind
+decreases-loop-behind l = length l.end.rest.now

@@ -1,0 +1,212 @@
+-- What stands in a text where a fault of it is reported.
+use Rattle.std.specs.Prelude.{◌≡◌, ◌≢◌, ℕ, ◌+◌, ◌≤◌, ◌<◌, min, List, [], ◌∷◌, ◌++◌, take, drop, codes, encode_utf8, chars, All, IfSome, ◌⊎◌}
+use Rattle.std.specs.Prelude as std
+use Rattle.filterset_language.specs.Text.{Blanks, WhiteSpace, Escape, Spelled, Body}
+use Rattle.filterset_matchers.specs.Matcher.{Matcher}
+use Rattle.filterset_language.specs.Tree.{Predicate, Leaf, Joiner, Tree, Package, Deps, Rdeps, Binary, BinaryId, Test, Group, Matching, Platform, Default, Not, Union, Join, Parens, Set}
+use Rattle.filterset_language.specs.Grammar.{Name, not_text, not_ends, or_text, join_text, Spells}
+use Rattle.filterset_graph.specs.Platforms.{platform_text}
+use Rattle.filterset_glob.specs.Grammar.{GlobText}
+use Rattle.filterset_glob.specs.Tokens.{Tokens}
+use Rattle.filterset_faults.specs.Faults.{span_of}
+use Rattle.filterset_faults.specs.declared.span.SourceSpan.{SourceSpan}
+use Rattle.filterset_graph.specs.declared.package.BuildPlatform.{BuildPlatform}
+use Rattle.filterset_language.specs.declared.parsing.tree.NotOperator.{NotOperator}
+use Rattle.filterset_language.specs.declared.parsing.tree.OrOperator.{OrOperator}
+use Rattle.filterset_faults.specs.declared.kind.FiltersetKind.{FiltersetKind}
+use Rattle.filterset_faults.specs.declared.kind.FiltersetKind.TheVariants as kinds
+use Rattle.filterset_faults.specs.declared.kind.BannedPredicateReason.{BannedPredicateReason}
+use Rattle.filterset_faults.specs.declared.kind.BannedPredicateReason.TheVariants.{DefaultInfiniteRecursion, GroupCircularDependency, GroupNotAvailableInDefaultFilter, GroupNotAvailableInArchive, TestNotAvailableInArchive}
+use Rattle.filterset_glob.specs.declared.fault.GlobConstructError.{GlobConstructError}
+use Rattle.filterset_glob.specs.declared.fault.GlobConstructError.TheVariants.{UnclosedClass, InvalidRange, UnopenedAlternates, UnclosedAlternates}
+use Rattle.filterset_faults.specs.declared.error.ParseSingleError.{ParseSingleError}
+use Rattle.filterset_faults.specs.declared.error.ParseSingleError.TheVariants.{InvalidGlob, BannedPredicate, InvalidRegexWithoutMessage, ExpectedCloseRegex, InvalidOrOperator, InvalidAndOperator, UnexpectedArgument, UnexpectedComma, InvalidString, ExpectedOpenParenthesis, ExpectedCloseParenthesis, InvalidEscapeCharacter, ExpectedExpr, ExprFoundBinaryOp, ExprFoundUnaryOp, ExpectedEndOfExpression, NoPackageMatch, NoGroupMatch, NoBinaryIdMatch, NoBinaryNameMatch, InvalidPlatformArgument, UnsupportedExpression, Unknown}
+
+-- ---- a span of a text
+
+-- the text before a span
+abbrev pub before : List ℕ → SourceSpan → List ℕ
+before text s = take s.offset text
+
+-- the text from the first byte of a span on
+abbrev pub onward : List ℕ → SourceSpan → List ℕ
+onward text s = drop s.offset text
+
+-- the text of a span
+abbrev pub piece : List ℕ → SourceSpan → List ℕ
+piece text s = take s.len (onward text s)
+
+-- the text behind a span
+abbrev pub behind : List ℕ → SourceSpan → List ℕ
+behind text s = drop s.len (onward text s)
+
+-- a place, which has no length
+abbrev pub IsPoint : SourceSpan → Type 0
+IsPoint s = s.len ≡ 0
+
+-- the span ends where the text ends
+abbrev pub RunsToEnd : List ℕ → SourceSpan → Type 0
+RunsToEnd text s = s.offset + s.len ≡ std.length text
+
+-- ---- what stands before, behind and between
+
+-- the word stands at the end of the text
+pub record EndsWith (t word : List ℕ) : Type 0 where
+  pub front : List ℕ
+  pub parts : t ≡ front ++ word
+
+-- the word stands at the front of the text
+pub record BeginsWith (word t : List ℕ) : Type 0 where
+  pub rest : List ℕ
+  pub parts : t ≡ word ++ rest
+
+-- the word stands in the text behind some blanks
+pub record BehindBlanks (word t : List ℕ) : Type 0 where
+  pub blanks : List ℕ
+  pub are : Blanks blanks
+  pub rest : List ℕ
+  pub parts : t ≡ blanks ++ (word ++ rest)
+
+-- a `)` or the end
+pub data ClosesArgument : List ℕ → Type 0 where
+  at_end : ClosesArgument []
+  at_close : {t : List ℕ} → ClosesArgument (41 ∷ t)
+
+-- a `,`, a `)` or the end
+pub data EndsText : List ℕ → Type 0 where
+  comma : {t : List ℕ} → EndsText (44 ∷ t)
+  closed : {t : List ℕ} → ClosesArgument t → EndsText t
+
+-- the name of a predicate
+pub data IsName : List ℕ → Type 0 where
+  matching : (p : Predicate) → IsName (Name p)
+  platform : IsName (codes "platform")
+  default : IsName (codes "default")
+  all : IsName (codes "all")
+  none : IsName (codes "none")
+
+-- an operator that is written as in other languages, and the one that stands for it
+pub data InvalidOr : List ℕ → Type 0 where
+  pipes : InvalidOr (codes "||")
+  capital_or : InvalidOr (codes "OR")
+
+-- the same for `and`
+pub data InvalidAnd : List ℕ → Type 0 where
+  ampersands : InvalidAnd (codes "&&")
+  capital_and : InvalidAnd (codes "AND")
+
+-- what an operand may stand directly behind
+pub data Opener : List ℕ → Type 0 where
+  parenthesis : Opener (codes "(")
+  negation : (op : NotOperator) → Opener (not_text op)
+  joiner : (op : Joiner) → Opener (join_text op)
+  or : (op : OrOperator) → Opener (or_text op)
+  invalid_and : {w : List ℕ} → InvalidAnd w → Opener w
+  invalid_or : {w : List ℕ} → InvalidOr w → Opener w
+
+-- an operand may stand behind this text
+pub data BeforeOperand : List ℕ → Type 0 where
+  at_start : BeforeOperand []
+  behind_opener : {t w : List ℕ} → Opener w → EndsWith t w → BeforeOperand t
+
+-- a predicate's name, a negation or an opening parenthesis stands here
+pub data BeginsOperand : List ℕ → Type 0 where
+  with_name : {t name : List ℕ} → IsName name → BeginsWith name t → BeginsOperand t
+  with_negation : {t : List ℕ} (op : NotOperator) (u : List ℕ) → t ≡ not_text op ++ u → not_ends op u → BeginsOperand t
+  with_parenthesis : {t : List ℕ} → BeginsWith (codes "(") t → BeginsOperand t
+
+-- an operator where an operand belongs, and the one that is suggested
+pub data Misplaced : List ℕ → List ℕ → Type 0 where
+  misplaced_and : Misplaced (codes "and") (codes "and")
+  misplaced_or : Misplaced (codes "or") (codes "or")
+  misplaced_AND : Misplaced (codes "AND") (codes "and")
+  misplaced_OR : Misplaced (codes "OR") (codes "or")
+  misplaced_ampersands : Misplaced (codes "&&") (codes "&")
+  misplaced_pipes : Misplaced (codes "||") (codes "|")
+
+-- ---- globs
+
+-- the word stands somewhere in the text
+abbrev pub Holds : List ℕ → List ℕ → Type 0
+Holds word t = (front rest : List ℕ) × (t ≡ front ++ (word ++ rest))
+
+-- what a glob's fault says of its text
+abbrev pub GlobFaultStands : List ℕ → GlobConstructError → Type 0
+GlobFaultStands value UnclosedClass = Holds (codes "[") value
+GlobFaultStands value (InvalidRange c d) = (d < c) × Holds (45 ∷ encode_utf8 d) value
+GlobFaultStands value UnopenedAlternates = Holds (codes "}") value
+GlobFaultStands value UnclosedAlternates = Holds (codes "{") value
+
+-- ---- leaves of the tree
+
+-- the predicate is one of the tree's leaves
+pub data IsLeaf (l : Leaf SourceSpan) : Tree SourceSpan → Type 0 where
+  here : IsLeaf l (Set l)
+  under_not : {op : NotOperator} {e : Tree SourceSpan} → IsLeaf l e → IsLeaf l (Not op e)
+  in_parens : {e : Tree SourceSpan} → IsLeaf l e → IsLeaf l (Parens e)
+  left_of_or : {op : OrOperator} {a b : Tree SourceSpan} → IsLeaf l a → IsLeaf l (Union op a b)
+  right_of_or : {op : OrOperator} {a b : Tree SourceSpan} → IsLeaf l b → IsLeaf l (Union op a b)
+  left_of_join : {op : Joiner} {a b : Tree SourceSpan} → IsLeaf l a → IsLeaf l (Join op a b)
+  right_of_join : {op : Joiner} {a b : Tree SourceSpan} → IsLeaf l b → IsLeaf l (Join op a b)
+
+-- a leaf with the span
+abbrev pub HasSpan : SourceSpan → Leaf SourceSpan → Type 0
+HasSpan s (Matching p m t) = t ≡ s
+HasSpan s (Platform p t) = t ≡ s
+HasSpan s (Default t) = t ≡ s
+HasSpan s _ = ⊥
+
+-- the text spells a tree, and a leaf of it has this span and this property
+pub record LeafAt (text : List ℕ) (s : SourceSpan) (Is : Leaf SourceSpan → Type 0) : Type 0 where
+  pub expr : Tree SourceSpan
+  pub spelled : Spells text expr
+  pub leaf : Leaf SourceSpan
+  pub is_leaf : IsLeaf leaf expr
+  pub at : HasSpan s leaf
+  pub is : Is leaf
+
+-- the leaf takes a matcher, and its predicate has this property
+abbrev pub IsOf : (Predicate → Type 0) → Leaf SourceSpan → Type 0
+IsOf Is (Matching p m s) = Is p
+IsOf Is _ = ⊥
+
+-- the leaf is not allowed in a filterset of this kind, and why
+pub data Banned : FiltersetKind → Leaf SourceSpan → BannedPredicateReason → Type 0 where
+  group_in_override : {m : Matcher} {s : SourceSpan} → Banned kinds.OverrideFilter (Matching Group m s) GroupCircularDependency
+  test_in_archive : {m : Matcher} {s : SourceSpan} → Banned kinds.TestArchive (Matching Test m s) TestNotAvailableInArchive
+  group_in_archive : {m : Matcher} {s : SourceSpan} → Banned kinds.TestArchive (Matching Group m s) GroupNotAvailableInArchive
+  default_in_default : {s : SourceSpan} → Banned kinds.DefaultFilter (Default s) DefaultInfiniteRecursion
+  group_in_default : {m : Matcher} {s : SourceSpan} → Banned kinds.DefaultFilter (Matching Group m s) GroupNotAvailableInDefaultFilter
+
+-- ---- faults
+
+-- What stands at the span of a fault. `UnsupportedExpression` and `Unknown` are never reported.
+abbrev pub StandsThere : List ℕ → ParseSingleError → Type 0
+StandsThere text (ExpectedOpenParenthesis s) = IsPoint s × (BehindBlanks (codes "(") (onward text s) → ⊥) × ((name : List ℕ) × IsName name × EndsWith (before text s) name)
+StandsThere text (ExpectedCloseParenthesis s) = IsPoint s × (BehindBlanks (codes ")") (onward text s) → ⊥)
+StandsThere text (ExpectedExpr s) = BeforeOperand (before text s) × RunsToEnd text s × ((blanks u : List ℕ) → Blanks blanks → onward text s ≡ blanks ++ u → BeginsOperand u → ⊥)
+StandsThere text (ExpectedEndOfExpression s) = RunsToEnd text s × (Blanks (onward text s) → ⊥)
+StandsThere text (InvalidEscapeCharacter s) = (u : List ℕ) × (onward text s ≡ 92 ∷ u) × ((e rest : List ℕ) (c : ℕ) → Escape e c → u ≢ e ++ rest) × (s.len ≡ min 2 (std.length u))
+StandsThere text (InvalidString s) = IsPoint s × EndsText (onward text s)
+StandsThere text (UnexpectedComma s) = IsPoint s × BehindBlanks (codes ",") (onward text s)
+StandsThere text (UnexpectedArgument s) = All (λ b. b ≢ 41) (piece text s) × (WhiteSpace (piece text s) → ⊥) × ClosesArgument (behind text s)
+StandsThere text (InvalidOrOperator s) = InvalidOr (piece text s)
+StandsThere text (InvalidAndOperator s) = InvalidAnd (piece text s)
+StandsThere text (ExprFoundBinaryOp s op suggest) = (piece text s ≡ op.now) × Misplaced op.now suggest.now
+StandsThere text (ExprFoundUnaryOp s op suggest) = (piece text s ≡ op.now) × (op.now ≡ codes "NOT") × (suggest.now ≡ codes "not")
+StandsThere text (ExpectedCloseRegex s) = IsPoint s × ClosesArgument (onward text s)
+StandsThere text (InvalidRegexWithoutMessage s) = ((pattern : List ℕ) × Body (piece text s) pattern) × EndsWith (before text s) (codes "/") × BeginsWith (codes "/") (behind text s)
+StandsThere text (InvalidGlob s error) = (value : List ℕ) × Spelled (piece text s) value × ((tokens : Tokens) → GlobText (chars value) tokens → ⊥) × GlobFaultStands value error
+StandsThere text (InvalidPlatformArgument s) = (value : List ℕ) × Spelled (piece text s) value × ((p : BuildPlatform) (front rest : List ℕ) → WhiteSpace front → WhiteSpace rest → value ≢ front ++ (platform_text p ++ rest))
+StandsThere text (BannedPredicate s kind reason) = LeafAt text s (λ l. Banned kind l reason)
+StandsThere text (NoPackageMatch s) = LeafAt text s (IsOf (λ p. (p ≡ Package) ⊎ ((p ≡ Deps) ⊎ (p ≡ Rdeps))))
+StandsThere text (NoGroupMatch s) = LeafAt text s (IsOf (λ p. p ≡ Group))
+StandsThere text (NoBinaryIdMatch s) = LeafAt text s (IsOf (λ p. p ≡ BinaryId))
+StandsThere text (NoBinaryNameMatch s) = LeafAt text s (IsOf (λ p. p ≡ Binary))
+StandsThere text (UnsupportedExpression s) = ⊥
+StandsThere text Unknown = ⊥
+
+-- the fault is one of the text
+pub record Stands (text : List ℕ) (fault : ParseSingleError) : Type 0 where
+  pub within : IfSome (span_of fault) (λ s. s.offset + s.len ≤ std.length text)
+  pub there : StandsThere text fault

@@ -1,0 +1,58 @@
+-- What a parse of a text gives.
+use Rattle.std.specs.Prelude.{◌≡◌, ◌≢◌, ℕ, ◌+◌, List, [], All, Some, None}
+use Rattle.std.specs.Option.{option_map}
+use Rattle.filterset_language.specs.Text.{Body}
+use Rattle.filterset_matchers.specs.Matcher.{Regex}
+use Rattle.filterset_language.specs.Tree.{Predicate, Matching, Tree, tree_of}
+use Rattle.filterset_language.specs.Grammar.{Spells}
+use Rattle.filterset_language.specs.Patterns.{PatternsAreRead}
+use Rattle.filterset_language.specs.Faults.{IsLeaf, piece, Stands}
+use Rattle.filterset_faults.specs.declared.span.SourceSpan.{SourceSpan}
+use Rattle.filterset_faults.specs.declared.error.ParseSingleError.{ParseSingleError}
+use Rattle.filterset_faults.specs.declared.error.ParseSingleError.TheVariants.{InvalidRegexWithoutMessage}
+use Rattle.filterset_language.specs.declared.parsing.parse.Parsed.{Parsed}
+use Rattle.filterset_language.specs.declared.parsing.parse.ParseStop.{ParseStop}
+use Rattle.filterset_language.specs.declared.parsing.parse.ParseStop.TheVariants.{Faults, OutOfMemory}
+
+-- the text spells the tree, and the grammar of `regex` reads each of its patterns
+pub record Reads (text : List ℕ) (e : Tree SourceSpan) : Type 0 where
+  pub spelled : Spells text e
+  pub patterns : PatternsAreRead e
+
+-- the fault says that the body of one of the tree's regular expressions is refused: it lies on that body, and the
+-- span of the predicate ends behind the slash that follows
+pub record LiesOnBody (text : List ℕ) (e : Tree SourceSpan) (fault : ParseSingleError) : Type 0 where
+  pub at : SourceSpan
+  pub is : fault ≡ InvalidRegexWithoutMessage at
+  pub predicate : Predicate
+  pub pattern : List ℕ
+  pub argument : SourceSpan
+  pub is_leaf : IsLeaf (Matching predicate (Regex pattern) argument) e
+  pub body : Body (piece text at) pattern
+  pub end : argument.offset + argument.len ≡ at.offset + at.len + 1
+
+-- the tree comes
+abbrev pub Comes : Parsed → Tree SourceSpan → Type 0
+Comes p e = option_map tree_of p.tree ≡ Some e
+
+-- no tree comes, but faults, each on the body of one of the tree's regular expressions
+pub record Refuses (text : List ℕ) (e : Tree SourceSpan) (p : Parsed) : Type 0 where
+  pub no_tree : p.tree ≡ None
+  pub some : p.faults.items ≢ []
+  pub bodies : All (LiesOnBody text e) p.faults.items
+
+-- no tree is spelled by the text
+abbrev pub SpellsNothing : List ℕ → Type 0
+SpellsNothing text = (e : Tree SourceSpan) → Spells text e → ⊥
+
+-- there are faults, each of which stands; where the text spells a tree all the same, each lies on the body of one of
+-- its regular expressions
+pub record Refutes (text : List ℕ) (faults : List ParseSingleError) : Type 0 where
+  pub some : faults ≢ []
+  pub stand : All (Stands text) faults
+  pub bodies : (e : Tree SourceSpan) → Spells text e → All (LiesOnBody text e) faults
+
+-- why a text has no tree: its faults, or want of memory
+abbrev pub Stops : List ℕ → ParseStop → Type 0
+Stops text (Faults faults) = Refutes text faults.items
+Stops text (OutOfMemory error) = Unit {0}

@@ -1,0 +1,64 @@
+-- Reading from left to right: a place of a text, and what stands there. It serves the proof of the parser alone.
+use Rattle.std.specs.Prelude.{◌≡◌, ℕ, ◌+◌, List, [], ◌∷◌, length, drop, ◌<◌, ◌≤◌, ◌&&◌, ◌||◌, ◌==◌, Option, Some, None, if◌then◌else◌}
+use Rattle.std.specs.Option.{option_map, option_and_then}
+use Rattle.filterset_language.specs.Text.{ends_word}
+use Rattle.filterset_language.specs.declared.text.Input.{Input}
+
+-- a byte offset, and the text from there on
+pub record Place : Type 0 where
+  pub at : ℕ
+  pub rest : List ℕ
+
+-- the place of this offset and this rest
+abbrev pub place : ℕ → List ℕ → Place
+place at rest = record { at = at; rest = rest }
+
+-- the place at which an input stands
+abbrev pub place_of : Input → Place
+place_of input = place input.offset input.rest.now
+
+-- the place behind so many bytes
+abbrev pub advanced : ℕ → Place → Place
+advanced count p = place (p.at + count) (drop count p.rest)
+
+-- the place behind all blanks
+abbrev pub skip_from : ℕ → List ℕ → Place
+skip_from at [] = place at []
+skip_from at (b ∷ []) = if (b == 32) || (b == 10) then place (at + 1) [] else place at (b ∷ [])
+skip_from at (b ∷ c ∷ t) =
+    if (b == 32) || (b == 10) then skip_from (at + 1) (c ∷ t)
+    else (if (b == 13) && (c == 10) then skip_from (at + 2) t else place at (b ∷ c ∷ t))
+
+-- the same of a place
+abbrev pub skip : Place → Place
+skip p = skip_from p.at p.rest
+
+-- what stands behind a text
+abbrev pub behind : List ℕ → List ℕ → Option (List ℕ)
+behind [] t = Some t
+behind (w ∷ ws) [] = None
+behind (w ∷ ws) (b ∷ t) = if w == b then behind ws t else None
+
+-- the place behind a text, where it stands there
+abbrev pub after : List ℕ → Place → Option Place
+after text p = option_map (λ t. place (p.at + length text) t) (behind text p.rest)
+
+-- what stands behind a word that ends there
+abbrev pub if_ends : Place → Option Place
+if_ends p = if ends_word p.rest then Some p else None
+
+-- the place behind a word, where it stands there and ends
+abbrev pub after_word : List ℕ → Place → Option Place
+after_word word p = option_and_then if_ends (after word p)
+
+-- the second input is behind the first, in one text
+pub record IsBehind (first second : Input) : Type 0 where
+  pub text : second.text.now ≡ first.text.now
+  pub end : second.offset + length second.rest.now ≡ first.offset + length first.rest.now
+  pub shorter : length second.rest.now < length first.rest.now
+
+-- the second input is at the first or behind it, in one text
+pub record IsAtOrBehind (first second : Input) : Type 0 where
+  pub text : second.text.now ≡ first.text.now
+  pub end : second.offset + length second.rest.now ≡ first.offset + length first.rest.now
+  pub shorter : length second.rest.now ≤ length first.rest.now

@@ -1,0 +1,79 @@
+-- What a reader says that goes on after a fault. It serves the proof of the parser alone.
+use Rattle.std.specs.Prelude.{◌≡◌, ℕ, ◌<◌, ◌≤◌, List, length, take, codes, Option, None, Some, IsSome, All, Bool, true, false}
+use Rattle.std.specs.Option.{option_map}
+use Rattle.filterset_language.specs.Place.{Place, place_of, skip, after}
+use Rattle.filterset_language.specs.Faults.{Stands, BeforeOperand, EndsWith, Misplaced}
+use Rattle.filterset_language.specs.Reading.{name_at, not_at, name_text}
+use Rattle.filterset_language.specs.Descent.{Placed, ◌>>=◌, Make}
+use Rattle.filterset_faults.specs.declared.error.ParseSingleError.{ParseSingleError}
+use Rattle.filterset_faults.specs.declared.error.ParseSingleError.TheVariants.{ExpectedEndOfExpression}
+use Rattle.filterset_language.specs.declared.parsing.words.PredicateName.{PredicateName}
+use Rattle.filterset_language.specs.declared.text.Input.{Input}
+use Rattle.filterset_language.specs.declared.text.Read.{Read}
+
+-- the list of faults grows; without a new fault the value is what reading gives, and with one reading gives nothing
+pub record Recovers {X : Type 0} (old new : List ParseSingleError) (value read : Option X) : Type 0 where
+  pub grows : length old ≤ length new
+  pub clean : length new ≡ length old → (new ≡ old) × (read ≡ value) × IsSome value
+  pub fault : length old < length new → read ≡ None
+
+-- whether the fault is that the expression ends before the text
+abbrev pub is_unread : ParseSingleError → Bool
+is_unread (ExpectedEndOfExpression s) = true
+is_unread _ = false
+
+-- a fault that a reader of a part of the text reports
+pub record Found (text : List ℕ) (fault : ParseSingleError) : Type 0 where
+  pub stands : Stands text fault
+  pub inside : is_unread fault ≡ false
+
+-- all these faults are of that kind
+pub record AllFound (text : List ℕ) (faults : List ParseSingleError) : Type 0 where
+  pub each : All (Found text) faults
+
+-- where all faults were found in the text, all still are
+abbrev pub Keeps : List ℕ → List ParseSingleError → List ParseSingleError → Type 0
+Keeps text old new = AllFound text old → AllFound text new
+
+-- a value, where there is one, and the place behind it
+abbrev pub beside : {Y : Type 0} → Place → Option Y → Option (Y × Place)
+beside q value = option_map (λ y. (y, q)) value
+
+-- what a reader carries: the value, seen by a view, and the place behind it
+abbrev pub carried : {X Y : Type 0} → (X → Y) → Read X → Option (Y × Place)
+carried view r = beside (place_of r.rest) (option_map view r.value)
+
+-- an operator and its operands, where all three are there
+abbrev pub joined : {O : Type 0} → Make O → Option O → Option Placed → Option Placed → Option Placed
+joined make op left right = op >>= λ o. left >>= λ l. right >>= λ r. Some (make o l r)
+
+-- an operator was looked at: an invalid one is reported
+abbrev pub Checked : {O : Type 0} → Option O → List ParseSingleError → List ParseSingleError → Type 0
+Checked (Some op) old new = new ≡ old
+Checked None old new = length old < length new
+
+-- an operand may stand at the input
+pub record AtOperand (input : Input) : Type 0 where
+  pub before : BeforeOperand (take input.offset input.text.now)
+
+-- a predicate's name ends at the input
+abbrev pub AtName : PredicateName → Input → Type 0
+AtName name input = EndsWith (take input.offset input.text.now) (name_text name)
+
+-- an operator stands at a place where an operand belongs
+pub record IsMisplaced (p : Place) (op suggest : List ℕ) (q : Place) : Type 0 where
+  pub stands : after op p ≡ Some q
+  pub suggested : Misplaced op suggest
+
+-- `NOT` stands at a place where an operand belongs
+pub record IsCapitalNot (p : Place) (op suggest : List ℕ) (q : Place) : Type 0 where
+  pub stands : after op p ≡ Some q
+  pub is : op ≡ codes "NOT"
+  pub suggested : suggest ≡ codes "not"
+
+-- behind the blanks no operand begins
+pub record NoOperand (p s : Place) : Type 0 where
+  pub skipped : s ≡ skip p
+  pub no_name : None ≡ name_at s
+  pub no_not : None ≡ not_at s
+  pub no_open : None ≡ after (codes "(") s

@@ -1,0 +1,116 @@
+//! What trees and their parts print.
+ghost use Rattle.std.specs.Prelude.{Some};
+ghost use Rattle.filterset_language.specs.Tree.{leaf_of, tree_of, Both, Without};
+ghost use Rattle.filterset_language.specs.Grammar.{not_text, or_text, join_text};
+ghost use Rattle.filterset_language.specs.Printing.{printed, printed_leaf};
+
+use crate::parsing::{
+    AndOperator, DifferenceOperator, NotOperator, OrOperator, ParsedExpr, ParsedLeaf,
+};
+use std::fmt;
+use std::fmt::Display;
+
+/// `not` or `!`.
+impl fmt::Display for NotOperator {
+    ghost output = { λ o. Some (not_text o) };
+
+    fn fmt<W: fmt::Write>(&self, f: &mut fmt::Formatter<W>) -> fmt::Result {
+        match self {
+            NotOperator::LiteralNot => f.write_str("not"),
+            NotOperator::Exclamation => f.write_str("!"),
+        }
+    }
+}
+
+/// `or`, `|` or `+`.
+impl fmt::Display for OrOperator {
+    ghost output = { λ o. Some (or_text o) };
+
+    fn fmt<W: fmt::Write>(&self, f: &mut fmt::Formatter<W>) -> fmt::Result {
+        match self {
+            OrOperator::LiteralOr => f.write_str("or"),
+            OrOperator::Pipe => f.write_str("|"),
+            OrOperator::Plus => f.write_str("+"),
+        }
+    }
+}
+
+/// `and` or `&`.
+impl fmt::Display for AndOperator {
+    ghost output = { λ o. Some (join_text (Both o)) };
+
+    fn fmt<W: fmt::Write>(&self, f: &mut fmt::Formatter<W>) -> fmt::Result {
+        match self {
+            AndOperator::LiteralAnd => f.write_str("and"),
+            AndOperator::Ampersand => f.write_str("&"),
+        }
+    }
+}
+
+/// `-`.
+impl fmt::Display for DifferenceOperator {
+    ghost output = { λ o. Some (join_text (Without o)) };
+
+    fn fmt<W: fmt::Write>(&self, f: &mut fmt::Formatter<W>) -> fmt::Result {
+        match self {
+            DifferenceOperator::Minus => f.write_str("-"),
+        }
+    }
+}
+
+/// Operators with one blank on either side, a negation with one behind it, and parentheses as in the tree.
+impl<S> fmt::Display for ParsedExpr<S> {
+    ghost output = { λ e. Some (printed (tree_of e)) };
+
+    fn fmt<W: fmt::Write>(&self, f: &mut fmt::Formatter<W>) -> fmt::Result {
+        match self {
+            ParsedExpr::Not(op, e) => {
+                write!(f, "{op} ")?;
+                (**e).fmt(f)
+            }
+            ParsedExpr::Union(op, l, r) => {
+                (**l).fmt(f)?;
+                write!(f, " {op} ")?;
+                (**r).fmt(f)
+            }
+            ParsedExpr::Intersection(op, l, r) => {
+                (**l).fmt(f)?;
+                write!(f, " {op} ")?;
+                (**r).fmt(f)
+            }
+            ParsedExpr::Difference(op, l, r) => {
+                (**l).fmt(f)?;
+                write!(f, " {op} ")?;
+                (**r).fmt(f)
+            }
+            ParsedExpr::Parens(e) => {
+                f.write_str("(")?;
+                (**e).fmt(f)?;
+                f.write_str(")")
+            }
+            ParsedExpr::Set(leaf) => leaf.fmt(f),
+        }
+    }
+}
+
+/// The name, and the argument between parentheses. A platform prints as `host` or `target`, and blanks are gone.
+impl<S> fmt::Display for ParsedLeaf<S> {
+    ghost output = { λ l. Some (printed_leaf (leaf_of l)) };
+
+    fn fmt<W: fmt::Write>(&self, f: &mut fmt::Formatter<W>) -> fmt::Result {
+        match self {
+            ParsedLeaf::Package(m, _) => write!(f, "package({m})"),
+            ParsedLeaf::Deps(m, _) => write!(f, "deps({m})"),
+            ParsedLeaf::Rdeps(m, _) => write!(f, "rdeps({m})"),
+            ParsedLeaf::Kind(m, _) => write!(f, "kind({m})"),
+            ParsedLeaf::Binary(m, _) => write!(f, "binary({m})"),
+            ParsedLeaf::BinaryId(m, _) => write!(f, "binary_id({m})"),
+            ParsedLeaf::Platform(p, _) => write!(f, "platform({p})"),
+            ParsedLeaf::Test(m, _) => write!(f, "test({m})"),
+            ParsedLeaf::Group(m, _) => write!(f, "group({m})"),
+            ParsedLeaf::Default(_) => f.write_str("default()"),
+            ParsedLeaf::All => f.write_str("all()"),
+            ParsedLeaf::None => f.write_str("none()"),
+        }
+    }
+}

@@ -1,0 +1,66 @@
+-- From what `regex` promises to what a pattern's text alone says.
+use Rattle.std.proofs.Common.{◌≡◌, ℕ, ◌<◌, List, length, All, Option, Some, None, true, false, Bool, IsTrue, IsSome, IsSomeAnd, is_some, cond, get_or, refl, sym, ap, ◌∙◌, arith, ◌↔◌}
+use Rattle.std.proofs.lemmas.List.{get_or_default}
+use Rattle.std.specs.Str.{chars}
+use Rattle.regex_hir.proofs.OptionLemmas.{value_of_IsSome}
+use Rattle.regex_hir.proofs.FindLemmas.{IsFirst-of_first_between}
+use Rattle.regex_hir.specs.Text.{is_boundary}
+use Rattle.regex_syntax.specs.Captures.{SameCaptures}
+use Rattle.regex_syntax.specs.Grammar.{read}
+use Rattle.regex_syntax.proofs.CapturesLemmas.{spans, find_str_alike}
+use Rattle.regex_syntax.proofs.Written.{is_some-option_map}
+use Rattle.regex.specs.Patterns.{Re, find_str, Reads, default_config}
+use Rattle.regex.specs.Strings.{regex_pattern}
+use Rattle.regex.specs.declared.string.regex.Regex.{Regex}
+use Rattle.regex.proofs.ForCallers.{find_str_sound, find_str_complete}
+use Rattle.regex.proofs.Utf8Lemmas.{IsCharBoundary-of_test}
+use Rattle.filterset_matchers.specs.Pattern.{IsPattern, MatchesSomewhere, HasMatch, IsBuiltOf}
+
+IsSomeAnd-map : {A : Type 0} {P Q : A → Type 0} (o : Option A) → IsSomeAnd o P → ((x : A) → P x → Q x) → IsSomeAnd o Q
+IsSomeAnd-map None h f = absurd h
+IsSomeAnd-map (Some x) h f = f x h
+
+IsSomeAnd-both : {A R : Type 0} {P Q : A → Type 0} (o : Option A) → IsSomeAnd o P → IsSomeAnd o Q → ((x : A) → P x → Q x → R) → R
+IsSomeAnd-both None h k f = absurd h
+IsSomeAnd-both (Some x) h k f = f x h k
+
+pub IsPattern-of_built : (pattern : List ℕ) (regex : Regex) → IsBuiltOf pattern regex → IsPattern pattern
+unfolding Reads
+IsPattern-of_built pattern regex built =
+    let h = rw (built.source, built.options) at built.read in IsSomeAnd-map (read default_config (chars pattern)) h (λ x reading. reading.0)
+
+cond_true : {A : Type 0} (b : Bool) (o : Option A) (x : A) → cond b o None ≡ Some x → b ≡ true
+cond_true true o x e = refl
+cond_true false o x e = cc
+
+-- a search finds something exactly where the expression matches somewhere
+pub found_exactly : (re : Re) (text : List ℕ) → IsSome (find_str re text 0) ↔ MatchesSomewhere re text
+unfolding find_str
+found_exactly re text = (
+  λ found.
+      let m = value_of_IsSome (find_str re text 0) found in
+      let sound = find_str_sound re text 0 m.0 m.1 in
+      let first = IsFirst-of_first_between _ 0 (length text) m.0 m.1 in
+      let test = cond_true (is_boundary text m.0.start) _ m.0.trace first.here in
+      (m.0.start, m.0.trace.end, IsCharBoundary-of_test text m.0.start first.to test, sound.1),
+  λ somewhere. find_str_complete re text 0 somewhere.0 somewhere.1 (omega arith) somewhere.2 somewhere.3,
+)
+
+-- two expressions that match alike are found in the same texts
+found_alike : (a b : Re) → SameCaptures a b → (text : List ℕ) → ((k : ℕ) → get_or text k 0 < 256) →
+    is_some (find_str a text 0) ≡ is_some (find_str b text 0)
+found_alike a b same text bytes =
+    let small : All (λ x. x < 256) text = λ k d h. rw (get_or_default text k d 0 h) (bytes k) in
+    sym (is_some-option_map spans (find_str a text 0)) ∙ ap is_some (find_str_alike a b same text small 0)
+    ∙ is_some-option_map spans (find_str b text 0)
+
+-- the built pattern is found exactly where its text has a match
+pub HasMatch-of_built : (pattern : List ℕ) (regex : Regex) → IsBuiltOf pattern regex → (text : List ℕ) → ((k : ℕ) → get_or text k 0 < 256) →
+    IsTrue (is_some (find_str (regex_pattern regex) text 0)) ↔ HasMatch pattern text
+unfolding Reads
+HasMatch-of_built pattern regex built text bytes =
+    let reading = rw (built.source, built.options) at built.read in
+    let o = read default_config (chars pattern) in (
+      λ found. IsSomeAnd-map o reading (λ x h. (found_exactly x.0.value text).0 (rw (sym (found_alike _ x.0.value h.1 text bytes)) found)),
+      λ has. IsSomeAnd-both o reading has (λ x h somewhere. rw (found_alike _ x.0.value h.1 text bytes) ((found_exactly x.0.value text).1 somewhere)),
+    )

@@ -1,0 +1,28 @@
+-- What a matcher of names is, and what it hits.
+use Rattle.std.specs.Prelude.{◌≡◌, ℕ, Bool, List, chars}
+use Rattle.std.specs.Str.Iter.{HasSubslice}
+use Rattle.filterset_glob.specs.Matching.{Matches}
+use Rattle.filterset_glob.specs.Tokens.{Tokens}
+use Rattle.filterset_matchers.specs.Pattern.{HasMatch}
+
+-- a matcher without where its parts lie in memory: its texts by their bytes, a glob's tokens, and whether no sign
+-- stands before it
+pub data Matcher : Type 0 where
+  Equal : (value : List ℕ) (implicit : Bool) → Matcher
+  Contains : (value : List ℕ) (implicit : Bool) → Matcher
+  Glob : (text : List ℕ) (tokens : Tokens) (implicit : Bool) → Matcher
+  Regex : (pattern : List ℕ) → Matcher
+
+-- the matcher hits the text
+abbrev pub Hits : Matcher → List ℕ → Type 0
+Hits (Equal value implicit) text = text ≡ value
+Hits (Contains value implicit) text = HasSubslice text value
+Hits (Glob own tokens implicit) text = Matches tokens (chars text)
+Hits (Regex pattern) text = HasMatch pattern text
+
+-- the matcher compares texts, and takes no memory for it
+abbrev pub ByComparing : Matcher → Type 0
+ByComparing (Equal value implicit) = Unit {0}
+ByComparing (Contains value implicit) = Unit {0}
+ByComparing (Glob own tokens implicit) = ⊥
+ByComparing (Regex pattern) = ⊥

@@ -1,0 +1,7 @@
+//! Matchers of names: how they are kept, what they hit, and what they print.
+#![tactic(auto)]
+
+mod matcher;
+mod printing;
+
+pub use matcher::{NameMatcher, PatternMatcher, PatternRefusal, PatternRegex};

@@ -1,0 +1,147 @@
+//! What matchers print.
+ghost use Rattle.std.specs.Prelude.{Some, cond, ◌++◌, chars};
+ghost use Rattle.std.specs.Fmt.{WritesOnOk};
+ghost use Rattle.std.specs.List.{flat_map};
+ghost use Rattle.filterset_matchers.specs.Matchers.{matcher_of};
+ghost use Rattle.filterset_matchers.specs.PrintedMatcher.{printed_matcher, printed_char, printed_first, printed_implicit, printed_value, printed_slash, printed_pattern};
+
+use crate::matcher::NameMatcher;
+use std::fmt;
+use std::fmt::Display;
+
+/// The sign (`=`, `~`, `#`, or none where the matcher is implicit) and the text; a pattern stands between slashes.
+///
+/// In a text `/`, `)`, `,`, `\`, TAB, LF and CR print as `\/`, `\)`, `\,`, `\\`, `\t`, `\n` and `\r`, all else from
+/// U+0020 to U+007E as it is, and the rest as `\u{h}`. So does the first character of a text without a sign, where it
+/// is a blank, `=`, `~` or `#`. In a pattern each `/` prints as `\/`, and all else as it is.
+impl fmt::Display for NameMatcher {
+    ghost output = { λ m. Some (printed_matcher (matcher_of m)) };
+
+    fn fmt<W: fmt::Write>(&self, f: &mut fmt::Formatter<W>) -> fmt::Result {
+        match self {
+            NameMatcher::Equal { value, implicit } => write_signed(
+                f,
+                "=",
+                *implicit,
+                value.as_str(),
+            ),
+            NameMatcher::Contains { value, implicit } => write_signed(
+                f,
+                "~",
+                *implicit,
+                value.as_str(),
+            ),
+            NameMatcher::Glob { glob, implicit } => write_signed(f, "#", *implicit, glob.as_str()),
+            NameMatcher::Regex(pattern) => write_pattern(f, pattern.as_str()),
+        }
+    }
+}
+
+/// Writes a value, behind its sign or without one.
+fn write_signed<W: fmt::Write>(
+    f: &mut fmt::Formatter<W>,
+    sign: &str,
+    implicit: bool,
+    value: &str,
+) -> fmt::Result
+    ensures { WritesOnOk W.write_str_gives f.old result (cond implicit (printed_implicit (chars value.now)) (sign.now ++ printed_value value.now)) f.new }
+{
+    if !implicit {
+        f.write_str(sign)?;
+        return write_value(f, value);
+    }
+    let mut rest = value.chars();
+    let Some(c) = rest.next() else {
+        return Ok(());
+    };
+    FirstChar(c).fmt(f)?;
+    write_value(f, rest.as_str())
+}
+
+/// Writes the characters of a value.
+fn write_value<W: fmt::Write>(f: &mut fmt::Formatter<W>, value: &str) -> fmt::Result
+    ensures { WritesOnOk W.write_str_gives f.old result (printed_value value.now) f.new }
+{
+    for c in value.chars() {
+        EscapedChar(c).fmt(f)?;
+    }
+    Ok(())
+}
+
+/// Writes a pattern between slashes.
+fn write_pattern<W: fmt::Write>(f: &mut fmt::Formatter<W>, pattern: &str) -> fmt::Result
+    ensures { WritesOnOk W.write_str_gives f.old result (printed_pattern pattern.now) f.new }
+{
+    f.write_str("/")?;
+    write_slashed(f, pattern)?;
+    f.write_str("/")
+}
+
+/// Writes the characters of a pattern.
+fn write_slashed<W: fmt::Write>(f: &mut fmt::Formatter<W>, pattern: &str) -> fmt::Result
+    ensures { WritesOnOk W.write_str_gives f.old result (flat_map printed_slash (chars pattern.now)) f.new }
+{
+    for c in pattern.chars() {
+        SlashedChar(c).fmt(f)?;
+    }
+    Ok(())
+}
+
+/// A character of a value, escaped where it has to be.
+#[derive(Clone, Copy)]
+struct EscapedChar(char);
+
+impl fmt::Display for EscapedChar {
+    ghost output = { λ c. Some (printed_char c.0) };
+
+    fn fmt<W: fmt::Write>(&self, f: &mut fmt::Formatter<W>) -> fmt::Result {
+        let c = self.0;
+        match c {
+            '/' | ')' | ',' | '\\' => write!(f, "\\{c}"),
+            '\t' => f.write_str("\\t"),
+            '\n' => f.write_str("\\n"),
+            '\r' => f.write_str("\\r"),
+            ' '..='~' => write!(f, "{c}"),
+            _ => {
+                let code = u32::from(c);
+                write!(f, "\\u{{{code:x}}}")
+            }
+        }
+    }
+}
+
+/// The first character of a value that prints without a sign.
+#[derive(Clone, Copy)]
+struct FirstChar(char);
+
+impl fmt::Display for FirstChar {
+    ghost output = { λ c. Some (printed_first c.0) };
+
+    fn fmt<W: fmt::Write>(&self, f: &mut fmt::Formatter<W>) -> fmt::Result {
+        let c = self.0;
+        match c {
+            ' ' | '=' | '~' | '#' => {
+                let code = u32::from(c);
+                write!(f, "\\u{{{code:x}}}")
+            }
+            _ => EscapedChar(c).fmt(f),
+        }
+    }
+}
+
+/// A character of a pattern.
+#[derive(Clone, Copy)]
+struct SlashedChar(char);
+
+impl fmt::Display for SlashedChar {
+    ghost output = { λ c. Some (printed_slash c.0) };
+
+    fn fmt<W: fmt::Write>(&self, f: &mut fmt::Formatter<W>) -> fmt::Result {
+        let c = self.0;
+        if c == '/' {
+            f.write_str("\\/")
+        } else {
+            write!(f, "{c}")
+        }
+    }
+}

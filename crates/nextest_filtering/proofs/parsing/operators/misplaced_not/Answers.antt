@@ -1,7 +1,0 @@
-use Rattle.std.proofs.Common.{sym, refl, codes}
-use Rattle.nextest_filtering.specs.Place.{place_of}
-use Rattle.nextest_filtering.proofs.Takes.{word_after}
-use Rattle.nextest_filtering.proofs.parsing.operators.misplaced_not.Goals as goal
-
-pub returns-clause-value : goal.returns-clause-value
-returns-clause-value c = record { stands = word_after (codes "NOT") (place_of c.args.input) _ (sym c.in_ok-rest.ensures.value); is = refl; suggested = refl }
