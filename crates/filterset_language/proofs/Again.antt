@@ -20,6 +20,7 @@ use Rattle.filterset_language.specs.declared.parsing.tree.AndOperator.TheVariant
 use Rattle.filterset_language.specs.declared.parsing.tree.DifferenceOperator.TheVariants.{Minus}
 use Rattle.filterset_language.specs.declared.parsing.words.PredicateName.{PredicateName}
 use Rattle.filterset_language.proofs.Places.{skip_again}
+use Rattle.filterset_language.proofs.Takes.{is_some}
 use Rattle.filterset_language.proofs.ReadingSteps.{less, loop_turns, more_ends}
 use Rattle.filterset_language.proofs.AgainLeaves.{byte_stop, open_stop, close_stop, close_again, call_text, leaf_again}
 use Rattle.filterset_language.proofs.Sizes.{not_some, basic_some, and_some}
@@ -270,13 +271,10 @@ whole_again text e spells n le =
     let all = level_ends or_at unite (and_level_by (operand_at (suc n))) 0 spells.own e spells.behind read (ap or_at last) in
     rw (spells.whole, all, last) refl
 
-some_is : (d e : Placed) → Some d ≡ Some e → d ≡ e
-some_is d e h = cc
-
 -- one text spells at most one tree
 pub one_tree : (text : List ℕ) (d e : Placed) → Spells text d → Spells text e → d ≡ e
 one_tree text d e p q =
     let n = length text in
     let a = whole_again text d p n (omega arith) in
     let b = whole_again text e q n (omega arith) in
-    some_is d e (sym a ∙ b)
+    is_some d e (sym a ∙ b)

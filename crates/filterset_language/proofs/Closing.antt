@@ -8,7 +8,7 @@ use Rattle.filterset_language.specs.Place.{Place, place_of, advanced, skip, afte
 use Rattle.filterset_language.specs.Descent.{bare_end_at}
 use Rattle.filterset_language.specs.declared.text.Input.{Input}
 use Rattle.filterset_language.proofs.Places.{skip_stop}
-use Rattle.filterset_language.specs.Faults.{ClosesArgument, at_end, at_close}
+use Rattle.filterset_language.specs.Faults.{EndsText, comma, closed, ClosesArgument, at_end, at_close}
 
 pub close_within : (t : List ℕ) → close_len t ≤ length t
 close_within [] = omega arith
@@ -57,6 +57,15 @@ closes_stop _ (at_close {t}) = first t
     first : (t : List ℕ) → blank_len (41 ∷ t) ≡ 0
     first [] = refl
     first (b ∷ t) = refl
+
+-- nor does what ends a text
+pub ends_stop : (t : List ℕ) → EndsText t → blank_len t ≡ 0
+ends_stop _ (comma {t}) = first t
+  where
+    first : (t : List ℕ) → blank_len (44 ∷ t) ≡ 0
+    first [] = refl
+    first (b ∷ t) = refl
+ends_stop _ (closed h) = closes_stop _ h
 
 -- how many bytes stand between two places
 pub count_is : (i e : Input) (n : ℕ) → place_of e ≡ advanced n (place_of i) → e.offset - i.offset ≡ n

@@ -11,7 +11,7 @@ use Rattle.filterset_language.specs.Faults.{Stands}
 use Rattle.filterset_language.specs.Parsed.{LiesOnBody}
 use Rattle.filterset_language.specs.Descent.{Placed, operand_at, or_level_by, whole_by}
 use Rattle.filterset_language.specs.Recovery.{Found, AllFound}
-use Rattle.filterset_language.specs.Outcome.{GivesTree, comes, refused, reads, fails}
+use Rattle.filterset_language.specs.Outcome.{Faults, GivesTree, comes, refused, reads, fails}
 use Rattle.filterset_faults.specs.Span.{span, offset_of}
 use Rattle.filterset_language.specs.Whole.{Wholly, WhollyRead, WhollyRefused, ReadUpTo}
 use Rattle.filterset_language.specs.declared.text.Input.{Input}
@@ -21,9 +21,6 @@ use Rattle.filterset_faults.specs.declared.error.ParseSingleError.TheVariants.{E
 use Rattle.filterset_language.proofs.Places.{skip_again}
 use Rattle.filterset_language.proofs.TextFaults.{size}
 use Rattle.filterset_language.proofs.Takes.{is_some}
-
-abbrev Faults : Type 0
-Faults = List ParseSingleError
 
 end_found : (i : Input) (s : Place) → s ≡ skip (place_of i) → s.rest ≢ [] → Stands i.text.now (ExpectedEndOfExpression (span i.offset (length i.rest.now)))
 end_found i s skipped some = record {

@@ -261,8 +261,3 @@ escape_boundary t c n utf8 e =
     let byte : get_or t (length l.front) 0 ≡ l.last = ap (λ (x : List ℕ). get_or x (length l.front) 0) parts ∙ get_or-append_seam l.front l.last k.rest 0 in
     let low : get_or t (length l.front) 0 < 128 = let z = l.low in omega (arith, z) in
     rw size (IsCharBoundary-after_ascii t (length l.front) utf8 short low)
-
-pub one_escape : (d e t u : List ℕ) (b c : ℕ) → Escape d b → Escape e c → d ++ t ≡ e ++ u → b ≡ c
-one_escape d e t u b c x y same =
-    let f : (b, length d) ≡ (c, length e) = some_same (b, length d) (c, length e) (sym (escape_again x t) ∙ ap escape_at same ∙ escape_again y u) in
-    ap (λ (x : ℕ × ℕ). x.0) f

@@ -24,7 +24,7 @@ use Rattle.filterset_language.specs.Platforms.{Names, platform_in}
 use Rattle.filterset_language.specs.Globs.{glob_by}
 use Rattle.filterset_language.specs.Descent.{◌>>=◌, made, sign_at, text_matcher_at, regex_at, matcher_at, between, matching_at, platform_at, bare_end_at, bare_at, default_at, argument_at, leaf_at}
 use Rattle.filterset_language.specs.Recovery.{Recovers, Found, Keeps, beside}
-use Rattle.filterset_language.specs.Outcome.{Carried, comes, refused, reads, fails, MakesPattern, LiesOnPattern, GivesMatcher, GivesLeaf, GivesTree}
+use Rattle.filterset_language.specs.Outcome.{Faults, Carried, comes, refused, reads, fails, MakesPattern, LiesOnPattern, GivesMatcher, GivesLeaf, GivesTree}
 use Rattle.filterset_language.specs.declared.text.Input.{Input}
 use Rattle.filterset_language.specs.declared.parsing.words.TextMatching.{TextMatching}
 use Rattle.filterset_language.specs.declared.parsing.words.TextMatching.TheVariants as matchings
@@ -33,9 +33,6 @@ use Rattle.filterset_language.proofs.Recovering.{bind_some, bind_none, recovers_
 use Rattle.filterset_language.proofs.Outcomes.{carried_grows, gives_of, gives_then, gives_map, gives_pair}
 use Rattle.filterset_language.proofs.PlatformArguments.{with_blanks, platform_refused}
 use Rattle.filterset_language.proofs.Takes.{bind_is, is_some, skip_takes}
-
-abbrev Faults : Type 0
-Faults = List ParseSingleError
 
 -- ---- regular expressions
 

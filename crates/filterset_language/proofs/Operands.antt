@@ -13,12 +13,9 @@ use Rattle.filterset_language.specs.Patterns.{PatternsAreRead}
 use Rattle.filterset_language.specs.Parsed.{LiesOnBody}
 use Rattle.filterset_language.specs.Descent.{Placed, Reader, operand_at, or_level_by, level_by, join, unite}
 use Rattle.filterset_language.specs.Recovery.{Recovers, Checked, joined, NoOperand}
-use Rattle.filterset_language.specs.Outcome.{GivesTree, fails, Going}
+use Rattle.filterset_language.specs.Outcome.{Faults, GivesTree, fails, Going}
 use Rattle.filterset_language.proofs.ReadingSteps.{less, negation_step, parens_step, nothing_step}
 use Rattle.filterset_language.proofs.Outcomes.{gives_map, gives_pair, gives_as, going_start, going_by, going_end, lies_in}
-
-abbrev Faults : Type 0
-Faults = List ParseSingleError
 
 pub negation_gives : (text : List ℕ) (n : ℕ) (p s q r : Place) (op : NotOperator) (f g : Faults) (v : Option Placed) → s ≡ skip p → None ≡ name_at s → Some (op, q) ≡ not_at s → length q.rest < length p.rest → length p.rest ≤ n
     → ((m : ℕ) → length q.rest ≤ m → GivesTree text f g v r (operand_at (suc m) q)) → GivesTree text f g (option_map (λ t. Not op t) v) r (operand_at (suc n) p)

@@ -11,12 +11,9 @@ use Rattle.filterset_language.specs.Faults.{IsLeaf}
 use Rattle.filterset_language.specs.Parsed.{LiesOnBody}
 use Rattle.filterset_language.specs.Descent.{Placed, ◌>>=◌, Reader, Next, Make, more, level_by}
 use Rattle.filterset_language.specs.Recovery.{Recovers, Checked, beside, joined}
-use Rattle.filterset_language.specs.Outcome.{Carried, comes, refused, Gives, reads, fails, Going, goes, failed}
+use Rattle.filterset_language.specs.Outcome.{Faults, Carried, comes, refused, Gives, reads, fails, Going, goes, failed}
 use Rattle.filterset_language.proofs.Recovering.{bind_some, bind_none}
 use Rattle.filterset_language.proofs.ReadingSteps.{more_ends}
-
-abbrev Faults : Type 0
-Faults = List ParseSingleError
 
 abbrev Judgement : Type 0 → Type 1
 Judgement Y = Y → ParseSingleError → Type 0

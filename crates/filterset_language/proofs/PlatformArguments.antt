@@ -20,10 +20,12 @@ use Rattle.filterset_language.specs.Faults.{EndsText, comma, closed, at_end, at_
 use Rattle.filterset_language.specs.Recovery.{Found}
 use Rattle.filterset_language.specs.declared.text.Input.{Input}
 use Rattle.filterset_language.proofs.Places.{skip_again}
+use Rattle.filterset_language.proofs.Closing.{ends_stop}
 use Rattle.filterset_language.proofs.Takes.{Takes, blank_front, return_front}
 use Rattle.filterset_language.proofs.RawTexts.{text_again, spelled_none}
 use Rattle.filterset_language.proofs.TextFaults.{size}
-use Rattle.filterset_language.proofs.Trimming.{IsWhite, start_trimmed, white_skipped, white_scalars, scalars_append, names_utf8, names_trimmed, trimmed_names, platform_again}
+use Rattle.filterset_language.proofs.White.{IsWhite, white_skipped, white_scalars}
+use Rattle.filterset_language.proofs.Trimming.{start_trimmed, scalars_append, names_utf8, names_trimmed, trimmed_names, platform_again}
 
 -- ---- blanks before a raw text
 
@@ -131,19 +133,6 @@ record BlankFront (raw u : List ℕ) : Type 0 where
   parts : raw ≡ blanks ++ rest
   stop : blank_len (rest ++ u) ≡ 0
 
-ends_stop : {u : List ℕ} → EndsText u → blank_len u ≡ 0
-ends_stop (comma {t}) = first t
-  where
-    first : (t : List ℕ) → blank_len (44 ∷ t) ≡ 0
-    first [] = refl
-    first (b ∷ t) = refl
-ends_stop (closed at_end) = refl
-ends_stop (closed (at_close {t})) = first t
-  where
-    first : (t : List ℕ) → blank_len (41 ∷ t) ≡ 0
-    first [] = refl
-    first (b ∷ t) = refl
-
 one_stop : (b : ℕ) {u : List ℕ} → EndsText u → (eqb b 32 || eqb b 10) ≡ false → blank_len (b ∷ u) ≡ 0
 one_stop b (comma {t}) e = rw e (none (eqb b 13))
   where
@@ -161,11 +150,11 @@ here : (raw u : List ℕ) → blank_len (raw ++ u) ≡ 0 → BlankFront raw u
 here raw u stop = record { blanks = []; are = no_blank; rest = raw; parts = refl; stop = stop }
 
 front_of : (raw : List ℕ) {u : List ℕ} → EndsText u → BlankFront raw u
-front_of [] {u} ends = here [] u (ends_stop ends)
+front_of [] {u} ends = here [] u (ends_stop u ends)
 front_of (b ∷ []) {u} ends = from (eqb b 32 || eqb b 10) refl
   where
     from : (v : Bool) → (eqb b 32 || eqb b 10) ≡ v → BlankFront (b ∷ []) u
-    from true e = record { blanks = b ∷ []; are = blank_front b [] e no_blank; rest = []; parts = refl; stop = ends_stop ends }
+    from true e = record { blanks = b ∷ []; are = blank_front b [] e no_blank; rest = []; parts = refl; stop = ends_stop u ends }
     from false e = here (b ∷ []) u (one_stop b ends e)
 front_of (b ∷ c ∷ t) {u} ends = from (eqb b 32 || eqb b 10) (eqb b 13 && eqb c 10) refl refl (front_of (c ∷ t) ends) (front_of t ends)
   where

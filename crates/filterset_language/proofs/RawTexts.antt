@@ -4,6 +4,7 @@ use Rattle.std.specs.Prelude.{encode_utf8}
 use Rattle.std.specs.Option.{option_and_then}
 use Rattle.std.proofs.lemmas.Bool.{ne_eqb, eqb-true}
 use Rattle.std.proofs.lemmas.Bool.Decides.{eqb_tells, nat_tests}
+use Rattle.std.proofs.Math.Seq.{drop-nil}
 use Rattle.std.proofs.lemmas.List.{append-nil, take-append-drop, drop_at, length-take}
 use Rattle.std.proofs.lemmas.Str.{length-encode, len_utf8_bounds}
 use Rattle.filterset_language.specs.Text.{is_plain, Spelled, nothing, plain, escaped}
@@ -194,10 +195,6 @@ value_is v w r o e =
     let second : m.0.1 ≡ r = ap (λ (y : List ℕ × List ℕ). y.1) m.2 in
     (m.0.0, m.1 ∙ ap (λ (y : List ℕ). Some (m.0.0, y)) second, first)
 
-drop_nothing : (k : ℕ) → ◌≡◌ {A = List ℕ} (drop k []) []
-drop_nothing zero = refl
-drop_nothing (suc k) = refl
-
 ends_there : (b : ℕ) (t : List ℕ) → is_plain b ≡ false → eqb b 92 ≡ false → EndsText (b ∷ t)
 ends_there b t no_plain no_escape =
     ⊎_elim
@@ -213,7 +210,7 @@ raw_takes [] k value rest e =
     let pair : ([], []) ≡ (value, rest) = some_same ([], []) (value, rest) e in
     let v : [] ≡ value = ap (λ (x : List ℕ × List ℕ). x.0) pair in
     let r : [] ≡ rest = ap (λ (x : List ℕ × List ℕ). x.1) pair in
-    record { raw = []; spelled = subst (Spelled []) v nothing; parts = drop_nothing k ∙ r; ends = subst EndsText r (closed at_end) }
+    record { raw = []; spelled = subst (Spelled []) v nothing; parts = drop-nil k ∙ r; ends = subst EndsText r (closed at_end) }
 raw_takes (b ∷ t) (suc k) value rest e = raw_takes t k value rest e
 raw_takes (b ∷ t) zero value rest e = from (is_plain b) (eqb b 92) refl refl (raw_takes t) e
   where
@@ -273,12 +270,6 @@ text_takes p value q e =
       some = spelled_none r.spelled u.0;
       ends = subst EndsText rest r.ends;
     }
-
--- a raw text has one value
-pub one_value : (raw v w : List ℕ) → Spelled raw v → Spelled raw w → v ≡ w
-one_value raw v w x y =
-    let pair = some_same {A = List ℕ × List ℕ} (v, []) (w, []) (sym (raw_read [] x (closed at_end)) ∙ raw_read [] y (closed at_end)) in
-    ap (λ (z : List ℕ × List ℕ). z.0) pair
 
 -- ---- the loop
 

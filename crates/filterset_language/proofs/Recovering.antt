@@ -1,16 +1,13 @@
 -- One step after another, of a reader that goes on after a fault.
-use Rattle.std.proofs.Common.{◌≡◌, ℕ, ◌+◌, ◌≤◌, List, [], ◌∷◌, ◌++◌, length, true, false, Option, Some, None, Result, Ok, Err, refl, ap, ◌∙◌, subst, arith, ⊎_elim, length-append}
+use Rattle.std.proofs.Common.{◌≡◌, ℕ, ◌+◌, ◌≤◌, List, [], ◌∷◌, ◌++◌, length, false, Option, Some, None, Result, Ok, Err, refl, ap, ◌∙◌, subst, arith, ⊎_elim, length-append}
 use Rattle.std.specs.Prelude.{is_some, IfOk}
 use Rattle.std.specs.Option.{option_map}
 use Rattle.std.proofs.lemmas.Bool.{cases_lt}
 use Rattle.std.proofs.lemmas.List.Elements.{All-append, All-cons, All-nil}
 use Rattle.filterset_faults.specs.declared.error.ParseSingleError.{ParseSingleError}
-use Rattle.filterset_language.specs.Place.{Place}
 use Rattle.filterset_language.specs.Descent.{◌>>=◌}
-use Rattle.filterset_language.specs.Recovery.{Recovers, Found, Keeps, beside}
-
-abbrev Faults : Type 0
-Faults = List ParseSingleError
+use Rattle.filterset_language.specs.Recovery.{Recovers, Found, Keeps}
+use Rattle.filterset_language.specs.Outcome.{Faults}
 
 pub bind_some : {A B : Type 0} (r : Option A) (x : A) (k : A → Option B) → r ≡ Some x → (r >>= k) ≡ k x
 bind_some r x k e = rw e refl
@@ -30,44 +27,6 @@ recovers_then f g h x y r k a b = record {
       ⊎_elim
       (λ lt. bind_none r k (a.fault lt))
       (λ le. bind_some r x k (a.clean (omega (arith, a.grows))).1 ∙ b.fault (omega (arith, a.grows)))
-      (cases_lt (length f) (length g));
-}
-
--- a value, changed
-pub recovers_map : {A B : Type 0} (f g : Faults) (v : Option A) (q : Place) (r : Option (A × Place)) (change : A → B) → Recovers f g (beside q v) r → Recovers f g (beside q (option_map change v)) (r >>= λ x. Some (change x.0, x.1))
-recovers_map f g None q r change a = record {
-  grows = a.grows;
-  clean = λ same. let e = a.clean same in (e.0, bind_none r _ e.1, e.2);
-  fault = λ more. bind_none r _ (a.fault more);
-}
-recovers_map f g (Some v) q r change a = record {
-  grows = a.grows;
-  clean = λ same. let e = a.clean same in (e.0, bind_some r (v, q) _ e.1, refl);
-  fault = λ more. bind_none r _ (a.fault more);
-}
-
--- a value, and a step behind it
-pub recovers_pair : {A B : Type 0} (f g h : Faults) (v : Option A) (q p : Place) (r : Option (A × Place)) (s : Place → Option Place) (make : A → Place → B) → Recovers f g (beside q v) r → Recovers g h (Some p) (s q)
-    → Recovers f h (beside p (option_map (λ a. make a q) v)) (r >>= λ x. s x.1 >>= λ u. Some (make x.0 x.1, u))
-recovers_pair f g h None q p r s make a b = record {
-  grows = omega (arith, a.grows, b.grows);
-  clean = λ same. let e = a.clean (omega (arith, a.grows, b.grows)) in absurd (let no : false ≡ true = e.2 in cc);
-  fault = λ more.
-      ⊎_elim
-      (λ lt. bind_none r _ (a.fault lt))
-      (λ le. bind_none r _ (a.clean (omega (arith, a.grows))).1)
-      (cases_lt (length f) (length g));
-}
-recovers_pair f g h (Some v) q p r s make a b = record {
-  grows = omega (arith, a.grows, b.grows);
-  clean = λ same.
-      let e = a.clean (omega (arith, a.grows, b.grows)) in
-      let d = b.clean (omega (arith, a.grows, b.grows)) in
-      (d.0 ∙ e.0, bind_some r (v, q) _ e.1 ∙ bind_some (s q) p _ d.1, refl);
-  fault = λ more.
-      ⊎_elim
-      (λ lt. bind_none r _ (a.fault lt))
-      (λ le. bind_some r (v, q) _ (a.clean (omega (arith, a.grows))).1 ∙ bind_none (s q) _ (b.fault (omega (arith, a.grows))))
       (cases_lt (length f) (length g));
 }
 

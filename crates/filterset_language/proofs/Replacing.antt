@@ -3,6 +3,7 @@ use Rattle.std.proofs.Common.{◌≡◌, ◌≢◌, ℕ, zero, suc, ◌+◌, ◌
 use Rattle.std.specs.Prelude.{◌&&◌}
 use Rattle.std.specs.Str.Pattern.{FindsText}
 use Rattle.std.specs.Str.Replace.{ReplacesMatches}
+use Rattle.std.proofs.Math.Seq.{drop-nil}
 use Rattle.std.proofs.lemmas.Bool.{eqb-true}
 use Rattle.filterset_language.specs.Text.{with_slashes}
 
@@ -25,15 +26,11 @@ none_replaced (b ∷ c ∷ t) h = from (eqb b 92 && eqb c 47) refl (none_replace
     from true e on = absurd (h zero (omega arith) t (front_is b c t e))
     from false e on = ap (λ (x : List ℕ). b ∷ x) on
 
-drop_nothing : (k : ℕ) → ◌≡◌ {A = List ℕ} (drop k []) []
-drop_nothing zero = refl
-drop_nothing (suc k) = refl
-
 -- the first one, and what stands behind it
 first_replaced : (a : ℕ) (s tail : List ℕ) → ((i : ℕ) → i < a → (rest : List ℕ) → drop i s ≢ 92 ∷ 47 ∷ rest) → drop a s ≡ 92 ∷ 47 ∷ tail → with_slashes s ≡ take a s ++ (47 ∷ with_slashes tail)
 first_replaced zero s tail h e = ap with_slashes e
 first_replaced (suc a) [] tail h e = absurd cc
-first_replaced (suc a) (b ∷ []) tail h e = absurd (let f : [] ≡ 92 ∷ 47 ∷ tail = sym (drop_nothing a) ∙ e in cc)
+first_replaced (suc a) (b ∷ []) tail h e = absurd (let f : [] ≡ 92 ∷ 47 ∷ tail = sym (drop-nil a) ∙ e in cc)
 first_replaced (suc a) (b ∷ c ∷ t) tail h e = from (eqb b 92 && eqb c 47) refl (first_replaced a (c ∷ t) tail (λ k lt rest. h (suc k) (omega arith) rest) e)
   where
     from : (v : Bool) → (eqb b 92 && eqb c 47) ≡ v → with_slashes (c ∷ t) ≡ take a (c ∷ t) ++ (47 ∷ with_slashes tail) → cond v (47 ∷ with_slashes t) (b ∷ with_slashes (c ∷ t)) ≡ b ∷ (take a (c ∷ t) ++ (47 ∷ with_slashes tail))

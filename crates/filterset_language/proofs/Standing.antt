@@ -71,10 +71,6 @@ pub close_first : (u : List ℕ) → blank_len (41 ∷ u) ≡ 0
 close_first [] = refl
 close_first (b ∷ u) = refl
 
-pub comma_first : (u : List ℕ) → blank_len (44 ∷ u) ≡ 0
-comma_first [] = refl
-comma_first (b ∷ u) = refl
-
 not_first : (op : NotOperator) (u : List ℕ) → blank_len (not_text op ++ u) ≡ 0
 not_first LiteralNot u = refl
 not_first Exclamation [] = refl

@@ -22,7 +22,7 @@ use Rattle.filterset_language.specs.Reading.{name_text, predicate_of}
 use Rattle.filterset_matchers.specs.Matcher.{Matcher, Equal, Contains, Glob, Regex}
 use Rattle.filterset_language.specs.Tree as tree
 use Rattle.filterset_language.specs.Tree.{Leaf, Predicate, Kind, Test, Matching, Platform, Default}
-use Rattle.filterset_language.specs.Faults.{EndsText, comma, closed}
+use Rattle.filterset_language.specs.Faults.{EndsText}
 use Rattle.filterset_language.specs.Grammar.{Name, begins_plainly, implicit_of, MatcherText, BehindMatcher, Call, LeafText}
 use Rattle.filterset_language.specs.Grammar as grammar
 use Rattle.filterset_language.specs.declared.parsing.words.TextMatching.{TextMatching}
@@ -32,7 +32,7 @@ use Rattle.filterset_language.specs.declared.parsing.words.PredicateName.TheVari
 use Rattle.filterset_language.specs.Descent.{◌>>=◌, regex_at, implicit_matching, signed_or, made, signed_text, text_matcher_at, matcher_at, between, matching_at, platform_at, bare_end_at, bare_at, default_at, argument_at, leaf_at}
 use Rattle.filterset_language.proofs.Places.{behind_some, one_blank, one_newline, skip_stop}
 use Rattle.filterset_language.proofs.White.{white_from}
-use Rattle.filterset_language.proofs.Closing.{close_within, closes_stop}
+use Rattle.filterset_language.proofs.Closing.{close_within, ends_stop}
 use Rattle.filterset_language.proofs.Sizes.{span_same}
 use Rattle.filterset_language.proofs.RawTexts.{text_takes}
 use Rattle.filterset_language.proofs.BodyReading.{regex_takes}
@@ -41,14 +41,6 @@ use Rattle.filterset_language.proofs.PlatformArguments.{names_before, with_blank
 use Rattle.filterset_language.proofs.Takes.{bind_is, choose_is, is_some, Takes, Takes-then, skip_takes, after_takes}
 
 -- ---- what ends a text
-
-ends_stop : (t : List ℕ) → EndsText t → blank_len t ≡ 0
-ends_stop _ (comma {t}) = first t
-  where
-    first : (t : List ℕ) → blank_len (44 ∷ t) ≡ 0
-    first [] = refl
-    first (b ∷ t) = refl
-ends_stop _ (closed h) = closes_stop _ h
 
 -- behind a text no blank is skipped
 none_skipped : (q : Place) → EndsText q.rest → skip q ≡ q

@@ -1,7 +1,7 @@
 -- A platform's name with white space round it is what trims to the name.
 use Rattle.std.proofs.Common.{◌≡◌, ℕ, Bool, true, false, cond, eqb, List, [], ◌∷◌, ◌++◌, length, Option, Some, None, refl, sym, ap, ◌∙◌, arith, IsUtf8}
-use Rattle.std.specs.Prelude.{All, IsTrue, encode_utf8_all, codes, ◌&&◌}
-use Rattle.std.specs.Char.{IsScalar, is_whitespace}
+use Rattle.std.specs.Prelude.{All, encode_utf8_all, codes, ◌&&◌}
+use Rattle.std.specs.Char.{is_whitespace}
 use Rattle.std.specs.Str.{is_utf8, bytes_eq, trim, trim_start, trim_end, skip_leading_whitespace, drop_trailing_whitespace}
 use lib.Utf8.{encode, scalar, scalars}
 use Rattle.std.proofs.lemmas.Bool.{and_from, and_parts, eqb-true}
@@ -13,9 +13,7 @@ use Rattle.filterset_language.specs.Platforms.{Names, platform_from, platform_in
 use Rattle.filterset_graph.specs.Platforms.{platform_text}
 use Rattle.filterset_graph.specs.declared.package.BuildPlatform.{BuildPlatform}
 use Rattle.filterset_graph.specs.declared.package.BuildPlatform.TheVariants.{Target, Host}
-
-abbrev pub IsWhite : ℕ → Type 0
-IsWhite c = IsScalar c × IsTrue (is_whitespace c)
+use Rattle.filterset_language.proofs.White.{IsWhite, white_skipped, white_scalars}
 
 -- ---- what names a platform is trimmed to its name
 
@@ -24,19 +22,6 @@ scalars_append [] ys h i = i
 scalars_append (x ∷ xs) ys h i =
     let both = and_parts (scalar x) (scalars xs) h in
     and_from (scalar x) (scalars (xs ++ ys)) both.0 (scalars_append xs ys both.1 i)
-
-pub white_scalars : (cs : List ℕ) → All IsWhite cs → scalars cs ≡ true
-white_scalars [] h = refl
-white_scalars (c ∷ cs) h = and_from (scalar c) (scalars cs) (All-head IsWhite c cs h).0 (white_scalars cs (All-tail IsWhite c cs h))
-
-pub white_skipped : (cs t : List ℕ) → All IsWhite cs → skip_leading_whitespace (cs ++ t) ≡ skip_leading_whitespace t
-white_skipped [] t h = refl
-white_skipped (c ∷ cs) t h =
-    let is : is_whitespace c ≡ true = (All-head IsWhite c cs h).1 in
-    let first : skip_leading_whitespace (c ∷ (cs ++ t)) ≡ skip_leading_whitespace (cs ++ t) =
-    ap (λ (v : Bool). cond v (skip_leading_whitespace (cs ++ t)) (c ∷ (cs ++ t))) is
-    in
-    first ∙ white_skipped cs t (All-tail IsWhite c cs h)
 
 white_dropped : (cs : List ℕ) → All IsWhite cs → drop_trailing_whitespace cs ≡ []
 white_dropped [] h = refl
@@ -208,9 +193,6 @@ platform_takes s p e = from (is_utf8 s) refl e
     from : (v : Bool) → is_utf8 s ≡ v → cond v (platform_from (trim s)) None ≡ Some p → Names s p
     from true h e = trimmed_names p s (IsUtf8-from_is_utf8 s h) (platform_is (trim s) p e)
     from false h e = absurd cc
-
-pub one_platform : (s : List ℕ) (p q : BuildPlatform) → Names s p → Names s q → p ≡ q
-one_platform s p q a b = let e : Some p ≡ Some q = sym (platform_again p s a) ∙ platform_again q s b in cc
 
 -- what the code finds: the name that is left, or neither
 pub platform_found : (p : BuildPlatform) (s r : List ℕ) → IsUtf8 s → r ≡ trim s → r ≡ platform_text p → Names s p

@@ -180,7 +180,7 @@ pub data Banned : FiltersetKind → Leaf SourceSpan → BannedPredicateReason �
 
 -- ---- faults
 
--- What stands at the span of a fault. `UnsupportedExpression` and `Unknown` are never reported.
+-- What stands at the span of a fault that the parser reports. It never reports `UnsupportedExpression` and `Unknown`.
 abbrev pub StandsThere : List ℕ → ParseSingleError → Type 0
 StandsThere text (ExpectedOpenParenthesis s) = IsPoint s × (BehindBlanks (codes "(") (onward text s) → ⊥) × ((name : List ℕ) × IsName name × EndsWith (before text s) name)
 StandsThere text (ExpectedCloseParenthesis s) = IsPoint s × (BehindBlanks (codes ")") (onward text s) → ⊥)

@@ -13,7 +13,7 @@ use Rattle.filterset_faults.specs.declared.span.SourceSpan.{SourceSpan}
 use Rattle.filterset_faults.specs.declared.error.ParseSingleError.{ParseSingleError}
 use Rattle.filterset_faults.specs.declared.error.ParseSingleError.TheVariants.{InvalidRegexWithoutMessage}
 
-abbrev Faults : Type 0
+abbrev pub Faults : Type 0
 Faults = List ParseSingleError
 
 -- What stands there is y: it comes without a new fault and is good, or it does not come, and there are new faults, all on it.

@@ -160,6 +160,16 @@ pub fn misplaced_operator(input: Input<'_>) -> Option<Misplaced<'_>>
     ensures value { IfSome result (λ x. IsMisplaced (place_of input.entry) x.op.now x.suggest.now (place_of x.rest)) }
     ensures behind { IfSome result (λ x. IsBehind input.entry x.rest) }
 {
+    match misplaced_word(input) {
+        Some(found) => Some(found),
+        None => misplaced_sign(input),
+    }
+}
+
+fn misplaced_word(input: Input<'_>) -> Option<Misplaced<'_>>
+    ensures value { IfSome result (λ x. IsMisplaced (place_of input.entry) x.op.now x.suggest.now (place_of x.rest)) }
+    ensures behind { IfSome result (λ x. IsBehind input.entry x.rest) }
+{
     if let Some(rest) = input.after_word("and") {
         return Some(Misplaced {
             op: "and",
@@ -181,13 +191,18 @@ pub fn misplaced_operator(input: Input<'_>) -> Option<Misplaced<'_>>
             rest,
         });
     }
-    if let Some(rest) = input.after_word("OR") {
-        return Some(Misplaced {
-            op: "OR",
-            suggest: "or",
-            rest,
-        });
-    }
+    let rest = input.after_word("OR")?;
+    Some(Misplaced {
+        op: "OR",
+        suggest: "or",
+        rest,
+    })
+}
+
+fn misplaced_sign(input: Input<'_>) -> Option<Misplaced<'_>>
+    ensures value { IfSome result (λ x. IsMisplaced (place_of input.entry) x.op.now x.suggest.now (place_of x.rest)) }
+    ensures behind { IfSome result (λ x. IsBehind input.entry x.rest) }
+{
     if let Some(rest) = input.after("&&") {
         return Some(Misplaced {
             op: "&&",

@@ -7,7 +7,7 @@ ghost use Rattle.filterset_language.specs.Faults.{Stands};
 ghost use Rattle.filterset_language.specs.Parsed.{Reads, Comes, Refuses, SpellsNothing, Stops};
 ghost use Rattle.filterset_language.specs.Descent.{boxed_tree};
 ghost use Rattle.filterset_language.specs.Whole.{Wholly};
-ghost use Rattle.filterset_faults.specs.Span.{offset_of};
+ghost use Rattle.filterset_faults.specs.Span.{span, offset_of};
 ghost use Rattle.filterset_faults.specs.declared.span.SourceSpan.{SourceSpan};
 ghost use Rattle.filterset_faults.specs.declared.error.ParseSingleError.{ParseSingleError};
 ghost use Rattle.filterset_faults.specs.declared.error.ParseSingleError.TheVariants.{ExpectedEndOfExpression};
@@ -92,8 +92,16 @@ fn read(alloc: Global, text: &str) -> Result<Parsed, AllocError>
     if whole.rest.skip_blanks().rest.is_empty() {
         return Ok(Parsed { tree, faults });
     }
-    faults.push(ParseSingleError::ExpectedEndOfExpression(whole.rest.to_end()))?;
+    goes_on(&mut faults, whole.rest)?;
     Ok(Parsed { tree, faults })
+}
+
+/// Reports that the text goes on at `rest`, behind the expression.
+fn goes_on(faults: &mut Vec<ParseSingleError>, rest: Input<'_>) -> Result<(), AllocError>
+    ensures { IfOk result (λ u. faults.new.items ≡ faults.old.items ++ ExpectedEndOfExpression (span rest.entry.offset (length rest.entry.rest.now)) ∷ []) }
+{
+    faults.push(ParseSingleError::ExpectedEndOfExpression(rest.to_end()))?;
+    Ok(())
 }
 
 fn unboxed(tree: Option<Box<ParsedExpr>>) -> Option<ParsedExpr>
