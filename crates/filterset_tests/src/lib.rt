@@ -1,9 +1,14 @@
-//! Tests of the public calls of the crates below, in one crate, so that none of these is proved twice.
+//! Tests of values, globs, matchers and filtersets by the public calls of the crates below, in a crate of their own, so
+//! that none of these crates is proved twice.
 //!
 //! Expected values come from the specification. A test whose name ends in `_or_wants_memory` passes
 //! where a call answers want of memory too, since a script refuses each request for memory in turn.
 #![tactic(auto)]
 
+#[cfg(test)]
+mod answers;
+#[cfg(test)]
+mod filtersets;
 #[cfg(test)]
 mod globs;
 #[cfg(test)]
@@ -12,3 +17,5 @@ mod graph;
 mod matchers;
 #[cfg(test)]
 mod support;
+#[cfg(test)]
+mod unsupported;

@@ -1,7 +1,5 @@
 //! What the tests share: why one ends early, and values written out.
 use filterset_graph::{DependsRefusal, GraphRefusal, PackageGraph, PackageId, PackageMetadata};
-use nextest_filtering::ParsedExpr;
-use nextest_filtering::errors::ParseSingleError;
 use std::alloc::{AllocError, AllocFailed, Global};
 
 /// Why a test ends early.
@@ -96,27 +94,3 @@ pub const SEVEN: [Row<'static>; 7] = [
     ("crate_f", true, &["crate_d"]),
     ("crate_g", true, &["crate_e"]),
 ];
-
-/// The faults, each by its code and its span.
-pub fn described(alloc: Global, faults: &[ParseSingleError]) -> Result<String, AllocError> {
-    let mut text = String::new(alloc);
-    for fault in faults {
-        if !text.is_empty() {
-            text.push_str(", ")?;
-        }
-        if let Some(span) = fault.span() {
-            let code = fault.code();
-            let (offset, len) = (span.offset(), span.len());
-            text.push_str(format!(in alloc; "{code} ({offset}, {len})")?.as_str())?;
-        }
-    }
-    Ok(text)
-}
-
-/// What a tree prints, or that there is none.
-pub fn printed(alloc: Global, tree: &Option<ParsedExpr>) -> Result<String, AllocError> {
-    match tree {
-        Some(tree) => format!(in alloc; "{tree}"),
-        None => format!(in alloc; "no tree"),
-    }
-}

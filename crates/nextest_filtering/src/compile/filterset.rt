@@ -47,12 +47,9 @@ fn read_tree(alloc: Global, text: &str) -> Result<ParsedExpr, Stop>
     ensures refused { IfErr result (IsStopOf text.now) }
 {
     let Parsed { tree, faults } = ParsedExpr::parse_with_faults(alloc, text)?;
-    if !faults.is_empty() {
-        return Err(Stop::Faults(faults));
-    }
     match tree {
-        Some(parsed) => Ok(parsed),
-        None => Err(Stop::Faults(faults)),
+        Some(parsed) if faults.is_empty() => Ok(parsed),
+        _ => Err(Stop::Faults(faults)),
     }
 }
 

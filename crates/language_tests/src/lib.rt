@@ -1,0 +1,26 @@
+//! Tests of reading texts: trees, spans, prints, and the faults of texts that are no filtersets.
+//!
+//! Expected values come from the specification. A test whose name ends in `_or_wants_memory` passes
+//! where a call answers want of memory too, since a script refuses each request for memory in turn.
+#![tactic(auto)]
+
+#[cfg(test)]
+mod arguments;
+#[cfg(test)]
+mod faults;
+#[cfg(test)]
+mod language;
+#[cfg(test)]
+mod leaves;
+#[cfg(test)]
+mod operators;
+#[cfg(test)]
+mod patterns;
+#[cfg(test)]
+mod recovery;
+#[cfg(test)]
+mod support;
+#[cfg(test)]
+mod texts;
+#[cfg(test)]
+mod trees;
