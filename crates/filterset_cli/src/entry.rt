@@ -48,6 +48,7 @@ pub trait Entry: Drop {
     /// The value stands for some entry.
     ghost has_shape: { Data → Type 0 };
 
+    /// The entry that the value stands for. It is refused for want of memory, or where the value has another shape.
     fn read(alloc: Global, value: &Value) -> Result<Self, RecordRefusal>
     where
         Self: Sized,

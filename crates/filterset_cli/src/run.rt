@@ -14,6 +14,8 @@ use std::alloc::Global;
 
 /// Reads a record to its end, and then writes its report. The report is made before the first byte
 /// of it is written.
+///
+/// It answers how the record fared, or that memory was wanting or a read or a write failed.
 pub fn run<R: Source, W: Sink>(
     alloc: Global,
     input: &mut R,

@@ -23,7 +23,7 @@ pub trait Sink {
 }
 
 /// Any writer of std as a `Sink`.
-#[derive(Drop)]
+#[derive(Debug, Drop)]
 pub struct ToWriter<W: Write> {
     inner: W,
     failed: bool,

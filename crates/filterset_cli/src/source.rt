@@ -28,7 +28,7 @@ pub trait Source {
 }
 
 /// Any reader of std as a `Source`.
-#[derive(Drop)]
+#[derive(Debug, Drop)]
 pub struct FromReader<R: Read> {
     inner: R,
     failed: bool,

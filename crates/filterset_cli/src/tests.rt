@@ -7,6 +7,7 @@ use crate::status;
 use std::alloc::{AllocError, Global};
 use std::io;
 use std::io::ErrorKind;
+use std::process::Abort;
 use std::test::Fail;
 
 /// Gives one byte a read, and fails at the read before which so many were good.
@@ -226,6 +227,40 @@ fn refused_records(rt: HostRuntime) -> Result<(), Fail> {
     Ok(())
 }
 
+/// The record is refused, with this report.
+fn refuses(rt: &(impl AllocGlobal + Abort), record: &str, report: &str) -> Result<(), Fail> {
+    let (ended, written) = answer(rt.alloc(), record.as_bytes())?;
+    assert_eq!(rt; ended, Ok(Outcome::RecordRefused), "at {record}");
+    assert!(rt; written.as_slice() == report.as_bytes(), "at {record}");
+    Ok(())
+}
+
+#[test]
+fn records_with_other_keys_are_refused(rt: HostRuntime) -> Result<(), Fail> {
+    for record in [
+        r#"{"packages":[],"filtersets":[]}"#,
+        r#"{"groups":[],"filtersets":[]}"#,
+        r#"{"default":"all()","filtersets":[]}"#,
+        r#"{"filtersets":[{"text":"all()","kind":"test"}]}"#,
+        r#"{"filtersets":[],"binaries":[{"package":"p","id":"p","name":"p","kind":"lib","platform":"host","path":"x"}]}"#,
+        r#"{"filtersets":[],"binaries":[{"package":"p","id":"p","name":"p","kind":"lib","platform":"host","tests":[{"name":"x","group":"g"}]}]}"#,
+    ] {
+        refuses(&rt, record, NO_RECORD)?;
+    }
+    Ok(())
+}
+
+#[test]
+fn texts_that_are_no_json_are_refused(rt: HostRuntime) -> Result<(), Fail> {
+    let mut open = String::new(rt.alloc());
+    for _ in 0..200 {
+        open.push('[')?;
+    }
+    refuses(&rt, open.as_str(), NO_JSON)?;
+    refuses(&rt, "{\"filtersets\":[\"\u{1}\"]}", NO_JSON)?;
+    refuses(&rt, "\u{feff}{\"filtersets\":[]}", NO_JSON)
+}
+
 #[test]
 fn fronts(rt: HostRuntime) -> Result<(), Fail> {
     for len in 0..STORED.len() {
@@ -307,4 +342,20 @@ fn statuses(rt: HostRuntime) {
     assert_eq!(rt; status(Ok(Outcome::SomeRefused)), 1);
     assert_eq!(rt; status(Ok(Outcome::RecordRefused)), 2);
     assert_eq!(rt; status(Err(RunFault::Memory(AllocError))), 3);
+    assert_eq!(rt; status(Err(RunFault::Read)), 3);
+    assert_eq!(rt; status(Err(RunFault::Write)), 3);
+}
+
+/// The fault displays so.
+fn displays(rt: &(impl AllocGlobal + Abort), fault: RunFault, wanted: &str) -> Result<(), Fail> {
+    let text = format!(in rt.alloc(); "{fault}")?;
+    assert!(rt; text.as_str() == wanted, "{text}");
+    Ok(())
+}
+
+#[test]
+fn faults_display_in_words(rt: HostRuntime) -> Result<(), Fail> {
+    displays(&rt, RunFault::Memory(AllocError), "memory refused")?;
+    displays(&rt, RunFault::Read, "read failed")?;
+    displays(&rt, RunFault::Write, "write failed")
 }

@@ -3,6 +3,8 @@ use Rattle.std.proofs.Common.{◌≡◌, ℕ, suc, ◌+◌, ◌<◌, ◌≤◌, 
 use Rattle.std.specs.Prelude.{◌&&◌, not}
 use Rattle.std.proofs.lemmas.Bool.{eqb-true, eqb-false}
 use Rattle.std.proofs.lemmas.List.{take-append-drop, take_at, drop_at, length-take}
+use Rattle.std.proofs.lemmas.Str.{IsCharBoundary-from_rest}
+use Rattle.std.proofs.Math.Seq.{get_or-append_seam}
 use Rattle.filterset_faults.specs.Span.{span}
 use Rattle.filterset_faults.specs.declared.span.SourceSpan.{SourceSpan}
 use Rattle.filterset_faults.specs.declared.error.ParseSingleError.TheVariants.{InvalidRegexWithoutMessage}
@@ -15,7 +17,7 @@ use Rattle.filterset_language.specs.Recovery.{Found}
 use Rattle.filterset_language.specs.declared.text.Input.{Input}
 use Rattle.filterset_language.proofs.Takes.{after_takes}
 use Rattle.filterset_language.proofs.EscapeReading.{map_is}
-use Rattle.filterset_language.proofs.TextFaults.{size}
+use Rattle.filterset_language.proofs.TextFaults.{size, begins_here}
 
 pub body_within : (before : ℕ) (t : List ℕ) → body_len before t ≤ length t
 body_within before [] = omega arith
@@ -142,6 +144,10 @@ body_piece i pattern s q t =
     let cut : take n (drop i.offset i.text.now) ≡ t.body = ap (take n) (i.seam.onward ∙ t.parts) ∙ take_at t.body (47 ∷ q.rest) n refl in
     subst (λ (x : SourceSpan). Body (piece i.text.now x) pattern) (sym t.span_is) (subst (λ (x : List ℕ). Body x pattern) (sym cut) t.is)
 
+-- a plain byte stands between two characters
+seam_between : (front : List ℕ) (b : ℕ) (rest : List ℕ) → b < 128 → IsCharBoundary (front ++ (b ∷ rest)) (length front)
+seam_between front b rest low = (omega (arith, length-append front (b ∷ rest)), λ lt high. let is = get_or-append_seam front b rest 0 in absurd (omega (arith, is)))
+
 -- a body that is refused, where a `/` stands before it
 pub refused_body_found : (i : Input) (pattern : List ℕ) (s : SourceSpan) (q : Place) → EndsWith (take i.offset i.text.now) (47 ∷ []) → BodyTaken (place_of i) pattern s q → Found i.text.now (InvalidRegexWithoutMessage s)
 refused_body_found i pattern s q slash t =
@@ -158,6 +164,8 @@ refused_body_found i pattern s q slash t =
     (record {
       stands = record {
         within = omega arith;
+        begins = begins_here i;
+        ends = IsCharBoundary-from_rest i.text.now i.offset n i.seam.within (rw onward (seam_between t.body 47 q.rest (omega arith)));
         there = ((pattern, subst (λ (x : List ℕ). Body x pattern) (sym cut) t.is), slash, record { rest = q.rest; parts = behind });
       };
       inside = refl;

@@ -19,12 +19,14 @@ use Rattle.filterset_faults.specs.declared.span.SourceSpan.{SourceSpan}
 use Rattle.filterset_faults.specs.declared.error.ParseSingleError.{ParseSingleError}
 use Rattle.filterset_faults.specs.declared.error.ParseSingleError.TheVariants.{ExpectedEndOfExpression}
 use Rattle.filterset_language.proofs.Places.{skip_again}
-use Rattle.filterset_language.proofs.TextFaults.{size}
+use Rattle.filterset_language.proofs.TextFaults.{size, begins_here, rest_ends}
 use Rattle.filterset_language.proofs.Takes.{is_some}
 
 end_found : (i : Input) (s : Place) → s ≡ skip (place_of i) → s.rest ≢ [] → Stands i.text.now (ExpectedEndOfExpression (span i.offset (length i.rest.now)))
 end_found i s skipped some = record {
   within = let e = size i in omega arith;
+  begins = begins_here i;
+  ends = rest_ends i;
   there = (
     size i,
     λ are.

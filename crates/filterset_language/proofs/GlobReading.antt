@@ -23,7 +23,7 @@ use Rattle.filterset_language.specs.Globs.{glob_by, glob_in}
 use Rattle.filterset_language.specs.Faults.{GlobFaultStands, Holds}
 use Rattle.filterset_language.specs.Recovery.{Found}
 use Rattle.filterset_language.specs.declared.text.Input.{Input}
-use Rattle.filterset_language.proofs.TextFaults.{size}
+use Rattle.filterset_language.proofs.TextFaults.{size, begins_here, piece_ends}
 use Rattle.filterset_language.proofs.PlatformArguments.{piece_spelled}
 
 -- a glob is read
@@ -74,6 +74,8 @@ pub glob_found : (i e : Input) (value : List ℕ) (error : GlobConstructError) �
 glob_found i e value error utf8 s never stands = record {
   stands = record {
     within = let all = size i in let parts = ap length s.parts in omega (arith, parts, s.offset, length-append s.raw e.rest.now);
+    begins = begins_here i;
+    ends = piece_ends i e s.raw s.parts s.offset;
     there = (value, piece_spelled i e value s, (λ tokens is. never tokens is), fault_stands value error utf8 stands);
   };
   inside = refl;

@@ -1,13 +1,30 @@
 -- Steps over a text.
-use Rattle.std.proofs.Common.{◌≡◌, ◌≢◌, ℕ, zero, ◌+◌, ◌<◌, ◌≤◌, Bool, true, false, cond, eqb, List, [], ◌∷◌, ◌++◌, length, drop, get_or, IsUtf8, IsCharBoundary, Some, None, refl, sym, ap, ◌∙◌, arith, ⊎_elim}
+use Rattle.std.proofs.Common.{◌≡◌, ◌≢◌, ℕ, zero, ◌+◌, ◌<◌, ◌≤◌, Bool, true, false, cond, eqb, List, [], ◌∷◌, ◌++◌, length, drop, get_or, IsUtf8, IsCharBoundary, Some, None, refl, sym, ap, ◌∙◌, arith, length-drop, ⊎_elim}
 use Rattle.std.specs.Prelude.{◌||◌, ◌&&◌}
 use Rattle.std.proofs.lemmas.Bool.{eq-eqb}
 use Rattle.std.proofs.lemmas.Bool.Decides.{eqb_tells, nat_tests}
-use Rattle.std.proofs.lemmas.Str.{IsCharBoundary-after_ascii, IsCharBoundary-start}
+use Rattle.std.proofs.lemmas.List.{drop-drop}
+use Rattle.std.proofs.lemmas.Str.{is_utf8-from_IsUtf8, IsCharBoundary-after_ascii, IsCharBoundary-start}
 use Rattle.filterset_language.specs.Front.{blank_len}
+use Rattle.filterset_language.specs.Seam.{IsSeam}
 use Rattle.filterset_language.specs.declared.text.Input.{Input}
 use Rattle.filterset_language.specs.Text.{Blanks, no_blank, space, newline, return_newline}
 use Rattle.filterset_language.specs.Place.{place, behind, skip_from, IsBehind, IsAtOrBehind}
+
+-- an input some bytes further
+pub seam_on : (i : Input) (n : ℕ) (rest : List ℕ) → n ≤ length i.rest.now → drop n i.rest.now ≡ rest → IsUtf8 rest → IsSeam i.text.now rest (i.offset + n)
+seam_on i n rest le is utf8 =
+    let e = ap length i.seam.onward in
+    let w = i.seam.within in
+    record {
+      within = omega (arith, e, w, le, length-drop i.offset i.text.now);
+      onward = sym (drop-drop n i.offset i.text.now) ∙ ap (drop n) i.seam.onward ∙ is;
+      utf8 = is_utf8-from_IsUtf8 rest utf8;
+    }
+
+-- the whole text
+pub seam_start : (t : List ℕ) → IsUtf8 t → IsSeam t t 0
+seam_start t utf8 = record { within = omega arith; onward = refl; utf8 = is_utf8-from_IsUtf8 t utf8 }
 
 pub behind_same : (w t : List ℕ) → behind w (w ++ t) ≡ Some t
 behind_same [] t = refl

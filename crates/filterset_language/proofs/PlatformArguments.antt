@@ -23,7 +23,7 @@ use Rattle.filterset_language.proofs.Places.{skip_again}
 use Rattle.filterset_language.proofs.Closing.{ends_stop}
 use Rattle.filterset_language.proofs.Takes.{Takes, blank_front, return_front}
 use Rattle.filterset_language.proofs.RawTexts.{text_again, spelled_none}
-use Rattle.filterset_language.proofs.TextFaults.{size}
+use Rattle.filterset_language.proofs.TextFaults.{size, begins_here, piece_ends}
 use Rattle.filterset_language.proofs.White.{IsWhite, white_skipped, white_scalars}
 use Rattle.filterset_language.proofs.Trimming.{start_trimmed, scalars_append, names_utf8, names_trimmed, trimmed_names, platform_again}
 
@@ -214,6 +214,8 @@ pub platform_refused : {blanks : List ℕ} (i b : Input) (v : List ℕ) → Blan
 platform_refused {blanks} i b v are s none = record {
   stands = record {
     within = let e = size i in let f = ap length s.parts in omega (arith, f, s.offset, length-append s.raw b.rest.now);
+    begins = begins_here i;
+    ends = piece_ends i b s.raw s.parts s.offset;
     there = (
       blanks ++ v,
       piece_spelled i b (blanks ++ v) s,

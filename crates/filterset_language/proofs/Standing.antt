@@ -1,9 +1,10 @@
 -- What stands at a place of a text.
-use Rattle.std.proofs.Common.{◌≡◌, ◌≢◌, ℕ, ◌+◌, ◌-◌, ◌≤◌, true, false, List, [], ◌∷◌, ◌++◌, length, take, drop, Option, Some, None, refl, sym, ap, ◌∙◌, subst, arith, length-take}
+use Rattle.std.proofs.Common.{◌≡◌, ◌≢◌, ℕ, ◌+◌, ◌-◌, ◌≤◌, true, false, List, [], ◌∷◌, ◌++◌, length, take, drop, Option, Some, None, refl, sym, ap, ◌∙◌, subst, arith, length-take, IsCharBoundary}
 use Rattle.std.specs.Prelude.{codes, All}
 use Rattle.std.specs.Option.{option_map}
 use Rattle.std.proofs.lemmas.List.{take-append-drop, take_at}
 use Rattle.std.proofs.Math.Seq.{take-append-add}
+use Rattle.std.proofs.lemmas.Str.{IsCharBoundary-from_rest}
 use Rattle.filterset_language.specs.Text.{Blanks, WhiteSpace}
 use Rattle.filterset_language.specs.Front.{blank_len, close_len, is_white}
 use Rattle.filterset_language.specs.Place.{Place, place, place_of, skip, skip_from, after, IsBehind}
@@ -26,8 +27,8 @@ use Rattle.filterset_language.specs.declared.parsing.words.PredicateName.TheVari
 use Rattle.filterset_faults.specs.declared.error.ParseSingleError.TheVariants.{ExpectedOpenParenthesis, ExpectedCloseParenthesis, ExpectedExpr, UnexpectedComma, UnexpectedArgument, InvalidAndOperator, InvalidOrOperator, ExprFoundBinaryOp, ExprFoundUnaryOp}
 use Rattle.filterset_language.proofs.Places.{behind_same, skip_again}
 use Rattle.filterset_language.proofs.Takes.{Takes, after_takes, skip_takes, JoinerTaken, joiner_takes, OrTaken, or_takes, not_takes, name_takes}
-use Rattle.filterset_language.proofs.TextFaults.{size}
-use Rattle.filterset_language.proofs.Closing.{close_within, close_behind, close_none}
+use Rattle.filterset_language.proofs.TextFaults.{size, begins_here, point_ends, rest_ends, piece_ends}
+use Rattle.filterset_language.proofs.Closing.{close_within, close_behind, close_none, close_boundary}
 use Rattle.filterset_language.proofs.White.{white_to}
 
 -- a text is what is before a place and what is left there
@@ -150,6 +151,8 @@ pub open_found : (i : Input) (s : Place) (n : PredicateName) → AtName n i → 
 open_found i s n name skipped none = record {
   stands = record {
     within = let e = size i in omega arith;
+    begins = begins_here i;
+    ends = point_ends i;
     there = (refl, (λ behind. no_word (codes "(") (place_of i) open_first (none ∙ ap (after (codes "(")) skipped) (subst (BehindBlanks (codes "(")) i.seam.onward behind)), (name_text n, is_name n, name));
   };
   inside = refl;
@@ -159,6 +162,8 @@ pub close_found : (i : Input) (s : Place) → s ≡ skip (place_of i) → None �
 close_found i s skipped none = record {
   stands = record {
     within = let e = size i in omega arith;
+    begins = begins_here i;
+    ends = point_ends i;
     there = (refl, λ behind. no_word (codes ")") (place_of i) close_first (none ∙ ap (after (codes ")")) skipped) (subst (BehindBlanks (codes ")")) i.seam.onward behind));
   };
   inside = refl;
@@ -168,6 +173,8 @@ pub expr_found : (i : Input) (s : Place) → AtOperand i → s ≡ skip (place_o
 expr_found i s at skipped no_name no_not no_open = record {
   stands = record {
     within = let e = size i in omega arith;
+    begins = begins_here i;
+    ends = rest_ends i;
     there = (at.before, size i, λ blanks u are is begins. no_operand (place_of i) s skipped no_name no_not no_open blanks u are (sym i.seam.onward ∙ is) begins);
   };
   inside = refl;
@@ -180,10 +187,18 @@ comma_found i b s skipped stands =
     record {
       stands = record {
         within = let e = size i in omega arith;
+        begins = begins_here i;
+        ends = point_ends i;
         there = (refl, record { blanks = k.blanks; are = k.are; rest = b.rest.now; parts = i.seam.onward ∙ k.takes.parts ∙ ap (λ (x : List ℕ). k.blanks ++ x) t.parts });
       };
       inside = refl;
     }
+
+-- what stands before the next `)` ends before a character
+closed_ends : (i e : Input) → e.offset - i.offset ≡ close_len i.rest.now → IsCharBoundary i.text.now (i.offset + (e.offset - i.offset))
+closed_ends i e n =
+    let own : IsCharBoundary (drop i.offset i.text.now) (close_len i.rest.now) = subst (λ (t : List ℕ). IsCharBoundary t (close_len i.rest.now)) (sym i.seam.onward) (close_boundary (close_len i.rest.now) i.rest.now refl) in
+    subst (λ (k : ℕ). IsCharBoundary i.text.now (i.offset + k)) (sym n) (IsCharBoundary-from_rest i.text.now i.offset (close_len i.rest.now) i.seam.within own)
 
 pub argument_found : (i e : Input) → place_of e ≡ place (i.offset + close_len i.rest.now) (drop (close_len i.rest.now) i.rest.now) → is_white (take (close_len i.rest.now) i.rest.now) ≡ false
     → Found i.text.now (UnexpectedArgument (span i.offset (e.offset - i.offset)))
@@ -196,6 +211,8 @@ argument_found i e is black =
     record {
       stands = record {
         within = let d = size i in let w = close_within t in omega (arith, n);
+        begins = begins_here i;
+        ends = closed_ends i e n;
         there = (subst (All (λ (b : ℕ). b ≢ 41)) (sym piece) (close_none t), (λ white. not_white t black (subst WhiteSpace piece white)), subst ClosesArgument (sym rest) (close_behind t));
       };
       inside = refl;
@@ -214,11 +231,21 @@ span_within i s r a b le =
 piece_at : (i s r : Input) (w : List ℕ) → s.text.now ≡ i.text.now → after w (place_of s) ≡ Some (place_of r) → take (r.offset - s.offset) (drop s.offset i.text.now) ≡ w
 piece_at i s r w same stands = ap (λ (t : List ℕ). take (r.offset - s.offset) (drop s.offset t)) (sym same) ∙ piece_is s r w (after_takes w (place_of s) (place_of r) stands)
 
+begins_in : (i s : Input) → s.text.now ≡ i.text.now → IsCharBoundary i.text.now s.offset
+begins_in i s same = subst (λ (t : List ℕ). IsCharBoundary t s.offset) same (begins_here s)
+
+ends_in : (i s r : Input) (w : List ℕ) → s.text.now ≡ i.text.now → after w (place_of s) ≡ Some (place_of r) → IsCharBoundary i.text.now (s.offset + (r.offset - s.offset))
+ends_in i s r w same stands =
+    let t = after_takes w (place_of s) (place_of r) stands in
+    subst (λ (x : List ℕ). IsCharBoundary x (s.offset + (r.offset - s.offset))) same (piece_ends s r w t.parts t.offset)
+
 pub binary_found : (i s : Input) (found : Found-operator) → s.text.now ≡ i.text.now → IsMisplaced (place_of s) found.op.now found.suggest.now (place_of found.rest) → IsBehind s found.rest
     → Found i.text.now (ExprFoundBinaryOp (span s.offset (found.rest.offset - s.offset)) found.op found.suggest)
 binary_found i s found same is b = record {
   stands = record {
     within = span_within i s found.rest same b.text (omega (arith, b.end, b.shorter));
+    begins = begins_in i s same;
+    ends = ends_in i s found.rest found.op.now same is.stands;
     there = (piece_at i s found.rest found.op.now same is.stands, is.suggested);
   };
   inside = refl;
@@ -229,6 +256,8 @@ pub unary_found : (i s : Input) (found : Found-operator) → s.text.now ≡ i.te
 unary_found i s found same is b = record {
   stands = record {
     within = span_within i s found.rest same b.text (omega (arith, b.end, b.shorter));
+    begins = begins_in i s same;
+    ends = ends_in i s found.rest found.op.now same is.stands;
     there = (piece_at i s found.rest found.op.now same is.stands, is.is, is.suggested);
   };
   inside = refl;
@@ -241,6 +270,8 @@ and_found s r stands b =
     record {
       stands = record {
         within = span_within s s r refl b.text (omega (arith, b.end, b.shorter));
+        begins = begins_here s;
+        ends = piece_ends s r j.0 j.2.parts j.2.offset;
         there = subst InvalidAnd (sym (piece_is s r j.0 j.2)) j.1;
       };
       inside = refl;
@@ -253,6 +284,8 @@ or_found s r stands b =
     record {
       stands = record {
         within = span_within s s r refl b.text (omega (arith, b.end, b.shorter));
+        begins = begins_here s;
+        ends = piece_ends s r j.0 j.2.parts j.2.offset;
         there = subst InvalidOr (sym (piece_is s r j.0 j.2)) j.1;
       };
       inside = refl;

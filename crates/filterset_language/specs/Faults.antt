@@ -1,5 +1,5 @@
 -- What stands in a text where a fault of it is reported.
-use Rattle.std.specs.Prelude.{◌≡◌, ◌≢◌, ℕ, ◌+◌, ◌≤◌, ◌<◌, min, List, [], ◌∷◌, ◌++◌, take, drop, codes, encode_utf8, chars, All, IfSome, ◌⊎◌}
+use Rattle.std.specs.Prelude.{◌≡◌, ◌≢◌, ℕ, ◌+◌, ◌≤◌, ◌<◌, min, List, [], ◌∷◌, ◌++◌, take, drop, codes, encode_utf8, chars, All, IfSome, IsCharBoundary, ◌⊎◌}
 use Rattle.std.specs.Prelude as std
 use Rattle.filterset_language.specs.Text.{Blanks, WhiteSpace, Escape, Spelled, Body}
 use Rattle.filterset_matchers.specs.Matcher.{Matcher}
@@ -85,7 +85,7 @@ pub data IsName : List ℕ → Type 0 where
   all : IsName (codes "all")
   none : IsName (codes "none")
 
--- an operator that is written as in other languages, and the one that stands for it
+-- an operator of the level of `or` as other languages write it
 pub data InvalidOr : List ℕ → Type 0 where
   pipes : InvalidOr (codes "||")
   capital_or : InvalidOr (codes "OR")
@@ -180,7 +180,7 @@ pub data Banned : FiltersetKind → Leaf SourceSpan → BannedPredicateReason �
 
 -- ---- faults
 
--- What stands at the span of a fault that the parser reports. It never reports `UnsupportedExpression` and `Unknown`.
+-- What stands at the span of a fault that a text has. `UnsupportedExpression` is said of a tree, and `Unknown` never.
 abbrev pub StandsThere : List ℕ → ParseSingleError → Type 0
 StandsThere text (ExpectedOpenParenthesis s) = IsPoint s × (BehindBlanks (codes "(") (onward text s) → ⊥) × ((name : List ℕ) × IsName name × EndsWith (before text s) name)
 StandsThere text (ExpectedCloseParenthesis s) = IsPoint s × (BehindBlanks (codes ")") (onward text s) → ⊥)
@@ -206,7 +206,14 @@ StandsThere text (NoBinaryNameMatch s) = LeafAt text s (IsOf (λ p. p ≡ Binary
 StandsThere text (UnsupportedExpression s) = ⊥
 StandsThere text Unknown = ⊥
 
+-- The span ends between two characters, save that of an escape that is none: it is two bytes long, or one at the end.
+abbrev pub EndsBetween : List ℕ → ParseSingleError → Type 0
+EndsBetween text (InvalidEscapeCharacter s) = Unit {0}
+EndsBetween text fault = IfSome (span_of fault) (λ s. IsCharBoundary text (s.offset + s.len))
+
 -- the fault is one of the text
 pub record Stands (text : List ℕ) (fault : ParseSingleError) : Type 0 where
   pub within : IfSome (span_of fault) (λ s. s.offset + s.len ≤ std.length text)
+  pub begins : IfSome (span_of fault) (λ s. IsCharBoundary text s.offset)
+  pub ends : EndsBetween text fault
   pub there : StandsThere text fault

@@ -34,6 +34,7 @@ impl<'a> Input<'a> {
     ghost use Rattle.filterset_language.specs.Place.{place, advanced, skip, after, after_word, place_of, IsBehind, IsAtOrBehind};
 
     /// The whole of a text.
+    #[tactic(auto, using(crate::proofs::Places::seam_start))]
     pub fn new(text: &'a str) -> Input<'a>
         ensures value { place_of result ≡ place 0 text.now }
         ensures text { result.text.now ≡ text.now }
@@ -67,7 +68,7 @@ impl<'a> Input<'a> {
         SourceSpan::new(self.offset, end.offset - self.offset)
     }
 
-    /// A backslash that begins no escape: the bytes behind it that its fault names, at most two.
+    /// A backslash that begins no escape: from it on, as many bytes as stand behind it, at most two.
     pub fn backslash(self) -> SourceSpan
         requires { 0 < length self.rest.now }
         ensures { result ≡ span self.entry.offset (min 2 (length self.entry.rest.now - 1)) }

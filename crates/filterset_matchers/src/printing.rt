@@ -13,7 +13,7 @@ use std::fmt::Display;
 ///
 /// In a text `/`, `)`, `,`, `\`, TAB, LF and CR print as `\/`, `\)`, `\,`, `\\`, `\t`, `\n` and `\r`, all else from
 /// U+0020 to U+007E as it is, and the rest as `\u{h}`. So does the first character of a text without a sign, where it
-/// is a blank, `=`, `~` or `#`. In a pattern each `/` prints as `\/`, and all else as it is.
+/// is U+0020, `=`, `~` or `#`. In a pattern each `/` prints as `\/`, and all else as it is.
 impl fmt::Display for NameMatcher {
     ghost output = { λ m. Some (printed_matcher (matcher_of m)) };
 

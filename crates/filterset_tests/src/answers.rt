@@ -53,6 +53,17 @@ fn unions_answer(rt: HostRuntime) -> Result<(), Fail> {
 }
 
 #[test]
+fn many_differences_answer(rt: HostRuntime) -> Result<(), Fail> {
+    let mut text = String::from_str(rt.alloc(), "all()")?;
+    for _ in 0..500 {
+        text.push_str(" - none()")?;
+    }
+    let said = says(&rt, rt.alloc(), text.as_str(), "a")?;
+    assert!(rt; said);
+    Ok(())
+}
+
+#[test]
 fn texts_with_escapes_answer(rt: HostRuntime) -> Result<(), Fail> {
     answers(
         &rt,

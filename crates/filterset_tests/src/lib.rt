@@ -1,8 +1,8 @@
 //! Tests of values, globs, matchers and filtersets by the public calls of the crates below, in a crate of their own, so
 //! that none of these crates is proved twice.
 //!
-//! Expected values come from the specification. A test whose name ends in `_or_wants_memory` passes
-//! where a call answers want of memory too, since a script refuses each request for memory in turn.
+//! Expected values follow from the rules in docs/, none from what the program says. A test whose name ends in
+//! `_or_wants_memory` passes where a call answers want of memory too, since a script refuses each request in turn.
 #![tactic(auto)]
 
 #[cfg(test)]

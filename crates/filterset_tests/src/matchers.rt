@@ -1,5 +1,7 @@
 //! Matchers of names: what they hit, when two are equal, and what they print.
-use nextest_filtering::{GenericGlob, GlobRefusal, NameMatcher, PatternRefusal, PatternRegex};
+use nextest_filtering::{
+    GenericGlob, GlobRefusal, NameMatcher, PatternMatcher, PatternRefusal, PatternRegex,
+};
 use std::alloc::Global;
 use std::process::Abort;
 use std::rc::Rc;
@@ -27,6 +29,26 @@ fn glob(alloc: Global, text: &str, implicit: bool) -> Result<NameMatcher, Fail> 
 
 fn regex(alloc: Global, text: &str) -> Result<NameMatcher, Fail> {
     Ok(NameMatcher::Regex(Rc::new(alloc, pattern(alloc, text)?)?))
+}
+
+/// The kept matcher answers so, and is still of its pattern alone.
+fn answers(rt: &impl Abort, matcher: &mut PatternMatcher<'_>, input: &str, answer: bool) {
+    let said = matcher.is_match(input);
+    assert!(rt; said == answer, "{input}");
+}
+
+#[test]
+fn kept_matchers_answer_again_and_again(rt: HostRuntime) -> Result<(), Fail> {
+    let alloc = rt.alloc();
+    let (ends, begins) = (pattern(alloc, "b$")?, pattern(alloc, "^b")?);
+    let mut matcher = ends.matcher(alloc)?;
+    answers(&rt, &mut matcher, "ab", true);
+    answers(&rt, &mut matcher, "ba", false);
+    answers(&rt, &mut matcher, "", false);
+    answers(&rt, &mut matcher, "ab", true);
+    assert!(rt; matcher.is_of(&ends));
+    assert!(rt; !matcher.is_of(&begins));
+    Ok(())
 }
 
 /// The pattern keeps its text, and answers so.

@@ -338,6 +338,7 @@ fn trims_no_other_characters_of_platforms(rt: HostRuntime) -> Result<(), Fail> {
             ("platform(\u{1c}host)", "InvalidPlatformArgument (9, 5)"),
             ("platform(host\u{1c})", "InvalidPlatformArgument (9, 5)"),
             (r"platform(\u{1c}host)", "InvalidPlatformArgument (9, 10)"),
+            (r"platform(host\u{1c})", "InvalidPlatformArgument (9, 10)"),
             (r"platform(host\u{1f})", "InvalidPlatformArgument (9, 10)"),
             (r"platform(\u{200b}host)", "InvalidPlatformArgument (9, 12)"),
             (r"platform(host\u{180e})", "InvalidPlatformArgument (9, 12)"),

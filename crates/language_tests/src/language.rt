@@ -1,9 +1,12 @@
 //! What texts read to, which faults are reported of them, and what trees print.
 use crate::support::{described, printed};
 use nextest_filtering::errors::SourceSpan;
-use nextest_filtering::{AndOperator, NameMatcher, NotOperator, ParseStop, ParsedExpr, ParsedLeaf};
+use nextest_filtering::{
+    AndOperator, NameMatcher, NotOperator, ParseStop, ParsedExpr, ParsedLeaf, PatternRegex,
+};
 use std::alloc::{AllocError, Global};
 use std::process::Abort;
+use std::rc::Rc;
 use std::test::Fail;
 
 /// Holds what a text without faults reads to against the wanted print and tree.
@@ -343,6 +346,50 @@ fn prints_trees(rt: HostRuntime) -> Result<(), Fail> {
     let print = format!(in alloc; "{tree}")?;
     assert!(rt; print.as_str() == "! all() & not none()", "{print}");
     Ok(())
+}
+
+/// The negation of a whole intersection, without parentheses round it.
+fn negated_intersection(alloc: Global) -> Result<ParsedExpr<()>, AllocError> {
+    let all = Box::new(alloc, ParsedExpr::Set(ParsedLeaf::All))?;
+    let none = Box::new(alloc, ParsedExpr::Set(ParsedLeaf::None))?;
+    let both = ParsedExpr::Intersection(AndOperator::LiteralAnd, all, none);
+    Ok(ParsedExpr::Not(NotOperator::LiteralNot, Box::new(alloc, both)?))
+}
+
+/// A package that is searched for, without a sign.
+fn searched_package(alloc: Global, value: &str) -> Result<ParsedExpr<()>, AllocError> {
+    let value = String::from_str(alloc, value)?;
+    let matcher = NameMatcher::Contains {
+        value,
+        implicit: true,
+    };
+    Ok(ParsedExpr::Set(ParsedLeaf::Package(matcher, ())))
+}
+
+/// A test by the pattern of this text.
+fn test_by_pattern(alloc: Global, text: &str) -> Result<ParsedExpr<()>, Fail> {
+    let pattern = PatternRegex::new(alloc, String::from_str(alloc, text)?)?;
+    let matcher = NameMatcher::Regex(Rc::new(alloc, pattern)?);
+    Ok(ParsedExpr::Set(ParsedLeaf::Test(matcher, ())))
+}
+
+/// The tree prints so.
+fn prints(
+    rt: &(impl AllocGlobal + Abort),
+    tree: &ParsedExpr<()>,
+    wanted: &str,
+) -> Result<(), Fail> {
+    let print = format!(in rt.alloc(); "{tree}")?;
+    assert!(rt; print.as_str() == wanted, "{print}");
+    Ok(())
+}
+
+#[test]
+fn prints_trees_that_no_text_reads_to(rt: HostRuntime) -> Result<(), Fail> {
+    let alloc = rt.alloc();
+    prints(&rt, &negated_intersection(alloc)?, "not all() and none()")?;
+    prints(&rt, &searched_package(alloc, "a")?, "package(a)")?;
+    prints(&rt, &test_by_pattern(alloc, r"a\\")?, r"test(/a\\/)")
 }
 
 #[test]

@@ -63,6 +63,21 @@ fn lists_what_only_a_test_decides(rt: HostRuntime) -> Result<(), Fail> {
     )
 }
 
+#[test]
+fn runtime_only_leaves_or_wants_memory(rt: HostRuntime) {
+    let alloc = rt.alloc();
+    let text = "test(a) or not group(b) - default()";
+    if let Ok(parsed) = ParsedExpr::parse_with_faults(alloc, text) {
+        assert!(rt; parsed.faults.is_empty());
+        assert!(rt; parsed.tree.is_some());
+        if let Some(tree) = &parsed.tree {
+            if let Ok(leaves) = tree.runtime_only_leaves(alloc) {
+                assert!(rt; leaves.len() == 3);
+            }
+        }
+    }
+}
+
 /// What the reference text holds of a predicate.
 fn reference_of(leaf: &ParsedLeaf) -> &'static str {
     match leaf {

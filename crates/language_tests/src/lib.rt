@@ -1,7 +1,7 @@
 //! Tests of reading texts: trees, spans, prints, and the faults of texts that are no filtersets.
 //!
-//! Expected values come from the specification. A test whose name ends in `_or_wants_memory` passes
-//! where a call answers want of memory too, since a script refuses each request for memory in turn.
+//! Expected values follow from the rules in docs/, none from what the program says. A test whose name ends in
+//! `_or_wants_memory` passes where a call answers want of memory too, since a script refuses each request in turn.
 #![tactic(auto)]
 
 #[cfg(test)]

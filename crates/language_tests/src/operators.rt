@@ -142,6 +142,7 @@ fn ends_words_at_the_boundary_alone(rt: HostRuntime) -> Result<(), Fail> {
             ("all() OR1()", "ExpectedEndOfExpression (5, 6)", "all"),
             ("all() and_none()", "ExpectedEndOfExpression (5, 11)", "all"),
             ("all() AND_none()", "ExpectedEndOfExpression (5, 11)", "all"),
+            ("all() AND1", "ExpectedEndOfExpression (5, 5)", "all"),
             ("all() Or none()", "ExpectedEndOfExpression (5, 10)", "all"),
             (
                 "all() or\u{e9}",
@@ -194,6 +195,50 @@ fn ends_misplaced_words_at_the_boundary_alone(rt: HostRuntime) -> Result<(), Fai
             (
                 "Not all()",
                 "ExpectedExpr (0, 9), ExpectedEndOfExpression (0, 9)",
+            ),
+        ],
+    )
+}
+
+#[test]
+fn knows_misplaced_words_by_their_boundary(rt: HostRuntime) -> Result<(), Fail> {
+    refuses(
+        &rt,
+        &[
+            (
+                "ANDall()",
+                "ExpectedExpr (0, 8), ExpectedEndOfExpression (0, 8)",
+            ),
+            (
+                "AND_",
+                "ExpectedExpr (0, 4), ExpectedEndOfExpression (0, 4)",
+            ),
+            (
+                "AND1",
+                "ExpectedExpr (0, 4), ExpectedEndOfExpression (0, 4)",
+            ),
+            (
+                "and_",
+                "ExpectedExpr (0, 4), ExpectedEndOfExpression (0, 4)",
+            ),
+            (
+                "NOT1",
+                "ExpectedExpr (0, 4), ExpectedEndOfExpression (0, 4)",
+            ),
+            ("or1", "ExpectedExpr (0, 3), ExpectedEndOfExpression (0, 3)"),
+            ("OR_", "ExpectedExpr (0, 3), ExpectedEndOfExpression (0, 3)"),
+            ("OR1", "ExpectedExpr (0, 3), ExpectedEndOfExpression (0, 3)"),
+            (
+                "and\u{e9}",
+                "ExprFoundBinaryOp (0, 3), ExpectedEndOfExpression (3, 2)",
+            ),
+            (
+                "OR\u{e9}",
+                "ExprFoundBinaryOp (0, 2), ExpectedEndOfExpression (2, 2)",
+            ),
+            (
+                "all() AND\u{e9}",
+                "InvalidAndOperator (6, 3), ExpectedExpr (9, 2), ExpectedEndOfExpression (9, 2)",
             ),
         ],
     )
@@ -424,6 +469,16 @@ fn reads_many_parentheses(rt: HostRuntime) -> Result<(), Fail> {
 
     let empty = format!(in alloc; "{open}{close}")?;
     refuses(&rt, &[(empty.as_str(), "ExpectedExpr (500, 500)")])
+}
+
+#[test]
+fn reads_many_parentheses_round_a_predicate(rt: HostRuntime) -> Result<(), Fail> {
+    let alloc = rt.alloc();
+    let (open, close) = (repeated(alloc, "(", 500)?, repeated(alloc, ")", 500)?);
+    let parens = repeated(alloc, "Parens(", 500)?;
+    let text = format!(in alloc; "{open}all(){close}")?;
+    let tree = format!(in alloc; "{parens}all{close}")?;
+    keeps(&rt, &[(text.as_str(), tree.as_str())])
 }
 
 #[test]

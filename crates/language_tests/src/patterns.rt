@@ -249,6 +249,17 @@ fn reports_texts_that_are_no_globs(rt: HostRuntime) -> Result<(), Fail> {
 }
 
 #[test]
+fn reports_brackets_without_their_end(rt: HostRuntime) -> Result<(), Fail> {
+    refuses(
+        &rt,
+        &[
+            ("test(#[^])", "InvalidGlob (6, 3)"),
+            (r"package(\\[)", "InvalidGlob (8, 3)"),
+        ],
+    )
+}
+
+#[test]
 fn goes_on_behind_texts_that_are_no_globs(rt: HostRuntime) -> Result<(), Fail> {
     refuses(
         &rt,

@@ -106,7 +106,9 @@ fn takes_few_characters_as_blanks(rt: HostRuntime) -> Result<(), Fail> {
                 "ExpectedEndOfExpression (5, 11)",
                 "all()",
             ),
+            ("all()\r", "ExpectedEndOfExpression (5, 1)", "all()"),
             ("all()\u{a0}", "ExpectedEndOfExpression (5, 2)", "all()"),
+            ("all() ^ none()", "ExpectedEndOfExpression (5, 9)", "all()"),
             ("all() blabla", "ExpectedEndOfExpression (5, 7)", "all()"),
             ("all())", "ExpectedEndOfExpression (5, 1)", "all()"),
             (

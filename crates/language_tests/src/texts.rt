@@ -184,6 +184,11 @@ fn prints_characters_that_stand_for_themselves(rt: HostRuntime) -> Result<(), Fa
                 "Test[5,1] contains '\u{b}' implicit",
             ),
             (
+                "test(\u{1f})",
+                r"test(\u{1f})",
+                "Test[5,1] contains '\u{1f}' implicit",
+            ),
+            (
                 "test(\u{0})",
                 r"test(\u{0})",
                 "Test[5,1] contains '\u{0}' implicit",
@@ -312,6 +317,21 @@ fn reports_escapes_at_the_end(rt: HostRuntime) -> Result<(), Fail> {
 }
 
 #[test]
+fn reports_signs_and_open_codes_behind_backslashes(rt: HostRuntime) -> Result<(), Fail> {
+    refuses(
+        &rt,
+        &[
+            (r"test(\=)", "InvalidEscapeCharacter (5, 2)"),
+            (r"test(\~)", "InvalidEscapeCharacter (5, 2)"),
+            (
+                r"test(\u{",
+                "InvalidEscapeCharacter (5, 2), ExpectedCloseParenthesis (8, 0)",
+            ),
+        ],
+    )
+}
+
+#[test]
 fn goes_on_behind_what_is_no_escape(rt: HostRuntime) -> Result<(), Fail> {
     refuses(
         &rt,
@@ -431,4 +451,28 @@ fn reads_many_backslashes(rt: HostRuntime) -> Result<(), Fail> {
     let text = format!(in alloc; "test({even}\\")?;
     let faults = "InvalidEscapeCharacter (305, 0), ExpectedCloseParenthesis (306, 0)";
     refuses(&rt, &[(text.as_str(), faults)])
+}
+
+#[test]
+fn reads_pairs_of_backslashes_up_to_the_end(rt: HostRuntime) -> Result<(), Fail> {
+    let alloc = rt.alloc();
+    let half = repeated(alloc, r"\", 150)?;
+    let even = repeated(alloc, r"\", 300)?;
+    let text = format!(in alloc; "test({even}")?;
+    let tree = format!(in alloc; "Test[5,300] contains '{half}' implicit")?;
+    recovers(
+        &rt,
+        &[
+            (
+                r"test(\\",
+                "ExpectedCloseParenthesis (7, 0)",
+                r"Test[5,2] contains '\' implicit",
+            ),
+            (
+                text.as_str(),
+                "ExpectedCloseParenthesis (305, 0)",
+                tree.as_str(),
+            ),
+        ],
+    )
 }

@@ -72,6 +72,11 @@ fn reads_signs_behind_a_sign_as_text(rt: HostRuntime) -> Result<(), Fail> {
 }
 
 #[test]
+fn reads_other_first_characters_as_text(rt: HostRuntime) -> Result<(), Fail> {
+    keeps(&rt, &[("test(^a)", "Test[5,2] contains '^a' implicit")])
+}
+
+#[test]
 fn takes_blanks_before_parentheses_and_matchers(rt: HostRuntime) -> Result<(), Fail> {
     reads(
         &rt,
@@ -246,6 +251,11 @@ fn reads_escapes_in_platforms(rt: HostRuntime) -> Result<(), Fail> {
                 r"platform(\u{a0}host\t)",
                 "platform(host)",
                 "Platform[9,12] host",
+            ),
+            (
+                r"platform(host\u{a0})",
+                "platform(host)",
+                "Platform[9,10] host",
             ),
             (
                 r"platform(\nhost\r)",

@@ -1,4 +1,4 @@
-//! The language of filtersets: its trees, its parser, its printer, and what a filterset says of tests.
+//! The public root: compiling filtersets, asking them of tests, and the public types of the crates below.
 #![tactic(auto)]
 
 mod compile;
@@ -22,4 +22,4 @@ pub use filterset_language::{
     AndOperator, DifferenceOperator, FILTERSET_REFERENCE_MD, NotOperator, OrOperator, ParseStop,
     Parsed, ParsedExpr, ParsedLeaf, laws,
 };
-pub use filterset_matchers::{NameMatcher, PatternRefusal, PatternRegex};
+pub use filterset_matchers::{NameMatcher, PatternMatcher, PatternRefusal, PatternRegex};

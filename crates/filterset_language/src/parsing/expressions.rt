@@ -205,6 +205,7 @@ fn set<'a>(
     })
 }
 
+/// A predicate as an expression, where there is one.
 fn leaf_expr(alloc: Global, leaf: Option<ParsedLeaf>) -> Result<Option<Box<ParsedExpr>>, AllocError>
     ensures { IfOk result (λ e. option_map boxed_tree e ≡ option_map (λ l. Set l) (option_map leaf_of leaf)) }
 {
@@ -214,6 +215,7 @@ fn leaf_expr(alloc: Global, leaf: Option<ParsedLeaf>) -> Result<Option<Box<Parse
     }
 }
 
+/// The negation of an operand, where there is one.
 #[inline(never)]
 fn negated(
     alloc: Global,
@@ -228,6 +230,7 @@ fn negated(
     }
 }
 
+/// An expression between parentheses, where there is one.
 #[inline(never)]
 fn in_parens(
     alloc: Global,

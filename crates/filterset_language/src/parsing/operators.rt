@@ -166,6 +166,7 @@ pub fn misplaced_operator(input: Input<'_>) -> Option<Misplaced<'_>>
     }
 }
 
+/// The word among these operators that stands here.
 fn misplaced_word(input: Input<'_>) -> Option<Misplaced<'_>>
     ensures value { IfSome result (λ x. IsMisplaced (place_of input.entry) x.op.now x.suggest.now (place_of x.rest)) }
     ensures behind { IfSome result (λ x. IsBehind input.entry x.rest) }
@@ -199,6 +200,7 @@ fn misplaced_word(input: Input<'_>) -> Option<Misplaced<'_>>
     })
 }
 
+/// The sign of other languages that stands here.
 fn misplaced_sign(input: Input<'_>) -> Option<Misplaced<'_>>
     ensures value { IfSome result (λ x. IsMisplaced (place_of input.entry) x.op.now x.suggest.now (place_of x.rest)) }
     ensures behind { IfSome result (λ x. IsBehind input.entry x.rest) }

@@ -30,6 +30,7 @@ pub struct Parsed {
 pub enum ParseStop {
     /// The faults of the text, in the order in which they were found; there is at least one.
     Faults(Vec<ParseSingleError>),
+    /// There was not enough memory, and nothing is known of the text.
     OutOfMemory(AllocError),
 }
 
@@ -51,7 +52,7 @@ impl ParsedExpr {
     pub fn parse(alloc: Global, input: &str) -> Result<ParsedExpr, ParseStop>
         // A tree that the text spells is the one that comes, if any does.
         ensures spelled { (e : Tree SourceSpan) → Spells input.now e → IfOk result (λ tree. tree_of tree ≡ e) }
-        // The tree is spelled by the text and its patterns are read, or it was recovered from a text that spells none.
+        // The tree is spelled by the text and its patterns are read, or the text spells none.
         ensures tree { IfOk result (λ tree. Reads input.now (tree_of tree) ⊎ SpellsNothing input.now) }
         // Without a tree there are faults, which all stand; where the text spells a tree, they lie on bodies of it.
         ensures stop { IfErr result (Stops input.now) }
@@ -66,7 +67,8 @@ impl ParsedExpr {
     /// Reads a text, and goes on after each fault.
     ///
     /// A text that spells a tree gives that tree and no fault, or, where `regex` refuses one of its patterns for
-    /// another cause than memory, no tree and a fault for each of these.
+    /// another cause than memory, no tree and faults, each on the body of such a pattern. It is an error only for want
+    /// of memory.
     pub fn parse_with_faults(alloc: Global, input: &str) -> Result<Parsed, AllocError>
         // Without a fault the tree is one that the text spells, and its patterns are read.
         ensures clean { IfOk result (λ p. p.faults.items ≡ [] → (e : Tree SourceSpan) × Comes p e × Reads input.now e) }
@@ -74,7 +76,7 @@ impl ParsedExpr {
         ensures spelled { IfOk result (λ p. (e : Tree SourceSpan) → Spells input.now e → (Comes p e × (p.faults.items ≡ [])) ⊎ Refuses input.now e p) }
         // Every fault stands.
         ensures stand { IfOk result (λ p. All (Stands input.now) p.faults.items) }
-        // Where the text alone goes on behind the expression, what is before spells the tree.
+        // Where the one fault is that the text goes on behind the expression, what is before spells the tree.
         ensures front { IfOk result (λ p. (s : SourceSpan) → p.faults.items ≡ ExpectedEndOfExpression s ∷ [] → (e : Tree SourceSpan) × Comes p e × Spells (take (offset_of s) input.now) e) }
         // That the text goes on behind the expression is said last, and so once at most.
         ensures last { IfOk result (λ p. (s : SourceSpan) (before behind : List ParseSingleError) → p.faults.items ≡ before ++ ExpectedEndOfExpression s ∷ behind → behind ≡ []) }
@@ -83,6 +85,7 @@ impl ParsedExpr {
     }
 }
 
+/// Reads a text from its start to its end.
 fn read(alloc: Global, text: &str) -> Result<Parsed, AllocError>
     ensures { IfOk result (λ p. Wholly text.now (option_map tree_of p.tree) p.faults.items) }
 {
@@ -104,6 +107,7 @@ fn goes_on(faults: &mut Vec<ParseSingleError>, rest: Input<'_>) -> Result<(), Al
     Ok(())
 }
 
+/// The tree, out of its box.
 fn unboxed(tree: Option<Box<ParsedExpr>>) -> Option<ParsedExpr>
     ensures { option_map tree_of result ≡ option_map boxed_tree tree }
 {

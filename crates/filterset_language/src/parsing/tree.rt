@@ -35,7 +35,8 @@ pub enum DifferenceOperator {
     Minus,
 }
 
-/// A predicate of a filterset. Its span is that of its argument, and of `default()` that of the whole predicate.
+/// A predicate of a filterset. Its span is that of its argument without the blanks behind a pattern, and of `default()`
+/// that of the whole predicate; `all()` and `none()` have none.
 #[derive(Debug, Drop, PartialEq, Eq)]
 pub enum ParsedLeaf<S = SourceSpan> {
     /// The test's package, by its name.

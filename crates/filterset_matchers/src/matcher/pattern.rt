@@ -1,9 +1,12 @@
 //! A pattern's text beside the regex that was built of it, and what searches for it.
-ghost use Rattle.std.specs.Prelude.{◌≡◌, ◌↔◌, IsTrue, IfOk, string_bytes};
+ghost use Rattle.std.specs.Prelude.{◌≡◌, ◌≢◌, ◌↔◌, IsTrue, IfOk, string_bytes};
+ghost use Rattle.regex.specs.declared.error.Error.TheVariants as regex;
+ghost use Rattle.filterset_matchers.specs.declared.matcher.pattern.PatternRefusal.TheVariants as refusal;
 ghost use Rattle.filterset_matchers.specs.Pattern.{IsPattern, HasMatch, IsBuiltOf};
 
 use regex::{Matcher, Regex};
 use std::alloc::{AllocError, Global};
+use std::fmt;
 use std::marker::Model;
 
 /// Why there is no regex for a text.
@@ -93,8 +96,17 @@ fn built_of(alloc: Global, text: &str) -> Result<Box<Regex>, PatternRefusal>
             Ok(regex) => Ok(regex),
             Err(failed) => Err(PatternRefusal::OutOfMemory(failed.into())),
         },
-        Err(regex::Error::OutOfMemory) => Err(PatternRefusal::OutOfMemory(AllocError)),
-        Err(_) => Err(PatternRefusal::NotBuilt),
+        Err(error) => Err(refusal_of(error)),
+    }
+}
+
+/// Why there is no regex: want of memory is no fault of the text.
+fn refusal_of(error: regex::Error) -> PatternRefusal
+    ensures { result ≡ refusal.NotBuilt ↔ error ≢ regex.OutOfMemory }
+{
+    match error {
+        regex::Error::OutOfMemory => PatternRefusal::OutOfMemory(AllocError),
+        _ => PatternRefusal::NotBuilt,
     }
 }
 
@@ -154,5 +166,11 @@ impl<'p> PatternMatcher<'p> {
         ensures same { self.new ≡ self.old }
     {
         self.matcher.is_match(input)
+    }
+}
+
+impl fmt::Debug for PatternMatcher<'_> {
+    fn fmt<W: fmt::Write>(&self, f: &mut fmt::Formatter<W>) -> fmt::Result {
+        write!(f, "PatternMatcher({:?})", self.pattern.as_str())
     }
 }

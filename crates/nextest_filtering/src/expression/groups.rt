@@ -6,6 +6,6 @@ use std::collections::HashSet;
 pub enum KnownGroups {
     /// These groups, and `@global`, which need not be named.
     Known { custom_groups: HashSet<String> },
-    /// The groups are not known. Only kinds of filtersets that ban `group` may be read so.
+    /// The groups are not known. Today no filterset may be read so.
     Unavailable,
 }
