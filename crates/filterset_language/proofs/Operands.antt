@@ -73,8 +73,8 @@ module _ (text : List ℕ) (read : Reader) where
   and_turns f g h i left right op p s q r total lt skipped stands a checked b =
       going_by joiner_at join read PatternsAreRead (LiesOnBody text) (λ o l r x y. (x, y)) (join_left text) (join_right text) f g h i left right op p s q r total lt skipped stands a checked b
 
-  pub and_ends : (f g : Faults) (left : Option Placed) (p s : Place) (total : Option (Placed × Place)) → s ≡ skip p → None ≡ joiner_at s → AndGoing f g left p total → GivesTree text f g left p total
-  and_ends f g left p s total skipped none a = going_end joiner_at join read PatternsAreRead (LiesOnBody text) (λ o l r x y. (x, y)) (join_left text) (join_right text) f g left p s total skipped none a
+  pub and_ends : (f g : Faults) (left : Option Placed) (p s q : Place) (total : Option (Placed × Place)) → q ≡ p → s ≡ skip p → None ≡ joiner_at s → AndGoing f g left p total → GivesTree text f g left q total
+  and_ends f g left p s q total same skipped none a = rw same (going_end joiner_at join read PatternsAreRead (LiesOnBody text) (λ o l r x y. (x, y)) (join_left text) (join_right text) f g left p s total skipped none a)
 
   pub or_starts : (f g : Faults) (left : Option Placed) (p q : Place) → GivesTree text f g left q (read p) → OrGoing f g left q (level_by or_at unite read p)
   or_starts f g left p q a = going_start or_at unite read PatternsAreRead (LiesOnBody text) (λ o l r x y. (x, y)) (or_left text) (or_right text) f g left p q a
@@ -84,5 +84,5 @@ module _ (text : List ℕ) (read : Reader) where
   or_turns f g h i left right op p s q r total lt skipped stands a checked b =
       going_by or_at unite read PatternsAreRead (LiesOnBody text) (λ o l r x y. (x, y)) (or_left text) (or_right text) f g h i left right op p s q r total lt skipped stands a checked b
 
-  pub or_level_ends : (f g : Faults) (left : Option Placed) (p s : Place) (total : Option (Placed × Place)) → s ≡ skip p → None ≡ or_at s → OrGoing f g left p total → GivesTree text f g left p total
-  or_level_ends f g left p s total skipped none a = going_end or_at unite read PatternsAreRead (LiesOnBody text) (λ o l r x y. (x, y)) (or_left text) (or_right text) f g left p s total skipped none a
+  pub or_level_ends : (f g : Faults) (left : Option Placed) (p s q : Place) (total : Option (Placed × Place)) → q ≡ p → s ≡ skip p → None ≡ or_at s → OrGoing f g left p total → GivesTree text f g left q total
+  or_level_ends f g left p s q total same skipped none a = rw same (going_end or_at unite read PatternsAreRead (LiesOnBody text) (λ o l r x y. (x, y)) (or_left text) (or_right text) f g left p s total skipped none a)

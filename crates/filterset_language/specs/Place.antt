@@ -1,17 +1,9 @@
 -- Reading from left to right: a place of a text, and what stands there. It serves the proof of the parser alone.
-use Rattle.std.specs.Prelude.{◌≡◌, ℕ, ◌+◌, List, [], ◌∷◌, length, drop, ◌<◌, ◌≤◌, ◌&&◌, ◌||◌, ◌==◌, Option, Some, None, if◌then◌else◌}
+use Rattle.std.specs.Prelude.{◌≡◌, ℕ, ◌+◌, List, [], ◌∷◌, length, drop, ◌<◌, ◌≤◌, ◌==◌, Option, Some, None, if◌then◌else◌}
 use Rattle.std.specs.Option.{option_map, option_and_then}
 use Rattle.filterset_language.specs.Text.{ends_word}
+pub use Rattle.filterset_language.specs.Seam.{Place, place, skip_from}
 use Rattle.filterset_language.specs.declared.text.Input.{Input}
-
--- a byte offset, and the text from there on
-pub record Place : Type 0 where
-  pub at : ℕ
-  pub rest : List ℕ
-
--- the place of this offset and this rest
-abbrev pub place : ℕ → List ℕ → Place
-place at rest = record { at = at; rest = rest }
 
 -- the place at which an input stands
 abbrev pub place_of : Input → Place
@@ -22,14 +14,6 @@ abbrev pub advanced : ℕ → Place → Place
 advanced count p = place (p.at + count) (drop count p.rest)
 
 -- the place behind all blanks
-abbrev pub skip_from : ℕ → List ℕ → Place
-skip_from at [] = place at []
-skip_from at (b ∷ []) = if (b == 32) || (b == 10) then place (at + 1) [] else place at (b ∷ [])
-skip_from at (b ∷ c ∷ t) =
-    if (b == 32) || (b == 10) then skip_from (at + 1) (c ∷ t)
-    else (if (b == 13) && (c == 10) then skip_from (at + 2) t else place at (b ∷ c ∷ t))
-
--- the same of a place
 abbrev pub skip : Place → Place
 skip p = skip_from p.at p.rest
 

@@ -3,7 +3,7 @@ ghost use Rattle.std.specs.Prelude.{◌≡◌, ◌+◌, ◌-◌, ◌≤◌, ◌<
 ghost use Rattle.std.specs.Option.{option_map};
 ghost use Rattle.filterset_language.specs.Text.{ends_word};
 ghost use Rattle.filterset_language.specs.Front.{blank_len, close_len};
-ghost use Rattle.filterset_language.specs.Seam.{IsSeam};
+ghost use Rattle.filterset_language.specs.Seam.{IsSeam, AreBlanks};
 ghost use Rattle.filterset_faults.specs.Span.{span};
 
 use filterset_faults::SourceSpan;
@@ -19,8 +19,11 @@ pub struct Input<'a> {
     pub text: &'a str,
     pub rest: &'a str,
     pub offset: usize,
+    /// So many bytes at the front of `rest` are known to be blanks; there may be more.
+    blanks: usize,
     ghost seam: { IsSeam text.now rest.now offset },
     ghost fits: { offset + length rest.now < 2 ^ 64 },
+    ghost skipped: { AreBlanks offset rest.now blanks },
 }
 
 /// What was read, where it has a value, and where reading goes on.
@@ -43,6 +46,7 @@ impl<'a> Input<'a> {
             text,
             rest: text,
             offset: 0,
+            blanks: 0,
         }
     }
 
@@ -95,6 +99,7 @@ impl<'a> Input<'a> {
             text: self.text,
             rest: &self.rest[count..],
             offset: self.offset + count,
+            blanks: 0,
         }
     }
 
@@ -103,13 +108,27 @@ impl<'a> Input<'a> {
         ensures value { place_of result ≡ skip (place_of self.entry) }
         ensures behind { IsAtOrBehind self.entry result }
     {
-        let mut input = self;
+        let mut input = self.advance(self.blanks);
         loop {
             let count = blank_len(input.rest.as_bytes());
             if count == 0 {
                 return input;
             }
             input = input.advance(count);
+        }
+    }
+
+    /// The same place, where the blanks up to `start`, the place behind them, are known and so not looked at again.
+    pub fn before_blanks(self, start: Input<'a>) -> Input<'a>
+        requires skipped { place_of start ≡ skip (place_of self) }
+        ensures value { place_of result ≡ place_of self.entry }
+        ensures behind { IsAtOrBehind self.entry result }
+    {
+        Input {
+            text: self.text,
+            rest: self.rest,
+            offset: self.offset,
+            blanks: start.offset - self.offset,
         }
     }
 
@@ -123,6 +142,7 @@ impl<'a> Input<'a> {
                 text: self.text,
                 rest,
                 offset: self.offset + text.len(),
+                blanks: 0,
             }),
             None => None,
         }

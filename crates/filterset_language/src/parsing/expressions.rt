@@ -105,7 +105,10 @@ fn and_level<'a>(
     loop {
         let start = level.rest.skip_blanks();
         let Some((joiner, rest)) = joiner(start) else {
-            return Ok(level);
+            return Ok(Read {
+                value: level.value,
+                rest: level.rest.before_blanks(start),
+            });
         };
         check_joiner(faults, joiner, start, rest)?;
         let right = operand(alloc, faults, rest)?;
@@ -132,7 +135,10 @@ pub fn or_level<'a>(
     loop {
         let start = level.rest.skip_blanks();
         let Some((operator, rest)) = or_operator(start) else {
-            return Ok(level);
+            return Ok(Read {
+                value: level.value,
+                rest: level.rest.before_blanks(start),
+            });
         };
         check_or(faults, operator, start, rest)?;
         let right = and_level(alloc, faults, rest)?;

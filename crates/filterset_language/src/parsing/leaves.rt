@@ -67,11 +67,12 @@ fn end_argument<'a>(
     ensures stand { IfOk result (λ r. Keeps input.entry.text.now faults.old.items faults.new.items) }
     ensures behind { IfOk result (λ r. IsAtOrBehind input.entry r) }
 {
-    if let Some(_) = input.skip_blanks().after(",") {
+    let start = input.skip_blanks();
+    if let Some(_) = start.after(",") {
         faults.push(ParseSingleError::UnexpectedComma(input.here()))?;
         return close(faults, input.next_close());
     }
-    close(faults, input)
+    close(faults, input.before_blanks(start))
 }
 
 /// Whether a text is white space alone.

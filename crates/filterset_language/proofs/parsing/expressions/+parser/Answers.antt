@@ -66,7 +66,10 @@ and_level-loop-joiner-init t c = record {
 
 pub and_level-returns-in_default-clause-value : goal.and_level-returns-in_default-clause-value
 and_level-returns-in_default-clause-value t c = λ n le.
-    and_ends c.args.input.text.now (operand_at _) _ _ _ _ _ _ c.skip_blanks-start.ensures.value c.in_default.ensures.value (c.loop-joiner.invariant.same n le)
+    and_ends c.args.input.text.now (operand_at _) _ _ _ _ _ _ _ c.before_blanks.ensures.value c.skip_blanks-start.ensures.value c.in_default.ensures.value (c.loop-joiner.invariant.same n le)
+
+pub and_level-returns-in_default-clause-behind : goal.and_level-returns-in_default-clause-behind
+and_level-returns-in_default-clause-behind t c = AtOrBehind-then _ _ _ c.loop-joiner.invariant.behind c.before_blanks.ensures.behind
 
 pub and_level-operand-requires-in-loop-joiner : goal.and_level-operand-requires-in-loop-joiner
 and_level-operand-requires-in-loop-joiner t c =
@@ -98,7 +101,10 @@ or_level-loop-operator-init t c = record {
 
 pub or_level-returns-in_default-clause-value : goal.or_level-returns-in_default-clause-value
 or_level-returns-in_default-clause-value t c = λ n le.
-    or_level_ends c.args.input.text.now (and_level_by (operand_at _)) _ _ _ _ _ _ c.skip_blanks-start.ensures.value c.in_default.ensures.value (c.loop-operator.invariant.same n le)
+    or_level_ends c.args.input.text.now (and_level_by (operand_at _)) _ _ _ _ _ _ _ c.before_blanks.ensures.value c.skip_blanks-start.ensures.value c.in_default.ensures.value (c.loop-operator.invariant.same n le)
+
+pub or_level-returns-in_default-clause-behind : goal.or_level-returns-in_default-clause-behind
+or_level-returns-in_default-clause-behind t c = AtOrBehind-then _ _ _ c.loop-operator.invariant.behind c.before_blanks.ensures.behind
 
 pub or_level-and_level-requires-in-loop-operator : goal.or_level-and_level-requires-in-loop-operator
 or_level-and_level-requires-in-loop-operator t c =

@@ -1,15 +1,67 @@
-use Rattle.std.proofs.Common.{◌≡◌, Option, Some, ap, ◌∙◌, subst}
-use Rattle.std.specs.Prelude.{string_bytes, IfSome}
+use Rattle.std.proofs.Common.{◌≡◌, ◌≤◌, List, ℕ, [], ◌∷◌, ◌++◌, length, Option, Some, None, true, false, refl, ap, ◌∙◌, subst, arith, ⊎_elim}
+use Rattle.std.proofs.lemmas.Bool.{cases_lt}
+use Rattle.std.specs.Prelude.{codes, string_bytes, IfSome}
 use Rattle.std.specs.Option.{option_map}
 use Rattle.std.specs.declared.alloc.Global.{Global}
 use Rattle.std.specs.declared.string.String.{String}
-use Rattle.filterset_language.specs.Place.{place_of}
+use Rattle.filterset_faults.specs.declared.error.ParseSingleError.{ParseSingleError}
+use Rattle.filterset_language.specs.Place.{Place, place_of, skip, after}
 use Rattle.filterset_language.specs.Platforms.{platform_in}
 use Rattle.filterset_language.specs.RawReading.{raw_at, SpelledTo}
 use Rattle.filterset_language.specs.Recovery.{Recovers, beside}
+use Rattle.filterset_language.specs.Outcome.{Faults}
+use Rattle.filterset_language.specs.Tree.{Platform}
+use Rattle.filterset_language.specs.Descent.{◌>>=◌, between, platform_at}
 use Rattle.filterset_language.proofs.Matching.{platform_recovers, platform_found}
-use Rattle.filterset_language.proofs.Recovering.{reported, keeps_then}
+use Rattle.filterset_language.proofs.Recovering.{recovers_then, refused, reported, keeps_then, bind_none}
 use Rattle.filterset_language.proofs.parsing.leaves.platform.Goals as goal
+
+-- the first step gave nothing
+recovers_none : {X Y : Type 0} (f g h : Faults) (r : Option X) (k : X → Option Y) → Recovers f g None r → length g ≤ length h → Recovers f h None (r >>= k)
+recovers_none f g h r k a le = record {
+  grows = omega (arith, a.grows);
+  clean = λ same. absurd (let e : false ≡ true = (a.clean (omega (arith, a.grows))).2 in cc);
+  fault = λ more.
+      ⊎_elim
+      (λ lt. bind_none r k (a.fault lt))
+      (λ ge. absurd (let e : false ≡ true = (a.clean (omega (arith, a.grows))).2 in cc))
+      (cases_lt (length f) (length g));
+}
+
+-- a platform that was not read
+platform_unread : (p s : Place) (f g h : Faults) → s ≡ skip p → Recovers f g None (raw_at s) → length g ≤ length h → Recovers f h None (platform_at p)
+platform_unread p s f g h skipped a le =
+    let read = subst (λ (x : Place). Recovers f g None (raw_at x)) skipped a in
+    recovers_none f g h (raw_at (skip p)) (λ x. after (codes ")") (skip x.1) >>= λ r. platform_in x.0 >>= λ y. Some (Platform y (between p.at x.1.at), r)) read le
+
+-- a platform that was read and not named, which is reported
+platform_unnamed : (p s q u : Place) (f g h i : Faults) (value : List ℕ) (one : ParseSingleError) → s ≡ skip p → Recovers f g (Some (value, q)) (raw_at s) → Recovers g h (Some u) (after (codes ")") (skip q)) → None ≡ platform_in value
+    → i ≡ h ++ (one ∷ []) → Recovers f i None (platform_at p)
+platform_unnamed p s q u f g h i value one skipped a b none pushed =
+    let le : length i ≤ length i = omega arith in
+    let read = subst (λ (x : Place). Recovers f g (Some (value, q)) (raw_at x)) skipped a in
+    let unnamed : (platform_in value >>= λ y. Some (Platform y (between p.at q.at), u)) ≡ None = rw (← none) refl in
+    recovers_then f g i (value, q) None (raw_at (skip p)) (λ x. after (codes ")") (skip x.1) >>= λ r. platform_in x.0 >>= λ y. Some (Platform y (between p.at x.1.at), r)) read
+    (recovers_then g h i u None (after (codes ")") (skip q)) (λ r. platform_in value >>= λ y. Some (Platform y (between p.at q.at), r)) b (refused h i i None _ one pushed le unnamed))
+
+pub returns-in_default-clause-value : goal.returns-in_default-clause-value
+returns-in_default-clause-value c =
+    let a = c.in_ok-value.value-is in
+    let b = c.in_default.is in
+    let is : c.in_ok-value.field-0.value ≡ None = cc in
+    let q = place_of c.in_ok-value.field-0.rest in
+    let read = subst (λ (o : Option (String Global)). Recovers c.args.faults.now.items c.text.new.faults.items (beside q (option_map string_bytes o)) (raw_at (place_of c.skip_blanks.result))) is c.in_ok-value.ensures.value in
+    platform_unread (place_of c.args.input) (place_of c.skip_blanks.result) _ _ _ c.skip_blanks.ensures.value read c.in_ok-rest.ensures.value.grows
+
+pub returns-in_default-platform_of-clause-value : goal.returns-in_default-platform_of-clause-value
+returns-in_default-platform_of-clause-value c =
+    let a = c.in_ok-value.value-is in
+    let b = c.in-Some.is in
+    let is : c.in_ok-value.field-0.value ≡ Some c.in-Some.value = cc in
+    let q = place_of c.in_ok-value.field-0.rest in
+    let read = subst (λ (o : Option (String Global)). Recovers c.args.faults.now.items c.text.new.faults.items (beside q (option_map string_bytes o)) (raw_at (place_of c.skip_blanks.result))) is c.in_ok-value.ensures.value in
+    platform_unnamed (place_of c.args.input) (place_of c.skip_blanks.result) q (place_of c.in_ok-rest.rest) _ _ _ _ (string_bytes c.in-Some.value) _ c.skip_blanks.ensures.value read c.in_ok-rest.ensures.value
+    (c.in_default-platform_of.ensures.value ∙ ap platform_in c.as_str.ensures.value) c.in_ok-push.ensures.items
 
 pub returns-clause-value : goal.returns-clause-value
 returns-clause-value c =
