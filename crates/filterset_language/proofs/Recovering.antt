@@ -1,7 +1,6 @@
 -- One step after another, of a reader that goes on after a fault.
 use Rattle.std.proofs.Common.{◌≡◌, ℕ, ◌+◌, ◌≤◌, List, [], ◌∷◌, ◌++◌, length, false, Option, Some, None, Result, Ok, Err, refl, ap, ◌∙◌, subst, arith, ⊎_elim, length-append}
 use Rattle.std.specs.Prelude.{is_some, IfOk}
-use Rattle.std.specs.Option.{option_map}
 use Rattle.std.proofs.lemmas.Bool.{cases_lt}
 use Rattle.std.proofs.lemmas.List.Elements.{All-append, All-cons, All-nil}
 use Rattle.filterset_faults.specs.declared.error.ParseSingleError.{ParseSingleError}
@@ -53,10 +52,6 @@ keeps_along t u f g e k = subst (λ (x : List ℕ). Keeps x f g) e k
 
 pub keeps_then : (t u v : List ℕ) (f g h : Faults) → t ≡ v → u ≡ v → Keeps t f g → Keeps u g h → Keeps v f h
 keeps_then t u v f g h e d j k = λ old. keeps_along u v g h d k (keeps_along t v f g e j old)
-
-pub none_of : {A B : Type 0} (o : Option A) (view : A → B) → is_some o ≡ false → None ≡ option_map view o
-none_of None view e = refl
-none_of (Some x) view e = absurd (cc)
 
 pub recovers_still : {X : Type 0} (f : Faults) (x : X) → Recovers f f (Some x) (Some x)
 recovers_still f x = record { grows = omega arith; clean = λ same. (refl, refl, refl); fault = λ lt. absurd (omega arith) }

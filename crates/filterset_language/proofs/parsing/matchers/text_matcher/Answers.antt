@@ -1,4 +1,4 @@
-use Rattle.std.proofs.Common.{◌≡◌, List, ℕ, Bool, true, false, Option, Some, None, refl, subst}
+use Rattle.std.proofs.Common.{◌≡◌, List, ℕ, Bool, Option, Some, subst}
 use Rattle.std.specs.Prelude.{string_bytes}
 use Rattle.std.specs.Option.{option_map}
 use Rattle.std.specs.declared.alloc.Global.{Global}
@@ -11,29 +11,16 @@ use Rattle.filterset_language.specs.RawReading.{raw_at}
 use Rattle.filterset_language.specs.Reading.{predicate_of}
 use Rattle.filterset_language.specs.Recovery.{Recovers, beside}
 use Rattle.filterset_language.specs.Outcome.{Faults}
-use Rattle.filterset_language.specs.Descent.{◌>>=◌, made, sign_at, seen_sign, signed_text}
-use Rattle.filterset_language.proofs.Recovering.{recovers_then, bind_some, bind_none}
+use Rattle.filterset_language.specs.Descent.{made, sign_at, seen_sign, signed_text}
+use Rattle.filterset_language.proofs.Matching.{text_recovers}
 use Rattle.filterset_language.proofs.parsing.matchers.text_matcher.Goals as goal
-
--- what was read, and the place behind it
-recovers_beside : {Y : Type 0} (f g : Faults) (m r : Option Y) (q : Place) → Recovers f g m r → Recovers f g (beside q m) (r >>= λ y. Some (y, q))
-recovers_beside f g None r q a = record {
-  grows = a.grows;
-  clean = λ same. absurd (let e : false ≡ true = (a.clean same).2 in cc);
-  fault = λ more. bind_none r (λ y. Some (y, q)) (a.fault more);
-}
-recovers_beside f g (Some x) r q a = record {
-  grows = a.grows;
-  clean = λ same. ((a.clean same).0, bind_some r x (λ y. Some (y, q)) (a.clean same).1, refl);
-  fault = λ more. bind_none r (λ y. Some (y, q)) (a.fault more);
-}
 
 -- a sign and a text that were read
 signed_recovers : (f g h : Faults) (sign : TextMatching × Bool) (p q : Place) (value : List ℕ) (m : Option Matcher) (s : (TextMatching × Bool) × Place) → (sign, p) ≡ s → Recovers f g (Some (value, q)) (raw_at p) → Recovers g h m (made sign value)
     → Recovers f h (beside q m) (signed_text s)
 signed_recovers f g h sign p q value m s is a b =
-    let read = recovers_then f g h (value, q) (beside q m) (raw_at p) (λ x. made sign x.0 >>= λ y. Some (y, x.1)) a (recovers_beside g h m (made sign value) q b) in
-    subst (λ (x : (TextMatching × Bool) × Place). Recovers f h (beside q m) (signed_text x)) is read
+    let signed : (TextMatching × Bool) × Place = (sign, p) in
+    subst (λ (x : (TextMatching × Bool) × Place). Recovers f h (beside q m) (signed_text x)) is (text_recovers f g h signed value q m a b)
 
 pub returns-clause-value : goal.returns-clause-value
 returns-clause-value c =
