@@ -91,7 +91,7 @@ blanks_no_sign (return_newline r) v h = (refl, refl)
 
 leaf_no_sign : {t : List ℕ} {at : ℕ} {l : Leaf SourceSpan} → LeafText t at l → (u : List ℕ) → NoSign (t ++ u)
 leaf_no_sign (grammar.matching {p} inside before raw last call blanks text last_blanks s_is) u = subst NoSign (sym (call_text u call)) (name_no_sign p _)
-leaf_no_sign (grammar.platform inside raw before last call spelled w1 w2 s_is) u = subst NoSign (sym (call_text u call)) (refl, refl)
+leaf_no_sign (grammar.platform inside raw value call spelled names s_is) u = subst NoSign (sym (call_text u call)) (refl, refl)
 leaf_no_sign (grammar.default inside white call w s_is) u = subst NoSign (sym (call_text u call)) (refl, refl)
 leaf_no_sign (grammar.all inside white call w) u = subst NoSign (sym (call_text u call)) (refl, refl)
 leaf_no_sign (grammar.none inside white call w) u = subst NoSign (sym (call_text u call)) (refl, refl)

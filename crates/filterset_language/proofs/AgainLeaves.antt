@@ -4,7 +4,6 @@ use Rattle.std.specs.Prelude.{codes, ◌&&◌, ◌||◌}
 use Rattle.std.proofs.lemmas.Bool.{eqb-true, ne_eqb}
 use Rattle.std.proofs.lemmas.List.{take_at, drop_at}
 use Rattle.filterset_glob.proofs.GlobsAreRead.{reading_of_glob}
-use Rattle.filterset_graph.specs.Platforms.{platform_text}
 use Rattle.filterset_graph.specs.declared.package.BuildPlatform.{BuildPlatform}
 use Rattle.filterset_faults.specs.Span.{span}
 use Rattle.filterset_faults.specs.declared.span.SourceSpan.{SourceSpan}
@@ -147,11 +146,9 @@ matching_argument {p} {m} {before} at raw behind u blanks text last =
     rw (whole, skip_again blanks at (raw ++ (behind ++ 41 ∷ u)) read.stop, read.read, closed, own, end) refl
 
 -- a platform's name
-platform_argument : (q : BuildPlatform) (at : ℕ) (raw before behind u : List ℕ) → Spelled raw (before ++ (platform_text q ++ behind)) → WhiteSpace before → WhiteSpace behind
+platform_argument : (q : BuildPlatform) (at : ℕ) (raw value u : List ℕ) → Spelled raw value → Names value q
     → platform_at (place at (raw ++ 41 ∷ u)) ≡ Some (Platform q (span at (length raw)), place (at + length raw + 1) u)
-platform_argument q at raw before behind u spelled w1 w2 =
-    let value = before ++ (platform_text q ++ behind) in
-    let names : Names value q = record { before = before; behind = behind; white_before = w1; white_behind = w2; parts = refl } in
+platform_argument q at raw value u spelled names =
     let read = argument_again q at raw value (41 ∷ u) spelled names (closed at_close) in
     let stays = skip_stop (at + length raw) (41 ∷ u) (close_stop u) in
     let own = span_same at (length raw) (at + length raw) refl in
@@ -224,8 +221,8 @@ leaf_again (grammar.matching {p} {t} {at} {m} {s} inside before raw behind call 
     let read = matching_argument inside raw behind u blanks text last in
     let own = ap (λ (x : SourceSpan). Some (Matching p m x, place (inside + length (before ++ (raw ++ behind)) + 1) u)) (sym s_is) in
     call_again _ u (λ q. matching_at p q) call (name_stop p) (λ v. name_again p call.are_blanks at v) (read ∙ own)
-leaf_again (grammar.platform {q} {t} {at} {s} inside raw before behind call spelled w1 w2 s_is) u =
-    let read = platform_argument q inside raw before behind u spelled w1 w2 in
+leaf_again (grammar.platform {q} {t} {at} {s} inside raw value call spelled names s_is) u =
+    let read = platform_argument q inside raw value u spelled names in
     let own = ap (λ (x : SourceSpan). Some (Platform q x, place (inside + length raw + 1) u)) (sym s_is) in
     call_again _ u (λ p. platform_at p) call (λ v. refl) (λ v. refl) (read ∙ own)
 leaf_again (grammar.default {t} {at} {s} inside white call w s_is) u =

@@ -17,7 +17,7 @@ use Rattle.filterset_language.specs.Place.{Place, place_of, skip, after}
 use Rattle.filterset_matchers.specs.Matcher.{Matcher, Equal, Contains, Glob, Regex}
 use Rattle.filterset_language.specs.Tree.{Predicate, Leaf, Matching, Platform, Default, Set}
 use Rattle.filterset_language.specs.Patterns.{MatcherIsRead, LeafIsRead, PatternsAreRead}
-use Rattle.filterset_language.specs.Faults.{IsLeaf, here, EndsWith}
+use Rattle.filterset_language.specs.Faults.{EndsWith}
 use Rattle.filterset_language.specs.Parsed.{LiesOnBody}
 use Rattle.filterset_language.specs.RawReading.{raw_at, body_at, SpelledTo, BodyTaken}
 use Rattle.filterset_language.specs.Platforms.{Names, platform_in}
@@ -117,7 +117,7 @@ matching_lies text predicate m p q x le lies = record {
   predicate = predicate;
   pattern = lies.pattern;
   argument = between p.at q.at;
-  is_leaf = subst (λ (y : Matcher). IsLeaf (Matching predicate y (between p.at q.at)) (Set (Matching predicate m (between p.at q.at)))) lies.is_regex here;
+  is_leaf = (0, omega arith, ap (λ (y : Matcher). Matching predicate y (between p.at q.at)) lies.is_regex);
   body = lies.body;
   end = let ends = lies.ends in omega arith;
 }

@@ -2,13 +2,13 @@
 use Rattle.std.proofs.Common.{◌≡◌, ℕ, suc, ◌<◌, ◌≤◌, List, length, Option, Some, None, refl, sym, subst}
 use Rattle.std.specs.Prelude.{codes}
 use Rattle.std.specs.Option.{option_map}
+use Rattle.std.proofs.lemmas.List.Elements.{Contains-append_left, Contains-append_right}
 use Rattle.filterset_faults.specs.declared.error.ParseSingleError.{ParseSingleError}
 use Rattle.filterset_language.specs.declared.parsing.tree.NotOperator.{NotOperator}
 use Rattle.filterset_language.specs.declared.parsing.tree.OrOperator.{OrOperator}
 use Rattle.filterset_language.specs.Place.{Place, skip, after}
 use Rattle.filterset_language.specs.Reading.{not_at, name_at, joiner_at, or_at}
-use Rattle.filterset_language.specs.Tree.{Joiner, Not, Union, Join, Parens}
-use Rattle.filterset_language.specs.Faults.{under_not, in_parens, left_of_or, right_of_or, left_of_join, right_of_join}
+use Rattle.filterset_language.specs.Tree.{Joiner, Not, Union, Join, Parens, tree_leaves}
 use Rattle.filterset_language.specs.Patterns.{PatternsAreRead}
 use Rattle.filterset_language.specs.Parsed.{LiesOnBody}
 use Rattle.filterset_language.specs.Descent.{Placed, Reader, operand_at, or_level_by, level_by, join, unite}
@@ -23,7 +23,7 @@ negation_gives text n p s q r op f g v skipped no_name stands lt le h =
     let k = less n _ _ lt le in
     let read : GivesTree text f g v r (operand_at n q) = rw k.is (h k.by k.holds) in
     gives_as PatternsAreRead (LiesOnBody text) _ _ _ _ _ _ _
-    (gives_map PatternsAreRead (LiesOnBody text) PatternsAreRead (LiesOnBody text) (λ t. Not op t) (λ e fine. fine) (λ e x lies. lies_in text e (Not op e) x (λ l is. under_not is) lies) f g v r (operand_at n q) read)
+    (gives_map PatternsAreRead (LiesOnBody text) PatternsAreRead (LiesOnBody text) (λ t. Not op t) (λ e fine. fine) (λ e x lies. lies_in text e (Not op e) x (λ l is. is) lies) f g v r (operand_at n q) read)
     refl (negation_step n p s q op skipped no_name stands)
 
 pub parens_gives : (text : List ℕ) (n : ℕ) (p s q r u : Place) (f g h : Faults) (v : Option Placed) → s ≡ skip p → None ≡ name_at s → None ≡ not_at s → Some q ≡ after (codes "(") s → length q.rest < length p.rest → length p.rest ≤ n
@@ -33,7 +33,7 @@ parens_gives text n p s q r u f g h v skipped no_name no_not stands lt le inner 
     let read : GivesTree text f g v r (or_level_by (operand_at n) q) = rw k.is (inner k.by k.holds) in
     let make : Placed → Place → Placed = λ t w. Parens t in
     gives_as PatternsAreRead (LiesOnBody text) _ _ _ _ _ _ _
-    (gives_pair PatternsAreRead (LiesOnBody text) PatternsAreRead (LiesOnBody text) make r (λ e fine. fine) (λ e x lies. lies_in text e (Parens e) x (λ l is. in_parens is) lies) f g h v u (or_level_by (operand_at n) q) (λ w. after (codes ")") (skip w)) read close)
+    (gives_pair PatternsAreRead (LiesOnBody text) PatternsAreRead (LiesOnBody text) make r (λ e fine. fine) (λ e x lies. lies_in text e (Parens e) x (λ l is. is) lies) f g h v u (or_level_by (operand_at n) q) (λ w. after (codes ")") (skip w)) read close)
     refl (parens_step n p s q skipped no_name no_not stands)
 
 pub nothing_gives : (text : List ℕ) (n : ℕ) (p s q : Place) (f g : Faults) (v : Option Placed) → NoOperand p s → length f < length g → GivesTree text f g v q (operand_at (suc n) p)
@@ -47,16 +47,16 @@ tree_along t u f g v q r same a = subst (λ (x : List ℕ). GivesTree x f g v q 
 
 -- the two sides of an operator hold their bodies
 join_left : (text : List ℕ) (op : Joiner) (l r : Placed) (x : ParseSingleError) → LiesOnBody text l x → LiesOnBody text (Join op l r) x
-join_left text op l r x lies = lies_in text l (Join op l r) x (λ leaf is. left_of_join is) lies
+join_left text op l r x lies = lies_in text l (Join op l r) x (λ leaf is. Contains-append_left (tree_leaves l) (tree_leaves r) leaf is) lies
 
 join_right : (text : List ℕ) (op : Joiner) (l r : Placed) (x : ParseSingleError) → LiesOnBody text r x → LiesOnBody text (Join op l r) x
-join_right text op l r x lies = lies_in text r (Join op l r) x (λ leaf is. right_of_join is) lies
+join_right text op l r x lies = lies_in text r (Join op l r) x (λ leaf is. Contains-append_right (tree_leaves l) (tree_leaves r) leaf is) lies
 
 or_left : (text : List ℕ) (op : OrOperator) (l r : Placed) (x : ParseSingleError) → LiesOnBody text l x → LiesOnBody text (Union op l r) x
-or_left text op l r x lies = lies_in text l (Union op l r) x (λ leaf is. left_of_or is) lies
+or_left text op l r x lies = lies_in text l (Union op l r) x (λ leaf is. Contains-append_left (tree_leaves l) (tree_leaves r) leaf is) lies
 
 or_right : (text : List ℕ) (op : OrOperator) (l r : Placed) (x : ParseSingleError) → LiesOnBody text r x → LiesOnBody text (Union op l r) x
-or_right text op l r x lies = lies_in text r (Union op l r) x (λ leaf is. right_of_or is) lies
+or_right text op l r x lies = lies_in text r (Union op l r) x (λ leaf is. Contains-append_right (tree_leaves l) (tree_leaves r) leaf is) lies
 
 module _ (text : List ℕ) (read : Reader) where
   abbrev AndGoing : Faults → Faults → Option Placed → Place → Option (Placed × Place) → Type 0

@@ -1,13 +1,13 @@
 -- One step after another, of a reader whose patterns may be refused.
 use Rattle.std.proofs.Common.{◌≡◌, ℕ, zero, suc, ◌+◌, ◌<◌, ◌≤◌, List, ◌++◌, length, false, true, Option, Some, None, refl, sym, ap, ◌∙◌, subst, arith, ⊎_elim, length-append, append_assoc}
+use Rattle.std.specs.List.{Contains}
 use Rattle.std.specs.Option.{option_map}
 use Rattle.std.proofs.lemmas.Bool.{cases_lt}
 use Rattle.std.proofs.lemmas.List.Elements.{All-append}
 use Rattle.filterset_faults.specs.declared.error.ParseSingleError.{ParseSingleError}
 use Rattle.filterset_faults.specs.declared.span.SourceSpan.{SourceSpan}
 use Rattle.filterset_language.specs.Place.{Place, skip}
-use Rattle.filterset_language.specs.Tree.{Leaf, Tree}
-use Rattle.filterset_language.specs.Faults.{IsLeaf}
+use Rattle.filterset_language.specs.Tree.{Leaf, Tree, tree_leaves}
 use Rattle.filterset_language.specs.Parsed.{LiesOnBody}
 use Rattle.filterset_language.specs.Descent.{Placed, ◌>>=◌, Reader, Next, Make, more, level_by}
 use Rattle.filterset_language.specs.Recovery.{Recovers, Checked, beside, joined}
@@ -151,7 +151,7 @@ module _ {O : Type 0} (next : Next O) (make : Make O) (read : Reader) (Good : Pl
 -- ---- bodies of a tree
 
 -- a body of a part of the tree is one of the tree
-pub lies_in : (text : List ℕ) (d e : Tree SourceSpan) (x : ParseSingleError) → ((l : Leaf SourceSpan) → IsLeaf l d → IsLeaf l e) → LiesOnBody text d x → LiesOnBody text e x
+pub lies_in : (text : List ℕ) (d e : Tree SourceSpan) (x : ParseSingleError) → ((l : Leaf SourceSpan) → Contains (tree_leaves d) l → Contains (tree_leaves e) l) → LiesOnBody text d x → LiesOnBody text e x
 lies_in text d e x part lies = record {
   at = lies.at;
   is = lies.is;

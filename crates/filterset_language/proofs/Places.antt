@@ -101,20 +101,6 @@ AtOrBehind-then a b c ab bc = record { text = bc.text ∙ ab.text; end = bc.end 
 pub AtOrBehind-of : (a b : Input) → IsBehind a b → IsAtOrBehind a b
 AtOrBehind-of a b ab = record { text = ab.text; end = ab.end; shorter = omega (arith, ab.shorter) }
 
-pub blank_within : (n : ℕ) (t : List ℕ) → n ≡ blank_len t → n ≤ length t
-blank_within n [] e = omega arith
-blank_within n (b ∷ []) e = one ((eqb b 32) || (eqb b 10)) e
-  where
-    one : (v : Bool) → n ≡ cond v 1 0 → n ≤ 1
-    one true e = omega arith
-    one false e = omega arith
-blank_within n (b ∷ c ∷ t) e = two ((eqb b 32) || (eqb b 10)) ((eqb b 13) && (eqb c 10)) e
-  where
-    two : (v w : Bool) → n ≡ cond v 1 (cond w 2 0) → n ≤ length (b ∷ c ∷ t)
-    two true w e = omega arith
-    two false true e = omega arith
-    two false false e = omega arith
-
 pub one_blank : (t : List ℕ) → blank_len (32 ∷ t) ≡ 1
 one_blank [] = refl
 one_blank (b ∷ t) = refl

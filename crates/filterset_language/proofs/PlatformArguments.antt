@@ -219,7 +219,7 @@ platform_refused {blanks} i b v are s none = record {
     there = (
       blanks ++ v,
       piece_spelled i b (blanks ++ v) s,
-      λ p front rest white_front white_rest e. none p (names_behind are v p (record { before = front; behind = rest; white_before = white_front; white_behind = white_rest; parts = e })),
+      λ p names. none p (names_behind are v p names),
     );
   };
   inside = refl;

@@ -26,7 +26,7 @@ call_length name argument t at inside c =
 -- every predicate has a byte
 pub leaf_some : {t : List ℕ} {at : ℕ} {l : Leaf SourceSpan} → LeafText t at l → 0 < length t
 leaf_some (grammar.matching {p} {t} {at} inside before raw behind call blanks text last s_is) = omega (arith, call_length _ _ t at inside call)
-leaf_some (grammar.platform {q} {t} {at} inside raw before behind call spelled w1 w2 s_is) = omega (arith, call_length _ _ t at inside call)
+leaf_some (grammar.platform {q} {t} {at} inside raw value call spelled names s_is) = omega (arith, call_length _ _ t at inside call)
 leaf_some (grammar.default {t} {at} inside white call w s_is) = omega (arith, call_length _ _ t at inside call)
 leaf_some (grammar.all {t} {at} inside white call w) = omega (arith, call_length _ _ t at inside call)
 leaf_some (grammar.none {t} {at} inside white call w) = omega (arith, call_length _ _ t at inside call)

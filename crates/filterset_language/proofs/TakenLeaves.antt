@@ -10,14 +10,13 @@ use Rattle.filterset_glob.specs.Reading.{reading}
 use Rattle.filterset_glob.specs.Tokens.{Tokens}
 use Rattle.filterset_glob.specs.declared.fault.GlobConstructError.{GlobConstructError}
 use Rattle.filterset_glob.proofs.ReadsAreGlobs.{glob_of_reading}
-use Rattle.filterset_graph.specs.Platforms.{platform_text}
 use Rattle.filterset_graph.specs.declared.package.BuildPlatform.{BuildPlatform}
 use Rattle.filterset_language.specs.Text.{Blanks, Spelled, WhiteSpace}
 use Rattle.filterset_language.specs.Front.{blank_len, close_len, is_white}
 use Rattle.filterset_language.specs.Place.{Place, place, skip, after, behind, advanced}
 use Rattle.filterset_language.specs.RawReading.{raw_at, body_at, TextTaken}
 use Rattle.filterset_language.specs.Globs.{glob_by, glob_in}
-use Rattle.filterset_language.specs.Platforms.{platform_in}
+use Rattle.filterset_language.specs.Platforms.{Names, platform_in}
 use Rattle.filterset_language.specs.Reading.{name_text, predicate_of}
 use Rattle.filterset_matchers.specs.Matcher.{Matcher, Equal, Contains, Glob, Regex}
 use Rattle.filterset_language.specs.Tree as tree
@@ -302,11 +301,9 @@ matching_takes p s i x o e =
 record PlatformTaken (i : Place) (q : BuildPlatform) (j : Place) : Type 0 where
   raw : List ℕ
   takes : Takes i raw j
-  before : List ℕ
-  behind : List ℕ
-  spelled : Spelled raw (before ++ (platform_text q ++ behind))
-  white_before : WhiteSpace before
-  white_behind : WhiteSpace behind
+  value : List ℕ
+  spelled : Spelled raw value
+  names : Names value q
   ends : EndsText j.rest
 
 platform_text_takes : (i j : Place) (value : List ℕ) (q : BuildPlatform) → raw_at (skip i) ≡ Some (value, j) → platform_in value ≡ Some q → PlatformTaken i q j
@@ -314,15 +311,12 @@ platform_text_takes i j value q e is =
     let k = skip_takes i.rest i.at in
     let read = text_takes (skip i) value j e in
     let t = with_blanks i (skip i) j value k.are k.takes read.spelled in
-    let n = names_before k.are value q (platform_takes value q is) in
     record {
       raw = t.raw;
       takes = record { parts = t.parts; offset = t.offset };
-      before = n.before;
-      behind = n.behind;
-      spelled = subst (Spelled t.raw) n.parts t.spelled;
-      white_before = n.white_before;
-      white_behind = n.white_behind;
+      value = k.blanks ++ value;
+      spelled = t.spelled;
+      names = names_before k.are value q (platform_takes value q is);
       ends = read.ends;
     }
 
@@ -333,7 +327,7 @@ platform_call_takes s i j r q o t e =
     record {
       own = call.own;
       takes = call.takes;
-      text = grammar.platform {t = call.own} i.at t.raw t.before t.behind call.call t.spelled t.white_before t.white_behind s_is;
+      text = grammar.platform {t = call.own} i.at t.raw t.value call.call t.spelled t.names s_is;
     }
 
 platform_leaf_takes : (s i : Place) (x : Leaf SourceSpan × Place) → Opened (codes "platform") s i → platform_at i ≡ Some x → LeafTaken s x.0 x.1

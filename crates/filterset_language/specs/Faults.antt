@@ -1,11 +1,12 @@
 -- What stands in a text where a fault of it is reported.
 use Rattle.std.specs.Prelude.{◌≡◌, ◌≢◌, ℕ, ◌+◌, ◌≤◌, ◌<◌, min, List, [], ◌∷◌, ◌++◌, take, drop, codes, encode_utf8, chars, All, IfSome, IsCharBoundary, ◌⊎◌}
 use Rattle.std.specs.Prelude as std
+use Rattle.std.specs.List.{Contains}
 use Rattle.filterset_language.specs.Text.{Blanks, WhiteSpace, Escape, Spelled, Body}
 use Rattle.filterset_matchers.specs.Matcher.{Matcher}
-use Rattle.filterset_language.specs.Tree.{Predicate, Leaf, Joiner, Tree, Package, Deps, Rdeps, Binary, BinaryId, Test, Group, Matching, Platform, Default, Not, Union, Join, Parens, Set}
+use Rattle.filterset_language.specs.Tree.{Predicate, Leaf, Joiner, Tree, Package, Deps, Rdeps, Binary, BinaryId, Test, Group, Matching, Platform, Default, tree_leaves}
+use Rattle.filterset_language.specs.Platforms.{Names}
 use Rattle.filterset_language.specs.Grammar.{Name, not_text, not_ends, or_text, join_text, Spells}
-use Rattle.filterset_graph.specs.Platforms.{platform_text}
 use Rattle.filterset_glob.specs.Grammar.{GlobText}
 use Rattle.filterset_glob.specs.Tokens.{Tokens}
 use Rattle.filterset_faults.specs.Faults.{span_of}
@@ -139,16 +140,6 @@ GlobFaultStands value UnclosedAlternates = Holds (codes "{") value
 
 -- ---- leaves of the tree
 
--- the predicate is one of the tree's leaves
-pub data IsLeaf (l : Leaf SourceSpan) : Tree SourceSpan → Type 0 where
-  here : IsLeaf l (Set l)
-  under_not : {op : NotOperator} {e : Tree SourceSpan} → IsLeaf l e → IsLeaf l (Not op e)
-  in_parens : {e : Tree SourceSpan} → IsLeaf l e → IsLeaf l (Parens e)
-  left_of_or : {op : OrOperator} {a b : Tree SourceSpan} → IsLeaf l a → IsLeaf l (Union op a b)
-  right_of_or : {op : OrOperator} {a b : Tree SourceSpan} → IsLeaf l b → IsLeaf l (Union op a b)
-  left_of_join : {op : Joiner} {a b : Tree SourceSpan} → IsLeaf l a → IsLeaf l (Join op a b)
-  right_of_join : {op : Joiner} {a b : Tree SourceSpan} → IsLeaf l b → IsLeaf l (Join op a b)
-
 -- a leaf with the span
 abbrev pub HasSpan : SourceSpan → Leaf SourceSpan → Type 0
 HasSpan s (Matching p m t) = t ≡ s
@@ -161,7 +152,7 @@ pub record LeafAt (text : List ℕ) (s : SourceSpan) (Is : Leaf SourceSpan → T
   pub expr : Tree SourceSpan
   pub spelled : Spells text expr
   pub leaf : Leaf SourceSpan
-  pub is_leaf : IsLeaf leaf expr
+  pub is_leaf : Contains (tree_leaves expr) leaf
   pub at : HasSpan s leaf
   pub is : Is leaf
 
@@ -197,7 +188,7 @@ StandsThere text (ExprFoundUnaryOp s op suggest) = (piece text s ≡ op.now) × 
 StandsThere text (ExpectedCloseRegex s) = IsPoint s × ClosesArgument (onward text s)
 StandsThere text (InvalidRegexWithoutMessage s) = ((pattern : List ℕ) × Body (piece text s) pattern) × EndsWith (before text s) (codes "/") × BeginsWith (codes "/") (behind text s)
 StandsThere text (InvalidGlob s error) = (value : List ℕ) × Spelled (piece text s) value × ((tokens : Tokens) → GlobText (chars value) tokens → ⊥) × GlobFaultStands value error
-StandsThere text (InvalidPlatformArgument s) = (value : List ℕ) × Spelled (piece text s) value × ((p : BuildPlatform) (front rest : List ℕ) → WhiteSpace front → WhiteSpace rest → value ≢ front ++ (platform_text p ++ rest))
+StandsThere text (InvalidPlatformArgument s) = (value : List ℕ) × Spelled (piece text s) value × ((platform : BuildPlatform) → Names value platform → ⊥)
 StandsThere text (BannedPredicate s kind reason) = LeafAt text s (λ l. Banned kind l reason)
 StandsThere text (NoPackageMatch s) = LeafAt text s (IsOf (λ p. (p ≡ Package) ⊎ ((p ≡ Deps) ⊎ (p ≡ Rdeps))))
 StandsThere text (NoGroupMatch s) = LeafAt text s (IsOf (λ p. p ≡ Group))

@@ -3,11 +3,11 @@
 use Rattle.std.specs.Prelude.{◌≡◌, ◌≢◌, ℕ, ◌+◌, List, [], ◌∷◌, ◌++◌, length, codes, true, false, IsTrue, chars}
 use Rattle.filterset_language.specs.Text.{Blanks, ends_word, WhiteSpace, Spelled, Body}
 use Rattle.filterset_matchers.specs.Matcher.{Matcher, Equal, Contains, Glob, Regex}
+use Rattle.filterset_language.specs.Platforms.{Names}
 use Rattle.filterset_language.specs.Tree as tree
 use Rattle.filterset_language.specs.Tree.{Predicate, Leaf, Joiner, Tree, Package, Deps, Rdeps, Kind, Binary, BinaryId, Test, Group, Matching, Platform, Default, Both, Without, Not, Union, Join, Parens, Set}
 use Rattle.filterset_glob.specs.Grammar.{GlobText}
 use Rattle.filterset_glob.specs.Tokens.{Tokens}
-use Rattle.filterset_graph.specs.Platforms.{platform_text}
 use Rattle.filterset_faults.specs.Span.{span}
 use Rattle.filterset_faults.specs.declared.span.SourceSpan.{SourceSpan}
 use Rattle.filterset_graph.specs.declared.package.BuildPlatform.{BuildPlatform}
@@ -101,9 +101,8 @@ pub data LeafText : List ℕ → ℕ → Leaf SourceSpan → Type 0 where
   matching : {p : Predicate} {t : List ℕ} {at : ℕ} {m : Matcher} {s : SourceSpan} (inside : ℕ) (before raw behind : List ℕ)
       → Call (Name p) (before ++ (raw ++ behind)) t at inside → Blanks before → MatcherText p raw m → BehindMatcher m behind
       → s ≡ span inside (length before + length raw) → LeafText t at (Matching p m s)
-  platform : {q : BuildPlatform} {t : List ℕ} {at : ℕ} {s : SourceSpan} (inside : ℕ) (raw before behind : List ℕ)
-      → Call (codes "platform") raw t at inside → Spelled raw (before ++ (platform_text q ++ behind)) → WhiteSpace before → WhiteSpace behind
-      → s ≡ span inside (length raw) → LeafText t at (Platform q s)
+  platform : {q : BuildPlatform} {t : List ℕ} {at : ℕ} {s : SourceSpan} (inside : ℕ) (raw value : List ℕ)
+      → Call (codes "platform") raw t at inside → Spelled raw value → Names value q → s ≡ span inside (length raw) → LeafText t at (Platform q s)
   default : {t : List ℕ} {at : ℕ} {s : SourceSpan} (inside : ℕ) (white : List ℕ)
       → Call (codes "default") white t at inside → WhiteSpace white → s ≡ span at (length t) → LeafText t at (Default s)
   all : {t : List ℕ} {at : ℕ} (inside : ℕ) (white : List ℕ) → Call (codes "all") white t at inside → WhiteSpace white → LeafText t at tree.All

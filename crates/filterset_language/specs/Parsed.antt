@@ -1,12 +1,13 @@
 -- What a parse of a text gives.
 use Rattle.std.specs.Prelude.{◌≡◌, ◌≢◌, ℕ, ◌+◌, List, [], All, Some, None}
+use Rattle.std.specs.List.{Contains}
 use Rattle.std.specs.Option.{option_map}
 use Rattle.filterset_language.specs.Text.{Body}
 use Rattle.filterset_matchers.specs.Matcher.{Regex}
-use Rattle.filterset_language.specs.Tree.{Predicate, Matching, Tree, tree_of}
+use Rattle.filterset_language.specs.Tree.{Predicate, Matching, Tree, tree_of, tree_leaves}
 use Rattle.filterset_language.specs.Grammar.{Spells}
 use Rattle.filterset_language.specs.Patterns.{PatternsAreRead}
-use Rattle.filterset_language.specs.Faults.{IsLeaf, piece, Stands}
+use Rattle.filterset_language.specs.Faults.{piece, Stands}
 use Rattle.filterset_faults.specs.declared.span.SourceSpan.{SourceSpan}
 use Rattle.filterset_faults.specs.declared.error.ParseSingleError.{ParseSingleError}
 use Rattle.filterset_faults.specs.declared.error.ParseSingleError.TheVariants.{InvalidRegexWithoutMessage}
@@ -27,7 +28,7 @@ pub record LiesOnBody (text : List ℕ) (e : Tree SourceSpan) (fault : ParseSing
   pub predicate : Predicate
   pub pattern : List ℕ
   pub argument : SourceSpan
-  pub is_leaf : IsLeaf (Matching predicate (Regex pattern) argument) e
+  pub is_leaf : Contains (tree_leaves e) (Matching predicate (Regex pattern) argument)
   pub body : Body (piece text at) pattern
   pub end : argument.offset + argument.len ≡ at.offset + at.len + 1
 
