@@ -12,9 +12,9 @@ use Rattle.filterset_language.specs.Reading.{choose, with, not_at, name_at, join
 use Rattle.filterset_language.specs.Tree as tree
 use Rattle.filterset_language.specs.Tree.{Predicate, Joiner}
 use Rattle.filterset_language.specs.Grammar.{Name, not_text, join_text, or_text, not_ends}
-use Rattle.filterset_language.specs.Faults.{ClosesArgument, InvalidAnd, InvalidOr, Misplaced, EndsWith, BehindBlanks, BeginsOperand, with_name, with_negation, with_parenthesis, IsName, Opener, parenthesis, invalid_and, invalid_or, BeforeOperand, at_start, behind_opener, Stands}
+use Rattle.filterset_language.specs.Faults.{ClosesArgument, InvalidAnd, InvalidOr, Misplaced, misplaced_and, misplaced_or, misplaced_AND, misplaced_OR, misplaced_ampersands, misplaced_pipes, EndsWith, BehindBlanks, BeginsOperand, with_name, with_negation, with_parenthesis, IsName, Opener, parenthesis, invalid_and, invalid_or, BeforeOperand, at_start, behind_opener, Stands}
 use Rattle.filterset_language.specs.Faults as faults
-use Rattle.filterset_language.specs.Recovery.{Found, AtOperand, AtName, IsMisplaced, IsCapitalNot}
+use Rattle.filterset_language.specs.Recovery.{Found, AtOperand, AtName, behind_misplaced, IsMisplaced, NoMisplacedWord, NoMisplacedSign, IsCapitalNot}
 use Rattle.filterset_faults.specs.Span.{span}
 use Rattle.filterset_language.specs.declared.parsing.operators.Misplaced.{Misplaced as Found-operator}
 use Rattle.filterset_language.specs.declared.text.Input.{Input}
@@ -26,7 +26,7 @@ use Rattle.filterset_language.specs.declared.parsing.words.PredicateName.{Predic
 use Rattle.filterset_language.specs.declared.parsing.words.PredicateName.TheVariants as names
 use Rattle.filterset_faults.specs.declared.error.ParseSingleError.TheVariants.{ExpectedOpenParenthesis, ExpectedCloseParenthesis, ExpectedExpr, UnexpectedComma, UnexpectedArgument, InvalidAndOperator, InvalidOrOperator, ExprFoundBinaryOp, ExprFoundUnaryOp}
 use Rattle.filterset_language.proofs.Places.{behind_same, skip_again}
-use Rattle.filterset_language.proofs.Takes.{Takes, after_takes, skip_takes, JoinerTaken, joiner_takes, OrTaken, or_takes, not_takes, name_takes}
+use Rattle.filterset_language.proofs.Takes.{Takes, word_after, after_takes, skip_takes, JoinerTaken, joiner_takes, OrTaken, or_takes, not_takes, name_takes}
 use Rattle.filterset_language.proofs.TextFaults.{size, begins_here, point_ends, rest_ends, piece_ends}
 use Rattle.filterset_language.proofs.Closing.{close_within, close_behind, close_none, close_boundary}
 use Rattle.filterset_language.proofs.White.{white_to}
@@ -239,17 +239,47 @@ ends_in i s r w same stands =
     let t = after_takes w (place_of s) (place_of r) stands in
     subst (λ (x : List ℕ). IsCharBoundary x (s.offset + (r.offset - s.offset))) same (piece_ends s r w t.parts t.offset)
 
+-- an operator that stands in the place of an operand stands there
+misplaced_stands : (p : Place) (op suggest : List ℕ) (q : Place) → IsMisplaced p op suggest q → after op p ≡ Some q
+misplaced_stands p op suggest q is = from is.suggested is.stands
+  where
+    from : {op suggest : List ℕ} (m : Misplaced op suggest) → behind_misplaced m p ≡ Some q → after op p ≡ Some q
+    from misplaced_and e = word_after (codes "and") p q e
+    from misplaced_or e = word_after (codes "or") p q e
+    from misplaced_AND e = word_after (codes "AND") p q e
+    from misplaced_OR e = word_after (codes "OR") p q e
+    from misplaced_ampersands e = e
+    from misplaced_pipes e = e
+
+-- and none does where neither a word nor a sign stands
+pub none_misplaced : (p : Place) → NoMisplacedWord p → NoMisplacedSign p → (op suggest : List ℕ) (q : Place) → IsMisplaced p op suggest q → ⊥
+none_misplaced p words signs op suggest q is = from is.suggested is.stands
+  where
+    never : {o : Option Place} → None ≡ o → o ≡ Some q → ⊥
+    never none e = let nothing = none ∙ e in absurd cc
+
+    from : {op suggest : List ℕ} (m : Misplaced op suggest) → behind_misplaced m p ≡ Some q → ⊥
+    from misplaced_and e = never words.no_and e
+    from misplaced_or e = never words.no_or e
+    from misplaced_AND e = never words.no_AND e
+    from misplaced_OR e = never words.no_OR e
+    from misplaced_ampersands e = never signs.no_ampersands e
+    from misplaced_pipes e = never signs.no_pipes e
+
 pub binary_found : (i s : Input) (found : Found-operator) → s.text.now ≡ i.text.now → IsMisplaced (place_of s) found.op.now found.suggest.now (place_of found.rest) → IsBehind s found.rest
     → Found i.text.now (ExprFoundBinaryOp (span s.offset (found.rest.offset - s.offset)) found.op found.suggest)
 binary_found i s found same is b = record {
   stands = record {
     within = span_within i s found.rest same b.text (omega (arith, b.end, b.shorter));
     begins = begins_in i s same;
-    ends = ends_in i s found.rest found.op.now same is.stands;
-    there = (piece_at i s found.rest found.op.now same is.stands, is.suggested);
+    ends = ends_in i s found.rest found.op.now same stands;
+    there = (piece_at i s found.rest found.op.now same stands, is.suggested);
   };
   inside = refl;
 }
+  where
+    stands : after found.op.now (place_of s) ≡ Some (place_of found.rest)
+    stands = misplaced_stands (place_of s) found.op.now found.suggest.now (place_of found.rest) is
 
 pub unary_found : (i s : Input) (found : Found-operator) → s.text.now ≡ i.text.now → IsCapitalNot (place_of s) found.op.now found.suggest.now (place_of found.rest) → IsBehind s found.rest
     → Found i.text.now (ExprFoundUnaryOp (span s.offset (found.rest.offset - s.offset)) found.op found.suggest)
@@ -257,11 +287,14 @@ unary_found i s found same is b = record {
   stands = record {
     within = span_within i s found.rest same b.text (omega (arith, b.end, b.shorter));
     begins = begins_in i s same;
-    ends = ends_in i s found.rest found.op.now same is.stands;
-    there = (piece_at i s found.rest found.op.now same is.stands, is.is, is.suggested);
+    ends = ends_in i s found.rest found.op.now same stands;
+    there = (piece_at i s found.rest found.op.now same stands, is.is, is.suggested);
   };
   inside = refl;
 }
+  where
+    stands : after found.op.now (place_of s) ≡ Some (place_of found.rest)
+    stands = word_after found.op.now (place_of s) (place_of found.rest) is.stands
 
 pub and_found : (s r : Input) → Some (None, place_of r) ≡ joiner_at (place_of s) → IsBehind s r → Found s.text.now (InvalidAndOperator (span s.offset (r.offset - s.offset)))
 unfolding JoinerTaken

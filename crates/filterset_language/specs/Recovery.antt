@@ -1,8 +1,8 @@
 -- What a reader says that goes on after a fault. It serves the proof of the parser alone.
 use Rattle.std.specs.Prelude.{◌≡◌, ℕ, ◌<◌, ◌≤◌, List, length, take, codes, Option, None, Some, IsSome, All, Bool, true, false}
 use Rattle.std.specs.Option.{option_map}
-use Rattle.filterset_language.specs.Place.{Place, place_of, skip, after}
-use Rattle.filterset_language.specs.Faults.{Stands, BeforeOperand, EndsWith, Misplaced}
+use Rattle.filterset_language.specs.Place.{Place, place_of, skip, after, after_word}
+use Rattle.filterset_language.specs.Faults.{Stands, BeforeOperand, EndsWith, Misplaced, misplaced_and, misplaced_or, misplaced_AND, misplaced_OR, misplaced_ampersands, misplaced_pipes}
 use Rattle.filterset_language.specs.Reading.{name_at, not_at, name_text}
 use Rattle.filterset_language.specs.Descent.{Placed, ◌>>=◌, Make}
 use Rattle.filterset_faults.specs.declared.error.ParseSingleError.{ParseSingleError}
@@ -60,14 +60,35 @@ pub record AtOperand (input : Input) : Type 0 where
 abbrev pub AtName : PredicateName → Input → Type 0
 AtName name input = EndsWith (take input.offset input.text.now) (name_text name)
 
+-- what stands behind the operator, where it stands at the place; a word has to end
+abbrev pub behind_misplaced : {op suggest : List ℕ} → Misplaced op suggest → Place → Option Place
+behind_misplaced misplaced_and p = after_word (codes "and") p
+behind_misplaced misplaced_or p = after_word (codes "or") p
+behind_misplaced misplaced_AND p = after_word (codes "AND") p
+behind_misplaced misplaced_OR p = after_word (codes "OR") p
+behind_misplaced misplaced_ampersands p = after (codes "&&") p
+behind_misplaced misplaced_pipes p = after (codes "||") p
+
 -- an operator stands at a place where an operand belongs
 pub record IsMisplaced (p : Place) (op suggest : List ℕ) (q : Place) : Type 0 where
-  pub stands : after op p ≡ Some q
   pub suggested : Misplaced op suggest
+  pub stands : behind_misplaced suggested p ≡ Some q
+
+-- none of the words among these operators stands at the place
+pub record NoMisplacedWord (p : Place) : Type 0 where
+  pub no_and : None ≡ after_word (codes "and") p
+  pub no_or : None ≡ after_word (codes "or") p
+  pub no_AND : None ≡ after_word (codes "AND") p
+  pub no_OR : None ≡ after_word (codes "OR") p
+
+-- none of the signs does
+pub record NoMisplacedSign (p : Place) : Type 0 where
+  pub no_ampersands : None ≡ after (codes "&&") p
+  pub no_pipes : None ≡ after (codes "||") p
 
 -- `NOT` stands at a place where an operand belongs
 pub record IsCapitalNot (p : Place) (op suggest : List ℕ) (q : Place) : Type 0 where
-  pub stands : after op p ≡ Some q
+  pub stands : after_word op p ≡ Some q
   pub is : op ≡ codes "NOT"
   pub suggested : suggest ≡ codes "not"
 

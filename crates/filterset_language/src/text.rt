@@ -122,6 +122,7 @@ impl<'a> Input<'a> {
     pub fn before_blanks(self, start: Input<'a>) -> Input<'a>
         requires skipped { place_of start ≡ skip (place_of self) }
         ensures value { place_of result ≡ place_of self.entry }
+        ensures known { result.blanks ≡ start.entry.offset - self.entry.offset }
         ensures behind { IsAtOrBehind self.entry result }
     {
         Input {

@@ -1,9 +1,9 @@
 //! Operators and predicates' names.
-ghost use Rattle.std.specs.Prelude.{◌≡◌, ◌<◌, length, IfSome};
+ghost use Rattle.std.specs.Prelude.{◌≡◌, ℕ, ◌<◌, List, length, IfSome, None};
 ghost use Rattle.std.specs.Option.{option_map};
-ghost use Rattle.filterset_language.specs.Place.{place_of, IsBehind};
+ghost use Rattle.filterset_language.specs.Place.{Place, place_of, IsBehind};
 ghost use Rattle.filterset_language.specs.Reading.{seen, seen_joiner, not_at, joiner_at, or_at, first_byte, named, either, binary_name_at, name_at};
-ghost use Rattle.filterset_language.specs.Recovery.{IsMisplaced, IsCapitalNot};
+ghost use Rattle.filterset_language.specs.Recovery.{IsMisplaced, NoMisplacedWord, NoMisplacedSign, IsCapitalNot};
 
 use crate::parsing::tree::{AndOperator, DifferenceOperator, NotOperator, OrOperator};
 use crate::parsing::words::{Joiner, MatchingName, PredicateName};
@@ -158,6 +158,7 @@ pub struct Misplaced<'a> {
 /// The operator with two operands that stands here, where an operand belongs.
 pub fn misplaced_operator(input: Input<'_>) -> Option<Misplaced<'_>>
     ensures value { IfSome result (λ x. IsMisplaced (place_of input.entry) x.op.now x.suggest.now (place_of x.rest)) }
+    ensures none { result ≡ None → (op suggest : List ℕ) (q : Place) → IsMisplaced (place_of input.entry) op suggest q → ⊥ }
     ensures behind { IfSome result (λ x. IsBehind input.entry x.rest) }
 {
     match misplaced_word(input) {
@@ -169,6 +170,7 @@ pub fn misplaced_operator(input: Input<'_>) -> Option<Misplaced<'_>>
 /// The word among these operators that stands here.
 fn misplaced_word(input: Input<'_>) -> Option<Misplaced<'_>>
     ensures value { IfSome result (λ x. IsMisplaced (place_of input.entry) x.op.now x.suggest.now (place_of x.rest)) }
+    ensures none { result ≡ None → NoMisplacedWord (place_of input.entry) }
     ensures behind { IfSome result (λ x. IsBehind input.entry x.rest) }
 {
     if let Some(rest) = input.after_word("and") {
@@ -203,6 +205,7 @@ fn misplaced_word(input: Input<'_>) -> Option<Misplaced<'_>>
 /// The sign of other languages that stands here.
 fn misplaced_sign(input: Input<'_>) -> Option<Misplaced<'_>>
     ensures value { IfSome result (λ x. IsMisplaced (place_of input.entry) x.op.now x.suggest.now (place_of x.rest)) }
+    ensures none { result ≡ None → NoMisplacedSign (place_of input.entry) }
     ensures behind { IfSome result (λ x. IsBehind input.entry x.rest) }
 {
     if let Some(rest) = input.after("&&") {
@@ -223,6 +226,7 @@ fn misplaced_sign(input: Input<'_>) -> Option<Misplaced<'_>>
 /// `NOT`, where it stands here.
 pub fn misplaced_not(input: Input<'_>) -> Option<Misplaced<'_>>
     ensures value { IfSome result (λ x. IsCapitalNot (place_of input.entry) x.op.now x.suggest.now (place_of x.rest)) }
+    ensures none { result ≡ None → (op suggest : List ℕ) (q : Place) → IsCapitalNot (place_of input.entry) op suggest q → ⊥ }
     ensures behind { IfSome result (λ x. IsBehind input.entry x.rest) }
 {
     let rest = input.after_word("NOT")?;

@@ -3,7 +3,7 @@ use Rattle.filterset_language.specs.Faults.{misplaced_ampersands, misplaced_pipe
 use Rattle.filterset_language.proofs.parsing.operators.misplaced_sign.Goals as goal
 
 pub returns-in-Some-clause-value : goal.returns-in-Some-clause-value
-returns-in-Some-clause-value c = record { stands = sym c.in-Some.ensures.value; suggested = misplaced_ampersands }
+returns-in-Some-clause-value c = record { suggested = misplaced_ampersands; stands = sym c.in-Some.ensures.value }
 
 pub returns-clause-value : goal.returns-clause-value
-returns-clause-value c = record { stands = sym c.in_ok-rest.ensures.value; suggested = misplaced_pipes }
+returns-clause-value c = record { suggested = misplaced_pipes; stands = sym c.in_ok-rest.ensures.value }
