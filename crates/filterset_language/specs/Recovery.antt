@@ -1,7 +1,8 @@
 -- What a reader says that goes on after a fault. It serves the proof of the parser alone.
-use Rattle.std.specs.Prelude.{◌≡◌, ℕ, ◌<◌, ◌≤◌, List, length, take, codes, Option, None, Some, IsSome, All, Bool, true, false}
+use Rattle.std.specs.Prelude.{◌≡◌, ℕ, ◌<◌, ◌≤◌, List, length, take, codes, Option, None, Some, IsSome, MatchOption, All, Bool, true, false}
 use Rattle.std.specs.Option.{option_map}
-use Rattle.filterset_language.specs.Place.{Place, place_of, skip, after, after_word}
+use Rattle.filterset_language.specs.Place.{Place, place_of, skip, after, after_word, advanced}
+use Rattle.filterset_language.specs.Escapes.{escape_at}
 use Rattle.filterset_language.specs.Faults.{Stands, BeforeOperand, EndsWith, Misplaced, misplaced_and, misplaced_or, misplaced_AND, misplaced_OR, misplaced_ampersands, misplaced_pipes}
 use Rattle.filterset_language.specs.Reading.{name_at, not_at, name_text}
 use Rattle.filterset_language.specs.Descent.{Placed, ◌>>=◌, Make}
@@ -46,6 +47,10 @@ carried view r = beside (place_of r.rest) (option_map view r.value)
 -- an operator and its operands, where all three are there
 abbrev pub joined : {O : Type 0} → Make O → Option O → Option Placed → Option Placed → Option Placed
 joined make op left right = op >>= λ o. left >>= λ l. right >>= λ r. Some (make o l r)
+
+-- what stands behind a backslash was passed: an escape, or nothing where none stands there, which is reported
+abbrev pub Passes : Place → Place → List ParseSingleError → List ParseSingleError → Type 0
+Passes p q old new = MatchOption (escape_at p.rest) ((q ≡ p) × (length old < length new)) (λ e. (q ≡ advanced e.1 p) × (new ≡ old))
 
 -- an operator was looked at: an invalid one is reported
 abbrev pub Checked : {O : Type 0} → Option O → List ParseSingleError → List ParseSingleError → Type 0

@@ -2,9 +2,10 @@
 ghost use Rattle.std.specs.Prelude.{◌≡◌, ◌≤◌, ◌∷◌, [], length, take, IfOk, IfSome, Some};
 ghost use Rattle.std.specs.String.{string_bytes};
 ghost use Rattle.filterset_language.specs.Text.{is_plain};
+ghost use Rattle.filterset_language.specs.Faults.{EndsText};
 ghost use Rattle.filterset_language.specs.Place.{place_of, after, advanced, IsAtOrBehind};
 ghost use Rattle.filterset_language.specs.RawReading.{plain_len, raw_at, SpelledTo};
-ghost use Rattle.filterset_language.specs.Recovery.{Recovers, Keeps, carried};
+ghost use Rattle.filterset_language.specs.Recovery.{Recovers, Keeps, Passes, carried};
 
 use crate::text::escapes::leading_escape;
 use crate::text::{Input, Read};
@@ -83,6 +84,7 @@ fn without_value<'a>(
     faults: &mut Vec<ParseSingleError>,
     input: Input<'a>,
 ) -> Result<Input<'a>, AllocError>
+    ensures end { IfOk result (λ r. EndsText r.rest.now) }
     ensures grows { IfOk result (λ r. length faults.old.items ≤ length faults.new.items) }
     ensures stand { IfOk result (λ r. Keeps input.entry.text.now faults.old.items faults.new.items) }
     ensures behind { IfOk result (λ r. IsAtOrBehind input.entry r) }
@@ -102,6 +104,7 @@ fn past_escape<'a>(
     behind: Input<'a>,
 ) -> Result<Input<'a>, AllocError>
     requires { Some (place_of behind) ≡ after (92 ∷ []) (place_of backslash) }
+    ensures value { IfOk result (λ r. Passes (place_of behind.entry) (place_of r) faults.old.items faults.new.items) }
     ensures grows { IfOk result (λ r. length faults.old.items ≤ length faults.new.items) }
     ensures stand { IfOk result (λ r. Keeps backslash.entry.text.now faults.old.items faults.new.items) }
     ensures behind { IfOk result (λ r. IsAtOrBehind behind.entry r) }

@@ -1,4 +1,4 @@
-use Rattle.std.proofs.Common.{◌≡◌, ◌∙◌, None, sym, ap, subst, IsUtf8}
+use Rattle.std.proofs.Common.{◌≡◌, ◌∙◌, None, refl, sym, ap, subst, arith, length, length-append, IsUtf8}
 use Rattle.filterset_language.specs.Escapes.{escape_at}
 use Rattle.filterset_language.proofs.EscapeReading.{escape_within, escape_boundary}
 use Rattle.filterset_language.proofs.Recovering.{reported}
@@ -16,3 +16,14 @@ pub returns-in_ok-push-in-None-clause-stand : goal.returns-in_ok-push-in-None-cl
 returns-in_ok-push-in-None-clause-stand c =
     let none : None ≡ escape_at c.args.behind.rest.now = c.in-None.ensures ∙ ap escape_at c.as_bytes.ensures.value in
     reported _ _ _ _ c.in_ok-push-in-None.ensures.items (rw c.backslash.ensures (unescaped_found c.args.backslash c.args.behind c.requires none))
+
+pub returns-in-Some-clause-value : goal.returns-in-Some-clause-value
+returns-in-Some-clause-value c =
+    let some = c.in-Some.ensures ∙ ap escape_at c.as_bytes.ensures.value in
+    rw (← some) (c.advance.ensures.value, refl)
+
+pub returns-in_ok-push-in-None-clause-value : goal.returns-in_ok-push-in-None-clause-value
+returns-in_ok-push-in-None-clause-value c =
+    let none : None ≡ escape_at c.args.behind.rest.now = c.in-None.ensures ∙ ap escape_at c.as_bytes.ensures.value in
+    let items = ap length c.in_ok-push-in-None.ensures.items ∙ length-append c.args.faults.now.items _ in
+    rw (← none) (refl, omega (arith, items))

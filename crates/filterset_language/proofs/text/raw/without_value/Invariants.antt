@@ -1,10 +1,12 @@
-use Rattle.std.proofs.Common.{◌≤◌, length}
+use Rattle.std.proofs.Common.{◌≡◌, ◌≤◌, length}
 use Rattle.filterset_language.specs.Place.{IsAtOrBehind}
+use Rattle.filterset_language.specs.RawReading.{plain_len}
 use Rattle.filterset_language.specs.Recovery.{Keeps}
 use Rattle.filterset_language.proofs.text.raw.without_value.Given as goal
 
 abbrev pub invariant-loop-behind : goal.invariant-loop-behind
 invariant-loop-behind l = record {
+  stops : plain_len l.end.rest.now ≡ 0;
   grows : length l.fn.faults.items ≤ length l.faults.items;
   stand : Keeps l.fn.input.text.now l.fn.faults.items l.faults.items;
   behind : IsAtOrBehind l.fn.input l.end;

@@ -1,0 +1,30 @@
+use Rattle.std.proofs.Common.{◌≡◌, ◌∷◌, [], None, arith}
+use Rattle.filterset_language.specs.Place.{place_of, after}
+use Rattle.filterset_language.proofs.Places.{AtOrBehind-then, AtOrBehind-of}
+use Rattle.filterset_language.proofs.RawTexts.{stops_there, text_ends}
+use Rattle.filterset_language.proofs.Recovering.{keeps_along}
+use Rattle.filterset_language.proofs.text.raw.without_value.Goals as goal
+
+pub loop-behind-init : goal.loop-behind-init
+loop-behind-init c = record {
+  stops = stops_there (place_of c.args.input) (place_of c.plain.result.1) c.plain.ensures.value;
+  grows = omega arith;
+  stand = λ old. old;
+  behind = c.plain.ensures.behind;
+}
+
+pub loop-behind-preserved : goal.loop-behind-preserved
+loop-behind-preserved c =
+    let inv = c.loop-behind.invariant in
+    let past = AtOrBehind-of _ _ (c.in-Some.ensures.behind (omega arith)) in
+    record {
+      stops = stops_there (place_of c.in_ok-next.next) (place_of c.plain-in-Some.result.1) c.plain-in-Some.ensures.value;
+      grows = let more = c.in_ok-next.ensures.grows in let so_far = inv.grows in omega arith;
+      stand = λ old. keeps_along _ _ _ _ inv.behind.text c.in_ok-next.ensures.stand (inv.stand old);
+      behind = AtOrBehind-then _ _ _ inv.behind (AtOrBehind-then _ _ _ past (AtOrBehind-then _ _ _ c.in_ok-next.ensures.behind c.plain-in-Some.ensures.behind));
+    }
+
+pub returns-clause-end : goal.returns-clause-end
+returns-clause-end c =
+    let none : None ≡ after (92 ∷ []) (place_of c.loop-behind.end) = c.in_default.ensures.value in
+    text_ends c.loop-behind.end.offset c.loop-behind.end.rest.now c.loop-behind.invariant.stops none
