@@ -1,11 +1,13 @@
 -- One step after another, of a reader that goes on after a fault.
-use Rattle.std.proofs.Common.{◌≡◌, ℕ, ◌+◌, ◌≤◌, List, [], ◌∷◌, ◌++◌, length, false, Option, Some, None, Result, Ok, Err, refl, ap, ◌∙◌, subst, arith, ⊎_elim, length-append}
-use Rattle.std.specs.Prelude.{is_some, IfOk}
+use Rattle.std.proofs.Common.{◌≡◌, ℕ, ◌+◌, ◌<◌, ◌≤◌, List, [], ◌∷◌, ◌++◌, length, false, Option, Some, None, Result, Ok, Err, refl, ap, ◌∙◌, subst, arith, ⊎_elim, length-append}
+use Rattle.std.specs.Prelude.{is_some, IfOk, MatchOption}
 use Rattle.std.proofs.lemmas.Bool.{cases_lt}
 use Rattle.std.proofs.lemmas.List.Elements.{All-append, All-cons, All-nil}
 use Rattle.filterset_faults.specs.declared.error.ParseSingleError.{ParseSingleError}
 use Rattle.filterset_language.specs.Descent.{◌>>=◌}
-use Rattle.filterset_language.specs.Recovery.{Recovers, Found, Keeps}
+use Rattle.filterset_language.specs.Escapes.{escape_at}
+use Rattle.filterset_language.specs.Place.{Place, advanced}
+use Rattle.filterset_language.specs.Recovery.{Recovers, Found, Keeps, Passes}
 use Rattle.filterset_language.specs.Outcome.{Faults}
 
 pub bind_some : {A B : Type 0} (r : Option A) (x : A) (k : A → Option B) → r ≡ Some x → (r >>= k) ≡ k x
@@ -76,3 +78,11 @@ recovers_along old f x r same e =
 
 pub keeps_from : (t : List ℕ) (old f g : Faults) → f ≡ old → Keeps t f g → Keeps t old g
 keeps_from t old f g same k = subst (λ (x : Faults). Keeps t x g) same k
+
+-- behind what was passed no fault is gone
+pub passes_grows : (p q : Place) (f g : Faults) → Passes p q f g → length f ≤ length g
+passes_grows p q f g passes = from (escape_at p.rest) passes
+  where
+    from : (o : Option (ℕ × ℕ)) → MatchOption o ((q ≡ p) × (length f < length g)) (λ e. (q ≡ advanced e.1 p) × (g ≡ f)) → length f ≤ length g
+    from None x = let more = x.1 in omega arith
+    from (Some e) x = let same = ap length x.1 in omega arith

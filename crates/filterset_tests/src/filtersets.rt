@@ -1,4 +1,5 @@
 //! What filtersets and compiled expressions say of tests.
+use crate::judging::is_fault;
 use nextest_filtering::errors::ParseSingleError;
 use nextest_filtering::{
     BinaryQuery, BuildPlatform, CompiledExpr, EvalContext, Filterset, FiltersetKind, FiltersetLeaf,
@@ -126,13 +127,9 @@ fn input_of(read: Result<Filterset, ParseRefusal>) -> String {
 /// A fault: its code, and the offset and the length of its span.
 pub type Fault<'a> = (&'a str, usize, usize);
 
-fn is_fault(found: &ParseSingleError, (code, offset, len): &Fault<'_>) -> bool {
-    found.code() == *code && found.span() == Some(SourceSpan::new(*offset, *len))
-}
-
 fn are_faults(found: &[ParseSingleError], wanted: &[Fault<'_>]) -> bool {
-    for (found, wanted) in found.iter().zip(wanted) {
-        if !is_fault(found, wanted) {
+    for (found, (code, offset, len)) in found.iter().zip(wanted) {
+        if !is_fault(found, code, *offset, *len) {
             return false;
         }
     }

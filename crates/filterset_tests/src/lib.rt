@@ -13,6 +13,7 @@ mod filtersets;
 mod globs;
 #[cfg(test)]
 mod graph;
+mod judging;
 #[cfg(test)]
 mod matchers;
 #[cfg(test)]

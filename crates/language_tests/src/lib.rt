@@ -8,6 +8,7 @@
 mod arguments;
 #[cfg(test)]
 mod faults;
+mod judging;
 #[cfg(test)]
 mod language;
 #[cfg(test)]

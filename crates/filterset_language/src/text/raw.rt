@@ -105,7 +105,6 @@ fn past_escape<'a>(
 ) -> Result<Input<'a>, AllocError>
     requires { Some (place_of behind) ≡ after (92 ∷ []) (place_of backslash) }
     ensures value { IfOk result (λ r. Passes (place_of behind.entry) (place_of r) faults.old.items faults.new.items) }
-    ensures grows { IfOk result (λ r. length faults.old.items ≤ length faults.new.items) }
     ensures stand { IfOk result (λ r. Keeps backslash.entry.text.now faults.old.items faults.new.items) }
     ensures behind { IfOk result (λ r. IsAtOrBehind behind.entry r) }
 {

@@ -1,4 +1,5 @@
 //! Tables of texts: what each reads to, and which faults it has.
+use crate::judging::agrees;
 use crate::support::{described, outline, printed, structure};
 use nextest_filtering::{Parsed, ParsedExpr};
 use std::process::Abort;
@@ -6,7 +7,7 @@ use std::test::Fail;
 
 /// What was found of a text is what is wanted.
 pub fn compare(rt: &impl Abort, text: &str, found: &String, wanted: &str) {
-    assert!(rt; found.as_str() == wanted, "{text}: {found}");
+    assert!(rt; agrees(found.as_str(), wanted), "{text}: {found}");
 }
 
 /// What the tree prints, and its faults.

@@ -1,8 +1,8 @@
-use Rattle.std.proofs.Common.{◌≡◌, ◌∷◌, [], None, arith}
+use Rattle.std.proofs.Common.{◌≡◌, ◌≤◌, ◌∷◌, [], None, length, arith}
 use Rattle.filterset_language.specs.Place.{place_of, after}
 use Rattle.filterset_language.proofs.Places.{AtOrBehind-then, AtOrBehind-of}
 use Rattle.filterset_language.proofs.RawTexts.{stops_there, text_ends}
-use Rattle.filterset_language.proofs.Recovering.{keeps_along}
+use Rattle.filterset_language.proofs.Recovering.{keeps_along, passes_grows}
 use Rattle.filterset_language.proofs.text.raw.without_value.Goals as goal
 
 pub loop-behind-init : goal.loop-behind-init
@@ -17,9 +17,10 @@ pub loop-behind-preserved : goal.loop-behind-preserved
 loop-behind-preserved c =
     let inv = c.loop-behind.invariant in
     let past = AtOrBehind-of _ _ (c.in-Some.ensures.behind (omega arith)) in
+    let more : length c.loop-behind.faults.items ≤ length c.past_escape.new.faults.items = passes_grows (place_of c.in-Some.behind) (place_of c.in_ok-next.next) _ _ c.in_ok-next.ensures.value in
     record {
       stops = stops_there (place_of c.in_ok-next.next) (place_of c.plain-in-Some.result.1) c.plain-in-Some.ensures.value;
-      grows = let more = c.in_ok-next.ensures.grows in let so_far = inv.grows in omega arith;
+      grows = let so_far = inv.grows in omega (arith, more);
       stand = λ old. keeps_along _ _ _ _ inv.behind.text c.in_ok-next.ensures.stand (inv.stand old);
       behind = AtOrBehind-then _ _ _ inv.behind (AtOrBehind-then _ _ _ past (AtOrBehind-then _ _ _ c.in_ok-next.ensures.behind c.plain-in-Some.ensures.behind));
     }
