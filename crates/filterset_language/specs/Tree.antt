@@ -1,5 +1,5 @@
 -- The trees of filtersets, without where their parts lie in memory.
-use Rattle.std.specs.Prelude.{Bool, true, false, List, [], ◌∷◌, ◌++◌}
+use Rattle.std.specs.Prelude.{◌≡◌, Bool, true, false, List, [], ◌∷◌, ◌++◌}
 use Rattle.std.specs.List.{filter}
 use Rattle.filterset_matchers.specs.Matcher.{Matcher}
 use Rattle.filterset_matchers.specs.Matchers.{matcher_of}
@@ -70,13 +70,17 @@ leaf_without_span (Default s) = Default tt
 leaf_without_span All = All
 leaf_without_span None = None
 
--- a tree without its spans; trees are the same where these are equal
+-- a tree without its spans
 abbrev pub without_spans : {S : Type 0} → Tree S → Tree (Unit {0})
 without_spans (Not op e) = Not op (without_spans e)
 without_spans (Union op l r) = Union op (without_spans l) (without_spans r)
 without_spans (Join op l r) = Join op (without_spans l) (without_spans r)
 without_spans (Parens e) = Parens (without_spans e)
 without_spans (Set l) = Set (leaf_without_span l)
+
+-- the trees are the same but for their spans: operators as they are written, parentheses, signs and texts included
+abbrev pub SameTree : {S T : Type 0} → Tree S → Tree T → Type 0
+SameTree d e = without_spans d ≡ without_spans e
 
 -- the predicates of a tree, from left to right
 abbrev pub tree_leaves : {S : Type 0} → Tree S → List (Leaf S)

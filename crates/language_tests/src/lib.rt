@@ -18,6 +18,9 @@ mod operators;
 #[cfg(test)]
 mod patterns;
 #[cfg(test)]
+mod printing;
+mod reading_back;
+#[cfg(test)]
 mod recovery;
 #[cfg(test)]
 mod support;

@@ -4,6 +4,7 @@ use nextest_filtering::errors::ParseSingleError;
 use std::alloc::{AllocError, Global};
 use std::fmt::Write;
 
+pub mod made;
 mod shapes;
 pub mod tables;
 

@@ -1,5 +1,6 @@
 //! Tables of texts: what each reads to, and which faults it has.
 use crate::judging::agrees;
+use crate::reading_back::formatted;
 use crate::support::{described, outline, printed, structure};
 use nextest_filtering::{Parsed, ParsedExpr};
 use std::process::Abort;
@@ -41,6 +42,17 @@ fn reads_back(
     Ok(())
 }
 
+/// A text without faults is written anew so.
+fn is_formatted(
+    rt: &(impl AllocGlobal + Abort),
+    text: &str,
+    wanted_print: &str,
+) -> Result<(), Fail> {
+    let new = formatted(rt.alloc(), text)?.ok_or("faults in a text without faults")?;
+    compare(rt, text, &new, wanted_print);
+    Ok(())
+}
+
 /// A text without faults reads to this tree, which prints so and reads back.
 fn reads_one(
     rt: &(impl AllocGlobal + Abort),
@@ -53,6 +65,7 @@ fn reads_one(
     prints(rt, text, &parsed, "", wanted_print)?;
     let tree = structure(alloc, &parsed.tree)?;
     compare(rt, text, &tree, wanted_tree);
+    is_formatted(rt, text, wanted_print)?;
     reads_back(rt, &parsed.tree, wanted_print)
 }
 
