@@ -1,4 +1,4 @@
-//! Tests of values, globs, matchers and filtersets by the public calls of the crates below, in a crate of their own, so
+//! Tests of values, matchers and filtersets by the public calls of the crates below, in a crate of their own, so
 //! that none of these crates is proved twice.
 //!
 //! Expected values follow from the rules in docs/, none from what the program says. A test whose name ends in
@@ -9,8 +9,6 @@
 mod answers;
 #[cfg(test)]
 mod filtersets;
-#[cfg(test)]
-mod globs;
 #[cfg(test)]
 mod graph;
 mod judging;

@@ -1,0 +1,92 @@
+//! Want of memory: each call answers the row or says that memory is wanting.
+use crate::judging::is_answer;
+use filterset_glob::{GenericGlob, GlobConstructError, GlobRefusal};
+use std::alloc::{AllocError, Global};
+use std::process::Abort;
+
+/// Whether a copy of the glob gives this many copies of the piece the wanted answer.
+fn is_right(
+    alloc: Global,
+    pattern: &str,
+    piece: &str,
+    count: usize,
+    wanted: bool,
+) -> Result<bool, AllocError> {
+    let mut text = String::new(alloc);
+    for _ in 0..count {
+        text.push_str(piece)?;
+    }
+    match GenericGlob::new(alloc, String::from_str(alloc, pattern)?) {
+        Ok(glob) => {
+            let copy = glob.try_clone(alloc)?;
+            is_answer(alloc, &copy, text.as_str(), wanted)
+        }
+        Err(GlobRefusal::Fault(_)) => Ok(false),
+        Err(GlobRefusal::OutOfMemory(e)) => Err(e),
+    }
+}
+
+/// The glob answers so, or memory is wanting.
+fn answers_or_wants(
+    rt: &(impl AllocGlobal + Abort),
+    pattern: &str,
+    piece: &str,
+    count: usize,
+    wanted: bool,
+) {
+    match is_right(rt.alloc(), pattern, piece, count, wanted) {
+        Ok(is_right) => assert!(rt; is_right, "{pattern} of {count} times {piece}"),
+        Err(AllocError) => {}
+    }
+}
+
+#[test]
+fn glob_or_wants_memory(rt: HostRuntime) {
+    answers_or_wants(&rt, "{a/**,[b-c]}/d*", "a/x/de", 1, true);
+}
+
+#[test]
+fn fault_or_wants_memory(rt: HostRuntime) {
+    let Ok(pattern) = String::from_str(rt.alloc(), "{a,[b") else {
+        return;
+    };
+    match GenericGlob::new(rt.alloc(), pattern) {
+        Err(GlobRefusal::Fault(fault)) => {
+            assert_eq!(rt; fault, GlobConstructError::UnclosedClass);
+        }
+        Err(GlobRefusal::OutOfMemory(AllocError)) => {}
+        Ok(_) => panic!(rt; "it is a glob"),
+    }
+}
+
+#[test]
+fn short_text_or_wants_memory(rt: HostRuntime) {
+    answers_or_wants(&rt, "*xx?[w-y]*", "x", 63, true);
+    answers_or_wants(&rt, "*xx?[w-y]*a", "x", 63, false);
+    answers_or_wants(&rt, "**/x*", "/", 63, false);
+}
+
+#[test]
+fn text_of_a_word_or_wants_memory(rt: HostRuntime) {
+    answers_or_wants(&rt, "*xx?[w-y]*", "x", 64, true);
+    answers_or_wants(&rt, "*xx?[w-y]*a", "x", 64, false);
+}
+
+#[test]
+fn long_text_or_wants_memory(rt: HostRuntime) {
+    answers_or_wants(&rt, "*xx?[w-y]*", "x", 200, true);
+    answers_or_wants(&rt, "*/**/x[!x]", "/x", 100, false);
+}
+
+#[test]
+fn longer_characters_or_wants_memory(rt: HostRuntime) {
+    answers_or_wants(&rt, "*é€[~-é]*", "é€", 40, true);
+    answers_or_wants(&rt, "?é€[~-é]", "é€", 2, false);
+}
+
+#[test]
+fn groups_or_wants_memory(rt: HostRuntime) {
+    answers_or_wants(&rt, "{*ab,{a*,}b}{a,ab}*", "ab", 20, true);
+    answers_or_wants(&rt, "{*ab,{a*,}b}{a,ab}*", "ab", 100, true);
+    answers_or_wants(&rt, "{*ab,{a*,}b}c", "ab", 20, false);
+}
