@@ -107,3 +107,20 @@ fn literals_whose_low_byte_is_another_character(rt: HostRuntime) -> Result<(), F
         49,
     )
 }
+
+#[test]
+fn literals_past_one_byte_among_ascii(rt: HostRuntime) -> Result<(), Fail> {
+    answers_at_lengths(
+        &rt,
+        "
+        ?×n·š·?×70 | a×n·š·a×70 š×n·š·a×70 | a×n·a·a×70 a×n·Š·a×70 a×n·š·a×69
+        *š* | a×n·š·a×n š·a×n | a×n a×n·a·a×n A·a×n
+        š* | š·a×n | a a·a×n ∅
+        *€ | a×n·€ | a×n·¬ a×n·, a×n €·a×n·a
+        š×n·a | š×n·a | a×n·aa š×n·š š×n·š·a
+        ?×n·[!š] | a×n·a š×n·a | a×n·š a×n
+        \u{10061}×n·\u{100} | \u{10061}×n·\u{100} | a×n·a \u{10061}×n·\u{0} a×n·\u{100}a
+        ",
+        31,
+    )
+}

@@ -6,8 +6,8 @@ ghost use Rattle.filterset_glob.specs.Matching.{Matches};
 use filterset_glob::{GenericGlob, Steps};
 use std::alloc::{AllocError, Global};
 
-/// Whether the wanted answer is right, and both calls that match give it. The contract is by what globs match, and by no
-/// call, so that a row is held against the rule itself.
+/// Whether the wanted answer is right, and both calls that match give it. The contract is by what globs match, and by
+/// no call, so that a row is held against the rule itself.
 ///
 /// Errors: want of memory alone.
 pub fn is_answer(

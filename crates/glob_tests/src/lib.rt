@@ -22,6 +22,8 @@ mod matching;
 #[cfg(test)]
 mod memory;
 #[cfg(test)]
+mod mixtures;
+#[cfg(test)]
 mod neighbours;
 #[cfg(test)]
 mod reading;

@@ -1,5 +1,5 @@
-//! Several literals and classes in one glob, where one comes again behind another: what is kept of one must not serve for
-//! the next.
+//! Several literals and classes in one glob, where one comes again behind another: what is kept of one must not serve
+//! for the next.
 use crate::tables::{answers, answers_at_lengths};
 use std::test::Fail;
 

@@ -1,8 +1,8 @@
 //! Tables as data: a row a line, its cells between bars, and what is done with them.
 //!
-//! A cell is pieces joined by `·`, which stands for nothing itself. A piece is a text, or `TEXT×COUNT` for so many copies
-//! of the whole text. The count is a number, or `n` in a table that is tried at each of `LENGTHS`. In a text `∅` stands for
-//! nothing, `␠` for a blank, `␊` for a line feed and `␉` for a tab.
+//! A cell is pieces joined by `·`, which stands for nothing itself. A piece is a text, or `TEXT×COUNT` for so many
+//! copies of the whole text. The count is a number, or `n` in a table that is tried at each of `LENGTHS`. In a text `∅`
+//! stands for nothing, `␠` for a blank, `␊` for a line feed and `␉` for a tab.
 //!
 //! A row that is written otherwise fails its test, and so does a table in which more or less than the wanted count was
 //! looked at.
@@ -121,8 +121,8 @@ fn answers_rows(
     Ok(judged)
 }
 
-/// Rows of a glob, texts that it matches and texts that it does not, as `a? | ab ac | a abc`: so many texts in all. A cell
-/// `none` has no texts.
+/// Rows of a glob, texts that it matches and texts that it does not, as `a? | ab ac | a abc`: so many texts in all. A
+/// cell `none` has no texts.
 pub fn answers(rt: &(impl AllocGlobal + Abort), table: &str, count: usize) -> Result<(), Fail> {
     let judged = answers_rows(rt, table, None)?;
     assert_eq!(rt; judged, count);
