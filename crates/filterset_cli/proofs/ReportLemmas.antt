@@ -5,7 +5,7 @@ use Rattle.std.proofs.lemmas.List.{append-nil, map-append, take_more}
 use Rattle.std.proofs.lemmas.List.FromFn.{get_or-enumerate_from, length-enumerate_from}
 use Rattle.filterset_cli.specs.Shape.{Text}
 use Rattle.filterset_cli.specs.Report.{Account, Pieces, Report, Section, Sections, outcome_of}
-use Rattle.filterset_cli.specs.declared.outcome.Outcome.{Outcome}
+use Rattle.filterset_cli.specs.declared.ending.Outcome.{Outcome}
 use Rattle.filterset_cli.specs.Record.{BinaryRow}
 use Rattle.std.proofs.Math.Bool.{and_assoc, and-true}
 

@@ -1,9 +1,9 @@
 -- How the program ends.
 use Rattle.std.specs.Prelude.{ℕ, List, codes, Result, Ok, Err}
-use Rattle.filterset_cli.specs.declared.fault.RunFault.{RunFault}
-use Rattle.filterset_cli.specs.declared.fault.RunFault.TheVariants.{Memory, Read, Write}
-use Rattle.filterset_cli.specs.declared.outcome.Outcome.{Outcome}
-use Rattle.filterset_cli.specs.declared.outcome.Outcome.TheVariants.{AllAccepted, SomeRefused, RecordRefused}
+use Rattle.filterset_cli.specs.declared.ending.RunFault.{RunFault}
+use Rattle.filterset_cli.specs.declared.ending.RunFault.TheVariants.{Memory, Read, Write}
+use Rattle.filterset_cli.specs.declared.ending.Outcome.{Outcome}
+use Rattle.filterset_cli.specs.declared.ending.Outcome.TheVariants.{AllAccepted, SomeRefused, RecordRefused}
 
 -- what is told of a fault
 abbrev pub fault_text : RunFault → List ℕ

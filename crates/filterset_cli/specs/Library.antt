@@ -10,12 +10,12 @@ use Rattle.filterset_language.specs.Parsed.{Reads}
 use Rattle.filterset_language.specs.Tree.{Tree, tree_of}
 use Rattle.filterset_faults.specs.declared.error.ParseSingleError.{ParseSingleError}
 use Rattle.filterset_faults.specs.declared.span.SourceSpan.{SourceSpan}
-use Rattle.nextest_filtering.specs.declared.compile.filterset.Filterset as filtersets
+use Rattle.nextest_filtering.specs.declared.filterset.Filterset as filtersets
 use Rattle.nextest_filtering.specs.declared.expression.CompiledExpr.{CompiledExpr}
 use Rattle.nextest_filtering.specs.declared.expression.CompiledExpr.TheVariants as compiled
-use Rattle.nextest_filtering.specs.declared.expression.FiltersetLeaf.TheVariants as leaf
+use Rattle.nextest_filtering.specs.declared.expression.leaves.FiltersetLeaf.TheVariants as leaf
 use Rattle.nextest_filtering.specs.declared.expression.query.TestQuery.{TestQuery}
-use Rattle.filterset_cli.specs.declared.report.Setting.{Setting}
+use Rattle.filterset_cli.specs.declared.report.setting.Setting.{Setting}
 use Rattle.filterset_cli.specs.Shape.{Text}
 use Rattle.filterset_cli.specs.Record.{BinaryRow, TestRow}
 

@@ -13,8 +13,8 @@ use Rattle.filterset_faults.specs.declared.error.ParseSingleError.{ParseSingleEr
 use Rattle.filterset_cli.specs.Shape.{Text}
 use Rattle.filterset_cli.specs.Record.{BinaryRow, TestRow, RecordRow, IsRecord}
 use Rattle.filterset_cli.specs.Library.{IsFilterset, HasFaults, Tells}
-use Rattle.filterset_cli.specs.declared.outcome.Outcome.{Outcome}
-use Rattle.filterset_cli.specs.declared.outcome.Outcome.TheVariants.{AllAccepted, SomeRefused, RecordRefused}
+use Rattle.filterset_cli.specs.declared.ending.Outcome.{Outcome}
+use Rattle.filterset_cli.specs.declared.ending.Outcome.TheVariants.{AllAccepted, SomeRefused, RecordRefused}
 
 -- a piece for each element, in their order
 abbrev pub Pieces : {A : Type 0} → (A → Text → Type 0) → List A → Text → Type 0

@@ -1,12 +1,8 @@
 //! Reads a record of filtersets on standard input, and writes a report of it on standard output.
 #![tactic(auto)]
 
-ghost use Rattle.std.specs.Prelude.{◌≡◌};
-ghost use Rattle.filterset_cli.specs.Ending.{status_of};
-
+mod ending;
 mod entry;
-mod fault;
-mod outcome;
 mod record;
 mod report;
 mod run;
@@ -15,8 +11,7 @@ mod source;
 #[cfg(test)]
 mod tests;
 
-use fault::RunFault;
-use outcome::Outcome;
+use ending::status;
 use run::run;
 use sink::ToWriter;
 use source::FromReader;
@@ -31,16 +26,4 @@ fn main(rt: HostRuntime) -> ExitCode {
         let _ = eprintln!(rt; "{fault}");
     }
     ExitCode::from(status(ended))
-}
-
-/// The exit status that a run ends with.
-fn status(ended: Result<Outcome, RunFault>) -> u8
-    ensures { result ≡ status_of ended }
-{
-    match ended {
-        Ok(Outcome::AllAccepted) => 0,
-        Ok(Outcome::SomeRefused) => 1,
-        Ok(Outcome::RecordRefused) => 2,
-        Err(_) => 3,
-    }
 }

@@ -3,10 +3,9 @@ ghost use Rattle.std.specs.Prelude.{◌≡◌, ◌≢◌, ◌++◌, Err, IfErr, 
 ghost use Rattle.std.specs.Io.KnownBytes.{Appends};
 ghost use Rattle.filterset_cli.specs.Report.{Report};
 ghost use Rattle.filterset_cli.specs.Shape.{Text};
-ghost use Rattle.filterset_cli.specs.declared.outcome.Outcome.{Outcome};
+ghost use Rattle.filterset_cli.specs.declared.ending.Outcome.{Outcome};
 
-use crate::fault::RunFault;
-use crate::outcome::Outcome;
+use crate::ending::{Outcome, RunFault};
 use crate::report::report;
 use crate::sink::{Sink, write_all};
 use crate::source::{Source, read_all};

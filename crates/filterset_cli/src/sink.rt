@@ -4,7 +4,7 @@ ghost use Rattle.std.specs.Io.KnownBytes.{Appends, WriteAppends};
 ghost use Rattle.std.specs.Io.{WritesAtMost};
 ghost use Rattle.filterset_cli.specs.Marks.{write_fails};
 
-use crate::fault::RunFault;
+use crate::ending::RunFault;
 use std::io;
 use std::io::Write;
 

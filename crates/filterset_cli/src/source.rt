@@ -4,7 +4,7 @@ ghost use Rattle.std.specs.Io.KnownBytes.{ReadConsumes};
 ghost use Rattle.std.specs.Io.{ReadsAtMost};
 ghost use Rattle.filterset_cli.specs.Marks.{read_fails, read_ends};
 
-use crate::fault::RunFault;
+use crate::ending::RunFault;
 use std::alloc::Global;
 use std::io;
 use std::io::Read;

@@ -1,5 +1,4 @@
-use crate::fault::RunFault;
-use crate::outcome::Outcome;
+use crate::ending::{Outcome, RunFault};
 use crate::run::run;
 use crate::sink::{Sink, ToWriter};
 use crate::source::{FromReader, Source};

@@ -14,8 +14,8 @@ use Rattle.filterset_language.specs.Parsed.{Reads, LiesOnBody, Refutes}
 use Rattle.filterset_language.specs.Tree as tree
 use Rattle.filterset_language.specs.Tree.{Leaf, Tree, Test, Matching, Platform, Default, Not, Union, Join, Parens, Set, tree_leaves}
 use Rattle.nextest_filtering.specs.declared.compile.context.ParseContext.{ParseContext}
-use Rattle.nextest_filtering.specs.declared.compile.filterset.ParseRefusal.{ParseRefusal}
-use Rattle.nextest_filtering.specs.declared.compile.filterset.ParseRefusal.TheVariants.{Faults, OutOfMemory}
+use Rattle.nextest_filtering.specs.declared.filterset.ParseRefusal.{ParseRefusal}
+use Rattle.nextest_filtering.specs.declared.filterset.ParseRefusal.TheVariants.{Faults, OutOfMemory}
 use Rattle.nextest_filtering.specs.declared.compile.Stop.{Stop}
 use Rattle.nextest_filtering.specs.declared.compile.Stop.TheVariants as stop
 use Rattle.nextest_filtering.specs.declared.expression.CompiledExpr.{CompiledExpr}

@@ -8,8 +8,8 @@ use Rattle.filterset_matchers.specs.Matcher.{Matcher, Hits}
 use Rattle.filterset_matchers.specs.Matchers.{matcher_of}
 use Rattle.nextest_filtering.specs.declared.expression.CompiledExpr.{CompiledExpr}
 use Rattle.nextest_filtering.specs.declared.expression.CompiledExpr.TheVariants.{Not', Union', Intersection', Set}
-use Rattle.nextest_filtering.specs.declared.expression.FiltersetLeaf.{FiltersetLeaf}
-use Rattle.nextest_filtering.specs.declared.expression.FiltersetLeaf.TheVariants as leaf
+use Rattle.nextest_filtering.specs.declared.expression.leaves.FiltersetLeaf.{FiltersetLeaf}
+use Rattle.nextest_filtering.specs.declared.expression.leaves.FiltersetLeaf.TheVariants as leaf
 use Rattle.nextest_filtering.specs.declared.expression.query.BinaryQuery.{BinaryQuery}
 use Rattle.nextest_filtering.specs.declared.expression.query.TestQuery.{TestQuery}
 

@@ -1,6 +1,6 @@
 -- What is known of the groups of tests.
-use Rattle.nextest_filtering.specs.declared.expression.groups.KnownGroups.{KnownGroups}
-use Rattle.nextest_filtering.specs.declared.expression.groups.KnownGroups.TheVariants.{Known, Unavailable}
+use Rattle.nextest_filtering.specs.declared.compile.context.KnownGroups.{KnownGroups}
+use Rattle.nextest_filtering.specs.declared.compile.context.KnownGroups.TheVariants.{Known, Unavailable}
 
 -- the names of the groups are known
 abbrev pub IsKnown : KnownGroups → Type 0

@@ -13,16 +13,14 @@ use filterset_language::{ParsedExpr, ParsedLeaf};
 use std::alloc::{AllocError, Global};
 
 mod context;
-mod filterset;
 mod leaves;
 
-pub use context::ParseContext;
-pub use filterset::{Filterset, ParseRefusal};
+pub use context::{KnownGroups, ParseContext};
 use leaves::add_unsupported;
 
 /// Why a text was not compiled.
 #[derive(Drop)]
-enum Stop {
+pub(crate) enum Stop {
     Faults(Vec<ParseSingleError>),
     OutOfMemory,
 }
@@ -39,7 +37,7 @@ impl From<AllocError> for Stop {
 
 /// The compiled expression of a tree. There is a fault for each leaf that is not compiled yet, from left to right, and
 /// no expression where there is one.
-fn compile(alloc: Global, expr: &ParsedExpr) -> Result<CompiledExpr, Stop>
+pub(crate) fn compile(alloc: Global, expr: &ParsedExpr) -> Result<CompiledExpr, Stop>
     ensures supported { OnOk result (unsupported_faults (tree_of expr.now) ≡ []) }
     ensures compiled { IfOk result (λ compiled. (packages : List PackageMetadata) → IsCompiled packages (tree_of expr.now) compiled) }
     ensures refused { IfErr result (IsUnsupported (tree_of expr.now)) }

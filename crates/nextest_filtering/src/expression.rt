@@ -1,47 +1,17 @@
 //! Compiled expressions, and what they say of tests.
 ghost use Rattle.std.specs.Prelude.{◌≡◌, ◌↔◌, false, IfOk, IsTrue};
-ghost use Rattle.nextest_filtering.specs.Expression.{compiled_leaf, formula, has_leaf, is_default, is_group, is_known_at_runtime, no_groups, HoldsOfTest, Holds};
+ghost use Rattle.nextest_filtering.specs.Expression.{formula, has_leaf, is_default, is_group, no_groups, HoldsOfTest, Holds};
 ghost use Rattle.nextest_filtering.specs.Formula.{TrueWhere};
 
-use filterset_faults::SourceSpan;
-use filterset_graph::{BuildPlatform, PackageId};
-use filterset_matchers::NameMatcher;
 use std::alloc::{AllocError, Global};
-use std::collections::BTreeSet;
 
 mod context;
-mod groups;
+mod leaves;
 mod query;
 
 pub use context::EvalContext;
-pub use groups::KnownGroups;
+pub use leaves::FiltersetLeaf;
 pub use query::{BinaryQuery, TestQuery};
-
-/// A set of tests that a compiled expression is made of. A span is that of the matcher, or of the platform, in the
-/// text that the leaf was read from.
-#[derive(Debug, Drop, PartialEq, Eq)]
-pub enum FiltersetLeaf {
-    /// The tests of these packages.
-    Packages(BTreeSet<PackageId>),
-    /// The tests of binaries of such a kind.
-    Kind(NameMatcher, SourceSpan),
-    /// The tests of binaries that are built for this platform.
-    Platform(BuildPlatform, SourceSpan),
-    /// The tests of binaries with such a name.
-    Binary(NameMatcher, SourceSpan),
-    /// The tests of binaries with such an id.
-    BinaryId(NameMatcher, SourceSpan),
-    /// The tests with such a name.
-    Test(NameMatcher, SourceSpan),
-    /// The tests that are in such a group.
-    Group(NameMatcher, SourceSpan),
-    /// The tests of the default filter.
-    Default,
-    /// All tests.
-    All,
-    /// No tests.
-    None,
-}
 
 /// A compiled expression: sets of tests, and what is made of them.
 #[derive(Debug, Drop, PartialEq, Eq)]
@@ -53,77 +23,6 @@ pub enum CompiledExpr {
     /// The tests that are in both sets.
     Intersection(Box<CompiledExpr>, Box<CompiledExpr>),
     Set(FiltersetLeaf),
-}
-
-impl FiltersetLeaf {
-    /// Whether what the leaf says of a test may depend on more than the test's binary: true of `Test`, `Group` and
-    /// `Default` alone.
-    pub fn is_runtime_only(&self) -> bool
-        ensures { result ≡ is_known_at_runtime (compiled_leaf self.now) }
-    {
-        matches!(
-            self,
-            FiltersetLeaf::Test(..) | FiltersetLeaf::Group(..) | FiltersetLeaf::Default
-        )
-    }
-
-    /// A copy, equal in every field. It is an error only for want of memory.
-    pub fn try_clone(&self, alloc: Global) -> Result<FiltersetLeaf, AllocError>
-        ensures { IfOk result (λ copy. compiled_leaf copy ≡ compiled_leaf self.now) }
-    {
-        Ok(match self {
-            FiltersetLeaf::Packages(ids) => FiltersetLeaf::Packages(copied_ids(alloc, ids)?),
-            FiltersetLeaf::Kind(matcher, span) => {
-                FiltersetLeaf::Kind(matcher.try_clone(alloc)?, *span)
-            }
-            FiltersetLeaf::Platform(platform, span) => FiltersetLeaf::Platform(*platform, *span),
-            FiltersetLeaf::Binary(matcher, span) => {
-                FiltersetLeaf::Binary(matcher.try_clone(alloc)?, *span)
-            }
-            FiltersetLeaf::BinaryId(matcher, span) => {
-                FiltersetLeaf::BinaryId(matcher.try_clone(alloc)?, *span)
-            }
-            FiltersetLeaf::Test(matcher, span) => {
-                FiltersetLeaf::Test(matcher.try_clone(alloc)?, *span)
-            }
-            FiltersetLeaf::Group(matcher, span) => {
-                FiltersetLeaf::Group(matcher.try_clone(alloc)?, *span)
-            }
-            FiltersetLeaf::Default => FiltersetLeaf::Default,
-            FiltersetLeaf::All => FiltersetLeaf::All,
-            FiltersetLeaf::None => FiltersetLeaf::None,
-        })
-    }
-
-    /// Whether the leaf holds of a test that is in no group. A `default` leaf is the caller's: here it holds of none.
-    fn matches_test(&self, alloc: Global, query: &TestQuery<'_>) -> Result<bool, AllocError>
-        ensures { IfOk result (λ answer. IsTrue answer ↔ HoldsOfTest query.now no_groups (compiled_leaf self.now)) }
-    {
-        let binary = &query.binary_query;
-        match self {
-            FiltersetLeaf::Packages(ids) => Ok(ids.contains(binary.package_id)),
-            FiltersetLeaf::Kind(matcher, _) => matcher.is_match(alloc, binary.kind.as_str()),
-            FiltersetLeaf::Platform(platform, _) => Ok(binary.platform == *platform),
-            FiltersetLeaf::Binary(matcher, _) => matcher.is_match(alloc, binary.binary_name),
-            FiltersetLeaf::BinaryId(matcher, _) => {
-                matcher.is_match(alloc, binary.binary_id.as_str())
-            }
-            FiltersetLeaf::Test(matcher, _) => matcher.is_match(alloc, query.test_name.as_str()),
-            FiltersetLeaf::All => Ok(true),
-            FiltersetLeaf::Group(..) | FiltersetLeaf::Default | FiltersetLeaf::None => Ok(false),
-        }
-    }
-}
-
-/// A copy of a set of ids.
-fn copied_ids(alloc: Global, ids: &BTreeSet<PackageId>) -> Result<BTreeSet<PackageId>, AllocError>
-    ensures { IfOk result (λ copy. copy.keys ≡ ids.now.keys) }
-{
-    let mut copy = BTreeSet::new(alloc);
-    for id in ids {
-        copy.insert(id.try_clone(alloc)?)?;
-    }
-    Ok(copy)
 }
 
 impl CompiledExpr {

@@ -3,11 +3,11 @@
 
 mod compile;
 mod expression;
+mod filterset;
 
-pub use compile::{Filterset, ParseContext, ParseRefusal};
-pub use expression::{
-    BinaryQuery, CompiledExpr, EvalContext, FiltersetLeaf, KnownGroups, TestQuery,
-};
+pub use compile::{KnownGroups, ParseContext};
+pub use expression::{BinaryQuery, CompiledExpr, EvalContext, FiltersetLeaf, TestQuery};
+pub use filterset::{Filterset, ParseRefusal};
 pub use filterset_faults as errors;
 pub use filterset_faults::{
     BannedPredicateReason, FiltersetKind, FiltersetParseErrors, GlobConstructError, Help, Label,

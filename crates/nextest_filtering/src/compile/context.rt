@@ -3,6 +3,7 @@ ghost use Rattle.std.specs.Prelude.{◌≡◌, IfOk};
 
 use filterset_graph::PackageGraph;
 use std::alloc::{AllocError, Global};
+use std::collections::HashSet;
 
 /// The packages that a filterset may name.
 #[derive(Debug, Drop)]
@@ -26,4 +27,13 @@ impl<'g> ParseContext<'g> {
     {
         self.graph
     }
+}
+
+/// What is known of the groups of tests where a filterset is read.
+#[derive(Debug, Drop)]
+pub enum KnownGroups {
+    /// These groups, and `@global`, which need not be named.
+    Known { custom_groups: HashSet<String> },
+    /// The groups are not known. Today no filterset may be read so.
+    Unavailable,
 }

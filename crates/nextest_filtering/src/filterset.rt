@@ -1,0 +1,159 @@
+//! Filtersets: a text, its tree, and the compiled expression.
+ghost use Rattle.std.specs.Prelude.{◌≡◌, ◌↔◌, false, List, [], IfOk, IfErr, IsTrue, codes, string_bytes};
+ghost use Rattle.std.specs.Str.Iter.{HasSubslice};
+ghost use Rattle.filterset_faults.specs.declared.kind.FiltersetKind.TheVariants as kinds;
+ghost use Rattle.filterset_graph.specs.declared.package.PackageMetadata.{PackageMetadata};
+ghost use Rattle.filterset_faults.specs.declared.span.SourceSpan.{SourceSpan};
+ghost use Rattle.nextest_filtering.specs.Compiling.{packages_of, unsupported_faults, IsRefusalOf, IsRefusalOfTree, IsStopOf, SaysTheSame};
+ghost use Rattle.nextest_filtering.specs.Contexts.{default_of};
+ghost use Rattle.nextest_filtering.specs.Expression.{formula, has_leaf, is_default, is_group, no_groups, Holds};
+ghost use Rattle.filterset_language.specs.Grammar.{Spells};
+ghost use Rattle.nextest_filtering.specs.Groups.{IsKnown};
+ghost use Rattle.nextest_filtering.specs.Meaning.{has_tree_leaf, IsCompiled, Meaning};
+ghost use Rattle.nextest_filtering.specs.Meaning as tree;
+ghost use Rattle.filterset_language.specs.Parsed.{Reads};
+ghost use Rattle.filterset_language.specs.Tree.{Tree, tree_of};
+
+use crate::compile::{KnownGroups, ParseContext, Stop, compile};
+use crate::expression::{CompiledExpr, EvalContext, TestQuery};
+use filterset_faults::{FiltersetKind, FiltersetParseErrors};
+use filterset_language::{Parsed, ParsedExpr};
+use std::alloc::{AllocError, Global};
+
+/// A filterset that was read and compiled.
+#[derive(Debug, Drop, PartialEq, Eq)]
+pub struct Filterset {
+    /// The text.
+    pub input: String,
+    /// The tree that the text spells.
+    pub parsed: ParsedExpr,
+    /// What the tree is compiled to.
+    pub compiled: CompiledExpr,
+}
+
+/// Why a text was refused. Either way the text comes back.
+#[derive(Debug, Drop)]
+pub enum ParseRefusal {
+    /// The text has faults.
+    Faults(FiltersetParseErrors),
+    /// There was not enough memory, and nothing is known of the text.
+    OutOfMemory { input: String },
+}
+
+/// Reads a text.
+fn read_tree(alloc: Global, text: &str) -> Result<ParsedExpr, Stop>
+    ensures spelled { IfOk result (λ parsed. Reads text.now (tree_of parsed)) }
+    ensures refused { IfErr result (IsStopOf text.now) }
+{
+    let Parsed { tree, faults } = ParsedExpr::parse_with_faults(alloc, text)?;
+    match tree {
+        Some(parsed) if faults.is_empty() => Ok(parsed),
+        _ => Err(Stop::Faults(faults)),
+    }
+}
+
+/// Reads and compiles a text.
+fn read(alloc: Global, text: &str) -> Result<(ParsedExpr, CompiledExpr), Stop>
+    ensures spelled { IfOk result (λ made. Reads text.now (tree_of made.0)) }
+    ensures supported { IfOk result (λ made. unsupported_faults (tree_of made.0) ≡ []) }
+    ensures compiled { IfOk result (λ made. (packages : List PackageMetadata) → IsCompiled packages (tree_of made.0) made.1) }
+    ensures refused { IfErr result (IsStopOf text.now) }
+{
+    let parsed = read_tree(alloc, text)?;
+    let compiled = compile(alloc, &parsed)?;
+    Ok((parsed, compiled))
+}
+
+impl Filterset {
+    /// Reads a filterset and compiles it.
+    ///
+    /// A text is accepted exactly where the language spells it, `regex` builds each of its patterns, and each of its
+    /// predicates is one that is compiled for now: `test`, `all` or `none`. Each other predicate of a text that was read
+    /// is answered by one `UnsupportedExpression` at its span, from left to right. A refusal hands the text back.
+    ///
+    /// For now the kind is `Test`, and the groups are known.
+    pub fn parse(
+        alloc: Global,
+        input: String,
+        cx: &ParseContext<'_>,
+        kind: FiltersetKind,
+        known_groups: &KnownGroups,
+    ) -> Result<Filterset, ParseRefusal>
+        requires kind { kind ≡ kinds.Test }
+        requires known { IsKnown known_groups.now }
+
+        // What was accepted is the text, its tree, each leaf of which is compiled, and what this is compiled to.
+        ensures input { IfOk result (λ made. made.input ≡ input) }
+        ensures spelled { IfOk result (λ made. Reads (string_bytes input) (tree_of made.parsed)) }
+        ensures supported { IfOk result (λ made. unsupported_faults (tree_of made.parsed) ≡ []) }
+        ensures compiled { IfOk result (λ made. IsCompiled (packages_of cx.now) (tree_of made.parsed) made.compiled) }
+
+        // So the compiled expression says of each test what the tree says, and holds the same leaves.
+        ensures meaning { IfOk result (λ made. SaysTheSame (packages_of cx.now) (tree_of made.parsed) made.compiled) }
+        ensures defaults { IfOk result (λ made. has_leaf is_default made.compiled ≡ has_tree_leaf tree.is_default (tree_of made.parsed)) }
+        ensures groups { IfOk result (λ made. has_leaf is_group made.compiled ≡ has_tree_leaf tree.is_group (tree_of made.parsed)) }
+
+        // As `default` and `group` are not compiled yet, what was accepted holds neither.
+        ensures no_default { IfOk result (λ made. has_leaf is_default made.compiled ≡ false) }
+        ensures no_group { IfOk result (λ made. has_leaf is_group made.compiled ≡ false) }
+
+        // A refusal is by faults that the parser found, or by leaves that are not compiled yet.
+        ensures refused { IfErr result (IsRefusalOf input) }
+
+        // Where the text spells a tree, only the bodies of its regular expressions, its leaves that are not compiled yet
+        // and want of memory refuse it.
+        ensures complete { (e : Tree SourceSpan) → Spells (string_bytes input) e → IfErr result (IsRefusalOfTree (string_bytes input) e) }
+    {
+        match read(alloc, input.as_str()) {
+            Ok((parsed, compiled)) => Ok(Filterset {
+                input,
+                parsed,
+                compiled,
+            }),
+            Err(Stop::Faults(errors)) => {
+                Err(ParseRefusal::Faults(FiltersetParseErrors { input, errors }))
+            }
+            Err(Stop::OutOfMemory) => Err(ParseRefusal::OutOfMemory { input }),
+        }
+    }
+
+    /// Whether the filterset holds of the test, with the context's default filter in the place of each `default()`.
+    ///
+    /// The filterset holds no `group(..)`, which [`CompiledExpr::has_group_matchers`] of `compiled` tests. It is an
+    /// error only for want of memory.
+    pub fn matches_test(
+        &self,
+        alloc: Global,
+        query: &TestQuery<'_>,
+        cx: &EvalContext<'_>,
+    ) -> Result<bool, AllocError>
+        requires { has_leaf is_group self.now.compiled ≡ false }
+        ensures holds { IfOk result (λ answer. IsTrue answer ↔ Holds self.now.compiled query.now (default_of cx.now) no_groups) }
+
+        // Where the tree is compiled to the expression, the answer is the tree's meaning.
+        ensures meaning { IfOk result (λ answer. (packages : List PackageMetadata) → IsCompiled packages (tree_of self.now.parsed) self.now.compiled → IsTrue answer ↔ Meaning (tree_of self.now.parsed) packages query.now (default_of cx.now) no_groups) }
+    {
+        self.compiled.matches_test(alloc, query, cx)
+    }
+
+    /// Whether `deps` stands in the text. Where it does not, no `deps(..)` and no `rdeps(..)` does.
+    #[tactic(auto, using(std::proofs::lemmas::Str::Pattern::contains_text))]
+    pub fn needs_deps(raw_expr: &str) -> bool
+        ensures { IsTrue result ↔ HasSubslice raw_expr.now (codes "deps") }
+    {
+        raw_expr.contains("deps")
+    }
+
+    /// A copy, equal in every field. It is an error only for want of memory.
+    pub fn try_clone(&self, alloc: Global) -> Result<Filterset, AllocError>
+        ensures input { IfOk result (λ copy. string_bytes copy.input ≡ string_bytes self.now.input) }
+        ensures parsed { IfOk result (λ copy. tree_of copy.parsed ≡ tree_of self.now.parsed) }
+        ensures compiled { IfOk result (λ copy. formula copy.compiled ≡ formula self.now.compiled) }
+    {
+        Ok(Filterset {
+            input: String::from_str(alloc, self.input.as_str())?,
+            parsed: self.parsed.try_clone(alloc)?,
+            compiled: self.compiled.try_clone(alloc)?,
+        })
+    }
+}
