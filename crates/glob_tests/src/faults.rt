@@ -10,10 +10,10 @@ fn faults_at_the_first_place_where_reading_stops(rt: HostRuntime) -> Result<(), 
         a}b | UnopenedAlternates | unopened alternates; missing '{'
         {a,b | UnclosedAlternates | unclosed alternates; missing '}'
         {a,[b | UnclosedClass | unclosed character class; missing ']'
-        {[z-a] | InvalidRange('z', 'a') | invalid character range; 'z' is above 'a'
-        {[z-a | InvalidRange('z', 'a') | invalid character range; 'z' is above 'a'
-        [a--] | InvalidRange('a', '-') | invalid character range; 'a' is above '-'
-        [b-a] | InvalidRange('b', 'a') | invalid character range; 'b' is above 'a'
+        {[z-a] | InvalidRange | invalid character range; 'z' is above 'a'
+        {[z-a | InvalidRange | invalid character range; 'z' is above 'a'
+        [a--] | InvalidRange | invalid character range; 'a' is above '-'
+        [b-a] | InvalidRange | invalid character range; 'b' is above 'a'
         [!] | UnclosedClass | unclosed character class; missing ']'
         [] | UnclosedClass | unclosed character class; missing ']'
         [ | UnclosedClass | unclosed character class; missing ']'
@@ -32,9 +32,9 @@ fn texts_of_faults(rt: HostRuntime) -> Result<(), Fail> {
     refuses(
         &rt,
         "
-        [␊-␉] | InvalidRange('\\n', '\\t') | invalid character range; '␊' is above '␉'
-        [€-a] | InvalidRange('€', 'a') | invalid character range; '€' is above 'a'
-        [𝄞-é] | InvalidRange('𝄞', 'é') | invalid character range; '𝄞' is above 'é'
+        [␊-␉] | InvalidRange | invalid character range; '␊' is above '␉'
+        [€-a] | InvalidRange | invalid character range; '€' is above 'a'
+        [𝄞-é] | InvalidRange | invalid character range; '𝄞' is above 'é'
         ",
         3,
     )

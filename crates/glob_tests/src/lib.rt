@@ -31,3 +31,5 @@ mod reading;
 mod slashes;
 #[cfg(test)]
 mod tables;
+#[cfg(test)]
+mod written;

@@ -11,14 +11,14 @@ fn tokens_of_segments(rt: HostRuntime) -> Result<(), Fail> {
         ∅ | []
         ** | [Star]
         **/** | [Star]
-        **/**/a | [DeepFirst, Literal('a')]
-        a** | [Literal('a'), Star, Star]
-        a/**/ | [Literal('a'), DeepMid]
+        **/**/a | [DeepFirst, Literal(a)]
+        a** | [Literal(a), Star, Star]
+        a/**/ | [Literal(a), DeepMid]
         /** | [DeepLast]
         **/ | [DeepFirst]
-        ***/? | [Star, Star, Star, Literal('/'), AnyChar]
-        {b,**/a} | [Alternates([GlobBranch { tokens: [Literal('b')] }, GlobBranch { tokens: [DeepFirst, Literal('a')] }])]
-        {} | [Alternates([GlobBranch { tokens: [] }])]
+        ***/? | [Star, Star, Star, Literal(/), AnyChar]
+        {b,**/a} | [Alternates([Literal(b)], [DeepFirst, Literal(a)])]
+        {} | [Alternates([])]
         ",
         11,
     )
@@ -29,16 +29,16 @@ fn ranges_of_classes(rt: HostRuntime) -> Result<(), Fail> {
     reads(
         &rt,
         "
-        []a] | [Class { negated: false, ranges: [(']', ']'), ('a', 'a')] }]
-        [a-] | [Class { negated: false, ranges: [('a', 'a'), ('-', '-')] }]
-        [--a] | [Class { negated: false, ranges: [('-', 'a')] }]
-        [--] | [Class { negated: false, ranges: [('-', '-'), ('-', '-')] }]
-        [a-c-e] | [Class { negated: false, ranges: [('a', 'e')] }]
-        [a-z-b] | [Class { negated: false, ranges: [('a', 'b')] }]
-        [!]a] | [Class { negated: true, ranges: [(']', ']'), ('a', 'a')] }]
-        [^a] | [Class { negated: true, ranges: [('a', 'a')] }]
-        [!!] | [Class { negated: true, ranges: [('!', '!')] }]
-        [a!] | [Class { negated: false, ranges: [('a', 'a'), ('!', '!')] }]
+        []a] | [Class(]-] a-a)]
+        [a-] | [Class(a-a ---)]
+        [--a] | [Class(--a)]
+        [--] | [Class(--- ---)]
+        [a-c-e] | [Class(a-e)]
+        [a-z-b] | [Class(a-b)]
+        [!]a] | [NegatedClass(]-] a-a)]
+        [^a] | [NegatedClass(a-a)]
+        [!!] | [NegatedClass(!-!)]
+        [a!] | [Class(a-a !-!)]
         ",
         10,
     )

@@ -7,6 +7,7 @@
 //! A row that is written otherwise fails its test, and so does a table in which more or less than the wanted count was
 //! looked at.
 use crate::judging::{agrees, is_answer};
+use crate::written::{name_of, written_tokens};
 use filterset_glob::{GenericGlob, GlobConstructError, GlobRefusal};
 use std::alloc::{AllocError, Global};
 use std::process::Abort;
@@ -147,14 +148,14 @@ fn compare(rt: &impl Abort, text: &str, found: &str, wanted: &str) {
     assert!(rt; agrees(found, wanted), "{text}: {found}");
 }
 
-/// Rows of a glob and its tokens, written as `Debug` writes them: so many rows.
+/// Rows of a glob and its tokens, as `written_tokens` writes them: so many rows.
 pub fn reads(rt: &(impl AllocGlobal + Abort), table: &str, count: usize) -> Result<(), Fail> {
     let mut read = 0usize;
     for row in table.trim().split('\n') {
         let (pattern, wanted) = row.split_once('|').ok_or("two cells are wanted")?;
         let pattern = wanted_text(rt.alloc(), pattern.trim(), None)?;
         let glob = glob(rt.alloc(), pattern.as_str())?;
-        let tokens = format!(in rt.alloc(); "{:?}", glob.tokens())?;
+        let tokens = written_tokens(rt.alloc(), glob.tokens())?;
         compare(rt, pattern.as_str(), tokens.as_str(), wanted.trim());
         compare(rt, pattern.as_str(), glob.as_str(), pattern.as_str());
         read = read.wrapping_add(1);
@@ -172,7 +173,7 @@ fn fault_of(alloc: Global, text: &str) -> Result<GlobConstructError, Fail> {
     }
 }
 
-/// Rows of a text that is no glob, its fault as `Debug` writes it, and the fault's text: so many rows.
+/// Rows of a text that is no glob, the name of its fault, and the fault's text, which tells a range: so many rows.
 pub fn refuses(rt: &(impl AllocGlobal + Abort), table: &str, count: usize) -> Result<(), Fail> {
     let mut refused = 0usize;
     for row in table.trim().split('\n') {
@@ -180,8 +181,7 @@ pub fn refuses(rt: &(impl AllocGlobal + Abort), table: &str, count: usize) -> Re
         let (wanted, message) = wanted.split_once('|').ok_or("three cells are wanted")?;
         let pattern = wanted_text(rt.alloc(), pattern.trim(), None)?;
         let fault = fault_of(rt.alloc(), pattern.as_str())?;
-        let found = format!(in rt.alloc(); "{fault:?}")?;
-        compare(rt, pattern.as_str(), found.as_str(), wanted.trim());
+        compare(rt, pattern.as_str(), name_of(&fault), wanted.trim());
         let wanted_message = wanted_text(rt.alloc(), message.trim(), None)?;
         let found = format!(in rt.alloc(); "{fault}")?;
         compare(
