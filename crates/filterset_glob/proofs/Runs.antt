@@ -1,0 +1,112 @@
+-- Runs of tokens: what the first of them match, and then the rest.
+use Rattle.std.proofs.Common.{◌≡◌, ℕ, zero, suc, ◌+◌, ◌*◌, ◌<◌, ◌≤◌, Bool, List, [], ◌∷◌, ◌++◌, length, get_or, take, drop, refl, sym, ap, subst, ◌∙◌, append_assoc, arith, length-append, length-take}
+use Rattle.std.proofs.lemmas.List.{take-append-drop, take-append-le, take_all, drop-take}
+use Rattle.filterset_glob.specs.declared.token.GlobToken.{GlobToken}
+use Rattle.filterset_glob.specs.Places.{Holds, Moves}
+use Rattle.filterset_glob.specs.Grammar.{◌⊕◌}
+use Rattle.filterset_glob.specs.Matching.{Admits, TakesOne, OneAdmitted, Matches, MatchesToken, node_count, token_node_count}
+use Rattle.filterset_glob.specs.Tokens.{Token, literal, any_char, star, class, alternates, deep_first, deep_mid, deep_last, Tokens, no_token, next_token, token_of, tokens_of}
+use Rattle.filterset_glob.proofs.Items.{take_item}
+use Rattle.filterset_glob.proofs.Opened.{tokens_of-append}
+use Rattle.filterset_glob.proofs.Passing.{Then, moves_then, moves_as}
+
+pub one_matched : (token : Token) → TakesOne token → (t : List ℕ) → (MatchesToken token t → OneAdmitted token t) × (OneAdmitted token t → MatchesToken token t)
+one_matched (literal d) one t = (λ m. m, λ m. m)
+one_matched any_char one t = (λ m. m, λ m. m)
+one_matched star one t = absurd one
+one_matched (class negated ranges) one t = (λ m. m, λ m. m)
+one_matched (alternates branches) one t = absurd one
+one_matched deep_first one t = absurd one
+one_matched deep_mid one t = absurd one
+one_matched deep_last one t = absurd one
+
+pub admits_one : (token : Token) (c : ℕ) → Admits token c → TakesOne token
+admits_one (literal d) c a = tt
+admits_one any_char c a = tt
+admits_one star c a = absurd a
+admits_one (class negated ranges) c a = tt
+admits_one (alternates branches) c a = absurd a
+admits_one deep_first c a = absurd a
+admits_one deep_mid c a = absurd a
+admits_one deep_last c a = absurd a
+
+pub moves_one : (token : Token) (text : List ℕ) (p q : List Bool) → TakesOne token → Moves (OneAdmitted token) text p q → Moves (MatchesToken token) text p q
+moves_one token text p q one = moves_as text p q (λ t m. (one_matched token one t).1 m) (λ t m. (one_matched token one t).0 m)
+
+-- ---- some tokens, and then others
+
+matches_both : (front back : Tokens) (t u : List ℕ) → Matches front t → Matches back u → Matches (front ⊕ back) (t ++ u)
+matches_both no_token back t u none m = subst (λ x. Matches back (x ++ u)) (sym none) m
+matches_both (next_token a more) back t u (p, r, is, m, ms) m' = (p, r ++ u, ap (λ x. x ++ u) is ∙ append_assoc p r u, m, matches_both more back r u ms m')
+
+matches_parts : (front back : Tokens) (t : List ℕ) → Matches (front ⊕ back) t → Then (Matches front) (Matches back) t
+matches_parts no_token back t m = ([], t, refl, refl, m)
+matches_parts (next_token a more) back t (p, r, is, m, ms) =
+    let (p', r', is', m1, m2) = matches_parts more back r ms in
+    (p ++ p', r', is ∙ ap (λ x. p ++ x) is' ∙ sym (append_assoc p p' r'), (p, p', refl, m, m1), m2)
+
+-- the first so many of the tokens, and then the others
+pub moves_over_some : (tokens : List GlobToken) (n : ℕ) (text : List ℕ) (p q r : List Bool) → Moves (Matches (tokens_of (take n tokens))) text p q → Moves (Matches (tokens_of (drop n tokens))) text q r → Moves (Matches (tokens_of tokens)) text p r
+moves_over_some tokens n text p q r first second =
+    let front = tokens_of (take n tokens) in let back = tokens_of (drop n tokens) in
+    let whole : front ⊕ back ≡ tokens_of tokens = sym (tokens_of-append (take n tokens) (drop n tokens)) ∙ ap tokens_of (take-append-drop n tokens) in
+    subst (λ (ts : Tokens). Moves (Matches ts) text p r) whole
+    (moves_as text p r (λ t (piece, rest, is, m, ms). subst (Matches (front ⊕ back)) (sym is) (matches_both front back piece rest m ms)) (λ t m. matches_parts front back t m) (moves_then text p q r first second))
+
+nodes_of_one : (token : Token) → 1 ≤ token_node_count token
+nodes_of_one (literal d) = omega arith
+nodes_of_one any_char = omega arith
+nodes_of_one star = omega arith
+nodes_of_one (class negated ranges) = omega arith
+nodes_of_one (alternates branches) = omega arith
+nodes_of_one deep_first = omega arith
+nodes_of_one deep_mid = omega arith
+nodes_of_one deep_last = omega arith
+
+nodes_behind : (tokens : List GlobToken) (n : ℕ) → node_count (tokens_of (drop n tokens)) ≤ node_count (tokens_of tokens)
+nodes_behind [] zero = omega arith
+nodes_behind [] (suc n) = omega arith
+nodes_behind (x ∷ xs) zero = omega arith
+nodes_behind (x ∷ xs) (suc n) = omega (arith, nodes_behind xs n)
+
+-- behind one token or more there are fewer nodes
+pub fewer_nodes : (tokens : List GlobToken) (n : ℕ) → 0 < n → 0 < length tokens → node_count (tokens_of (drop n tokens)) + 1 ≤ node_count (tokens_of tokens)
+fewer_nodes [] n some within = absurd (omega arith)
+fewer_nodes (x ∷ xs) zero some within = absurd (omega arith)
+fewer_nodes (x ∷ xs) (suc n) some within = omega (arith, nodes_behind xs n, nodes_of_one (token_of x))
+
+-- ---- tokens that take one character each
+
+-- one token more
+pub run_more : (tokens : List GlobToken) (k : ℕ) (x : GlobToken) (t : List ℕ) (c : ℕ) → k < length tokens → x ≡ get_or tokens k x → Admits (token_of x) c → Matches (tokens_of (take k tokens)) t → Matches (tokens_of (take (k + 1) tokens)) (t ++ c ∷ [])
+run_more tokens k x t c h is a m =
+    let whole : tokens_of (take (k + 1) tokens) ≡ tokens_of (take k tokens) ⊕ next_token (token_of x) no_token = ap tokens_of (take_item tokens k x h is) ∙ tokens_of-append (take k tokens) (x ∷ []) in
+    subst (λ (ts : Tokens). Matches ts (t ++ c ∷ [])) (sym whole)
+    (matches_both (tokens_of (take k tokens)) (next_token (token_of x) no_token) t (c ∷ []) m (c ∷ [], [], refl, (one_matched (token_of x) (admits_one (token_of x) c a) (c ∷ [])).1 (c, refl, a), refl))
+
+pub run_each : (tokens : List GlobToken) (k : ℕ) (x : GlobToken) (c : ℕ) → k < length tokens → x ≡ get_or tokens k x → Admits (token_of x) c → ((piece : List ℕ) → Matches (tokens_of (take k tokens)) piece → length piece ≡ k) → (piece : List ℕ) → Matches (tokens_of (take (k + 1) tokens)) piece → length piece ≡ k + 1
+run_each tokens k x c h is a each piece m =
+    let whole : tokens_of (take (k + 1) tokens) ≡ tokens_of (take k tokens) ⊕ next_token (token_of x) no_token = ap tokens_of (take_item tokens k x h is) ∙ tokens_of-append (take k tokens) (x ∷ []) in
+    let (p, r, cut, m1, (p2, r2, cut2, m2, none)) = matches_parts (tokens_of (take k tokens)) (next_token (token_of x) no_token) piece (subst (λ (ts : Tokens). Matches ts piece) whole m) in
+    let (d, one, _) = (one_matched (token_of x) (admits_one (token_of x) c a) p2).0 m2 in
+    omega (arith, ap length cut, length-append p r, each p m1, ap length cut2, length-append p2 r2, ap length one, ap length none)
+
+-- a place alone, over tokens that match the characters behind it, and nothing of another length
+pub moves_alone : (tokens : Tokens) (text : List ℕ) (p q : List Bool) (at n : ℕ) →
+    ((i : ℕ) → Holds p i → i ≡ at) → Holds p at → ((i : ℕ) → Holds q i → i ≡ at + n) → Holds q (at + n) →
+    Matches tokens (take n (drop at text)) → ((piece : List ℕ) → Matches tokens piece → length piece ≡ n) → Moves (Matches tokens) text p q
+moves_alone tokens text p q at n only_p held_p only_q held_q m each = record {
+  reached = λ front back cut here.
+      let long : length front ≡ at + n = only_q (length front) here in
+      let start_long : length (take at front) ≡ at = omega (arith, length-take at front) in
+      let whole : take (at + n) text ≡ front = ap (take (at + n)) cut ∙ take-append-le (at + n) front back (omega arith) ∙ take_all (at + n) front (omega arith) in
+      let piece_is : take n (drop at text) ≡ drop at front = sym (drop-take at n text) ∙ ap (drop at) whole in
+      (take at front, drop at front, sym (take-append-drop at front), subst (Holds p) (sym start_long) held_p, subst (Matches tokens) piece_is m);
+  reaches = λ start piece back cut here t.
+      let long : length (start ++ piece) ≡ at + n = omega (arith, length-append start piece, only_p (length start) here, each piece t) in
+      subst (Holds q) (sym long) held_q;
+}
+
+-- the count of some tokens, which is at most twice the places, moves into the sum
+pub counted_some : (a b k all m : ℕ) → b ≤ a + 2 * m → k + 1 ≤ all → b + 2 * k * m ≤ a + 2 * all * m
+counted_some a b k all m step fewer = grind (arith, step, fewer)

@@ -1,0 +1,33 @@
+use Rattle.std.proofs.Common.{◌≡◌, ℕ, ◌+◌, ◌<◌, inl, true, ◌∷◌, length, take, refl, ap, sym, ◌∙◌, arith, ⊎_elim, rules}
+use Rattle.std.specs.Int.{bit_at}
+use Rattle.std.proofs.lemmas.Nat.Bits.{bit_at-zero}
+use Rattle.filterset_glob.specs.Places.{Holds}
+use Rattle.filterset_glob.specs.Words.{Has}
+use Rattle.filterset_glob.specs.Tokens.{tokens_of}
+use Rattle.filterset_glob.proofs.PlaceSets.{opened, long, length-places_of, Has-low, Has-cases, Has-from_Holds}
+use Rattle.filterset_glob.proofs.Runs.{moves_alone}
+use Rattle.filterset_glob.proofs.places.Places.run_over.Goals as goal
+
+pub hold-requires : goal.hold-requires
+hold-requires c = omega (arith, length-places_of c.self.inside.count (0 ∷ c.self.inside.later.items), long _ _ c.args.self.now c.self.view_is)
+
+pub returns-clause-length : goal.returns-clause-length
+returns-clause-length c = c.hold.ensures.length ∙ length-places_of c.self.inside.count (0 ∷ c.self.inside.later.items) ∙ sym (long _ _ c.args.self.now c.self.view_is)
+
+pub returns-clause-moved : goal.returns-clause-moved
+returns-clause-moved c =
+    let n = c.self.inside.count in
+    let f = c.self.inside.first in
+    let ws = c.self.inside.later.items in
+    let at = c.lowest-place.result in
+    let run = c.run-run.result in
+    let plain : c.are_none.result ≡ true = search rules in
+    let none : (i : ℕ) → ¬ Has ws i = rw c.deref.ensures.value at (c.are_none.ensures plain) in
+    let o = opened n (f ∷ ws) c.args.self.now c.self.view_is in
+    let only_p : (i : ℕ) → Holds c.args.self.now i → i ≡ at = λ i h.
+    ⊎_elim (λ p. c.only.ensures.alone i (ap (λ w. bit_at w i) (sym c.if-word-only.false) ∙ p.1)) (λ p. absurd (none p.0 p.2)) (Has-cases f ws i ((o i).0 h).1) in
+    let held_p : Holds c.args.self.now at = (o at).1 (omega (arith, long _ _ c.args.self.now c.self.view_is)) (Has-low f ws at c.lowest-place.ensures.small c.lowest-place.ensures.set) in
+    let only_q : (i : ℕ) → Holds c.hold.new.self i → i ≡ at + run = λ i h.
+    ⊎_elim (λ e. e) (λ m. absurd (⊎_elim (λ p. omega (arith, p.1, bit_at-zero i)) (λ p. none p.0 p.2) (Has-cases 0 ws i (Has-from_Holds n (0 ∷ ws) i m).1))) ((c.hold.ensures.held i).0 h) in
+    moves_alone (tokens_of (take run c.args.tokens.now)) c.args.text.now c.args.self.now c.hold.new.self at run
+    only_p held_p only_q ((c.hold.ensures.held (at + run)).1 (inl refl)) c.run-run.ensures.matched c.run-run.ensures.one_each
