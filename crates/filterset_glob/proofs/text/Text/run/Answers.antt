@@ -13,8 +13,8 @@ loop-at-preserved c =
     let tokens = c.args.tokens.now in
     let rest : List ℕ = drop c.args.place c.args.self.now in
     let char : ℕ = get_or c.args.self.now (c.args.place + at) 0 in
-    let taken : c.is_taken.result ≡ true = search rules in
-    let admits : Admits (token_of x) char = c.is_taken.ensures.0 taken in
+    let plain : c.plainly_admits.result ≡ true = search rules in
+    let admits : Admits (token_of x) char = subst (Admits (token_of x)) c.number.ensures (c.plainly_admits.ensures plain) in
     let more : take (at + 1) rest ≡ take at rest ++ char ∷ [] =
     take_more rest at 0 (omega (arith, length-drop c.args.place c.args.self.now)) ∙ ap (λ y. take at rest ++ y ∷ []) (get_or-drop c.args.place c.args.self.now at 0) in
     record {
