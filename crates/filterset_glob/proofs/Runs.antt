@@ -1,5 +1,5 @@
 -- Runs of tokens: what the first of them match, and then the rest.
-use Rattle.std.proofs.Common.{◌≡◌, ℕ, zero, suc, ◌+◌, ◌*◌, ◌<◌, ◌≤◌, Bool, List, [], ◌∷◌, ◌++◌, length, get_or, take, drop, refl, sym, ap, subst, ◌∙◌, append_assoc, arith, length-append, length-take}
+use Rattle.std.proofs.Common.{◌≡◌, ℕ, zero, suc, ◌+◌, ◌*◌, ◌<◌, ◌≤◌, Bool, List, [], ◌∷◌, ◌++◌, length, slice_index, get_or, take, drop, refl, sym, ap, subst, ◌∙◌, append_assoc, arith, length-append, length-take}
 use Rattle.std.proofs.lemmas.List.{take-append-drop, take-append-le, take_all, drop-take}
 use Rattle.filterset_glob.specs.declared.token.GlobToken.{GlobToken}
 use Rattle.filterset_glob.specs.Places.{Holds, Moves}
@@ -8,7 +8,7 @@ use Rattle.filterset_glob.specs.Matching.{Admits, TakesOne, OneAdmitted, Matches
 use Rattle.filterset_glob.specs.Tokens.{Token, literal, any_char, star, class, alternates, deep_first, deep_mid, deep_last, Tokens, no_token, next_token, token_of, tokens_of}
 use Rattle.filterset_glob.proofs.Items.{take_item}
 use Rattle.filterset_glob.proofs.Opened.{tokens_of-append}
-use Rattle.filterset_glob.proofs.Passing.{Then, moves_then, moves_as}
+use Rattle.filterset_glob.proofs.Passing.{Then, moves_then, moves_done, moves_as, moves_over}
 
 pub one_matched : (token : Token) → TakesOne token → (t : List ℕ) → (MatchesToken token t → OneAdmitted token t) × (OneAdmitted token t → MatchesToken token t)
 one_matched (literal d) one t = (λ m. m, λ m. m)
@@ -110,3 +110,10 @@ moves_alone tokens text p q at n only_p held_p only_q held_q m each = record {
 -- the count of some tokens, which is at most twice the places, moves into the sum
 pub counted_some : (a b k all m : ℕ) → b ≤ a + 2 * m → k + 1 ≤ all → b + 2 * k * m ≤ a + 2 * all * m
 counted_some a b k all m step fewer = grind (arith, step, fewer)
+
+-- a place alone, whose next character the token does not take
+pub moves_stopped : (token : Token) (text : List ℕ) (p q : List Bool) (at : ℕ) → TakesOne token → ((i : ℕ) → Holds p i → i ≡ at) → ¬ Admits token (slice_index text at) → ((i : ℕ) → ¬ Holds q i) → Moves (Matches (next_token token no_token)) text p q
+moves_stopped token text p q at one only stopped none =
+    moves_then text p q q
+    (moves_one token text p q one (moves_over token text p q (none 0) (λ i inside h. absurd (none (i + 1) h)) (λ i inside h a. absurd (stopped (subst (λ (k : ℕ). Admits token (slice_index text k)) (only i h) a)))))
+    (moves_done text q)

@@ -2,12 +2,14 @@ use Rattle.std.proofs.Common.{◌≡◌, ◌≢◌, ℕ, zero, ◌+◌, ◌-◌,
 use Rattle.std.proofs.lemmas.List.{take_rest, drop-drop}
 use Rattle.filterset_glob.specs.declared.token.GlobToken.{GlobToken}
 use Rattle.filterset_glob.specs.Places.{Moves}
-use Rattle.filterset_glob.specs.Matching.{Matches, TakesOne, node_count}
+use Rattle.filterset_glob.specs.Matching.{Matches, node_count}
 use Rattle.filterset_glob.specs.Tokens.{token_of, tokens_of}
-use Rattle.filterset_glob.proofs.Items.{drop_item}
 use Rattle.filterset_glob.proofs.Passing.{moves_then, moves_over}
 use Rattle.filterset_glob.proofs.Runs.{moves_one, moves_over_some, fewer_nodes, counted_some}
 use Rattle.filterset_glob.proofs.matcher.pass_characters.Goals as goal
+
+pub run_over-run-requires-clause-first : goal.run_over-run-requires-clause-first
+run_over-run-requires-clause-first c = ap (take 1) (take_rest c.args.tokens.now c.args.at ∙ c.requires.here)
 
 pub returns-then-run-gt0-clause-moved : goal.returns-then-run-gt0-clause-moved
 returns-then-run-gt0-clause-moved c r last =
@@ -31,17 +33,15 @@ pub returns-clause-moved : goal.returns-clause-moved
 returns-clause-moved c r last =
     let tokens = c.args.tokens.now in
     let rest : List GlobToken = drop c.args.at tokens in
-    let x = c.index-tokens-at.result in
+    let x = c.args.token.now in
     let mid = c.run_over-run.new.self in
     let e = c.step_over.ensures in
-    let one : TakesOne (token_of x) = c.takes_one.ensures.0 c.if-not-takes_one.false in
     let none : c.run_over-run.result ≡ 0 = omega (arith, c.if-run-gt0.false) in
-    let here : rest ≡ x ∷ drop (c.args.at + 1) tokens = drop_item tokens c.args.at x c.requires.within c.index-tokens-at.is in
     moves_over_some rest 0 c.args.text.now c.args.places.now mid r
     (subst (λ (ts : List GlobToken). Moves (Matches (tokens_of (take 0 ts))) c.args.text.now c.args.places.now mid) (take_rest tokens c.args.at)
     (subst (λ (k : ℕ). Moves (Matches (tokens_of (take k (take (length tokens - c.args.at) rest)))) c.args.text.now c.args.places.now mid) none c.run_over-run.ensures.moved))
-    (subst (λ (ts : List GlobToken). Moves (Matches (tokens_of ts)) c.args.text.now mid r) (sym here)
-    (moves_then c.args.text.now mid c.step_over.new.self r (moves_one (token_of x) _ _ _ one (moves_over (token_of x) _ _ _ e.first e.moved e.moves)) last))
+    (subst (λ (ts : List GlobToken). Moves (Matches (tokens_of ts)) c.args.text.now mid r) (sym c.requires.here)
+    (moves_then c.args.text.now mid c.step_over.new.self r (moves_one (token_of x) _ _ _ c.requires.one (moves_over (token_of x) _ _ _ e.first e.moved e.moves)) last))
 
 pub returns-clause-steps : goal.returns-clause-steps
 returns-clause-steps c =

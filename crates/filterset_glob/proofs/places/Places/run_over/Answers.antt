@@ -1,12 +1,32 @@
-use Rattle.std.proofs.Common.{◌≡◌, ℕ, ◌+◌, ◌<◌, inl, true, ◌∷◌, length, take, refl, ap, sym, ◌∙◌, arith, ⊎_elim, rules}
+use Rattle.std.proofs.Common.{◌≡◌, ℕ, ◌+◌, ◌-◌, ◌<◌, inl, true, List, Bool, [], ◌∷◌, length, take, refl, ap, sym, subst, ◌∙◌, arith, ⊎_elim, rules}
 use Rattle.std.specs.Int.{bit_at}
 use Rattle.std.proofs.lemmas.Nat.Bits.{bit_at-zero}
-use Rattle.filterset_glob.specs.Places.{Holds}
+use Rattle.filterset_glob.specs.declared.token.GlobToken.{GlobToken}
+use Rattle.filterset_glob.specs.Places.{Holds, Moves}
 use Rattle.filterset_glob.specs.Words.{Has}
-use Rattle.filterset_glob.specs.Tokens.{tokens_of}
+use Rattle.filterset_glob.specs.Matching.{Matches}
+use Rattle.filterset_glob.specs.Tokens.{token_of, tokens_of}
 use Rattle.filterset_glob.proofs.PlaceSets.{opened, long, length-places_of, Has-low, Has-cases, Has-from_Holds}
-use Rattle.filterset_glob.proofs.Runs.{moves_alone}
+use Rattle.filterset_glob.proofs.Runs.{moves_alone, moves_stopped}
 use Rattle.filterset_glob.proofs.places.Places.run_over.Goals as goal
+
+pub returns-then-run-eq0-clause-length : goal.returns-then-run-eq0-clause-length
+returns-then-run-eq0-clause-length c = length-places_of _ _ ∙ sym (long _ _ c.args.self.now c.self.view_is)
+
+pub returns-then-run-eq0-clause-moved : goal.returns-then-run-eq0-clause-moved
+returns-then-run-eq0-clause-moved c =
+    let n = c.self.inside.count in
+    let f = c.self.inside.first in
+    let ws = c.self.inside.later.items in
+    let at = c.lowest-place.result in
+    let plain : c.are_none.result ≡ true = search rules in
+    let none : (i : ℕ) → ¬ Has ws i = rw c.deref.ensures.value at (c.are_none.ensures plain) in
+    let o = opened n (f ∷ ws) c.args.self.now c.self.view_is in
+    let only_p : (i : ℕ) → Holds c.args.self.now i → i ≡ at = λ i h.
+    ⊎_elim (λ p. c.only.ensures.alone i (ap (λ w. bit_at w i) (sym c.if-word-only.false) ∙ p.1)) (λ p. absurd (none p.0 p.2)) (Has-cases f ws i ((o i).0 h).1) in
+    rw c.requires.first
+    (moves_stopped (token_of c.args.token.now) c.args.text.now c.args.self.now _ at c.requires.one only_p (c.run-run.ensures.stopped c.if-run-eq0.true)
+    (λ i h. ⊎_elim (λ p. omega (arith, p.1, bit_at-zero i)) (λ p. none p.0 p.2) (Has-cases 0 ws i (Has-from_Holds n (0 ∷ ws) i h).1)))
 
 pub hold-requires : goal.hold-requires
 hold-requires c = omega (arith, length-places_of c.self.inside.count (0 ∷ c.self.inside.later.items), long _ _ c.args.self.now c.self.view_is)
