@@ -1,11 +1,11 @@
 -- Runs of tokens: what the first of them match, and then the rest.
-use Rattle.std.proofs.Common.{◌≡◌, ℕ, zero, suc, ◌+◌, ◌*◌, ◌<◌, ◌≤◌, Bool, List, [], ◌∷◌, ◌++◌, length, slice_index, get_or, take, drop, refl, sym, ap, subst, ◌∙◌, append_assoc, arith, length-append, length-take}
+use Rattle.std.proofs.Common.{◌≡◌, ℕ, zero, suc, ◌+◌, ◌*◌, ◌<◌, ◌≤◌, Bool, true, List, [], ◌∷◌, ◌++◌, length, slice_index, get_or, take, drop, refl, sym, ap, subst, ◌∙◌, append_assoc, arith, length-append, length-take}
 use Rattle.std.proofs.lemmas.List.{take-append-drop, take-append-le, take_all, drop-take}
 use Rattle.filterset_glob.specs.declared.token.GlobToken.{GlobToken}
 use Rattle.filterset_glob.specs.Places.{Holds, Moves}
 use Rattle.filterset_glob.specs.Grammar.{◌⊕◌}
 use Rattle.filterset_glob.specs.Matching.{Admits, TakesOne, OneAdmitted, Matches, MatchesToken, node_count, token_node_count}
-use Rattle.filterset_glob.specs.Tokens.{Token, literal, any_char, star, class, alternates, deep_first, deep_mid, deep_last, Tokens, no_token, next_token, token_of, tokens_of}
+use Rattle.filterset_glob.specs.Tokens.{Token, is_star, literal, any_char, star, class, alternates, deep_first, deep_mid, deep_last, Tokens, no_token, next_token, token_of, tokens_of}
 use Rattle.filterset_glob.proofs.Items.{take_item}
 use Rattle.filterset_glob.proofs.Opened.{tokens_of-append}
 use Rattle.filterset_glob.proofs.Passing.{Then, moves_then, moves_done, moves_as, moves_over}
@@ -117,3 +117,13 @@ moves_stopped token text p q at one only stopped none =
     moves_then text p q q
     (moves_one token text p q one (moves_over token text p q (none 0) (λ i inside h. absurd (none (i + 1) h)) (λ i inside h a. absurd (stopped (subst (λ (k : ℕ). Admits token (slice_index text k)) (only i h) a)))))
     (moves_done text q)
+
+pub star_of : (token : Token) → is_star token ≡ true → token ≡ star
+star_of (literal d) e = cc
+star_of any_char e = cc
+star_of star e = refl
+star_of (class negated ranges) e = cc
+star_of (alternates branches) e = cc
+star_of deep_first e = cc
+star_of deep_mid e = cc
+star_of deep_last e = cc

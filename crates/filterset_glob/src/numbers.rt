@@ -24,6 +24,14 @@ pub(crate) fn taken_at(numbers: &[u32], block: usize, token: &GlobToken) -> u64
     taken(load(&numbers[64 * block..]), token)
 }
 
+/// Which of the first 64 numbers are this one. Bits behind them may be anything.
+#[inline(never)]
+pub(crate) fn is_number(numbers: &[u32], number: u32) -> u64
+    ensures { (k : ℕ) → k < 64 → k < length numbers.now → (bit_at result k ≡ 1) ↔ (slice_index numbers.now k ≡ number) }
+{
+    equal(load(numbers), number)
+}
+
 /// Which of the numbers the token takes.
 #[inline(always)]
 fn taken(block: Block, token: &GlobToken) -> u64
