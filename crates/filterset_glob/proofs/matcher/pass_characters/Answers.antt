@@ -26,7 +26,7 @@ returns-then-run-gt0-clause-steps c =
     let run = c.run_over-run.result in
     let fewer = fewer_nodes (drop c.args.at tokens) run c.if-run-gt0.true (omega (arith, length-drop c.args.at tokens, c.requires.within)) in
     counted_some c.args.steps.now.count c.run_over-run.new.steps.count (node_count (tokens_of (drop (c.args.at + run) tokens))) (node_count (tokens_of (drop c.args.at tokens))) (length c.args.text.now + 1)
-    (omega (arith, c.run_over-run.ensures.steps, c.run_over-run.ensures.within, c.requires.long))
+    (omega (arith, c.run_over-run.ensures.steps, c.requires.long))
     (subst (λ (ts : List GlobToken). node_count (tokens_of ts) + 1 ≤ node_count (tokens_of (drop c.args.at tokens))) (drop-drop run c.args.at tokens) fewer)
 
 pub returns-clause-moved : goal.returns-clause-moved
@@ -48,5 +48,5 @@ returns-clause-steps c =
     let tokens = c.args.tokens.now in
     let fewer = fewer_nodes (drop c.args.at tokens) 1 (omega arith) (omega (arith, length-drop c.args.at tokens, c.requires.within)) in
     counted_some c.args.steps.now.count c.step_over.new.steps.count (node_count (tokens_of (drop (c.args.at + 1) tokens))) (node_count (tokens_of (drop c.args.at tokens))) (length c.args.text.now + 1)
-    (omega (arith, c.step_over.ensures.steps, c.run_over-run.ensures.steps, c.run_over-run.ensures.length, c.if-run-gt0.false, c.requires.long))
+    (omega (arith, c.step_over.ensures.steps, c.run_over-run.ensures.once (omega (arith, c.if-run-gt0.false)), c.run_over-run.ensures.length, c.requires.long))
     (subst (λ (ts : List GlobToken). node_count (tokens_of ts) + 1 ≤ node_count (tokens_of (drop c.args.at tokens))) (drop-drop 1 c.args.at tokens) fewer)

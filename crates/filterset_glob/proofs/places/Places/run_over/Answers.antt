@@ -1,4 +1,4 @@
-use Rattle.std.proofs.Common.{◌≡◌, ℕ, ◌+◌, ◌-◌, ◌<◌, inl, true, List, Bool, [], ◌∷◌, length, take, refl, ap, sym, subst, ◌∙◌, arith, ⊎_elim, rules}
+use Rattle.std.proofs.Common.{◌≡◌, ℕ, ◌+◌, ◌-◌, ◌<◌, inl, true, List, Bool, [], ◌∷◌, length, take, refl, ap, sym, subst, ◌∙◌, arith, eqb-true, ⊎_elim, rules}
 use Rattle.std.specs.Int.{bit_at}
 use Rattle.std.proofs.lemmas.Nat.Bits.{bit_at-zero}
 use Rattle.filterset_glob.specs.declared.token.GlobToken.{GlobToken}
@@ -6,9 +6,19 @@ use Rattle.filterset_glob.specs.Places.{Holds, Moves}
 use Rattle.filterset_glob.specs.Words.{Has}
 use Rattle.filterset_glob.specs.Matching.{Matches}
 use Rattle.filterset_glob.specs.Tokens.{token_of, tokens_of}
-use Rattle.filterset_glob.proofs.PlaceSets.{opened, long, length-places_of, Has-low, Has-cases, Has-from_Holds}
+use Rattle.filterset_glob.proofs.PlaceSets.{opened, long, length-places_of, Has-low, Has-cases, Has-within, Has-from_Holds}
+use Rattle.filterset_glob.proofs.Passing.{moves_nowhere}
 use Rattle.filterset_glob.proofs.Runs.{moves_alone, moves_stopped}
 use Rattle.filterset_glob.proofs.places.Places.run_over.Goals as goal
+
+pub returns-then-is_empty-clause-moved : goal.returns-then-is_empty-clause-moved
+returns-then-is_empty-clause-moved c =
+    let f = c.self.inside.first in
+    let ws = c.self.inside.later.items in
+    let zero : f ≡ 0 = c.if-word-eq0.true in
+    let none : length ws ≡ 0 = sym c.self.inside.later.ok.0 ∙ eqb-true _ 0 (sym c.is_empty.ensures ∙ c.if-is_empty.true) in
+    moves_nowhere (Matches (tokens_of (take (length c.args.tokens.now) c.args.tokens.now))) c.args.text.now c.args.self.now
+    (λ i h. ⊎_elim (λ p. omega (arith, p.1, ap (λ w. bit_at w i) zero, bit_at-zero i)) (λ p. omega (arith, Has-within ws p.0 p.2)) (Has-cases f ws i ((opened _ _ c.args.self.now c.self.view_is i).0 h).1))
 
 pub returns-then-run-eq0-clause-length : goal.returns-then-run-eq0-clause-length
 returns-then-run-eq0-clause-length c = length-places_of _ _ ∙ sym (long _ _ c.args.self.now c.self.view_is)
