@@ -1,4 +1,4 @@
-use Rattle.std.proofs.Common.{◌≡◌, ℕ, List, Bool, false, ◌∷◌, replicate, sym, ap, ◌∙◌}
+use Rattle.std.proofs.Common.{ℕ, false, ◌∷◌, replicate, sym, ap, ◌∙◌}
 use Rattle.filterset_glob.specs.Words.{places_of}
 use Rattle.filterset_glob.proofs.PlaceSets.{places_of-none, long}
 use Rattle.filterset_glob.proofs.places.Places.none_of_them.Goals as goal

@@ -1,8 +1,7 @@
-use Rattle.std.proofs.Common.{◌≡◌, ℕ, ◌+◌, ◌-◌, ◌<◌, inl, true, List, Bool, [], ◌∷◌, length, take, refl, ap, sym, subst, ◌∙◌, arith, eqb-true, ⊎_elim, rules}
+use Rattle.std.proofs.Common.{◌≡◌, ℕ, ◌+◌, inl, true, ◌∷◌, length, take, refl, ap, sym, ◌∙◌, arith, eqb-true, ⊎_elim, rules}
 use Rattle.std.specs.Int.{bit_at}
 use Rattle.std.proofs.lemmas.Nat.Bits.{bit_at-zero}
-use Rattle.filterset_glob.specs.declared.token.GlobToken.{GlobToken}
-use Rattle.filterset_glob.specs.Places.{Holds, Moves}
+use Rattle.filterset_glob.specs.Places.{Holds}
 use Rattle.filterset_glob.specs.Words.{Has}
 use Rattle.filterset_glob.specs.Matching.{Matches}
 use Rattle.filterset_glob.specs.Tokens.{token_of, tokens_of}

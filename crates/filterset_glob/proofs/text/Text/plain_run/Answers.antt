@@ -1,4 +1,4 @@
-use Rattle.std.proofs.Common.{◌≡◌, ℕ, ◌+◌, true, List, [], ◌∷◌, ◌++◌, length, get_or, take, drop, sym, ap, subst, ◌∙◌, arith, length-drop, rules}
+use Rattle.std.proofs.Common.{◌≡◌, ℕ, ◌+◌, true, List, [], ◌∷◌, ◌++◌, get_or, take, drop, sym, ap, subst, ◌∙◌, arith, length-drop, rules}
 use Rattle.std.proofs.lemmas.List.{take_more, get_or-drop}
 use Rattle.filterset_glob.specs.Matching.{Admits, Matches}
 use Rattle.filterset_glob.specs.Tokens.{token_of, tokens_of}

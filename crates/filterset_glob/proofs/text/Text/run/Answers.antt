@@ -1,4 +1,4 @@
-use Rattle.std.proofs.Common.{◌≡◌, ℕ, [], ◌∷◌, get_or, refl}
+use Rattle.std.proofs.Common.{ℕ, [], ◌∷◌, get_or, refl}
 use Rattle.std.proofs.lemmas.List.{drop_more}
 use Rattle.filterset_glob.specs.Matching.{Admits}
 use Rattle.filterset_glob.specs.Tokens.{token_of}
