@@ -19,6 +19,14 @@ returns-then-is_empty-clause-moved c =
     moves_nowhere (Matches (tokens_of (take (length c.args.tokens.now) c.args.tokens.now))) c.args.text.now c.args.self.now
     (λ i h. ⊎_elim (λ p. omega (arith, p.1, ap (λ w. bit_at w i) zero, bit_at-zero i)) (λ p. omega (arith, Has-within ws p.0 p.2)) (Has-cases f ws i ((opened _ _ c.args.self.now c.self.view_is i).0 h).1))
 
+pub returns-then-is_empty-clause-exactly : goal.returns-then-is_empty-clause-exactly
+returns-then-is_empty-clause-exactly c i h =
+    let f = c.self.inside.first in
+    let ws = c.self.inside.later.items in
+    let zero : f ≡ 0 = c.if-word-eq0.true in
+    let none : length ws ≡ 0 = sym c.self.inside.later.ok.0 ∙ eqb-true _ 0 (sym c.is_empty.ensures ∙ c.if-is_empty.true) in
+    absurd (⊎_elim (λ p. omega (arith, p.1, ap (λ w. bit_at w i) zero, bit_at-zero i)) (λ p. omega (arith, Has-within ws p.0 p.2)) (Has-cases f ws i ((opened _ _ c.args.self.now c.self.view_is i).0 h).1))
+
 pub returns-then-run-eq0-clause-length : goal.returns-then-run-eq0-clause-length
 returns-then-run-eq0-clause-length c = length-places_of _ _ ∙ sym (long _ _ c.args.self.now c.self.view_is)
 
