@@ -6,6 +6,7 @@
 //! refuses each request in turn.
 #![tactic(auto)]
 
+mod bounds;
 #[cfg(test)]
 mod characters;
 #[cfg(test)]
