@@ -1,0 +1,21 @@
+-- Characters by their signs, in the place of their numbers. All signs named so are ASCII, so a sign is one byte of UTF-8 too.
+use Rattle.std.specs.Prelude.{ℕ, List, [], ◌∷◌, Bool, false, ◌==◌, ◌||◌, codes}
+use Prim.Native.String.{String}
+
+abbrev pub first_of : List ℕ → ℕ
+first_of [] = 0
+first_of (c ∷ cs) = c
+
+-- the code of the one character of a text
+abbrev pub sign : String → ℕ
+sign s = first_of (codes s)
+
+abbrev pub is_among : ℕ → List ℕ → Bool
+is_among c [] = false
+is_among c (d ∷ []) = c == d
+is_among c (d ∷ e ∷ rest) = (c == d) || is_among c (e ∷ rest)
+
+-- the character is one of these
+infix 60 ◌∈◌
+abbrev pub ◌∈◌ : ℕ → String → Bool
+c ∈ s = is_among c (codes s)
