@@ -95,7 +95,8 @@ help_of (fault.ExpectedOpenParenthesis span) = None
 help_of (fault.ExpectedCloseParenthesis span) = None
 help_of (fault.InvalidEscapeCharacter span) = None
 help_of (fault.ExpectedExpr span) = None
-help_of (fault.ExprFoundBinaryOp span op suggest) = Some (codes "use `<expr> " ++ suggest.now ++ codes " <expr>` instead")
+help_of (fault.ExprFoundBinaryOp span op suggest) =
+    Some (codes "use `<expr> " ++ suggest.now ++ codes " <expr>` instead")
 help_of (fault.ExprFoundUnaryOp span op suggest) = Some (codes "use `" ++ suggest.now ++ codes " <expr>` instead")
 help_of (fault.ExpectedEndOfExpression span) = None
 help_of (fault.NoPackageMatch span) = None

@@ -139,7 +139,8 @@ fn tells_misplaced_operators(rt: HostRuntime) -> Result<(), Fail> {
                     op: "AND",
                     suggest: "and",
                 },
-                "ExprFoundBinaryOp: expected expression, found `AND`; `and` is a binary operator; use `<expr> and <expr>` instead",
+                "ExprFoundBinaryOp: expected expression, found `AND`; `and` is a binary operator; \
+                use `<expr> and <expr>` instead",
             ),
             (
                 ParseSingleError::ExprFoundBinaryOp {
@@ -147,7 +148,8 @@ fn tells_misplaced_operators(rt: HostRuntime) -> Result<(), Fail> {
                     op: "||",
                     suggest: "|",
                 },
-                "ExprFoundBinaryOp: expected expression, found `||`; `|` is a binary operator; use `<expr> | <expr>` instead",
+                "ExprFoundBinaryOp: expected expression, found `||`; `|` is a binary operator; \
+                use `<expr> | <expr>` instead",
             ),
             (
                 ParseSingleError::ExprFoundUnaryOp {
@@ -155,7 +157,8 @@ fn tells_misplaced_operators(rt: HostRuntime) -> Result<(), Fail> {
                     op: "NOT",
                     suggest: "not",
                 },
-                "ExprFoundUnaryOp: expected expression, found `NOT`; `NOT` is not a recognized operator; use `not <expr>` instead",
+                "ExprFoundUnaryOp: expected expression, found `NOT`; `NOT` is not a recognized operator; \
+                use `not <expr>` instead",
             ),
         ],
     )?;
@@ -220,7 +223,8 @@ fn tells_bans(rt: HostRuntime) -> Result<(), Fail> {
                     kind: FiltersetKind::DefaultFilter,
                     reason: BannedPredicateReason::DefaultInfiniteRecursion,
                 },
-                "BannedPredicate: predicate not allowed in `default-filter` expressions; default() causes infinite recursion",
+                "BannedPredicate: predicate not allowed in `default-filter` expressions; \
+                default() causes infinite recursion",
             ),
             (
                 ParseSingleError::BannedPredicate {
@@ -228,7 +232,8 @@ fn tells_bans(rt: HostRuntime) -> Result<(), Fail> {
                     kind: FiltersetKind::OverrideFilter,
                     reason: BannedPredicateReason::GroupCircularDependency,
                 },
-                "BannedPredicate: predicate not allowed in `override-filter` expressions; group() creates a circular dependency with overrides",
+                "BannedPredicate: predicate not allowed in `override-filter` expressions; \
+                group() creates a circular dependency with overrides",
             ),
             (
                 ParseSingleError::BannedPredicate {
@@ -236,7 +241,8 @@ fn tells_bans(rt: HostRuntime) -> Result<(), Fail> {
                     kind: FiltersetKind::DefaultFilter,
                     reason: BannedPredicateReason::GroupNotAvailableInDefaultFilter,
                 },
-                "BannedPredicate: predicate not allowed in `default-filter` expressions; group() is not available in default-filter expressions",
+                "BannedPredicate: predicate not allowed in `default-filter` expressions; \
+                group() is not available in default-filter expressions",
             ),
             (
                 ParseSingleError::BannedPredicate {
@@ -244,7 +250,8 @@ fn tells_bans(rt: HostRuntime) -> Result<(), Fail> {
                     kind: FiltersetKind::TestArchive,
                     reason: BannedPredicateReason::GroupNotAvailableInArchive,
                 },
-                "BannedPredicate: predicate not allowed in `archive-filter` expressions; group() predicates are not supported while archiving",
+                "BannedPredicate: predicate not allowed in `archive-filter` expressions; \
+                group() predicates are not supported while archiving",
             ),
             (
                 ParseSingleError::BannedPredicate {
@@ -252,7 +259,8 @@ fn tells_bans(rt: HostRuntime) -> Result<(), Fail> {
                     kind: FiltersetKind::TestArchive,
                     reason: BannedPredicateReason::TestNotAvailableInArchive,
                 },
-                "BannedPredicate: predicate not allowed in `archive-filter` expressions; test() predicates are not supported while archiving",
+                "BannedPredicate: predicate not allowed in `archive-filter` expressions; \
+                test() predicates are not supported while archiving",
             ),
         ],
     )?;

@@ -1,4 +1,5 @@
--- Characters by their signs, in the place of their numbers. All signs named so are ASCII, so a sign is one byte of UTF-8 too.
+-- Characters by their signs, in the place of their numbers. All signs named so are ASCII, so a sign is one byte of
+-- UTF-8 too.
 use Rattle.std.specs.Prelude.{ℕ, List, [], ◌∷◌, Bool, false, ◌==◌, ◌||◌, codes}
 use Prim.Native.String.{String}
 

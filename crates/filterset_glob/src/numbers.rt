@@ -16,7 +16,8 @@ type Block = Simd<u32, 64>;
 /// may be anything.
 #[inline(never)]
 pub(crate) fn taken_at(numbers: &[u32], block: usize, token: &GlobToken) -> u64
-    ensures { (k : ℕ) → k < 64 → 64 * block + k < length numbers.now → (bit_at result k ≡ 1) ↔ Admits (token_of token.now) (slice_index numbers.now (64 * block + k)) }
+    ensures { (k : ℕ) → k < 64 → 64 * block + k < length numbers.now
+        → (bit_at result k ≡ 1) ↔ Admits (token_of token.now) (slice_index numbers.now (64 * block + k)) }
 {
     if block > numbers.len() / 64 {
         return 0;

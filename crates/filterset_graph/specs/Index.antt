@@ -36,7 +36,8 @@ AddsEdges old places from new =
     (a b : ℕ) → HasEdge new b a ↔ (HasEdge old b a ⊎ ((a ≡ from) × Contains places b))
 
 -- the places of the ids, the places that each package is linked to, and those that are linked to it
-pub record IsIndexed (packages : List PackageMetadata) (places : BTreeMap Text ℕ) (links back : List (Vec ℕ Global)) : Type 0 where
+pub record IsIndexed (packages : List PackageMetadata) (places : BTreeMap Text ℕ) (links back : List (Vec ℕ Global))
+    : Type 0 where
   pub placed : PlacesAre places (ids packages)
   pub size : length links ≡ length packages
   pub rows : AreRows places packages links

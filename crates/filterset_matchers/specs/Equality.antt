@@ -37,7 +37,8 @@ same_compared _ _ = false
 abbrev pub same_matcher : NameMatcher → NameMatcher → Bool
 same_matcher a b = same_compared (compared (matcher_of a)) (compared (matcher_of b))
 
-same_value : (f : List ℕ → Bool → Compared) (value other : List ℕ) (implicit also : Bool) → (bytes_eq value other && beq implicit also) ≡ true
+same_value : (f : List ℕ → Bool → Compared) (value other : List ℕ) (implicit also : Bool)
+    → (bytes_eq value other && beq implicit also) ≡ true
     → f value implicit ≡ f other also
 same_value f value other implicit also e =
     let parts = and_parts (bytes_eq value other) (beq implicit also) e in
@@ -51,8 +52,12 @@ is_same (Regex pattern) (Regex other) e = ap Regex ((bytes_eq-Decides pattern ot
 is_same _ _ e = absurd (false≢true e)
 
 same_self : (a : Compared) → same_compared a a ≡ true
-same_self (Equal value implicit) = and_from (bytes_eq value value) (beq implicit implicit) ((bytes_eq-Decides value value).1 refl) ((booleans_Decides implicit implicit).1 refl)
-same_self (Contains value implicit) = and_from (bytes_eq value value) (beq implicit implicit) ((bytes_eq-Decides value value).1 refl) ((booleans_Decides implicit implicit).1 refl)
+same_self (Equal value implicit) =
+    and_from (bytes_eq value value) (beq implicit implicit)
+    ((bytes_eq-Decides value value).1 refl) ((booleans_Decides implicit implicit).1 refl)
+same_self (Contains value implicit) =
+    and_from (bytes_eq value value) (beq implicit implicit)
+    ((bytes_eq-Decides value value).1 refl) ((booleans_Decides implicit implicit).1 refl)
 same_self (Glob tokens) = same_tokens_self tokens
 same_self (Regex pattern) = (bytes_eq-Decides pattern pattern).1 refl
 
@@ -61,4 +66,5 @@ pub same_compared_Decides : (a b : Compared) → Decides (same_compared a b) (a 
 same_compared_Decides a b = (is_same a b, λ e. subst (λ c. same_compared a c ≡ true) e (same_self a))
 
 pub same_matcher_equiv : IsEquivalence same_matcher
-same_matcher_equiv = on_equiv (λ (m : NameMatcher). compared (matcher_of m)) (decided same_compared same_compared_Decides)
+same_matcher_equiv =
+    on_equiv (λ (m : NameMatcher). compared (matcher_of m)) (decided same_compared same_compared_Decides)

@@ -7,7 +7,8 @@ use Rattle.regex.specs.declared.string.regex.Regex.{Regex}
 
 -- the grammar of `regex` reads the text, with its default options and within its limit on nesting
 abbrev pub IsPattern : List ℕ → Type 0
-IsPattern pattern = IsSomeAnd (read default_config (chars pattern)) (λ (found, _). found.depth ≤ default_config.nest_limit)
+IsPattern pattern =
+    IsSomeAnd (read default_config (chars pattern)) (λ (found, _). found.depth ≤ default_config.nest_limit)
 
 -- the expression matches some stretch of the text that begins between two characters
 abbrev pub MatchesSomewhere : Re → List ℕ → Type 0
@@ -15,7 +16,8 @@ MatchesSomewhere expression text = (i : ℕ) × (j : ℕ) × IsCharBoundary text
 
 -- the grammar reads the pattern, and what it reads matches somewhere in the text
 abbrev pub HasMatch : List ℕ → List ℕ → Type 0
-HasMatch pattern text = IsSomeAnd (read default_config (chars pattern)) (λ (found, _). MatchesSomewhere found.value text)
+HasMatch pattern text =
+    IsSomeAnd (read default_config (chars pattern)) (λ (found, _). MatchesSomewhere found.value text)
 
 -- the regex was built of the text
 pub record IsBuiltOf (pattern : List ℕ) (regex : Regex) : Type 0 where
@@ -25,4 +27,6 @@ pub record IsBuiltOf (pattern : List ℕ) (regex : Regex) : Type 0 where
 
 -- the expression is found in a text of bytes exactly where the pattern has a match
 abbrev pub FindsAs : List ℕ → Re → Type 0
-FindsAs pattern expression = (text : List ℕ) → ((k : ℕ) → get_or text k 0 < 256) → IsTrue (is_some (find_str expression text 0)) ↔ HasMatch pattern text
+FindsAs pattern expression =
+    (text : List ℕ) → ((k : ℕ) → get_or text k 0 < 256)
+    → IsTrue (is_some (find_str expression text 0)) ↔ HasMatch pattern text

@@ -44,7 +44,8 @@ fn write_signed<W: fmt::Write>(
     implicit: bool,
     value: &str,
 ) -> fmt::Result
-    ensures { WritesOnOk W.write_str_gives f.old result (cond implicit (printed_implicit (chars value.now)) (sign.now ++ printed_value value.now)) f.new }
+    ensures { WritesOnOk W.write_str_gives f.old result
+        (cond implicit (printed_implicit (chars value.now)) (sign.now ++ printed_value value.now)) f.new }
 {
     if !implicit {
         f.write_str(sign)?;
