@@ -11,7 +11,7 @@ use Rattle.std.proofs.lemmas.Bool.{cases_eq}
 use Rattle.std.proofs.lemmas.Option.{same_Some, gets, slice_get-get_or, slice_get_within, get_or_from_slice_get}
 use Rattle.std.specs.declared.alloc.Global.{Global}
 use Rattle.filterset_graph.specs.Walks.{Follows, HasEdge, IsMarked, IsReached, Walk}
-use Rattle.filterset_graph.specs.Marking.{unmarked, MarksAll, Spreads}
+use Rattle.filterset_graph.specs.Search.{unmarked, MarksAll, Spreads}
 
 pub slice_get-set_same : {X : Type 0} (xs : List X) (i : ℕ) (x : X) → i < length xs → slice_get (set xs i x) i ≡ Some x
 slice_get-set_same xs i x h =
