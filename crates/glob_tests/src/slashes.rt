@@ -64,8 +64,10 @@ fn several_deep_runs(rt: HostRuntime) -> Result<(), Fail> {
     answers_at_lengths(
         &rt,
         "
-        **/a/**/b/** | a/b/ x×n·/a/b/ a/·x×n·/b/ a/b/·x×n x×n·/a/·x×n·/b/·x×n | a/b x·x×n·a·x×n·/b/ x·x×n·a/b/ a/·x×n·xb/
-        a/**/b/**/c | a/b/c a/·x×n·/b/c a/b/·x×n·/c a/·x×n·/b/·x×n·/c a/b/b/·x×n·/c | a/c a/·x×n·/c a/b·x×n·x/c ab/·x×n·/c
+        **/a/**/b/** | a/b/ x×n·/a/b/ a/·x×n·/b/ a/b/·x×n | a/b x·x×n·a·x×n·/b/
+        **/a/**/b/** | x×n·/a/·x×n·/b/·x×n | x·x×n·a/b/ a/·x×n·xb/
+        a/**/b/**/c | a/b/c a/·x×n·/b/c a/b/·x×n·/c | a/c a/·x×n·/c
+        a/**/b/**/c | a/·x×n·/b/·x×n·/c a/b/b/·x×n·/c | a/b·x×n·x/c ab/·x×n·/c
         **/·x×n·/** | x×n·/ /·x×n·/ y/·x×n·/y y×70·/·x×n·/ | x×n y·x×n·y/y
         ",
         24,
