@@ -1,5 +1,6 @@
 //! A fault of a filterset text.
 ghost use Rattle.std.specs.Prelude.{◌≡◌, Ok, option_map};
+ghost use Rattle.filterset_faults.specs.Equality.{held_as, held_of};
 ghost use Rattle.filterset_faults.specs.Faults.{code_of, span_of, label_of, help_of};
 ghost use Rattle.filterset_faults.specs.Label.{label_text, help_text};
 
@@ -11,7 +12,7 @@ use std::alloc::{AllocError, Global};
 use thiserror::Error;
 
 /// A fault of a filterset text, with the place where it stands. It displays as a message of its own.
-#[derive(Debug, Drop, PartialEq, Eq, Error)]
+#[derive(Debug, Drop, Error)]
 pub enum ParseSingleError {
     /// A glob matcher whose text is no glob.
     #[error("invalid glob")]
@@ -99,7 +100,54 @@ pub enum ParseSingleError {
     Unknown,
 }
 
+/// What a fault holds beside its span.
+#[derive(Clone, Copy, PartialEq, Eq)]
+enum Details<'f> {
+    None,
+    Glob(&'f GlobConstructError),
+    Ban(FiltersetKind, BannedPredicateReason),
+    Operators(&'f str, &'f str),
+}
+
+/// Two faults are equal where they are of one variant, which the code tells, and equal in every field, texts byte for
+/// byte.
+impl PartialEq for ParseSingleError {
+    ghost use Rattle.std.specs.Cmp.{partial_equiv_from_equiv};
+    ghost use Rattle.filterset_faults.specs.Equality.{same_fault, same_fault_equiv};
+
+    ghost eq = { same_fault };
+
+    ghost laws = { partial_equiv_from_equiv same_fault_equiv };
+
+    fn eq(&self, other: &ParseSingleError) -> bool {
+        self.code() == other.code()
+            && self.span() == other.span()
+            && self.details() == other.details()
+    }
+}
+
+impl Eq for ParseSingleError {
+    ghost use Rattle.filterset_faults.specs.Equality.{same_fault_equiv};
+
+    ghost laws = { same_fault_equiv };
+}
+
 impl ParseSingleError {
+    /// What it holds beside its span.
+    fn details(&self) -> Details<'_>
+        ensures { held_as result ≡ held_of self.now }
+    {
+        match self {
+            ParseSingleError::InvalidGlob { error, .. } => Details::Glob(error),
+            ParseSingleError::BannedPredicate { kind, reason, .. } => Details::Ban(*kind, *reason),
+            ParseSingleError::ExprFoundBinaryOp { op, suggest, .. }
+            | ParseSingleError::ExprFoundUnaryOp { op, suggest, .. } => Details::Operators(
+                *op, *suggest,
+            ),
+            _ => Details::None,
+        }
+    }
+
     /// The name of the variant, which tells the fault to programs.
     pub fn code(&self) -> &'static str
         ensures { result.now ≡ code_of self.now }
