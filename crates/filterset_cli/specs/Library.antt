@@ -1,14 +1,13 @@
--- What the library says of the program's texts and tests: with no packages, each text as a filterset of kind test, and with a default filter
--- that holds every test.
+-- What the library says of the program's texts and tests: with no packages, each text as a filterset of kind test, and
+-- with a default filter that holds every test.
 use Rattle.std.specs.Prelude.{◌≡◌, ◌↔◌, Bool, false, IsTrue, List, []}
-use Rattle.nextest_filtering.specs.Compiling.{IsRefusedWith, packages_of, unsupported_faults}
+use Rattle.nextest_filtering.specs.Compiling.{packages_of, unsupported_faults}
 use Rattle.nextest_filtering.specs.Contexts.{default_of}
 use Rattle.nextest_filtering.specs.Expression.{has_leaf, is_group, no_groups}
 use Rattle.nextest_filtering.specs.Groups.{IsKnown}
 use Rattle.nextest_filtering.specs.Meaning.{IsCompiled, Meaning}
 use Rattle.filterset_language.specs.Parsed.{Reads}
 use Rattle.filterset_language.specs.Tree.{Tree, tree_of}
-use Rattle.filterset_faults.specs.declared.error.ParseSingleError.{ParseSingleError}
 use Rattle.filterset_faults.specs.declared.span.SourceSpan.{SourceSpan}
 use Rattle.nextest_filtering.specs.declared.filterset.Filterset as filtersets
 use Rattle.nextest_filtering.specs.declared.expression.CompiledExpr.{CompiledExpr}
@@ -23,10 +22,6 @@ use Rattle.filterset_cli.specs.Record.{BinaryRow, TestRow}
 pub record IsFilterset (text : Text) (tree : Tree SourceSpan) : Type 0 where
   pub reads : Reads text tree
   pub supported : unsupported_faults tree ≡ []
-
--- the text is no filterset, and these are its faults
-abbrev pub HasFaults : Text → List ParseSingleError → Type 0
-HasFaults text faults = IsRefusedWith text faults
 
 -- the filterset may be asked, and its answers are those of its tree
 pub record IsAskable (filterset : filtersets.Filterset) : Type 0 where

@@ -29,7 +29,9 @@ IsTest d test = IsObjectWith (codes "name" ∷ []) d
     × Required (codes "name") IsText d test.name
 
 abbrev pub IsBinary : Data → BinaryRow → Type 0
-IsBinary d binary = IsObjectWith (codes "package" ∷ codes "id" ∷ codes "name" ∷ codes "kind" ∷ codes "platform" ∷ codes "tests" ∷ []) d
+IsBinary d binary =
+    IsObjectWith
+    (codes "package" ∷ codes "id" ∷ codes "name" ∷ codes "kind" ∷ codes "platform" ∷ codes "tests" ∷ []) d
     × Required (codes "package") IsText d binary.package_id
     × Required (codes "id") IsText d binary.id
     × Required (codes "name") IsText d binary.name

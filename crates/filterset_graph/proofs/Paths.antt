@@ -8,7 +8,7 @@ use Rattle.std.proofs.lemmas.Option.{none-some, same_Some, slice_get-get_or, sli
 use Rattle.filterset_graph.specs.declared.package.PackageMetadata.{PackageMetadata}
 use Rattle.filterset_graph.specs.Walks.{Follows, HasEdge, EdgesStayBelow, IsMarked, IsReached, Walk}
 use Rattle.filterset_graph.specs.Packages.{Text, ids, IsLinked, Path}
-use Rattle.filterset_graph.specs.Index.{AreRows, IsIndexed, PlacesAre, place_of}
+use Rattle.filterset_graph.specs.Index.{AreRows, IsIndexed, PlacesAre, index_of}
 use Rattle.filterset_graph.specs.Marked.{MarksReached, MarksReaching}
 use Rattle.filterset_graph.proofs.Places.{place_from_Contains, Contains-from_place, element_at, element_from_mapped, mapped_at, row_names, row_has}
 use Rattle.filterset_graph.proofs.Steps.{Walk-push}
@@ -18,7 +18,7 @@ pub edge_link : (packages : List PackageMetadata) (places : BTreeMap Text ℕ) (
 edge_link packages places links placed rows a b x edge here =
     let from = element_from_mapped (λ (p : PackageMetadata). p.id) packages a x here in
     let row = rows a from.0 edge.0 from.1 edge.1 in
-    let named = row_names (place_of places) from.0.links.items edge.0.items row b edge.2 in
+    let named = row_names (index_of places) from.0.links.items edge.0.items row b edge.2 in
     (named.0, (placed named.0 b).0 named.2, (from.0, Contains-from_place packages from.0 a from.1, from.2, named.1))
 
 -- a link of the package at a place is an edge from there
@@ -30,7 +30,7 @@ link_edge {packages} {places} {links} {back} index a x y link here =
     let owner : slice_get packages a ≡ Some link.0 = ap (slice_get packages) (sym same) ∙ at.1 in
     let within : a < length packages = slice_get_within packages a link.0 owner in
     let row = element_at links a (omega (arith, within, index.size)) in
-    let found = row_has (place_of places) link.0.links.items row.0.items (index.rows a link.0 row.0 owner row.1) y link.3 in
+    let found = row_has (index_of places) link.0.links.items row.0.items (index.rows a link.0 row.0 owner row.1) y link.3 in
     (found.0, (index.placed y found.0).0 found.2, (row.0, row.1, found.1))
 
 pub walk_path : {packages : List PackageMetadata} {places : BTreeMap Text ℕ} {links back : List (Vec ℕ Global)} → IsIndexed packages places links back → (a : ℕ) (rest : List ℕ) (b : ℕ) (x y : Text) → Follows (HasEdge links) a rest b → slice_get (ids packages) a ≡ Some x → slice_get (ids packages) b ≡ Some y → (route : List Text) × Follows (IsLinked packages) x route y

@@ -16,7 +16,7 @@ use Rattle.std.proofs.lemmas.Option.{none-some, same_Some, slice_get-get_or, sli
 use Rattle.filterset_graph.specs.declared.package.PackageMetadata.{PackageMetadata}
 use Rattle.filterset_graph.specs.Walks.{HasEdge}
 use Rattle.filterset_graph.specs.Packages.{Text, ids, AllDiffer, IsFirstRepeat, LinksKnown, IsUnknownLink, IsFirstUnknownLink}
-use Rattle.filterset_graph.specs.Index.{PlacesAre, place_of, IsRowOf, AreRows, AddsEdges, IsReversed}
+use Rattle.filterset_graph.specs.Index.{PlacesAre, index_of, IsRowOf, AreRows, AddsEdges, IsReversed}
 use Rattle.filterset_graph.specs.Refusals.{IsFirstWithout}
 use Rattle.filterset_graph.proofs.Places.{place_from_Contains, Contains-from_place, element_at, mapped_at, row_has}
 use Rattle.filterset_graph.proofs.Steps.{slice_get-set_same, slice_get-set_other}
@@ -51,21 +51,21 @@ pushed_cases (z ∷ xs) x zero y e = inl e
 pushed_cases (z ∷ xs) x (suc k) y e = elim (pushed_cases xs x k y e) [ inl h ↦ inl h | inr h ↦ inr (omega (arith, h.0), h.1) ]
 
 -- one more id with its place
-pub PlacesAre-push : (old new : BTreeMap Text ℕ) (names : List Text) (id : Text) → place_of old id ≡ None → ((q : Text) → place_of new q ≡ cond (is_eq (slice_cmp nat_cmp id q)) (Some (length names)) (place_of old q)) → PlacesAre old names → PlacesAre new (names ++ id ∷ [])
+pub PlacesAre-push : (old new : BTreeMap Text ℕ) (names : List Text) (id : Text) → index_of old id ≡ None → ((q : Text) → index_of new q ≡ cond (is_eq (slice_cmp nat_cmp id q)) (Some (length names)) (index_of old q)) → PlacesAre old names → PlacesAre new (names ++ id ∷ [])
 PlacesAre-push old new names id fresh updates placed q k =
     elim (cases_Bool (bytes_eq id q)) [
       | inl equal ↦
           (let same : id ≡ q = (bytes_eq-Decides id q).0 equal in
-          let found : place_of new q ≡ Some (length names) = updates q ∙ ap (λ (t : Bool). cond t (Some (length names)) (place_of old q)) (is_eq-slice_cmp id q ∙ equal) in (
+          let found : index_of new q ≡ Some (length names) = updates q ∙ ap (λ (t : Bool). cond t (Some (length names)) (index_of old q)) (is_eq-slice_cmp id q ∙ equal) in (
             (λ e. let here : length names ≡ k = same_Some (length names) k (sym found ∙ e) in
                 subst (λ (j : ℕ). slice_get (names ++ id ∷ []) j ≡ Some q) here (pushed_at names id ∙ ap Some same)),
             (λ e. elim (pushed_cases names id k q e) [
-              | inl h ↦ absurd (none-some k (sym fresh ∙ ap (place_of old) same ∙ (placed q k).1 h))
+              | inl h ↦ absurd (none-some k (sym fresh ∙ ap (index_of old) same ∙ (placed q k).1 h))
               | inr h ↦ found ∙ ap Some (sym h.0)
             ]),
           ))
       | inr apart ↦
-          (let kept : place_of new q ≡ place_of old q = updates q ∙ ap (λ (t : Bool). cond t (Some (length names)) (place_of old q)) (is_eq-slice_cmp id q ∙ apart) in (
+          (let kept : index_of new q ≡ index_of old q = updates q ∙ ap (λ (t : Bool). cond t (Some (length names)) (index_of old q)) (is_eq-slice_cmp id q ∙ apart) in (
             (λ e. pushed_keeps names id k q ((placed q k).0 (sym kept ∙ e))),
             (λ e. elim (pushed_cases names id k q e) [
               | inl h ↦ kept ∙ (placed q k).1 h
@@ -82,7 +82,7 @@ PlacesAre-AllDiffer places names placed at (k, below, within, same) =
     omega (arith, below, one)
 
 -- an id that has a place already is the first that is repeated
-pub PlacesAre-IsFirstRepeat : (places : BTreeMap Text ℕ) (names : List Text) (at : ℕ) (id : Text) (k : ℕ) → PlacesAre places (take at names) → slice_get names at ≡ Some id → place_of places id ≡ Some k → IsFirstRepeat names at
+pub PlacesAre-IsFirstRepeat : (places : BTreeMap Text ℕ) (names : List Text) (at : ℕ) (id : Text) (k : ℕ) → PlacesAre places (take at names) → slice_get names at ≡ Some id → index_of places id ≡ Some k → IsFirstRepeat names at
 PlacesAre-IsFirstRepeat places names at id k placed here found =
     let earlier = taken_within at names k id ((placed id k).0 found) in
     let within : at < length names = slice_get_within names at id here in (
@@ -105,13 +105,13 @@ none_of (Some k) e = absurd (cc)
 none_of None e = refl
 
 -- an id whose look-up found an earlier place
-pub repeated_at : (packages : List PackageMetadata) (at : ℕ) (p : PackageMetadata) (key : Text) (places : BTreeMap Text ℕ) (earlier : Option ℕ) → at < length packages → p ≡ get_or packages at p → key ≡ p.id → PlacesAre places (take at (ids packages)) → earlier ≡ place_of places key → is_some earlier ≡ true → IsFirstRepeat (ids packages) at
+pub repeated_at : (packages : List PackageMetadata) (at : ℕ) (p : PackageMetadata) (key : Text) (places : BTreeMap Text ℕ) (earlier : Option ℕ) → at < length packages → p ≡ get_or packages at p → key ≡ p.id → PlacesAre places (take at (ids packages)) → earlier ≡ index_of places key → is_some earlier ≡ true → IsFirstRepeat (ids packages) at
 repeated_at packages at p key places earlier within read copy placed old found =
     let k = some_of earlier found in
-    PlacesAre-IsFirstRepeat places (ids packages) at p.id k.0 placed (id_at packages at p within read) (ap (place_of places) (sym copy) ∙ sym old ∙ k.1)
+    PlacesAre-IsFirstRepeat places (ids packages) at p.id k.0 placed (id_at packages at p within read) (ap (index_of places) (sym copy) ∙ sym old ∙ k.1)
 
 -- an id whose look-up found none, with its own place now
-pub placed_more : (packages : List PackageMetadata) (at : ℕ) (p : PackageMetadata) (key : Text) (old new : BTreeMap Text ℕ) (earlier : Option ℕ) → at < length packages → p ≡ get_or packages at p → key ≡ p.id → PlacesAre old (take at (ids packages)) → earlier ≡ place_of old key → is_some earlier ≡ false → ((q : Text) → place_of new q ≡ cond (is_eq (slice_cmp nat_cmp key q)) (Some at) (place_of old q)) → PlacesAre new (take (at + 1) (ids packages))
+pub placed_more : (packages : List PackageMetadata) (at : ℕ) (p : PackageMetadata) (key : Text) (old new : BTreeMap Text ℕ) (earlier : Option ℕ) → at < length packages → p ≡ get_or packages at p → key ≡ p.id → PlacesAre old (take at (ids packages)) → earlier ≡ index_of old key → is_some earlier ≡ false → ((q : Text) → index_of new q ≡ cond (is_eq (slice_cmp nat_cmp key q)) (Some at) (index_of old q)) → PlacesAre new (take (at + 1) (ids packages))
 placed_more packages at p key old new earlier within read copy placed found missing updates =
     let inside : at < length (ids packages) = rw length-map within in
     let long : length (take at (ids packages)) ≡ at = length-take-le at (ids packages) (omega (arith, inside)) in
@@ -212,7 +212,7 @@ AreRows-push places packages links at p row size within read resolved rows = λ 
 -- a link whose look-up finds a place names a package
 known_link : (places : BTreeMap Text ℕ) (packages : List PackageMetadata) (links : List Text) (row : List ℕ) → PlacesAre places (ids packages) → IsRowOf places links row → (id : Text) → Contains links id → Contains (ids packages) id
 known_link places packages links row placed resolved id c =
-    let b = row_has (place_of places) links row resolved id c in
+    let b = row_has (index_of places) links row resolved id c in
     Contains-from_place (ids packages) id b.0 ((placed id b.0).0 b.2)
 
 -- the links of a package that has a row name packages

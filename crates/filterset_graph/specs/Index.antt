@@ -9,17 +9,17 @@ use Rattle.filterset_graph.specs.Walks.{HasEdge}
 use Rattle.filterset_graph.specs.Packages.{Text, ids}
 
 -- the place of the package with this id
-abbrev pub place_of : BTreeMap Text ℕ → Text → Option ℕ
-place_of places id = get (slice_cmp nat_cmp) places id
+abbrev pub index_of : BTreeMap Text ℕ → Text → Option ℕ
+index_of places id = get (slice_cmp nat_cmp) places id
 
 -- each id has its one place, and no other text has any
 abbrev pub PlacesAre : BTreeMap Text ℕ → List Text → Type 0
 PlacesAre places names =
-    (id : Text) (k : ℕ) → (place_of places id ≡ Some k) ↔ (slice_get names k ≡ Some id)
+    (id : Text) (k : ℕ) → (index_of places id ≡ Some k) ↔ (slice_get names k ≡ Some id)
 
 -- the row has the place of each link
 abbrev pub IsRowOf : BTreeMap Text ℕ → List Text → List ℕ → Type 0
-IsRowOf places links row = map (place_of places) links ≡ map Some row
+IsRowOf places links row = map (index_of places) links ≡ map Some row
 
 -- the rows of the first packages, one each
 abbrev pub AreRows : BTreeMap Text ℕ → List PackageMetadata → List (Vec ℕ Global) → Type 0

@@ -4,35 +4,35 @@ use Rattle.std.specs.BTreeMap.{BTreeMap}
 use Rattle.filterset_graph.specs.declared.package.PackageMetadata.{PackageMetadata}
 use Rattle.filterset_graph.specs.declared.refusal.GraphRefusal.{GraphRefusal}
 use Rattle.filterset_graph.specs.declared.refusal.GraphRefusal.TheVariants.{RepeatedId, UnknownLink, OutOfMemory}
-use Rattle.filterset_graph.specs.Index.{place_of, IsRowOf}
+use Rattle.filterset_graph.specs.Index.{index_of, IsRowOf}
 use Rattle.filterset_graph.specs.Packages.{Text, ids, IsFirstRepeat, AllDiffer, IsFirstUnknownLink}
 
 -- the refusal is true of the packages
-abbrev pub IsTrueOf : List PackageMetadata → GraphRefusal → Type 0
-IsTrueOf packages (RepeatedId at) = IsFirstRepeat (ids packages) at
-IsTrueOf packages (UnknownLink owner link) = AllDiffer (ids packages) × IsFirstUnknownLink packages owner link
-IsTrueOf packages (OutOfMemory error) = Unit {0}
+abbrev pub IsRefusalOf : List PackageMetadata → GraphRefusal → Type 0
+IsRefusalOf packages (RepeatedId at) = IsFirstRepeat (ids packages) at
+IsRefusalOf packages (UnknownLink owner link) = AllDiffer (ids packages) × IsFirstUnknownLink packages owner link
+IsRefusalOf packages (OutOfMemory error) = Unit {0}
 
 -- the refusal is true of the ids
-abbrev pub IsTrueOfIds : List Text → GraphRefusal → Type 0
-IsTrueOfIds names (RepeatedId at) = IsFirstRepeat names at
-IsTrueOfIds names (UnknownLink owner link) = ⊥
-IsTrueOfIds names (OutOfMemory error) = Unit {0}
+abbrev pub IsRefusalOfIds : List Text → GraphRefusal → Type 0
+IsRefusalOfIds names (RepeatedId at) = IsFirstRepeat names at
+IsRefusalOfIds names (UnknownLink owner link) = ⊥
+IsRefusalOfIds names (OutOfMemory error) = Unit {0}
 
 -- the refusal is true of the links
-abbrev pub IsTrueOfLinks : List PackageMetadata → GraphRefusal → Type 0
-IsTrueOfLinks packages (RepeatedId at) = ⊥
-IsTrueOfLinks packages (UnknownLink owner link) = IsFirstUnknownLink packages owner link
-IsTrueOfLinks packages (OutOfMemory error) = Unit {0}
+abbrev pub IsRefusalOfLinks : List PackageMetadata → GraphRefusal → Type 0
+IsRefusalOfLinks packages (RepeatedId at) = ⊥
+IsRefusalOfLinks packages (UnknownLink owner link) = IsFirstUnknownLink packages owner link
+IsRefusalOfLinks packages (OutOfMemory error) = Unit {0}
 
 -- the links before this one have places, and this one has none
 abbrev pub IsFirstWithout : BTreeMap Text ℕ → List Text → ℕ → Type 0
 IsFirstWithout places links link =
     ((row : List ℕ) × IsRowOf places (take link links) row)
-    × ((id : Text) × (slice_get links link ≡ Some id) × (place_of places id ≡ None))
+    × ((id : Text) × (slice_get links link ≡ Some id) × (index_of places id ≡ None))
 
 -- the refusal is true of the links of the package at this place
-abbrev pub IsTrueOfRow : BTreeMap Text ℕ → List Text → ℕ → GraphRefusal → Type 0
-IsTrueOfRow places links at (RepeatedId k) = ⊥
-IsTrueOfRow places links at (UnknownLink owner link) = (owner ≡ at) × IsFirstWithout places links link
-IsTrueOfRow places links at (OutOfMemory error) = Unit {0}
+abbrev pub IsRefusalOfRow : BTreeMap Text ℕ → List Text → ℕ → GraphRefusal → Type 0
+IsRefusalOfRow places links at (RepeatedId k) = ⊥
+IsRefusalOfRow places links at (UnknownLink owner link) = (owner ≡ at) × IsFirstWithout places links link
+IsRefusalOfRow places links at (OutOfMemory error) = Unit {0}

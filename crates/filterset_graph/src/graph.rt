@@ -3,7 +3,7 @@ ghost use Rattle.std.specs.Prelude.{◌≡◌, ◌↔◌, ℕ, Some, IsTrue, IsE
 ghost use Rattle.filterset_graph.specs.declared.refusal.DependsRefusal.TheVariants as unanswered;
 ghost use Rattle.filterset_graph.specs.Packages.{Path, AllDiffer, LinksKnown, ids};
 ghost use Rattle.filterset_graph.specs.Marked.{MarksReached, MarksReaching};
-ghost use Rattle.filterset_graph.specs.Refusals.{IsTrueOf};
+ghost use Rattle.filterset_graph.specs.Refusals.{IsRefusalOf};
 
 use crate::index::{places_of, resolved_links, reversed};
 use crate::package::{PackageId, PackageMetadata};
@@ -48,7 +48,7 @@ impl PackageGraph {
     pub fn new(alloc: Global, packages: Vec<PackageMetadata>) -> Result<PackageGraph, GraphRefusal>
         ensures ok { IfOk result (λ graph. graph ≡ packages.items) }
         ensures sound { OnOk result (AllDiffer (ids packages.items) × LinksKnown packages.items) }
-        ensures refused { IfErr result (IsTrueOf packages.items) }
+        ensures refused { IfErr result (IsRefusalOf packages.items) }
     {
         let places = places_of(alloc, packages.as_slice())?;
         let links = resolved_links(alloc, &places, packages.as_slice())?;

@@ -2,7 +2,7 @@
 ghost use Rattle.std.specs.Prelude.{◌≡◌, ◌<◌, ◌+◌, ℕ, All, IfOk, IfErr, OnOk, length, vec_len};
 ghost use Rattle.filterset_graph.specs.Index.{AddsEdges, AreRows, IsReversed, IsRowOf, PlacesAre};
 ghost use Rattle.filterset_graph.specs.Packages.{ids};
-ghost use Rattle.filterset_graph.specs.Refusals.{IsTrueOfIds, IsTrueOfLinks, IsTrueOfRow};
+ghost use Rattle.filterset_graph.specs.Refusals.{IsRefusalOfIds, IsRefusalOfLinks, IsRefusalOfRow};
 ghost use Rattle.filterset_graph.specs.Walks.{EdgesStayBelow, HasEdge};
 
 use crate::package::{PackageId, PackageMetadata};
@@ -16,7 +16,7 @@ pub fn places_of(
     packages: &[PackageMetadata],
 ) -> Result<BTreeMap<PackageId, usize>, GraphRefusal>
     ensures ok { IfOk result (λ places. PlacesAre places (ids packages.now)) }
-    ensures refused { IfErr result (IsTrueOfIds (ids packages.now)) }
+    ensures refused { IfErr result (IsRefusalOfIds (ids packages.now)) }
 {
     let mut places = BTreeMap::new(alloc);
     for (at, package) in packages.iter().enumerate() {
@@ -37,7 +37,7 @@ fn resolved_row(
     package: usize,
 ) -> Result<Vec<usize>, GraphRefusal>
     ensures ok { IfOk result (λ row. IsRowOf places.now links.now row.items) }
-    ensures refused { IfErr result (IsTrueOfRow places.now links.now «package») }
+    ensures refused { IfErr result (IsRefusalOfRow places.now links.now «package») }
 {
     let mut row = Vec::new(alloc);
     for (link, id) in links.iter().enumerate() {
@@ -58,7 +58,7 @@ pub fn resolved_links(
     requires { PlacesAre places.now (ids packages.now) }
     ensures len { IfOk result (λ links. vec_len links ≡ length packages.now) }
     ensures ok { IfOk result (λ links. AreRows places.now packages.now links.items) }
-    ensures refused { IfErr result (IsTrueOfLinks packages.now) }
+    ensures refused { IfErr result (IsRefusalOfLinks packages.now) }
 {
     let mut links = Vec::new(alloc);
     for (at, package) in packages.iter().enumerate() {

@@ -3,10 +3,10 @@ use Rattle.std.proofs.Common.{◌≡◌, ◌≢◌, ℕ, zero, suc, ◌+◌, ◌
 use Rattle.std.specs.Prelude.{codes, All, slice_range}
 use Rattle.std.proofs.lemmas.Bool.Decides.{eqb_tells}
 use Rattle.std.proofs.lemmas.List.Elements.{All-cons, All-nil}
-use Rattle.filterset_language.specs.Front.{blank_len, close_len, is_white}
-use Rattle.filterset_language.specs.Place.{Place, place_of, advanced, skip, after}
-use Rattle.filterset_language.specs.Descent.{bare_end_at}
-use Rattle.filterset_language.specs.declared.text.Input.{Input}
+use Rattle.filterset_language.specs.Parsing.Front.{blank_len, close_len, is_white}
+use Rattle.filterset_language.specs.Parsing.Place.{Place, place_of, advanced, skip, after}
+use Rattle.filterset_language.specs.Parsing.Descent.{bare_end_at}
+use Rattle.filterset_language.specs.declared.parsing.input.Input.{Input}
 use Rattle.filterset_language.proofs.Places.{skip_stop}
 use Rattle.filterset_language.specs.Faults.{EndsText, comma, closed, ClosesArgument, at_end, at_close}
 

@@ -6,23 +6,23 @@ use Rattle.std.proofs.lemmas.List.{append-nil}
 use Rattle.std.proofs.lemmas.List.Elements.{All-append, All-nil, All-cons, All-head, All-tail}
 use Rattle.std.proofs.lemmas.Bool.{ne_eqb}
 use Rattle.filterset_language.specs.Text.{Blanks}
-use Rattle.filterset_language.specs.Place.{Place, place, place_of, skip, skip_from}
-use Rattle.filterset_language.specs.Faults.{Stands}
+use Rattle.filterset_language.specs.Parsing.Place.{Place, place, place_of, skip, skip_from}
+use Rattle.filterset_language.specs.Faults.{FaultStands}
 use Rattle.filterset_language.specs.Parsed.{LiesOnBody}
-use Rattle.filterset_language.specs.Descent.{Placed, operand_at, or_level_by, whole_by}
-use Rattle.filterset_language.specs.Recovery.{Found, AllFound}
-use Rattle.filterset_language.specs.Outcome.{Faults, GivesTree, comes, refused, reads, fails}
+use Rattle.filterset_language.specs.Parsing.Descent.{Placed, operand_at, or_level_by, whole_by}
+use Rattle.filterset_language.specs.Parsing.Recovery.{Found, AllFound}
+use Rattle.filterset_language.specs.Parsing.Outcome.{Faults, GivesTree, comes, refused, reads, fails}
 use Rattle.filterset_faults.specs.Span.{span, offset_of}
-use Rattle.filterset_language.specs.Whole.{Wholly, WhollyRead, WhollyRefused, ReadUpTo}
-use Rattle.filterset_language.specs.declared.text.Input.{Input}
+use Rattle.filterset_language.specs.Parsing.Whole.{Wholly, WhollyRead, WhollyRefused, ReadUpTo}
+use Rattle.filterset_language.specs.declared.parsing.input.Input.{Input}
 use Rattle.filterset_faults.specs.declared.span.SourceSpan.{SourceSpan}
 use Rattle.filterset_faults.specs.declared.error.ParseSingleError.{ParseSingleError}
 use Rattle.filterset_faults.specs.declared.error.ParseSingleError.TheVariants.{ExpectedEndOfExpression}
 use Rattle.filterset_language.proofs.Places.{skip_again}
-use Rattle.filterset_language.proofs.TextFaults.{size, begins_here, rest_ends}
+use Rattle.filterset_language.proofs.RawTextFaults.{size, begins_here, rest_ends}
 use Rattle.filterset_language.proofs.Takes.{is_some}
 
-end_found : (i : Input) (s : Place) → s ≡ skip (place_of i) → s.rest ≢ [] → Stands i.text.now (ExpectedEndOfExpression (span i.offset (length i.rest.now)))
+end_found : (i : Input) (s : Place) → s ≡ skip (place_of i) → s.rest ≢ [] → FaultStands i.text.now (ExpectedEndOfExpression (span i.offset (length i.rest.now)))
 end_found i s skipped some = record {
   within = let e = size i in omega arith;
   begins = begins_here i;
@@ -37,7 +37,7 @@ end_found i s skipped some = record {
   );
 }
 
-found_stand : (text : List ℕ) (f : Faults) → All (Found text) f → All (Stands text) f
+found_stand : (text : List ℕ) (f : Faults) → All (Found text) f → All (FaultStands text) f
 found_stand text f each = λ k d lt. (each k d lt).stands
 
 -- ---- the fault that the expression ends before the text
@@ -106,7 +106,7 @@ module _ (text : List ℕ) (tree : Option Placed) (i : Input) (s : Place) (f : F
   pub whole_unread : s.rest ≢ [] → (g : Faults) → g ≡ f ++ (ExpectedEndOfExpression (span i.offset (length i.rest.now)) ∷ [])
       → GivesTree text [] f tree (place_of i) (or_level_by (operand_at (suc (length text))) (place 0 text)) → Wholly text tree g
   whole_unread some g is read = record {
-    stand = rw is (All-append (Stands text) f _ (found_stand text f found.each) (All-cons (Stands text) _ [] (subst (λ (t : List ℕ). Stands t one) same (end_found i s skipped some)) (All-nil (Stands text))));
+    stand = rw is (All-append (FaultStands text) f _ (found_stand text f found.each) (All-cons (FaultStands text) _ [] (subst (λ (t : List ℕ). FaultStands t one) same (end_found i s skipped some)) (All-nil (FaultStands text))));
     clean = λ empty. let n : length g ≡ 0 = ap length empty in let m : length g ≡ length f + 1 = ap length is ∙ length-append f _ in absurd (omega arith);
     fault = λ more. inl (unread read);
     front = λ end only. front end f (sym is ∙ only) read;

@@ -6,15 +6,15 @@ use Rattle.filterset_faults.specs.declared.error.ParseSingleError.{ParseSingleEr
 use Rattle.filterset_faults.specs.declared.span.SourceSpan.{SourceSpan}
 use Rattle.filterset_language.specs.Tree.{Tree, tree_of}
 use Rattle.filterset_language.specs.Grammar.{Spells}
-use Rattle.filterset_language.specs.Faults.{Stands}
-use Rattle.filterset_language.specs.Parsed.{Reads, Comes, Refuses, Refutes, SpellsNothing}
+use Rattle.filterset_language.specs.Faults.{FaultStands}
+use Rattle.filterset_language.specs.Parsed.{Reads, Comes, HasRefusedBodies, IsUnreadWith, SpellsNothing}
 use Rattle.filterset_language.specs.declared.parsing.parse.Parsed.{Parsed}
-use Rattle.filterset_language.specs.declared.parsing.tree.ParsedExpr.{ParsedExpr}
+use Rattle.filterset_language.specs.declared.tree.ParsedExpr.{ParsedExpr}
 use Rattle.filterset_language.proofs.Takes.{is_some}
 
 module _ (text : List ℕ) (p : Parsed)
     (clean : p.faults.items ≡ [] → (e : Tree SourceSpan) × Comes p e × Reads text e)
-    (spelled : (e : Tree SourceSpan) → Spells text e → (Comes p e × (p.faults.items ≡ [])) ⊎ Refuses text e p) where
+    (spelled : (e : Tree SourceSpan) → Spells text e → (Comes p e × (p.faults.items ≡ [])) ⊎ HasRefusedBodies text e p) where
   -- a tree that comes is the one that is spelled, where one is
   pub lenient_spelled : (t : ParsedExpr SourceSpan) → p.tree ≡ Some t → (e : Tree SourceSpan) → Spells text e → tree_of t ≡ e
   lenient_spelled t is e spells =
@@ -38,7 +38,7 @@ module _ (text : List ℕ) (p : Parsed)
           (spelled e spells))
 
   -- without a tree there are faults
-  pub lenient_stop : p.tree ≡ None → All (Stands text) p.faults.items → Refutes text p.faults.items
+  pub lenient_stop : p.tree ≡ None → All (FaultStands text) p.faults.items → IsUnreadWith text p.faults.items
   lenient_stop is stand = record {
     some = λ none. let c = clean none in let nothing : None ≡ Some c.0 = ap (option_map tree_of) (sym is) ∙ c.1 in absurd cc;
     stand = stand;

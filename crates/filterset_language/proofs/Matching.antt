@@ -12,22 +12,23 @@ use Rattle.filterset_faults.specs.declared.error.ParseSingleError.{ParseSingleEr
 use Rattle.filterset_faults.specs.declared.error.ParseSingleError.TheVariants.{InvalidRegexWithoutMessage, InvalidPlatformArgument}
 use Rattle.filterset_faults.specs.Span.{span}
 use Rattle.filterset_faults.specs.declared.span.SourceSpan.{SourceSpan}
-use Rattle.filterset_language.specs.declared.parsing.words.PredicateName.{PredicateName}
-use Rattle.filterset_language.specs.Place.{Place, place_of, skip, after}
+use Rattle.filterset_language.specs.declared.parsing.names.PredicateName.{PredicateName}
+use Rattle.filterset_language.specs.Parsing.Place.{Place, place_of, skip, after}
 use Rattle.filterset_matchers.specs.Matcher.{Matcher, Equal, Contains, Glob, Regex}
 use Rattle.filterset_language.specs.Tree.{Predicate, Leaf, Matching, Platform, Default, Set}
 use Rattle.filterset_language.specs.Patterns.{MatcherIsRead, LeafIsRead, PatternsAreRead}
 use Rattle.filterset_language.specs.Faults.{EndsWith}
 use Rattle.filterset_language.specs.Parsed.{LiesOnBody}
-use Rattle.filterset_language.specs.RawReading.{raw_at, body_at, SpelledTo, BodyTaken}
-use Rattle.filterset_language.specs.Platforms.{Names, platform_in}
-use Rattle.filterset_language.specs.Globs.{glob_by}
-use Rattle.filterset_language.specs.Descent.{◌>>=◌, made, sign_at, text_matcher_at, regex_at, matcher_at, between, matching_at, platform_at, bare_end_at, bare_at, default_at, argument_at, leaf_at}
-use Rattle.filterset_language.specs.Recovery.{Recovers, Found, Keeps, beside}
-use Rattle.filterset_language.specs.Outcome.{Faults, Carried, comes, refused, reads, fails, MakesPattern, LiesOnPattern, GivesMatcher, GivesLeaf, GivesTree}
-use Rattle.filterset_language.specs.declared.text.Input.{Input}
-use Rattle.filterset_language.specs.declared.parsing.words.TextMatching.{TextMatching}
-use Rattle.filterset_language.specs.declared.parsing.words.TextMatching.TheVariants as matchings
+use Rattle.filterset_language.specs.Parsing.RawTexts.{raw_at, body_at, SpelledTo, BodyTaken}
+use Rattle.filterset_language.specs.Platforms.{Names}
+use Rattle.filterset_language.specs.Parsing.PlatformNames.{platform_in}
+use Rattle.filterset_language.specs.Parsing.Globs.{glob_by}
+use Rattle.filterset_language.specs.Parsing.Descent.{◌>>=◌, made, sign_at, text_matcher_at, regex_at, matcher_at, between, matching_at, platform_at, bare_end_at, bare_at, default_at, argument_at, leaf_at}
+use Rattle.filterset_language.specs.Parsing.Recovery.{Recovers, Found, Keeps, beside}
+use Rattle.filterset_language.specs.Parsing.Outcome.{Faults, Carried, comes, refused, reads, fails, MakesPattern, LiesOnPattern, GivesMatcher, GivesLeaf, GivesTree}
+use Rattle.filterset_language.specs.declared.parsing.input.Input.{Input}
+use Rattle.filterset_language.specs.declared.tree.predicate.TextMatching.{TextMatching}
+use Rattle.filterset_language.specs.declared.tree.predicate.TextMatching.TheVariants as ways
 use Rattle.filterset_language.proofs.BodyReading.{body_piece, refused_body_found}
 use Rattle.filterset_language.proofs.Recovering.{bind_some, bind_none, recovers_then, recovers_along}
 use Rattle.filterset_language.proofs.Outcomes.{carried_grows, gives_of, gives_then, gives_map, gives_pair}
@@ -71,9 +72,9 @@ regex_keeps i text f g h pattern at q v same slash taken keeps (refused added is
 
 -- no text is by a pattern
 pub made_is_read : (s : TextMatching × Bool) (value : List ℕ) (m : Matcher) → made s value ≡ Some m → MatcherIsRead m
-made_is_read (matchings.Equal, implicit) value m e = subst MatcherIsRead (is_some (Equal value implicit) m e) tt
-made_is_read (matchings.Contains, implicit) value m e = subst MatcherIsRead (is_some (Contains value implicit) m e) tt
-made_is_read (matchings.Glob, implicit) value m e = glob_is_read (reading (chars value)) e
+made_is_read (ways.Equal, implicit) value m e = subst MatcherIsRead (is_some (Equal value implicit) m e) tt
+made_is_read (ways.Contains, implicit) value m e = subst MatcherIsRead (is_some (Contains value implicit) m e) tt
+made_is_read (ways.Glob, implicit) value m e = glob_is_read (reading (chars value)) e
   where
     glob_is_read : (r : Result Tokens GlobConstructError) → glob_by r value implicit ≡ Some m → MatcherIsRead m
     glob_is_read (Ok tokens) e = subst MatcherIsRead (is_some (Glob value tokens implicit) m e) tt

@@ -4,16 +4,16 @@ use Rattle.std.specs.Prelude.{codes}
 use Rattle.std.specs.Option.{option_map}
 use Rattle.std.proofs.lemmas.List.Elements.{Contains-append_left, Contains-append_right}
 use Rattle.filterset_faults.specs.declared.error.ParseSingleError.{ParseSingleError}
-use Rattle.filterset_language.specs.declared.parsing.tree.NotOperator.{NotOperator}
-use Rattle.filterset_language.specs.declared.parsing.tree.OrOperator.{OrOperator}
-use Rattle.filterset_language.specs.Place.{Place, skip, after}
-use Rattle.filterset_language.specs.Reading.{not_at, name_at, joiner_at, or_at}
+use Rattle.filterset_language.specs.declared.tree.NotOperator.{NotOperator}
+use Rattle.filterset_language.specs.declared.tree.OrOperator.{OrOperator}
+use Rattle.filterset_language.specs.Parsing.Place.{Place, skip, after}
+use Rattle.filterset_language.specs.Parsing.Words.{not_at, name_at, joiner_at, or_at}
 use Rattle.filterset_language.specs.Tree.{Joiner, Not, Union, Join, Parens, tree_leaves}
 use Rattle.filterset_language.specs.Patterns.{PatternsAreRead}
 use Rattle.filterset_language.specs.Parsed.{LiesOnBody}
-use Rattle.filterset_language.specs.Descent.{Placed, Reader, operand_at, or_level_by, level_by, join, unite}
-use Rattle.filterset_language.specs.Recovery.{Recovers, Checked, joined, NoOperand}
-use Rattle.filterset_language.specs.Outcome.{Faults, GivesTree, fails, Going}
+use Rattle.filterset_language.specs.Parsing.Descent.{Placed, Reader, operand_at, or_level_by, level_by, join, unite}
+use Rattle.filterset_language.specs.Parsing.Recovery.{Recovers, Checked, joined, NoOperand}
+use Rattle.filterset_language.specs.Parsing.Outcome.{Faults, GivesTree, fails, Going}
 use Rattle.filterset_language.proofs.ReadingSteps.{less, negation_step, parens_step, nothing_step}
 use Rattle.filterset_language.proofs.Outcomes.{gives_map, gives_pair, gives_as, going_start, going_by, going_end, lies_in}
 

@@ -6,12 +6,12 @@ use Rattle.std.proofs.lemmas.Bool.{cases_lt}
 use Rattle.std.proofs.lemmas.List.Elements.{All-append}
 use Rattle.filterset_faults.specs.declared.error.ParseSingleError.{ParseSingleError}
 use Rattle.filterset_faults.specs.declared.span.SourceSpan.{SourceSpan}
-use Rattle.filterset_language.specs.Place.{Place, skip}
+use Rattle.filterset_language.specs.Parsing.Place.{Place, skip}
 use Rattle.filterset_language.specs.Tree.{Leaf, Tree, tree_leaves}
 use Rattle.filterset_language.specs.Parsed.{LiesOnBody}
-use Rattle.filterset_language.specs.Descent.{Placed, ◌>>=◌, Reader, Next, Make, more, level_by}
-use Rattle.filterset_language.specs.Recovery.{Recovers, Checked, beside, joined}
-use Rattle.filterset_language.specs.Outcome.{Faults, Carried, comes, refused, Gives, reads, fails, Going, goes, failed}
+use Rattle.filterset_language.specs.Parsing.Descent.{Placed, ◌>>=◌, Reader, Next, Make, more, level_by}
+use Rattle.filterset_language.specs.Parsing.Recovery.{Recovers, Checked, beside, joined}
+use Rattle.filterset_language.specs.Parsing.Outcome.{Faults, Carried, comes, refused, Gives, reads, fails, Going, goes, failed}
 use Rattle.filterset_language.proofs.Recovering.{bind_some, bind_none}
 use Rattle.filterset_language.proofs.ReadingSteps.{more_ends}
 

@@ -5,11 +5,11 @@ use Rattle.std.proofs.lemmas.Bool.{eq-eqb}
 use Rattle.std.proofs.lemmas.Bool.Decides.{eqb_tells, nat_tests}
 use Rattle.std.proofs.lemmas.List.{drop-drop}
 use Rattle.std.proofs.lemmas.Str.{is_utf8-from_IsUtf8, IsCharBoundary-after_ascii, IsCharBoundary-start}
-use Rattle.filterset_language.specs.Front.{blank_len}
-use Rattle.filterset_language.specs.Seam.{IsSeam}
-use Rattle.filterset_language.specs.declared.text.Input.{Input}
+use Rattle.filterset_language.specs.Parsing.Front.{blank_len}
+use Rattle.filterset_language.specs.Parsing.Seam.{IsSeam}
+use Rattle.filterset_language.specs.declared.parsing.input.Input.{Input}
 use Rattle.filterset_language.specs.Text.{Blanks, no_blank, space, newline, return_newline}
-use Rattle.filterset_language.specs.Place.{place, behind, skip_from, IsBehind, IsAtOrBehind}
+use Rattle.filterset_language.specs.Parsing.Place.{place, behind, skip_from, IsBehind, IsAtOrBehind}
 
 -- an input some bytes further
 pub seam_on : (i : Input) (n : ℕ) (rest : List ℕ) → n ≤ length i.rest.now → drop n i.rest.now ≡ rest → IsUtf8 rest → IsSeam i.text.now rest (i.offset + n)

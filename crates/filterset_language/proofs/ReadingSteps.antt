@@ -1,13 +1,13 @@
 -- One step of reading an expression.
 use Rattle.std.proofs.Common.{◌≡◌, ℕ, zero, suc, ◌<◌, ◌≤◌, length, Option, Some, None, refl, sym, ◌∙◌, arith}
 use Rattle.std.specs.Prelude.{codes}
-use Rattle.filterset_language.specs.declared.parsing.tree.NotOperator.{NotOperator}
-use Rattle.filterset_language.specs.declared.parsing.words.PredicateName.{PredicateName}
-use Rattle.filterset_language.specs.Recovery.{NoOperand}
-use Rattle.filterset_language.specs.Place.{Place, skip, after}
-use Rattle.filterset_language.specs.Reading.{not_at, name_at}
+use Rattle.filterset_language.specs.declared.tree.NotOperator.{NotOperator}
+use Rattle.filterset_language.specs.declared.parsing.names.PredicateName.{PredicateName}
+use Rattle.filterset_language.specs.Parsing.Recovery.{NoOperand}
+use Rattle.filterset_language.specs.Parsing.Place.{Place, skip, after}
+use Rattle.filterset_language.specs.Parsing.Words.{not_at, name_at}
 use Rattle.filterset_language.specs.Tree.{Not, Parens}
-use Rattle.filterset_language.specs.Descent.{Placed, ◌>>=◌, Reader, Next, Make, operand_at, set_at, or_level_by, more}
+use Rattle.filterset_language.specs.Parsing.Descent.{Placed, ◌>>=◌, Reader, Next, Make, operand_at, set_at, or_level_by, more}
 
 -- the bound for what is nested
 pub record Less (n below : ℕ) : Type 0 where

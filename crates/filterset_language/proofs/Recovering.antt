@@ -4,11 +4,11 @@ use Rattle.std.specs.Prelude.{is_some, IfOk, MatchOption}
 use Rattle.std.proofs.lemmas.Bool.{cases_lt}
 use Rattle.std.proofs.lemmas.List.Elements.{All-append, All-cons, All-nil}
 use Rattle.filterset_faults.specs.declared.error.ParseSingleError.{ParseSingleError}
-use Rattle.filterset_language.specs.Descent.{◌>>=◌}
-use Rattle.filterset_language.specs.Escapes.{escape_at}
-use Rattle.filterset_language.specs.Place.{Place, advanced}
-use Rattle.filterset_language.specs.Recovery.{Recovers, Found, Keeps, Passes}
-use Rattle.filterset_language.specs.Outcome.{Faults}
+use Rattle.filterset_language.specs.Parsing.Descent.{◌>>=◌}
+use Rattle.filterset_language.specs.Parsing.Escapes.{escape_at}
+use Rattle.filterset_language.specs.Parsing.Place.{Place, advanced}
+use Rattle.filterset_language.specs.Parsing.Recovery.{Recovers, Found, Keeps, Passes}
+use Rattle.filterset_language.specs.Parsing.Outcome.{Faults}
 
 pub bind_some : {A B : Type 0} (r : Option A) (x : A) (k : A → Option B) → r ≡ Some x → (r >>= k) ≡ k x
 bind_some r x k e = rw e refl

@@ -3,11 +3,11 @@ use Rattle.std.proofs.Common.{◌≡◌, ℕ, ◌+◌, ◌-◌, ◌<◌, List, �
 use Rattle.filterset_language.specs.Tree.{Leaf}
 use Rattle.filterset_language.specs.Grammar.{Call, LeafText, not_text, join_text, Basic, AndLevel}
 use Rattle.filterset_language.specs.Grammar as grammar
-use Rattle.filterset_language.specs.Descent.{Placed, between}
+use Rattle.filterset_language.specs.Parsing.Descent.{Placed, between}
 use Rattle.filterset_faults.specs.Span.{span}
 use Rattle.filterset_faults.specs.declared.span.SourceSpan.{SourceSpan}
-use Rattle.filterset_language.specs.declared.parsing.tree.NotOperator.{NotOperator}
-use Rattle.filterset_language.specs.declared.parsing.tree.NotOperator.TheVariants.{LiteralNot, Exclamation}
+use Rattle.filterset_language.specs.declared.tree.NotOperator.{NotOperator}
+use Rattle.filterset_language.specs.declared.tree.NotOperator.TheVariants.{LiteralNot, Exclamation}
 
 -- a span, by its length and its end
 pub span_same : (a b c : ℕ) → a + b ≡ c → between a c ≡ span a b

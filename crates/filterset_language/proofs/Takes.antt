@@ -3,24 +3,24 @@ use Rattle.std.proofs.Common.{◌≡◌, ℕ, ◌+◌, Bool, true, false, cond, 
 use Rattle.std.specs.Prelude.{codes, ◌&&◌, ◌||◌}
 use Rattle.std.proofs.lemmas.Bool.Decides.{eqb_tells}
 use Rattle.std.specs.Option.{option_map, option_and_then}
-use Rattle.filterset_language.specs.Front.{blank_len}
+use Rattle.filterset_language.specs.Parsing.Front.{blank_len}
 use Rattle.filterset_language.specs.Text.{ends_word}
-use Rattle.filterset_language.specs.Place.{Place, place, skip_from, after, after_word, behind, if_ends}
-use Rattle.filterset_language.specs.Reading.{choose, not_at, joiner_at, or_at, first_byte, named, either, name_at, name_text}
+use Rattle.filterset_language.specs.Parsing.Place.{Place, place, skip_from, after, after_word, behind, if_ends}
+use Rattle.filterset_language.specs.Parsing.Words.{choose, not_at, joiner_at, or_at, first_byte, named, either, name_at, name_text}
 use Rattle.filterset_language.specs.Faults.{InvalidAnd, ampersands, capital_and, InvalidOr, pipes, capital_or}
 use Rattle.filterset_language.specs.Text.{Blanks, no_blank, space, newline, return_newline}
 use Rattle.filterset_language.specs.Grammar.{not_text, join_text, or_text, not_ends, join_ends, or_ends}
 use Rattle.filterset_language.specs.Tree.{Joiner, Both, Without}
-use Rattle.filterset_language.specs.declared.parsing.tree.NotOperator.{NotOperator}
-use Rattle.filterset_language.specs.declared.parsing.tree.NotOperator.TheVariants.{LiteralNot, Exclamation}
-use Rattle.filterset_language.specs.declared.parsing.tree.OrOperator.{OrOperator}
-use Rattle.filterset_language.specs.declared.parsing.tree.OrOperator.TheVariants.{LiteralOr, Pipe, Plus}
-use Rattle.filterset_language.specs.declared.parsing.tree.AndOperator.TheVariants.{LiteralAnd, Ampersand}
-use Rattle.filterset_language.specs.declared.parsing.tree.DifferenceOperator.TheVariants.{Minus}
-use Rattle.filterset_language.specs.declared.parsing.words.MatchingName.TheVariants as matching
-use Rattle.filterset_language.specs.declared.parsing.words.PredicateName.{PredicateName}
-use Rattle.filterset_language.specs.declared.parsing.words.PredicateName.TheVariants as names
-use Rattle.filterset_language.specs.Descent.{◌>>=◌}
+use Rattle.filterset_language.specs.declared.tree.NotOperator.{NotOperator}
+use Rattle.filterset_language.specs.declared.tree.NotOperator.TheVariants.{LiteralNot, Exclamation}
+use Rattle.filterset_language.specs.declared.tree.OrOperator.{OrOperator}
+use Rattle.filterset_language.specs.declared.tree.OrOperator.TheVariants.{LiteralOr, Pipe, Plus}
+use Rattle.filterset_language.specs.declared.tree.AndOperator.TheVariants.{LiteralAnd, Ampersand}
+use Rattle.filterset_language.specs.declared.tree.DifferenceOperator.TheVariants.{Minus}
+use Rattle.filterset_language.specs.declared.tree.predicate.Predicate.TheVariants as matching
+use Rattle.filterset_language.specs.declared.parsing.names.PredicateName.{PredicateName}
+use Rattle.filterset_language.specs.declared.parsing.names.PredicateName.TheVariants as names
+use Rattle.filterset_language.specs.Parsing.Descent.{◌>>=◌}
 
 -- ---- steps that gave something
 

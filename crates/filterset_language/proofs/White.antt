@@ -9,7 +9,7 @@ use Rattle.std.proofs.lemmas.List.{append-nil}
 use Rattle.std.proofs.lemmas.List.Elements.{All-cons, All-nil, All-head, All-tail, All-from_get_or}
 use Rattle.std.proofs.lemmas.Str.{chars-encodes, IsUtf8-from_is_utf8, is_utf8-from_IsUtf8, length-encode, len_utf8_bounds, NoCharPasses-byte}
 use Rattle.filterset_language.specs.Text.{WhiteSpace}
-use Rattle.filterset_language.specs.Front.{is_white, close_len}
+use Rattle.filterset_language.specs.Parsing.Front.{is_white, close_len}
 
 abbrev pub IsWhite : ℕ → Type 0
 IsWhite c = IsScalar c × IsTrue (is_whitespace c)

@@ -1,5 +1,5 @@
 -- What stands in a text where a fault of it is reported.
-use Rattle.std.specs.Prelude.{◌≡◌, ◌≢◌, ℕ, ◌+◌, ◌≤◌, ◌<◌, min, List, [], ◌∷◌, ◌++◌, take, drop, codes, encode_utf8, chars, All, IfSome, IsCharBoundary, ◌⊎◌}
+use Rattle.std.specs.Prelude.{◌≡◌, ◌≢◌, ℕ, ◌+◌, ◌≤◌, min, List, [], ◌∷◌, ◌++◌, take, drop, codes, chars, All, IfSome, IsCharBoundary, ◌⊎◌}
 use Rattle.std.specs.Prelude as std
 use Rattle.std.specs.List.{Contains}
 use Rattle.filterset_language.specs.Text.{Blanks, WhiteSpace, Escape, Spelled, Body}
@@ -7,19 +7,19 @@ use Rattle.filterset_matchers.specs.Matcher.{Matcher}
 use Rattle.filterset_language.specs.Tree.{Predicate, Leaf, Joiner, Tree, Package, Deps, Rdeps, Binary, BinaryId, Test, Group, Matching, Platform, Default, tree_leaves}
 use Rattle.filterset_language.specs.Platforms.{Names}
 use Rattle.filterset_language.specs.Grammar.{Name, not_text, not_ends, or_text, join_text, Spells}
+use Rattle.filterset_glob.specs.Faults as glob
 use Rattle.filterset_glob.specs.Grammar.{GlobText}
+use Rattle.filterset_glob.specs.Signs.{sign}
 use Rattle.filterset_glob.specs.Tokens.{Tokens}
 use Rattle.filterset_faults.specs.Faults.{span_of}
 use Rattle.filterset_faults.specs.declared.span.SourceSpan.{SourceSpan}
 use Rattle.filterset_graph.specs.declared.package.BuildPlatform.{BuildPlatform}
-use Rattle.filterset_language.specs.declared.parsing.tree.NotOperator.{NotOperator}
-use Rattle.filterset_language.specs.declared.parsing.tree.OrOperator.{OrOperator}
+use Rattle.filterset_language.specs.declared.tree.NotOperator.{NotOperator}
+use Rattle.filterset_language.specs.declared.tree.OrOperator.{OrOperator}
 use Rattle.filterset_faults.specs.declared.kind.FiltersetKind.{FiltersetKind}
 use Rattle.filterset_faults.specs.declared.kind.FiltersetKind.TheVariants as kinds
 use Rattle.filterset_faults.specs.declared.kind.BannedPredicateReason.{BannedPredicateReason}
 use Rattle.filterset_faults.specs.declared.kind.BannedPredicateReason.TheVariants.{DefaultInfiniteRecursion, GroupCircularDependency, GroupNotAvailableInDefaultFilter, GroupNotAvailableInArchive, TestNotAvailableInArchive}
-use Rattle.filterset_glob.specs.declared.fault.GlobConstructError.{GlobConstructError}
-use Rattle.filterset_glob.specs.declared.fault.GlobConstructError.TheVariants.{UnclosedClass, InvalidRange, UnopenedAlternates, UnclosedAlternates}
 use Rattle.filterset_faults.specs.declared.error.ParseSingleError.{ParseSingleError}
 use Rattle.filterset_faults.specs.declared.error.ParseSingleError.TheVariants.{InvalidGlob, BannedPredicate, InvalidRegexWithoutMessage, ExpectedCloseRegex, InvalidOrOperator, InvalidAndOperator, UnexpectedArgument, UnexpectedComma, InvalidString, ExpectedOpenParenthesis, ExpectedCloseParenthesis, InvalidEscapeCharacter, ExpectedExpr, ExprFoundBinaryOp, ExprFoundUnaryOp, ExpectedEndOfExpression, NoPackageMatch, NoGroupMatch, NoBinaryIdMatch, NoBinaryNameMatch, InvalidPlatformArgument, UnsupportedExpression, Unknown}
 
@@ -71,11 +71,11 @@ pub record BehindBlanks (word t : List ℕ) : Type 0 where
 -- a `)` or the end
 pub data ClosesArgument : List ℕ → Type 0 where
   at_end : ClosesArgument []
-  at_close : {t : List ℕ} → ClosesArgument (41 ∷ t)
+  at_close : {t : List ℕ} → ClosesArgument (sign ")" ∷ t)
 
 -- a `,`, a `)` or the end
 pub data EndsText : List ℕ → Type 0 where
-  comma : {t : List ℕ} → EndsText (44 ∷ t)
+  comma : {t : List ℕ} → EndsText (sign "," ∷ t)
   closed : {t : List ℕ} → ClosesArgument t → EndsText t
 
 -- the name of a predicate
@@ -125,19 +125,6 @@ pub data Misplaced : List ℕ → List ℕ → Type 0 where
   misplaced_ampersands : Misplaced (codes "&&") (codes "&")
   misplaced_pipes : Misplaced (codes "||") (codes "|")
 
--- ---- globs
-
--- the word stands somewhere in the text
-abbrev pub Holds : List ℕ → List ℕ → Type 0
-Holds word t = (front rest : List ℕ) × (t ≡ front ++ (word ++ rest))
-
--- what a glob's fault says of its text
-abbrev pub GlobFaultStands : List ℕ → GlobConstructError → Type 0
-GlobFaultStands value UnclosedClass = Holds (codes "[") value
-GlobFaultStands value (InvalidRange c d) = (d < c) × Holds (45 ∷ encode_utf8 d) value
-GlobFaultStands value UnopenedAlternates = Holds (codes "}") value
-GlobFaultStands value UnclosedAlternates = Holds (codes "{") value
-
 -- ---- leaves of the tree
 
 -- a leaf with the span
@@ -163,39 +150,56 @@ IsOf Is _ = ⊥
 
 -- the leaf is not allowed in a filterset of this kind, and why
 pub data Banned : FiltersetKind → Leaf SourceSpan → BannedPredicateReason → Type 0 where
-  group_in_override : {m : Matcher} {s : SourceSpan} → Banned kinds.OverrideFilter (Matching Group m s) GroupCircularDependency
-  test_in_archive : {m : Matcher} {s : SourceSpan} → Banned kinds.TestArchive (Matching Test m s) TestNotAvailableInArchive
-  group_in_archive : {m : Matcher} {s : SourceSpan} → Banned kinds.TestArchive (Matching Group m s) GroupNotAvailableInArchive
+  group_in_override : {m : Matcher} {s : SourceSpan}
+      → Banned kinds.OverrideFilter (Matching Group m s) GroupCircularDependency
+  test_in_archive : {m : Matcher} {s : SourceSpan}
+      → Banned kinds.TestArchive (Matching Test m s) TestNotAvailableInArchive
+  group_in_archive : {m : Matcher} {s : SourceSpan}
+      → Banned kinds.TestArchive (Matching Group m s) GroupNotAvailableInArchive
   default_in_default : {s : SourceSpan} → Banned kinds.DefaultFilter (Default s) DefaultInfiniteRecursion
-  group_in_default : {m : Matcher} {s : SourceSpan} → Banned kinds.DefaultFilter (Matching Group m s) GroupNotAvailableInDefaultFilter
+  group_in_default : {m : Matcher} {s : SourceSpan}
+      → Banned kinds.DefaultFilter (Matching Group m s) GroupNotAvailableInDefaultFilter
 
 -- ---- faults
 
 -- What stands at the span of a fault that a text has. `UnsupportedExpression` is said of a tree, and `Unknown` never.
-abbrev pub StandsThere : List ℕ → ParseSingleError → Type 0
-StandsThere text (ExpectedOpenParenthesis s) = IsPoint s × (BehindBlanks (codes "(") (onward text s) → ⊥) × ((name : List ℕ) × IsName name × EndsWith (before text s) name)
-StandsThere text (ExpectedCloseParenthesis s) = IsPoint s × (BehindBlanks (codes ")") (onward text s) → ⊥)
-StandsThere text (ExpectedExpr s) = BeforeOperand (before text s) × RunsToEnd text s × ((blanks u : List ℕ) → Blanks blanks → onward text s ≡ blanks ++ u → BeginsOperand u → ⊥)
-StandsThere text (ExpectedEndOfExpression s) = RunsToEnd text s × (Blanks (onward text s) → ⊥)
-StandsThere text (InvalidEscapeCharacter s) = (u : List ℕ) × (onward text s ≡ 92 ∷ u) × ((e rest : List ℕ) (c : ℕ) → Escape e c → u ≢ e ++ rest) × (s.len ≡ min 2 (std.length u))
-StandsThere text (InvalidString s) = IsPoint s × EndsText (onward text s)
-StandsThere text (UnexpectedComma s) = IsPoint s × BehindBlanks (codes ",") (onward text s)
-StandsThere text (UnexpectedArgument s) = All (λ b. b ≢ 41) (piece text s) × (WhiteSpace (piece text s) → ⊥) × ClosesArgument (behind text s)
-StandsThere text (InvalidOrOperator s) = InvalidOr (piece text s)
-StandsThere text (InvalidAndOperator s) = InvalidAnd (piece text s)
-StandsThere text (ExprFoundBinaryOp s op suggest) = (piece text s ≡ op.now) × Misplaced op.now suggest.now
-StandsThere text (ExprFoundUnaryOp s op suggest) = (piece text s ≡ op.now) × (op.now ≡ codes "NOT") × (suggest.now ≡ codes "not")
-StandsThere text (ExpectedCloseRegex s) = IsPoint s × ClosesArgument (onward text s)
-StandsThere text (InvalidRegexWithoutMessage s) = ((pattern : List ℕ) × Body (piece text s) pattern) × EndsWith (before text s) (codes "/") × BeginsWith (codes "/") (behind text s)
-StandsThere text (InvalidGlob s error) = (value : List ℕ) × Spelled (piece text s) value × ((tokens : Tokens) → GlobText (chars value) tokens → ⊥) × GlobFaultStands value error
-StandsThere text (InvalidPlatformArgument s) = (value : List ℕ) × Spelled (piece text s) value × ((platform : BuildPlatform) → Names value platform → ⊥)
-StandsThere text (BannedPredicate s kind reason) = LeafAt text s (λ l. Banned kind l reason)
-StandsThere text (NoPackageMatch s) = LeafAt text s (IsOf (λ p. (p ≡ Package) ⊎ ((p ≡ Deps) ⊎ (p ≡ Rdeps))))
-StandsThere text (NoGroupMatch s) = LeafAt text s (IsOf (λ p. p ≡ Group))
-StandsThere text (NoBinaryIdMatch s) = LeafAt text s (IsOf (λ p. p ≡ BinaryId))
-StandsThere text (NoBinaryNameMatch s) = LeafAt text s (IsOf (λ p. p ≡ Binary))
-StandsThere text (UnsupportedExpression s) = ⊥
-StandsThere text Unknown = ⊥
+abbrev pub FaultSays : List ℕ → ParseSingleError → Type 0
+FaultSays text (ExpectedOpenParenthesis s) =
+    IsPoint s × (BehindBlanks (codes "(") (onward text s) → ⊥)
+    × ((name : List ℕ) × IsName name × EndsWith (before text s) name)
+FaultSays text (ExpectedCloseParenthesis s) = IsPoint s × (BehindBlanks (codes ")") (onward text s) → ⊥)
+FaultSays text (ExpectedExpr s) =
+    BeforeOperand (before text s) × RunsToEnd text s
+    × ((blanks u : List ℕ) → Blanks blanks → onward text s ≡ blanks ++ u → BeginsOperand u → ⊥)
+FaultSays text (ExpectedEndOfExpression s) = RunsToEnd text s × (Blanks (onward text s) → ⊥)
+FaultSays text (InvalidEscapeCharacter s) =
+    (u : List ℕ) × (onward text s ≡ codes "\\" ++ u)
+    × ((e rest : List ℕ) (c : ℕ) → Escape e c → u ≢ e ++ rest) × (s.len ≡ min 2 (std.length u))
+FaultSays text (InvalidString s) = IsPoint s × EndsText (onward text s)
+FaultSays text (UnexpectedComma s) = IsPoint s × BehindBlanks (codes ",") (onward text s)
+FaultSays text (UnexpectedArgument s) =
+    All (λ b. b ≢ sign ")") (piece text s) × (WhiteSpace (piece text s) → ⊥) × ClosesArgument (behind text s)
+FaultSays text (InvalidOrOperator s) = InvalidOr (piece text s)
+FaultSays text (InvalidAndOperator s) = InvalidAnd (piece text s)
+FaultSays text (ExprFoundBinaryOp s op suggest) = (piece text s ≡ op.now) × Misplaced op.now suggest.now
+FaultSays text (ExprFoundUnaryOp s op suggest) =
+    (piece text s ≡ op.now) × (op.now ≡ codes "NOT") × (suggest.now ≡ codes "not")
+FaultSays text (ExpectedCloseRegex s) = IsPoint s × ClosesArgument (onward text s)
+FaultSays text (InvalidRegexWithoutMessage s) =
+    ((pattern : List ℕ) × Body (piece text s) pattern)
+    × EndsWith (before text s) (codes "/") × BeginsWith (codes "/") (behind text s)
+FaultSays text (InvalidGlob s error) =
+    (value : List ℕ) × Spelled (piece text s) value
+    × ((tokens : Tokens) → GlobText (chars value) tokens → ⊥) × glob.FaultStands (chars value) error
+FaultSays text (InvalidPlatformArgument s) =
+    (value : List ℕ) × Spelled (piece text s) value × ((platform : BuildPlatform) → Names value platform → ⊥)
+FaultSays text (BannedPredicate s kind reason) = LeafAt text s (λ l. Banned kind l reason)
+FaultSays text (NoPackageMatch s) = LeafAt text s (IsOf (λ p. (p ≡ Package) ⊎ ((p ≡ Deps) ⊎ (p ≡ Rdeps))))
+FaultSays text (NoGroupMatch s) = LeafAt text s (IsOf (λ p. p ≡ Group))
+FaultSays text (NoBinaryIdMatch s) = LeafAt text s (IsOf (λ p. p ≡ BinaryId))
+FaultSays text (NoBinaryNameMatch s) = LeafAt text s (IsOf (λ p. p ≡ Binary))
+FaultSays text (UnsupportedExpression s) = ⊥
+FaultSays text Unknown = ⊥
 
 -- The span ends between two characters, save that of an escape that is none: it is two bytes long, or one at the end.
 abbrev pub EndsBetween : List ℕ → ParseSingleError → Type 0
@@ -203,8 +207,8 @@ EndsBetween text (InvalidEscapeCharacter s) = Unit {0}
 EndsBetween text fault = IfSome (span_of fault) (λ s. IsCharBoundary text (s.offset + s.len))
 
 -- the fault is one of the text
-pub record Stands (text : List ℕ) (fault : ParseSingleError) : Type 0 where
+pub record FaultStands (text : List ℕ) (fault : ParseSingleError) : Type 0 where
   pub within : IfSome (span_of fault) (λ s. s.offset + s.len ≤ std.length text)
   pub begins : IfSome (span_of fault) (λ s. IsCharBoundary text s.offset)
   pub ends : EndsBetween text fault
-  pub there : StandsThere text fault
+  pub there : FaultSays text fault

@@ -1,6 +1,7 @@
 -- The language: which texts spell which trees.
 -- Each piece of a text comes with the byte offset `at` of its first byte, which serves spans alone.
-use Rattle.std.specs.Prelude.{◌≡◌, ◌≢◌, ℕ, ◌+◌, List, [], ◌∷◌, ◌++◌, length, codes, true, false, IsTrue, chars}
+use Rattle.std.specs.Prelude.{◌≡◌, ◌≢◌, ℕ, ◌+◌, List, [], ◌∷◌, ◌++◌, length, codes, Bool, true, false, IsTrue, chars}
+use Rattle.filterset_glob.specs.Signs.{sign}
 use Rattle.filterset_language.specs.Text.{Blanks, ends_word, WhiteSpace, Spelled, Body}
 use Rattle.filterset_matchers.specs.Matcher.{Matcher, Equal, Contains, Glob, Regex}
 use Rattle.filterset_language.specs.Platforms.{Names}
@@ -11,12 +12,14 @@ use Rattle.filterset_glob.specs.Tokens.{Tokens}
 use Rattle.filterset_faults.specs.Span.{span}
 use Rattle.filterset_faults.specs.declared.span.SourceSpan.{SourceSpan}
 use Rattle.filterset_graph.specs.declared.package.BuildPlatform.{BuildPlatform}
-use Rattle.filterset_language.specs.declared.parsing.tree.NotOperator.{NotOperator}
-use Rattle.filterset_language.specs.declared.parsing.tree.NotOperator.TheVariants.{LiteralNot, Exclamation}
-use Rattle.filterset_language.specs.declared.parsing.tree.OrOperator.{OrOperator}
-use Rattle.filterset_language.specs.declared.parsing.tree.OrOperator.TheVariants.{LiteralOr, Pipe, Plus}
-use Rattle.filterset_language.specs.declared.parsing.tree.AndOperator.TheVariants.{LiteralAnd, Ampersand}
-use Rattle.filterset_language.specs.declared.parsing.tree.DifferenceOperator.TheVariants.{Minus}
+use Rattle.filterset_language.specs.declared.tree.predicate.TextMatching.{TextMatching}
+use Rattle.filterset_language.specs.declared.tree.predicate.TextMatching.TheVariants as ways
+use Rattle.filterset_language.specs.declared.tree.NotOperator.{NotOperator}
+use Rattle.filterset_language.specs.declared.tree.NotOperator.TheVariants.{LiteralNot, Exclamation}
+use Rattle.filterset_language.specs.declared.tree.OrOperator.{OrOperator}
+use Rattle.filterset_language.specs.declared.tree.OrOperator.TheVariants.{LiteralOr, Pipe, Plus}
+use Rattle.filterset_language.specs.declared.tree.AndOperator.TheVariants.{LiteralAnd, Ampersand}
+use Rattle.filterset_language.specs.declared.tree.DifferenceOperator.TheVariants.{Minus}
 
 -- the name of a predicate that takes a matcher
 abbrev pub Name : Predicate → List ℕ
@@ -63,24 +66,44 @@ join_ends (Both LiteralAnd) rest = IsTrue (ends_word rest)
 join_ends (Both Ampersand) rest = Unit {0}
 join_ends (Without Minus) rest = Unit {0}
 
--- the predicate's own implicit matcher
-abbrev pub implicit_of : Predicate → List ℕ → Matcher → Type 0
-implicit_of Kind value m = m ≡ Equal value true
-implicit_of Test value m = m ≡ Contains value true
-implicit_of p value m = (tokens : Tokens) × GlobText (chars value) tokens × (m ≡ Glob value tokens true)
+-- how a predicate matches by a text that no sign stands before
+abbrev pub own_matching : Predicate → TextMatching
+own_matching Package = ways.Glob
+own_matching Deps = ways.Glob
+own_matching Rdeps = ways.Glob
+own_matching Kind = ways.Equal
+own_matching Binary = ways.Glob
+own_matching BinaryId = ways.Glob
+own_matching Test = ways.Contains
+own_matching Group = ways.Glob
+
+-- the sign of a way to match
+abbrev pub matching_sign : TextMatching → ℕ
+matching_sign ways.Glob = sign "#"
+matching_sign ways.Equal = sign "="
+matching_sign ways.Contains = sign "~"
+
+-- the matcher that matches so by a value; a glob's tokens are those of its text
+abbrev pub Matches : TextMatching → List ℕ → Bool → Matcher → Type 0
+Matches ways.Equal value implicit m = m ≡ Equal value implicit
+Matches ways.Contains value implicit m = m ≡ Contains value implicit
+Matches ways.Glob value implicit m =
+    (tokens : Tokens) × GlobText (chars value) tokens × (m ≡ Glob value tokens implicit)
 
 -- whether a text may begin a matcher without a sign: it begins with no blank and with no sign
 abbrev pub begins_plainly : List ℕ → Type 0
 begins_plainly raw = (b : ℕ) (t : List ℕ) → raw ≡ b ∷ t →
-    (b ≢ 32) × (b ≢ 10) × (b ≢ 47) × (b ≢ 35) × (b ≢ 61) × (b ≢ 126) × (b ≡ 13 → (u : List ℕ) → t ≢ 10 ∷ u)
+    (b ≢ sign " ") × (b ≢ sign "\n") × (b ≢ sign "/") × (b ≢ sign "#") × (b ≢ sign "=") × (b ≢ sign "~")
+    × (b ≡ sign "\r" → (u : List ℕ) → t ≢ codes "\n" ++ u)
 
 -- a matcher of a predicate, from its sign to its end
 pub data MatcherText : Predicate → List ℕ → Matcher → Type 0 where
-  regex : {p : Predicate} {t pattern : List ℕ} (body : List ℕ) → Body body pattern → t ≡ 47 ∷ (body ++ 47 ∷ []) → MatcherText p t (Regex pattern)
-  glob : {p : Predicate} {raw value : List ℕ} {tokens : Tokens} → Spelled raw value → raw ≢ [] → GlobText (chars value) tokens → MatcherText p (35 ∷ raw) (Glob value tokens false)
-  equal : {p : Predicate} {raw value : List ℕ} → Spelled raw value → raw ≢ [] → MatcherText p (61 ∷ raw) (Equal value false)
-  contains : {p : Predicate} {raw value : List ℕ} → Spelled raw value → raw ≢ [] → MatcherText p (126 ∷ raw) (Contains value false)
-  implicit : {p : Predicate} {raw : List ℕ} {m : Matcher} (value : List ℕ) → Spelled raw value → raw ≢ [] → begins_plainly raw → implicit_of p value m → MatcherText p raw m
+  regex : {p : Predicate} {t pattern : List ℕ} (body : List ℕ)
+      → Body body pattern → t ≡ sign "/" ∷ (body ++ codes "/") → MatcherText p t (Regex pattern)
+  signed : {p : Predicate} {raw : List ℕ} {m : Matcher} (how : TextMatching) (value : List ℕ)
+      → Spelled raw value → raw ≢ [] → Matches how value false m → MatcherText p (matching_sign how ∷ raw) m
+  implicit : {p : Predicate} {raw : List ℕ} {m : Matcher} (value : List ℕ)
+      → Spelled raw value → raw ≢ [] → begins_plainly raw → Matches (own_matching p) value true m → MatcherText p raw m
 
 -- what may stand behind a matcher: blanks behind a regular expression, nothing behind a text, whose
 -- own blanks belong to it
@@ -92,21 +115,27 @@ BehindMatcher _ t = t ≡ []
 pub record Call (name argument t : List ℕ) (at inside : ℕ) : Type 0 where
   pub blanks : List ℕ
   pub are_blanks : Blanks blanks
-  pub text : t ≡ name ++ (blanks ++ (40 ∷ (argument ++ 41 ∷ [])))
+  pub text : t ≡ name ++ (blanks ++ (sign "(" ∷ (argument ++ codes ")")))
   pub offset : inside ≡ at + length name + length blanks + 1
 
--- The text, whose first byte has the given offset, is the predicate. The span of a matcher runs from behind the `(` to the
--- matcher's end, leading blanks included; that of `platform` over its raw text; that of `default` from the name to behind the `)`.
+-- The text, whose first byte has the given offset, is the predicate. The span of a matcher runs from behind the `(` to
+-- the matcher's end, leading blanks included; that of `platform` over its raw text; that of `default` from the name to
+-- behind the `)`.
 pub data LeafText : List ℕ → ℕ → Leaf SourceSpan → Type 0 where
-  matching : {p : Predicate} {t : List ℕ} {at : ℕ} {m : Matcher} {s : SourceSpan} (inside : ℕ) (before raw behind : List ℕ)
-      → Call (Name p) (before ++ (raw ++ behind)) t at inside → Blanks before → MatcherText p raw m → BehindMatcher m behind
+  matching : {p : Predicate} {t : List ℕ} {at : ℕ} {m : Matcher} {s : SourceSpan}
+      (inside : ℕ) (before raw behind : List ℕ)
+      → Call (Name p) (before ++ (raw ++ behind)) t at inside
+      → Blanks before → MatcherText p raw m → BehindMatcher m behind
       → s ≡ span inside (length before + length raw) → LeafText t at (Matching p m s)
   platform : {q : BuildPlatform} {t : List ℕ} {at : ℕ} {s : SourceSpan} (inside : ℕ) (raw value : List ℕ)
-      → Call (codes "platform") raw t at inside → Spelled raw value → Names value q → s ≡ span inside (length raw) → LeafText t at (Platform q s)
+      → Call (codes "platform") raw t at inside → Spelled raw value → Names value q → s ≡ span inside (length raw)
+      → LeafText t at (Platform q s)
   default : {t : List ℕ} {at : ℕ} {s : SourceSpan} (inside : ℕ) (white : List ℕ)
       → Call (codes "default") white t at inside → WhiteSpace white → s ≡ span at (length t) → LeafText t at (Default s)
-  all : {t : List ℕ} {at : ℕ} (inside : ℕ) (white : List ℕ) → Call (codes "all") white t at inside → WhiteSpace white → LeafText t at tree.All
-  none : {t : List ℕ} {at : ℕ} (inside : ℕ) (white : List ℕ) → Call (codes "none") white t at inside → WhiteSpace white → LeafText t at tree.None
+  all : {t : List ℕ} {at : ℕ} (inside : ℕ) (white : List ℕ)
+      → Call (codes "all") white t at inside → WhiteSpace white → LeafText t at tree.All
+  none : {t : List ℕ} {at : ℕ} (inside : ℕ) (white : List ℕ)
+      → Call (codes "none") white t at inside → WhiteSpace white → LeafText t at tree.None
 
 mutual
   -- a leaf, a negation or parentheses
@@ -118,7 +147,7 @@ mutual
         → t ≡ blanks ++ (not_text op ++ own) → Basic t at (Not op e)
     parens : {t : List ℕ} {at : ℕ} {e : Tree SourceSpan} (blanks own behind : List ℕ)
         → Blanks blanks → OrLevel own (at + length blanks + 1) e → Blanks behind
-        → t ≡ blanks ++ (40 ∷ (own ++ (behind ++ 41 ∷ []))) → Basic t at (Parens e)
+        → t ≡ blanks ++ (sign "(" ∷ (own ++ (behind ++ codes ")"))) → Basic t at (Parens e)
 
   -- operands of the level of `and`, to the left
   pub data AndLevel : List ℕ → ℕ → Tree SourceSpan → Type 0 where

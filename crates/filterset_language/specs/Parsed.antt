@@ -7,7 +7,7 @@ use Rattle.filterset_matchers.specs.Matcher.{Regex}
 use Rattle.filterset_language.specs.Tree.{Predicate, Matching, Tree, tree_of, tree_leaves}
 use Rattle.filterset_language.specs.Grammar.{Spells}
 use Rattle.filterset_language.specs.Patterns.{PatternsAreRead}
-use Rattle.filterset_language.specs.Faults.{piece, Stands}
+use Rattle.filterset_language.specs.Faults.{piece, FaultStands}
 use Rattle.filterset_faults.specs.declared.span.SourceSpan.{SourceSpan}
 use Rattle.filterset_faults.specs.declared.error.ParseSingleError.{ParseSingleError}
 use Rattle.filterset_faults.specs.declared.error.ParseSingleError.TheVariants.{InvalidRegexWithoutMessage}
@@ -37,7 +37,7 @@ abbrev pub Comes : Parsed → Tree SourceSpan → Type 0
 Comes p e = option_map tree_of p.tree ≡ Some e
 
 -- no tree comes, but faults, each on the body of one of the tree's regular expressions
-pub record Refuses (text : List ℕ) (e : Tree SourceSpan) (p : Parsed) : Type 0 where
+pub record HasRefusedBodies (text : List ℕ) (e : Tree SourceSpan) (p : Parsed) : Type 0 where
   pub no_tree : p.tree ≡ None
   pub some : p.faults.items ≢ []
   pub bodies : All (LiesOnBody text e) p.faults.items
@@ -48,12 +48,12 @@ SpellsNothing text = (e : Tree SourceSpan) → Spells text e → ⊥
 
 -- there are faults, each of which stands; where the text spells a tree all the same, each lies on the body of one of
 -- its regular expressions
-pub record Refutes (text : List ℕ) (faults : List ParseSingleError) : Type 0 where
+pub record IsUnreadWith (text : List ℕ) (faults : List ParseSingleError) : Type 0 where
   pub some : faults ≢ []
-  pub stand : All (Stands text) faults
+  pub stand : All (FaultStands text) faults
   pub bodies : (e : Tree SourceSpan) → Spells text e → All (LiesOnBody text e) faults
 
 -- why a text has no tree: its faults, or want of memory
-abbrev pub Stops : List ℕ → ParseStop → Type 0
-Stops text (Faults faults) = Refutes text faults.items
-Stops text (OutOfMemory error) = Unit {0}
+abbrev pub IsRefusalOf : List ℕ → ParseStop → Type 0
+IsRefusalOf text (Faults faults) = IsUnreadWith text faults.items
+IsRefusalOf text (OutOfMemory error) = Unit {0}

@@ -1,16 +1,18 @@
 -- How trees print, and which trees are printed so that they read back.
-use Rattle.std.specs.Prelude.{◌≡◌, ◌≢◌, ℕ, List, [], ◌∷◌, ◌++◌, codes, false}
+use Rattle.std.specs.Prelude.{◌≡◌, ◌≢◌, ℕ, List, [], ◌∷◌, ◌++◌, codes, true, false}
+use Rattle.filterset_glob.specs.Signs.{sign}
 use Rattle.filterset_language.specs.Text.{ends_in_backslash}
 use Rattle.filterset_matchers.specs.Matcher.{Matcher, Equal, Contains, Glob, Regex}
 use Rattle.filterset_language.specs.Tree as tree
-use Rattle.filterset_language.specs.Tree.{Predicate, Leaf, Tree, Kind, Test, Matching, Platform, Default, Not, Union, Join, Parens, Set}
+use Rattle.filterset_language.specs.Tree.{Predicate, Leaf, Tree, Matching, Platform, Default, Not, Union, Join, Parens, Set}
 use Rattle.filterset_graph.specs.Platforms.{platform_text}
-use Rattle.filterset_language.specs.Grammar.{Name, not_text, or_text, join_text}
+use Rattle.filterset_language.specs.Grammar.{Name, own_matching, not_text, or_text, join_text}
+use Rattle.filterset_language.specs.declared.tree.predicate.TextMatching.TheVariants as ways
 use Rattle.filterset_matchers.specs.PrintedMatcher.{printed_matcher}
 
 -- a name, and an argument between parentheses
 abbrev pub call : List ℕ → List ℕ → List ℕ
-call name argument = name ++ (40 ∷ (argument ++ 41 ∷ []))
+call name argument = name ++ (sign "(" ∷ (argument ++ codes ")"))
 
 -- a predicate
 abbrev pub printed_leaf : {S : Type 0} → Leaf S → List ℕ
@@ -22,14 +24,14 @@ printed_leaf tree.None = codes "none()"
 
 -- an operator with one blank on either side
 abbrev pub operands : List ℕ → List ℕ → List ℕ → List ℕ
-operands left op right = left ++ (32 ∷ (op ++ (32 ∷ right)))
+operands left op right = left ++ (sign " " ∷ (op ++ (sign " " ∷ right)))
 
 -- a tree
 abbrev pub printed : {S : Type 0} → Tree S → List ℕ
-printed (Not op e) = not_text op ++ (32 ∷ printed e)
+printed (Not op e) = not_text op ++ (sign " " ∷ printed e)
 printed (Union op l r) = operands (printed l) (or_text op) (printed r)
 printed (Join op l r) = operands (printed l) (join_text op) (printed r)
-printed (Parens e) = 40 ∷ (printed e ++ 41 ∷ [])
+printed (Parens e) = sign "(" ∷ (printed e ++ codes ")")
 printed (Set l) = printed_leaf l
 
 -- the operand stands by itself: a leaf, a negation or parentheses
@@ -43,16 +45,12 @@ abbrev pub IsNoUnion : {S : Type 0} → Tree S → Type 0
 IsNoUnion (Union op l r) = ⊥
 IsNoUnion e = Unit {0}
 
--- the predicate's own matcher, where no sign stands before it
+-- where no sign stands before the matcher, it matches as the predicate does of its own
 abbrev pub IsOwn : Predicate → Matcher → Type 0
+IsOwn p (Equal value implicit) = implicit ≡ true → own_matching p ≡ ways.Equal
+IsOwn p (Contains value implicit) = implicit ≡ true → own_matching p ≡ ways.Contains
+IsOwn p (Glob text tokens implicit) = implicit ≡ true → own_matching p ≡ ways.Glob
 IsOwn p (Regex pattern) = Unit {0}
-IsOwn Kind (Equal value implicit) = Unit {0}
-IsOwn p (Equal value implicit) = implicit ≡ false
-IsOwn Test (Contains value implicit) = Unit {0}
-IsOwn p (Contains value implicit) = implicit ≡ false
-IsOwn Kind (Glob text tokens implicit) = implicit ≡ false
-IsOwn Test (Glob text tokens implicit) = implicit ≡ false
-IsOwn p (Glob text tokens implicit) = Unit {0}
 
 -- the matcher has a text that can be read: it is not empty, and a pattern doesn't end in a backslash
 abbrev pub IsWellFormedMatcher : Matcher → Type 0
@@ -66,7 +64,8 @@ abbrev pub IsWellFormedLeaf : {S : Type 0} → Leaf S → Type 0
 IsWellFormedLeaf (Matching p m s) = IsOwn p m × IsWellFormedMatcher m
 IsWellFormedLeaf l = Unit {0}
 
--- the tree is one that some text spells: its operands are of the levels where they stand, and its leaves are well formed
+-- the tree is one that some text spells: its operands are of the levels where they stand, and its leaves are well
+-- formed
 abbrev pub WellFormed : {S : Type 0} → Tree S → Type 0
 WellFormed (Not op e) = IsBasic e × WellFormed e
 WellFormed (Union op l r) = IsNoUnion r × WellFormed l × WellFormed r

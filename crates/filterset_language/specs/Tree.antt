@@ -1,21 +1,21 @@
 -- The trees of filtersets, without where their parts lie in memory.
 use Rattle.std.specs.Prelude.{◌≡◌, Bool, true, false, List, [], ◌∷◌, ◌++◌}
+use Rattle.std.specs.Fn.{Shared, FnReturnsAt}
 use Rattle.std.specs.List.{filter}
+use denote.Ref.{Bor}
 use Rattle.filterset_matchers.specs.Matcher.{Matcher}
 use Rattle.filterset_matchers.specs.Matchers.{matcher_of}
 use Rattle.filterset_graph.specs.declared.package.BuildPlatform.{BuildPlatform}
-use Rattle.filterset_language.specs.declared.parsing.tree.NotOperator.{NotOperator}
-use Rattle.filterset_language.specs.declared.parsing.tree.OrOperator.{OrOperator}
-use Rattle.filterset_language.specs.declared.parsing.tree.AndOperator.{AndOperator}
-use Rattle.filterset_language.specs.declared.parsing.tree.DifferenceOperator.{DifferenceOperator}
-use Rattle.filterset_language.specs.declared.parsing.tree.ParsedLeaf.{ParsedLeaf}
-use Rattle.filterset_language.specs.declared.parsing.tree.ParsedLeaf.TheVariants as leaves
-use Rattle.filterset_language.specs.declared.parsing.tree.ParsedExpr.{ParsedExpr}
-use Rattle.filterset_language.specs.declared.parsing.tree.ParsedExpr.TheVariants as exprs
-
--- the predicates that take a matcher
-pub data Predicate : Type 0 where
-  Package Deps Rdeps Kind Binary BinaryId Test Group : Predicate
+use Rattle.filterset_language.specs.declared.tree.NotOperator.{NotOperator}
+use Rattle.filterset_language.specs.declared.tree.OrOperator.{OrOperator}
+pub use Rattle.filterset_language.specs.declared.tree.Joiner.{Joiner}
+pub use Rattle.filterset_language.specs.declared.tree.Joiner.TheVariants.{Both, Without}
+pub use Rattle.filterset_language.specs.declared.tree.predicate.Predicate.{Predicate}
+pub use Rattle.filterset_language.specs.declared.tree.predicate.Predicate.TheVariants.{Package, Deps, Rdeps, Kind, Binary, BinaryId, Test, Group}
+use Rattle.filterset_language.specs.declared.tree.ParsedLeaf.{ParsedLeaf}
+use Rattle.filterset_language.specs.declared.tree.ParsedLeaf.TheVariants as leaves
+use Rattle.filterset_language.specs.declared.tree.ParsedExpr.{ParsedExpr}
+use Rattle.filterset_language.specs.declared.tree.ParsedExpr.TheVariants as exprs
 
 -- a predicate with its value, and with a span where it has one
 pub data Leaf (S : Type 0) : Type 0 where
@@ -24,11 +24,6 @@ pub data Leaf (S : Type 0) : Type 0 where
   Default : S → Leaf S
   All : Leaf S
   None : Leaf S
-
--- the operators of the level of `and`
-pub data Joiner : Type 0 where
-  Both : AndOperator → Joiner
-  Without : DifferenceOperator → Joiner
 
 -- a filterset's tree; both binary levels nest to the left
 pub data Tree (S : Type 0) : Type 0 where
@@ -100,3 +95,8 @@ is_runtime_only _ = false
 -- such predicates of a tree, from left to right
 abbrev pub runtime_only : {S : Type 0} → Tree S → List (Leaf S)
 runtime_only e = filter is_runtime_only (tree_leaves e)
+
+-- the function answers of each predicate as the test does
+abbrev pub AnswersAs : {F S : Type 0} → Shared F (Bor (ParsedLeaf S) × Unit {0}) Bool → F → (Leaf S → Bool) → Type 0
+AnswersAs {F} {S} calls f test =
+    (leaf : ParsedLeaf S) (answer : Bool) → FnReturnsAt calls f leaf answer → answer ≡ test (leaf_of leaf)

@@ -5,7 +5,7 @@ ghost use Rattle.filterset_language.specs.Grammar.{Spells};
 ghost use Rattle.filterset_language.specs.Printing.{printed, WellFormed};
 ghost use Rattle.filterset_faults.specs.declared.span.SourceSpan.{SourceSpan};
 
-use crate::parsing::ParsedExpr;
+use crate::tree::ParsedExpr;
 use held::tree_is_held;
 
 mod held;

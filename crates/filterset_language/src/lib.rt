@@ -5,10 +5,11 @@ pub mod laws;
 mod parsing;
 mod printing;
 mod reference;
-mod text;
+mod tree;
 
-pub use parsing::{
-    AndOperator, DifferenceOperator, NotOperator, OrOperator, ParseStop, Parsed, ParsedExpr,
-    ParsedLeaf,
-};
+pub use parsing::{ParseStop, Parsed};
 pub use reference::FILTERSET_REFERENCE_MD;
+pub use tree::predicate::{Predicate, TextMatching};
+pub use tree::{
+    AndOperator, DifferenceOperator, Joiner, NotOperator, OrOperator, ParsedExpr, ParsedLeaf,
+};

@@ -1,13 +1,16 @@
 //! Reading filtersets.
 
+mod escapes;
 mod expressions;
-mod leaves;
-mod listing;
+mod input;
 mod matchers;
+mod misplaced;
+mod names;
 mod operators;
 mod parse;
-mod tree;
-mod words;
+mod platform;
+mod predicates;
+mod raw_text;
+mod regex_body;
 
 pub use parse::{ParseStop, Parsed};
-pub use tree::{AndOperator, DifferenceOperator, NotOperator, OrOperator, ParsedExpr, ParsedLeaf};

@@ -4,7 +4,7 @@ ghost use Rattle.filterset_language.specs.Tree.{leaf_of, tree_of, Both, Without}
 ghost use Rattle.filterset_language.specs.Grammar.{not_text, or_text, join_text};
 ghost use Rattle.filterset_language.specs.Printing.{printed, printed_leaf};
 
-use crate::parsing::{
+use crate::tree::{
     AndOperator, DifferenceOperator, NotOperator, OrOperator, ParsedExpr, ParsedLeaf,
 };
 use std::fmt;

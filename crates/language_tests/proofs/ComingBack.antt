@@ -8,9 +8,9 @@ use Rattle.filterset_language.specs.Tree as tree
 use Rattle.filterset_language.specs.Tree.{Leaf, Tree, tree_of, leaf_without_span, without_spans, SameTree}
 use Rattle.filterset_language.specs.Grammar.{Spells, not_text, or_text, join_text}
 use Rattle.filterset_language.specs.Printing.{printed, printed_leaf, operands, WellFormed}
-use Rattle.filterset_language.specs.Parsed.{Reads, Comes, LiesOnBody, Refuses}
+use Rattle.filterset_language.specs.Parsed.{Reads, Comes, LiesOnBody, HasRefusedBodies}
 use Rattle.filterset_language.specs.declared.parsing.parse.Parsed.{Parsed}
-use Rattle.filterset_language.specs.declared.parsing.tree.ParsedExpr.{ParsedExpr}
+use Rattle.filterset_language.specs.declared.tree.ParsedExpr.{ParsedExpr}
 use Rattle.language_tests.specs.ReadingBack.{SpellAlike, IsRefused}
 
 -- ---- spans do not show in print
@@ -46,7 +46,7 @@ some_is x y e = cc
 
 module _ (text : List ℕ) (p : Parsed)
     (clean : p.faults.items ≡ [] → (e : Tree SourceSpan) × Comes p e × Reads text e)
-    (spelled : (e : Tree SourceSpan) → Spells text e → (Comes p e × (p.faults.items ≡ [])) ⊎ Refuses text e p) where
+    (spelled : (e : Tree SourceSpan) → Spells text e → (Comes p e × (p.faults.items ≡ [])) ⊎ HasRefusedBodies text e p) where
   -- with faults it is refused
   pub is_refused : p.faults.items ≢ [] → IsRefused text
   is_refused some e spells = ⊎_elim (λ a. absurd (some a.1)) (λ b. first_of (LiesOnBody text e) p.faults.items b.some b.bodies) (spelled e spells)

@@ -5,12 +5,14 @@ use Rattle.filterset_faults.specs.declared.error.ParseSingleError.{ParseSingleEr
 use Rattle.filterset_language.specs.Tree.{Tree, SameTree}
 use Rattle.filterset_language.specs.Grammar.{Spells}
 use Rattle.filterset_language.specs.Printing.{printed}
-use Rattle.filterset_language.specs.Parsed.{Comes, LiesOnBody, Refuses}
+use Rattle.filterset_language.specs.Parsed.{Comes, LiesOnBody, HasRefusedBodies}
 use Rattle.filterset_language.specs.declared.parsing.parse.Parsed.{Parsed}
 
--- the same tree comes without a fault, spans aside; or no tree comes, but faults, each on the body of one of its patterns
+-- the same tree comes without a fault, spans aside; or no tree comes, but faults, each on the body of one of its
+-- patterns
 abbrev pub ComesBack : {S : Type 0} → Tree S → Parsed → Type 0
-ComesBack e p = (d : Tree SourceSpan) × SameTree d e × ((Comes p d × (p.faults.items ≡ [])) ⊎ Refuses (printed e) d p)
+ComesBack e p =
+    (d : Tree SourceSpan) × SameTree d e × ((Comes p d × (p.faults.items ≡ [])) ⊎ HasRefusedBodies (printed e) d p)
 
 -- both texts spell a tree, and it is the same but for its spans
 abbrev pub SpellAlike : List ℕ → List ℕ → Type 0

@@ -7,6 +7,8 @@
 #[cfg(test)]
 mod arguments;
 #[cfg(test)]
+mod equality;
+#[cfg(test)]
 mod faults;
 mod judging;
 #[cfg(test)]

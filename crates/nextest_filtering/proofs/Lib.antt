@@ -3,3 +3,4 @@ pub mod Shapes
 pub mod Meanings
 pub mod Supported
 pub mod Refusals
+pub mod Filtered

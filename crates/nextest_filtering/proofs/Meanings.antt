@@ -11,7 +11,9 @@ use Rattle.filterset_matchers.specs.Matcher.{Hits}
 use Rattle.nextest_filtering.specs.Meaning as meaning
 use Rattle.nextest_filtering.specs.Meaning.{tree_formula, has_tree_leaf, MeansOfTest, Meaning, IsCompiledLeaf, IsCompiled}
 use Rattle.filterset_language.specs.Tree as tree
-use Rattle.filterset_language.specs.Tree.{Leaf, Tree, Predicate, Package, Deps, Rdeps, Kind, Binary, BinaryId, Test, Group, Matching, Platform, Default, Both, Without, Not, Union, Join, Parens, Set, tree_leaves}
+use Rattle.filterset_language.specs.Tree.{Leaf, Tree, Matching, Platform, Default, Not, Union, Join, Parens, Set, tree_leaves}
+use Rattle.filterset_language.specs.declared.tree.predicate.Predicate.TheVariants.{Package, Deps, Rdeps, Kind, Binary, BinaryId, Test, Group}
+use Rattle.filterset_language.specs.declared.tree.Joiner.TheVariants.{Both, Without}
 use Rattle.nextest_filtering.specs.declared.expression.CompiledExpr.{CompiledExpr}
 use Rattle.nextest_filtering.specs.declared.expression.query.TestQuery.{TestQuery}
 use Rattle.nextest_filtering.proofs.Shapes.{same_truth, same_test, truth-replaced}
@@ -61,7 +63,7 @@ leaves-formula (Parens e) = leaves-formula e
 leaves-formula (Set leaf) = refl
 
 module _ (packages : List PackageMetadata) where
-  default_alike : (l : Leaf SourceSpan) (c : CompiledLeaf) → IsCompiledLeaf packages l c → meaning.is_default l ≡ compiled.is_default c
+  default_alike : (l : Leaf SourceSpan) (c : CompiledLeaf) → IsCompiledLeaf packages l c → meaning.is_default_predicate l ≡ compiled.is_default c
   default_alike (Matching Package m s) (compiled.Packages ids) are = refl
   default_alike (Matching Deps m s) (compiled.Packages ids) are = refl
   default_alike (Matching Rdeps m s) (compiled.Packages ids) are = refl
@@ -76,7 +78,7 @@ module _ (packages : List PackageMetadata) where
   default_alike tree.None compiled.None are = refl
   default_alike _ _ are = absurd are
 
-  group_alike : (l : Leaf SourceSpan) (c : CompiledLeaf) → IsCompiledLeaf packages l c → meaning.is_group l ≡ compiled.is_group c
+  group_alike : (l : Leaf SourceSpan) (c : CompiledLeaf) → IsCompiledLeaf packages l c → meaning.is_group_predicate l ≡ compiled.is_group c
   group_alike (Matching Package m s) (compiled.Packages ids) are = refl
   group_alike (Matching Deps m s) (compiled.Packages ids) are = refl
   group_alike (Matching Rdeps m s) (compiled.Packages ids) are = refl
@@ -92,11 +94,11 @@ module _ (packages : List PackageMetadata) where
   group_alike _ _ are = absurd are
 
   -- a `default` leaf is held by both or by neither
-  pub same_defaults : (e : Tree SourceSpan) (c : CompiledExpr) → IsCompiled packages e c → has_leaf compiled.is_default c ≡ has_tree_leaf meaning.is_default e
+  pub same_defaults : (e : Tree SourceSpan) (c : CompiledExpr) → IsCompiled packages e c → has_leaf compiled.is_default c ≡ has_tree_leaf meaning.is_default_predicate e
   same_defaults e c is =
-      sym (same_test (IsCompiledLeaf packages) meaning.is_default compiled.is_default default_alike (tree_formula e) (formula c) is) ∙ ap (list_any meaning.is_default) (leaves-formula e)
+      sym (same_test (IsCompiledLeaf packages) meaning.is_default_predicate compiled.is_default default_alike (tree_formula e) (formula c) is) ∙ ap (list_any meaning.is_default_predicate) (leaves-formula e)
 
   -- a `group` leaf is held by both or by neither
-  pub same_groups : (e : Tree SourceSpan) (c : CompiledExpr) → IsCompiled packages e c → has_leaf compiled.is_group c ≡ has_tree_leaf meaning.is_group e
+  pub same_groups : (e : Tree SourceSpan) (c : CompiledExpr) → IsCompiled packages e c → has_leaf compiled.is_group c ≡ has_tree_leaf meaning.is_group_predicate e
   same_groups e c is =
-      sym (same_test (IsCompiledLeaf packages) meaning.is_group compiled.is_group group_alike (tree_formula e) (formula c) is) ∙ ap (list_any meaning.is_group) (leaves-formula e)
+      sym (same_test (IsCompiledLeaf packages) meaning.is_group_predicate compiled.is_group group_alike (tree_formula e) (formula c) is) ∙ ap (list_any meaning.is_group_predicate) (leaves-formula e)

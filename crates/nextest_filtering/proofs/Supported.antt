@@ -1,22 +1,19 @@
 -- Trees whose leaves are all compiled.
-use Rattle.std.proofs.Common.{◌≡◌, Bool, false, List, [], ◌∷◌, ◌++◌, refl, ap, sym, ◌∙◌, append_assoc}
-use Rattle.std.specs.Prelude.{None, option_map}
-use Rattle.std.specs.List.{filter_map}
+use Rattle.std.proofs.Common.{◌≡◌, Bool, false, List, [], ◌∷◌, ◌++◌, refl, sym, ◌∙◌}
+use Rattle.std.specs.Prelude.{Option, None, Some, option_map}
+use Rattle.std.specs.List.{filter, filter_map}
+use Rattle.std.specs.Option.{is_some}
+use Rattle.filterset_faults.specs.declared.error.ParseSingleError.TheVariants.{UnsupportedExpression}
+use Rattle.nextest_filtering.proofs.Filtered.{filtered_first}
 use Rattle.std.proofs.lemmas.List.Elements.{filter_map-append}
 use Rattle.std.proofs.lemmas.List.Folds.{list_any-append}
 use Rattle.filterset_faults.specs.declared.error.ParseSingleError.{ParseSingleError}
-use Rattle.filterset_faults.specs.declared.error.ParseSingleError.TheVariants.{UnsupportedExpression}
 use Rattle.filterset_faults.specs.declared.span.SourceSpan.{SourceSpan}
-use Rattle.nextest_filtering.specs.Compiling.{unsupported_span, unsupported_faults, IsSupported}
-use Rattle.nextest_filtering.specs.Meaning.{has_tree_leaf, is_default, is_group}
+use Rattle.nextest_filtering.specs.Compiling.{unsupported_span, is_unsupported, unsupported_fault, unsupported_faults, IsSupported}
+use Rattle.nextest_filtering.specs.Meaning.{has_tree_leaf, is_default_predicate, is_group_predicate}
 use Rattle.filterset_language.specs.Tree as tree
-use Rattle.filterset_language.specs.Tree.{Leaf, Tree, Test, Matching, Platform, Default, Not, Union, Join, Parens, Set, tree_leaves}
-
--- the faults of two lists of leaves are those of the first, and then those of the second
-faults-append : (xs ys : List (Leaf SourceSpan))
-    → filter_map (λ leaf. option_map UnsupportedExpression (unsupported_span leaf)) (xs ++ ys)
-    ≡ filter_map (λ leaf. option_map UnsupportedExpression (unsupported_span leaf)) xs ++ filter_map (λ leaf. option_map UnsupportedExpression (unsupported_span leaf)) ys
-faults-append xs ys = filter_map-append (λ leaf. option_map UnsupportedExpression (unsupported_span leaf)) xs ys
+use Rattle.filterset_language.specs.Tree.{Leaf, Tree, Matching, Platform, Default, Not, Union, Join, Parens, Set, tree_leaves}
+use Rattle.filterset_language.specs.declared.tree.predicate.Predicate.TheVariants.{Test}
 
 none_first : (xs ys : List ParseSingleError) → xs ++ ys ≡ [] → xs ≡ []
 none_first [] ys e = refl
@@ -26,7 +23,7 @@ none_second : (xs ys : List ParseSingleError) → xs ++ ys ≡ [] → ys ≡ []
 none_second [] ys e = e
 none_second (x ∷ xs) ys e = cc
 
-leaf_supported : (leaf : Leaf SourceSpan) → filter_map (λ l. option_map UnsupportedExpression (unsupported_span l)) (leaf ∷ []) ≡ [] → unsupported_span leaf ≡ None
+leaf_supported : (leaf : Leaf SourceSpan) → filter_map unsupported_fault (leaf ∷ []) ≡ [] → unsupported_span leaf ≡ None
 leaf_supported (Matching Test m s) e = refl
 leaf_supported (Matching p m s) e = cc
 leaf_supported (Platform p s) e = cc
@@ -38,19 +35,13 @@ leaf_supported tree.None e = refl
 pub supported : (e : Tree SourceSpan) → unsupported_faults e ≡ [] → IsSupported e
 supported (Not op e) none = supported e none
 supported (Union op a b) none =
-    let both = sym (faults-append (tree_leaves a) (tree_leaves b)) ∙ none in
+    let both = sym (filter_map-append unsupported_fault (tree_leaves a) (tree_leaves b)) ∙ none in
     (supported a (none_first (unsupported_faults a) (unsupported_faults b) both), supported b (none_second (unsupported_faults a) (unsupported_faults b) both))
 supported (Join op a b) none =
-    let both = sym (faults-append (tree_leaves a) (tree_leaves b)) ∙ none in
+    let both = sym (filter_map-append unsupported_fault (tree_leaves a) (tree_leaves b)) ∙ none in
     (supported a (none_first (unsupported_faults a) (unsupported_faults b) both), supported b (none_second (unsupported_faults a) (unsupported_faults b) both))
 supported (Parens e) none = supported e none
 supported (Set leaf) none = leaf_supported leaf none
-
--- the faults of an operand behind those of another one
-pub added : (old first more : List ParseSingleError) (a b : Tree SourceSpan) → first ≡ old ++ unsupported_faults a → more ≡ first ++ unsupported_faults b
-    → more ≡ old ++ filter_map (λ leaf. option_map UnsupportedExpression (unsupported_span leaf)) (tree_leaves a ++ tree_leaves b)
-added old first more a b e f =
-    f ∙ (ap (λ (xs : List ParseSingleError). xs ++ unsupported_faults b) e ∙ (append_assoc old (unsupported_faults a) (unsupported_faults b) ∙ ap (λ (xs : List ParseSingleError). old ++ xs) (sym (faults-append (tree_leaves a) (tree_leaves b)))))
 
 module _ (test : Leaf SourceSpan → Bool) (passes_none : (leaf : Leaf SourceSpan) → unsupported_span leaf ≡ None → test leaf ≡ false) where
   -- a test that no compiled leaf passes is passed by no leaf of such a tree
@@ -61,14 +52,14 @@ module _ (test : Leaf SourceSpan → Bool) (passes_none : (leaf : Leaf SourceSpa
   none_passes (Parens e) all = none_passes e all
   none_passes (Set leaf) is = rw (passes_none leaf is) refl
 
-leaf_no_default : (leaf : Leaf SourceSpan) → unsupported_span leaf ≡ None → is_default leaf ≡ false
+leaf_no_default : (leaf : Leaf SourceSpan) → unsupported_span leaf ≡ None → is_default_predicate leaf ≡ false
 leaf_no_default (Matching p m s) is = refl
 leaf_no_default (Platform p s) is = refl
 leaf_no_default (Default s) is = cc
 leaf_no_default tree.All is = refl
 leaf_no_default tree.None is = refl
 
-leaf_no_group : (leaf : Leaf SourceSpan) → unsupported_span leaf ≡ None → is_group leaf ≡ false
+leaf_no_group : (leaf : Leaf SourceSpan) → unsupported_span leaf ≡ None → is_group_predicate leaf ≡ false
 leaf_no_group (Matching Test m s) is = refl
 leaf_no_group (Matching p m s) is = cc
 leaf_no_group (Platform p s) is = refl
@@ -77,9 +68,32 @@ leaf_no_group tree.All is = refl
 leaf_no_group tree.None is = refl
 
 -- it has no `default` leaf
-pub no_default : (e : Tree SourceSpan) → unsupported_faults e ≡ [] → has_tree_leaf is_default e ≡ false
-no_default e none = none_passes is_default leaf_no_default e (supported e none)
+pub no_default : (e : Tree SourceSpan) → unsupported_faults e ≡ [] → has_tree_leaf is_default_predicate e ≡ false
+no_default e none = none_passes is_default_predicate leaf_no_default e (supported e none)
 
 -- it has no `group` leaf
-pub no_group : (e : Tree SourceSpan) → unsupported_faults e ≡ [] → has_tree_leaf is_group e ≡ false
-no_group e none = none_passes is_group leaf_no_group e (supported e none)
+pub no_group : (e : Tree SourceSpan) → unsupported_faults e ≡ [] → has_tree_leaf is_group_predicate e ≡ false
+no_group e none = none_passes is_group_predicate leaf_no_group e (supported e none)
+
+-- ---- leaves that are not compiled yet
+
+no_fault : (leaf : Leaf SourceSpan) → is_unsupported leaf ≡ false → unsupported_fault leaf ≡ None
+no_fault leaf e = from (unsupported_span leaf) e
+  where
+    from : (o : Option SourceSpan) → is_some o ≡ false → option_map UnsupportedExpression o ≡ None
+    from (Some span) f = cc
+    from None f = refl
+
+-- the faults of the tree are those of these leaves
+pub faults_of_chosen : (e : Tree SourceSpan) → filter_map unsupported_fault (filter is_unsupported (tree_leaves e)) ≡ unsupported_faults e
+faults_of_chosen e = filtered_first unsupported_fault is_unsupported no_fault (tree_leaves e)
+
+-- each of them has one
+pub some_fault : (leaves : List (Leaf SourceSpan)) → filter_map unsupported_fault (filter is_unsupported leaves) ≡ [] → filter is_unsupported leaves ≡ []
+some_fault [] e = refl
+some_fault (leaf ∷ leaves) e = by (unsupported_span leaf) refl e (some_fault leaves)
+  where
+    by : (o : Option SourceSpan) → unsupported_span leaf ≡ o → filter_map unsupported_fault (filter is_unsupported (leaf ∷ leaves)) ≡ []
+        → (filter_map unsupported_fault (filter is_unsupported leaves) ≡ [] → filter is_unsupported leaves ≡ []) → filter is_unsupported (leaf ∷ leaves) ≡ []
+    by (Some span) is none more = let h = rw (is, is) at none in cc
+    by None is none more = rw is (more (rw is at none))

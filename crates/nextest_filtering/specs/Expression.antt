@@ -57,11 +57,11 @@ is_group (Group matcher span) = true
 is_group _ = false
 
 -- whether what the leaf says may depend on more than the binary: on the test, its group, or the default filter
-abbrev pub is_known_at_runtime : CompiledLeaf → Bool
-is_known_at_runtime (Test matcher span) = true
-is_known_at_runtime (Group matcher span) = true
-is_known_at_runtime Default = true
-is_known_at_runtime _ = false
+abbrev pub is_runtime_only : CompiledLeaf → Bool
+is_runtime_only (Test matcher span) = true
+is_runtime_only (Group matcher span) = true
+is_runtime_only Default = true
+is_runtime_only _ = false
 
 -- whether a leaf of the expression passes the test
 abbrev pub has_leaf : (CompiledLeaf → Bool) → CompiledExpr → Bool

@@ -9,7 +9,9 @@ use Rattle.nextest_filtering.specs.Expression.{CompiledLeaf, Lookup, HoldsOfTest
 use Rattle.nextest_filtering.specs.Formula as formulas
 use Rattle.nextest_filtering.specs.Formula.{Formula, Negation, Disjunction, Conjunction, TrueWhere, SameShape}
 use Rattle.filterset_matchers.specs.Matcher.{Matcher, Hits}
-use Rattle.filterset_language.specs.Tree.{Leaf, Tree, Package, Deps, Rdeps, Kind, Binary, BinaryId, Test, Group, Matching, Platform, Default, All, None, Both, Without, Not, Union, Join, Parens, Set, tree_leaves}
+use Rattle.filterset_language.specs.Tree.{Leaf, Tree, Matching, Platform, Default, All, None, Not, Union, Join, Parens, Set, tree_leaves}
+use Rattle.filterset_language.specs.declared.tree.predicate.Predicate.TheVariants.{Package, Deps, Rdeps, Kind, Binary, BinaryId, Test, Group}
+use Rattle.filterset_language.specs.declared.tree.Joiner.TheVariants.{Both, Without}
 use Rattle.nextest_filtering.specs.declared.expression.CompiledExpr.{CompiledExpr}
 use Rattle.nextest_filtering.specs.declared.expression.query.TestQuery.{TestQuery}
 
@@ -26,13 +28,13 @@ tree_formula (Set leaf) = formulas.Leaf leaf
 abbrev pub has_tree_leaf : {S : Type 0} → (Leaf S → Bool) → Tree S → Bool
 has_tree_leaf test e = list_any test (tree_leaves e)
 
-abbrev pub is_default : {S : Type 0} → Leaf S → Bool
-is_default (Default span) = true
-is_default _ = false
+abbrev pub is_default_predicate : {S : Type 0} → Leaf S → Bool
+is_default_predicate (Default span) = true
+is_default_predicate _ = false
 
-abbrev pub is_group : {S : Type 0} → Leaf S → Bool
-is_group (Matching Group matcher span) = true
-is_group _ = false
+abbrev pub is_group_predicate : {S : Type 0} → Leaf S → Bool
+is_group_predicate (Matching Group matcher span) = true
+is_group_predicate _ = false
 
 -- a package of the workspace
 abbrev pub IsMember : List PackageMetadata → PackageMetadata → Type 0
@@ -49,18 +51,23 @@ IsPackage packages matcher id = (p : PackageMetadata) × IsNamed packages matche
 -- a package of the workspace has this id, and a path leads to it from one whose name the matcher hits
 abbrev pub IsDependency : List PackageMetadata → Matcher → List ℕ → Type 0
 IsDependency packages matcher id =
-    (p : PackageMetadata) × (from : PackageMetadata) × IsMember packages p × (p.id ≡ id) × IsNamed packages matcher from × Path packages from.id id
+    (p : PackageMetadata) × (from : PackageMetadata) × IsMember packages p × (p.id ≡ id)
+    × IsNamed packages matcher from × Path packages from.id id
 
 -- a package of the workspace has this id, and a path leads from it to one whose name the matcher hits
 abbrev pub IsDependent : List PackageMetadata → Matcher → List ℕ → Type 0
 IsDependent packages matcher id =
-    (p : PackageMetadata) × (to : PackageMetadata) × IsMember packages p × (p.id ≡ id) × IsNamed packages matcher to × Path packages id to.id
+    (p : PackageMetadata) × (to : PackageMetadata) × IsMember packages p × (p.id ≡ id)
+    × IsNamed packages matcher to × Path packages id to.id
 
 -- what a leaf says of a test
 abbrev pub MeansOfTest : {S : Type 0} → List PackageMetadata → TestQuery → CompiledExpr → Lookup → Leaf S → Type 0
-MeansOfTest packages test default lookup (Matching Package matcher span) = IsPackage packages matcher test.binary_query.package_id.now
-MeansOfTest packages test default lookup (Matching Deps matcher span) = IsDependency packages matcher test.binary_query.package_id.now
-MeansOfTest packages test default lookup (Matching Rdeps matcher span) = IsDependent packages matcher test.binary_query.package_id.now
+MeansOfTest packages test default lookup (Matching Package matcher span) =
+    IsPackage packages matcher test.binary_query.package_id.now
+MeansOfTest packages test default lookup (Matching Deps matcher span) =
+    IsDependency packages matcher test.binary_query.package_id.now
+MeansOfTest packages test default lookup (Matching Rdeps matcher span) =
+    IsDependent packages matcher test.binary_query.package_id.now
 MeansOfTest packages test default lookup (Matching Kind matcher span) = Hits matcher test.binary_query.kind.now
 MeansOfTest packages test default lookup (Matching Binary matcher span) = Hits matcher test.binary_query.binary_name.now
 MeansOfTest packages test default lookup (Matching BinaryId matcher span) = Hits matcher test.binary_query.binary_id.now
@@ -78,9 +85,12 @@ Meaning e packages test default lookup = TrueWhere (MeansOfTest packages test de
 -- a leaf of a tree and what it is compiled to: a predicate of packages to the set of their ids, and every other leaf
 -- to one with the same matcher and span
 abbrev pub IsCompiledLeaf : List PackageMetadata → Leaf SourceSpan → CompiledLeaf → Type 0
-IsCompiledLeaf packages (Matching Package matcher span) (compiled.Packages ids) = (id : List ℕ) → Contains ids id ↔ IsPackage packages matcher id
-IsCompiledLeaf packages (Matching Deps matcher span) (compiled.Packages ids) = (id : List ℕ) → Contains ids id ↔ IsDependency packages matcher id
-IsCompiledLeaf packages (Matching Rdeps matcher span) (compiled.Packages ids) = (id : List ℕ) → Contains ids id ↔ IsDependent packages matcher id
+IsCompiledLeaf packages (Matching Package matcher span) (compiled.Packages ids) =
+    (id : List ℕ) → Contains ids id ↔ IsPackage packages matcher id
+IsCompiledLeaf packages (Matching Deps matcher span) (compiled.Packages ids) =
+    (id : List ℕ) → Contains ids id ↔ IsDependency packages matcher id
+IsCompiledLeaf packages (Matching Rdeps matcher span) (compiled.Packages ids) =
+    (id : List ℕ) → Contains ids id ↔ IsDependent packages matcher id
 IsCompiledLeaf packages (Matching Kind matcher span) (compiled.Kind m s) = (matcher ≡ m) × (span ≡ s)
 IsCompiledLeaf packages (Matching Binary matcher span) (compiled.Binary m s) = (matcher ≡ m) × (span ≡ s)
 IsCompiledLeaf packages (Matching BinaryId matcher span) (compiled.BinaryId m s) = (matcher ≡ m) × (span ≡ s)

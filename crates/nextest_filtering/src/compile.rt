@@ -8,44 +8,26 @@ ghost use Rattle.nextest_filtering.specs.Meaning.{IsCompiled, IsCompiledLeaf};
 ghost use Rattle.filterset_language.specs.Tree.{leaf_of, tree_of};
 
 use crate::expression::{CompiledExpr, FiltersetLeaf};
-use filterset_faults::ParseSingleError;
-use filterset_language::{ParsedExpr, ParsedLeaf};
+use filterset_language::{ParseStop, ParsedExpr, ParsedLeaf};
 use std::alloc::{AllocError, Global};
 
 mod context;
 mod leaves;
 
 pub use context::{KnownGroups, ParseContext};
-use leaves::add_unsupported;
-
-/// Why a text was not compiled.
-#[derive(Drop)]
-pub(crate) enum Stop {
-    Faults(Vec<ParseSingleError>),
-    OutOfMemory,
-}
-
-impl From<AllocError> for Stop {
-    ghost use Rattle.nextest_filtering.specs.declared.compile.Stop.TheVariants as stop;
-
-    ghost from_gives = { λ _ made. made ≡ stop.OutOfMemory };
-
-    fn from(_error: AllocError) -> Stop {
-        Stop::OutOfMemory
-    }
-}
+use leaves::{unsupported_faults, unsupported_leaves};
 
 /// The compiled expression of a tree. There is a fault for each leaf that is not compiled yet, from left to right, and
 /// no expression where there is one.
-pub(crate) fn compile(alloc: Global, expr: &ParsedExpr) -> Result<CompiledExpr, Stop>
+pub(crate) fn compile(alloc: Global, expr: &ParsedExpr) -> Result<CompiledExpr, ParseStop>
     ensures supported { OnOk result (unsupported_faults (tree_of expr.now) ≡ []) }
-    ensures compiled { IfOk result (λ compiled. (packages : List PackageMetadata) → IsCompiled packages (tree_of expr.now) compiled) }
+    ensures compiled { IfOk result (λ compiled.
+        (packages : List PackageMetadata) → IsCompiled packages (tree_of expr.now) compiled) }
     ensures refused { IfErr result (IsUnsupported (tree_of expr.now)) }
 {
-    let mut faults = Vec::new(alloc);
-    add_unsupported(expr, &mut faults)?;
-    if !faults.is_empty() {
-        return Err(Stop::Faults(faults));
+    let leaves = unsupported_leaves(alloc, expr)?;
+    if !leaves.is_empty() {
+        return Err(ParseStop::Faults(unsupported_faults(alloc, &leaves)?));
     }
     Ok(compile_expr(alloc, expr)?)
 }
@@ -54,7 +36,8 @@ pub(crate) fn compile(alloc: Global, expr: &ParsedExpr) -> Result<CompiledExpr, 
 /// parentheses become what they hold.
 fn compile_expr(alloc: Global, expr: &ParsedExpr) -> Result<CompiledExpr, AllocError>
     requires { IsSupported (tree_of expr.now) }
-    ensures { IfOk result (λ compiled. (packages : List PackageMetadata) → IsCompiled packages (tree_of expr.now) compiled) }
+    ensures { IfOk result (λ compiled.
+        (packages : List PackageMetadata) → IsCompiled packages (tree_of expr.now) compiled) }
 {
     match expr {
         ParsedExpr::Not(_, e) => negation(alloc, compile_expr(alloc, e)?),
@@ -123,7 +106,8 @@ fn difference(
 /// The compiled leaf of one that is compiled.
 fn compile_leaf(alloc: Global, leaf: &ParsedLeaf) -> Result<FiltersetLeaf, AllocError>
     requires { unsupported_span (leaf_of leaf.now) ≡ None }
-    ensures { IfOk result (λ compiled. (packages : List PackageMetadata) → IsCompiledLeaf packages (leaf_of leaf.now) (compiled_leaf compiled)) }
+    ensures { IfOk result (λ compiled.
+        (packages : List PackageMetadata) → IsCompiledLeaf packages (leaf_of leaf.now) (compiled_leaf compiled)) }
 {
     match leaf {
         ParsedLeaf::Test(matcher, span) => {

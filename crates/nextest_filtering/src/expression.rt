@@ -1,11 +1,13 @@
 //! Compiled expressions, and what they say of tests.
 ghost use Rattle.std.specs.Prelude.{◌≡◌, ◌↔◌, false, IfOk, IsTrue};
-ghost use Rattle.nextest_filtering.specs.Expression.{formula, has_leaf, is_default, is_group, no_groups, HoldsOfTest, Holds};
+ghost use Rattle.nextest_filtering.specs.Expression.{formula, has_leaf, is_default, is_group, no_groups};
+ghost use Rattle.nextest_filtering.specs.Expression.{HoldsOfTest, Holds};
 ghost use Rattle.nextest_filtering.specs.Formula.{TrueWhere};
 
 use std::alloc::{AllocError, Global};
 
 mod context;
+mod equality;
 mod leaves;
 mod query;
 
@@ -14,7 +16,7 @@ pub use leaves::FiltersetLeaf;
 pub use query::{BinaryQuery, TestQuery};
 
 /// A compiled expression: sets of tests, and what is made of them.
-#[derive(Debug, Drop, PartialEq, Eq)]
+#[derive(Debug, Drop)]
 pub enum CompiledExpr {
     /// The tests that are not in the set.
     Not(Box<CompiledExpr>),
@@ -100,7 +102,8 @@ impl CompiledExpr {
 
     /// Whether the default filter holds of a test that is in no group.
     fn evaluate_filter(&self, alloc: Global, query: &TestQuery<'_>) -> Result<bool, AllocError>
-        ensures { IfOk result (λ answer. IsTrue answer ↔ TrueWhere (HoldsOfTest query.now no_groups) (formula self.now)) }
+        ensures { IfOk result (λ answer.
+            IsTrue answer ↔ TrueWhere (HoldsOfTest query.now no_groups) (formula self.now)) }
     {
         match self {
             CompiledExpr::Not(e) => Ok(!e.evaluate_filter(alloc, query)?),

@@ -4,20 +4,20 @@ ghost use Rattle.std.specs.Str.Iter.{HasSubslice};
 ghost use Rattle.filterset_faults.specs.declared.kind.FiltersetKind.TheVariants as kinds;
 ghost use Rattle.filterset_graph.specs.declared.package.PackageMetadata.{PackageMetadata};
 ghost use Rattle.filterset_faults.specs.declared.span.SourceSpan.{SourceSpan};
-ghost use Rattle.nextest_filtering.specs.Compiling.{packages_of, unsupported_faults, IsRefusalOf, IsRefusalOfTree, IsStopOf, SaysTheSame};
+ghost use Rattle.nextest_filtering.specs.Compiling.{packages_of, unsupported_faults, SaysTheSame};
+ghost use Rattle.nextest_filtering.specs.Compiling.{IsRefusalOf, IsRefusalOfTree, IsStopOf};
 ghost use Rattle.nextest_filtering.specs.Contexts.{default_of};
 ghost use Rattle.nextest_filtering.specs.Expression.{formula, has_leaf, is_default, is_group, no_groups, Holds};
 ghost use Rattle.filterset_language.specs.Grammar.{Spells};
 ghost use Rattle.nextest_filtering.specs.Groups.{IsKnown};
-ghost use Rattle.nextest_filtering.specs.Meaning.{has_tree_leaf, IsCompiled, Meaning};
-ghost use Rattle.nextest_filtering.specs.Meaning as tree;
+ghost use Rattle.nextest_filtering.specs.Meaning.{has_tree_leaf, is_default_predicate, is_group_predicate, IsCompiled, Meaning};
 ghost use Rattle.filterset_language.specs.Parsed.{Reads};
 ghost use Rattle.filterset_language.specs.Tree.{Tree, tree_of};
 
-use crate::compile::{KnownGroups, ParseContext, Stop, compile};
+use crate::compile::{KnownGroups, ParseContext, compile};
 use crate::expression::{CompiledExpr, EvalContext, TestQuery};
 use filterset_faults::{FiltersetKind, FiltersetParseErrors};
-use filterset_language::{Parsed, ParsedExpr};
+use filterset_language::{ParseStop, Parsed, ParsedExpr};
 use std::alloc::{AllocError, Global};
 
 /// A filterset that was read and compiled.
@@ -41,22 +41,23 @@ pub enum ParseRefusal {
 }
 
 /// Reads a text.
-fn read_tree(alloc: Global, text: &str) -> Result<ParsedExpr, Stop>
+fn read_tree(alloc: Global, text: &str) -> Result<ParsedExpr, ParseStop>
     ensures spelled { IfOk result (λ parsed. Reads text.now (tree_of parsed)) }
     ensures refused { IfErr result (IsStopOf text.now) }
 {
     let Parsed { tree, faults } = ParsedExpr::parse_with_faults(alloc, text)?;
     match tree {
         Some(parsed) if faults.is_empty() => Ok(parsed),
-        _ => Err(Stop::Faults(faults)),
+        _ => Err(ParseStop::Faults(faults)),
     }
 }
 
 /// Reads and compiles a text.
-fn read(alloc: Global, text: &str) -> Result<(ParsedExpr, CompiledExpr), Stop>
+fn read(alloc: Global, text: &str) -> Result<(ParsedExpr, CompiledExpr), ParseStop>
     ensures spelled { IfOk result (λ made. Reads text.now (tree_of made.0)) }
     ensures supported { IfOk result (λ made. unsupported_faults (tree_of made.0) ≡ []) }
-    ensures compiled { IfOk result (λ made. (packages : List PackageMetadata) → IsCompiled packages (tree_of made.0) made.1) }
+    ensures compiled { IfOk result (λ made.
+        (packages : List PackageMetadata) → IsCompiled packages (tree_of made.0) made.1) }
     ensures refused { IfErr result (IsStopOf text.now) }
 {
     let parsed = read_tree(alloc, text)?;
@@ -68,8 +69,8 @@ impl Filterset {
     /// Reads a filterset and compiles it.
     ///
     /// A text is accepted exactly where the language spells it, `regex` builds each of its patterns, and each of its
-    /// predicates is one that is compiled for now: `test`, `all` or `none`. Each other predicate of a text that was read
-    /// is answered by one `UnsupportedExpression` at its span, from left to right. A refusal hands the text back.
+    /// predicates is one that is compiled for now: `test`, `all` or `none`. Each other predicate of a text that was
+    /// read is answered by one `UnsupportedExpression` at its span, from left to right. A refusal hands the text back.
     ///
     /// For now the kind is `Test`, and the groups are known.
     pub fn parse(
@@ -90,8 +91,10 @@ impl Filterset {
 
         // So the compiled expression says of each test what the tree says, and holds the same leaves.
         ensures meaning { IfOk result (λ made. SaysTheSame (packages_of cx.now) (tree_of made.parsed) made.compiled) }
-        ensures defaults { IfOk result (λ made. has_leaf is_default made.compiled ≡ has_tree_leaf tree.is_default (tree_of made.parsed)) }
-        ensures groups { IfOk result (λ made. has_leaf is_group made.compiled ≡ has_tree_leaf tree.is_group (tree_of made.parsed)) }
+        ensures defaults { IfOk result (λ made.
+            has_leaf is_default made.compiled ≡ has_tree_leaf is_default_predicate (tree_of made.parsed)) }
+        ensures groups { IfOk result (λ made.
+            has_leaf is_group made.compiled ≡ has_tree_leaf is_group_predicate (tree_of made.parsed)) }
 
         // As `default` and `group` are not compiled yet, what was accepted holds neither.
         ensures no_default { IfOk result (λ made. has_leaf is_default made.compiled ≡ false) }
@@ -100,9 +103,10 @@ impl Filterset {
         // A refusal is by faults that the parser found, or by leaves that are not compiled yet.
         ensures refused { IfErr result (IsRefusalOf input) }
 
-        // Where the text spells a tree, only the bodies of its regular expressions, its leaves that are not compiled yet
-        // and want of memory refuse it.
-        ensures complete { (e : Tree SourceSpan) → Spells (string_bytes input) e → IfErr result (IsRefusalOfTree (string_bytes input) e) }
+        // Where the text spells a tree, only the bodies of its regular expressions, its leaves that are not compiled
+        // yet and want of memory refuse it.
+        ensures complete { (e : Tree SourceSpan) → Spells (string_bytes input) e
+            → IfErr result (IsRefusalOfTree (string_bytes input) e) }
     {
         match read(alloc, input.as_str()) {
             Ok((parsed, compiled)) => Ok(Filterset {
@@ -110,10 +114,10 @@ impl Filterset {
                 parsed,
                 compiled,
             }),
-            Err(Stop::Faults(errors)) => {
+            Err(ParseStop::Faults(errors)) => {
                 Err(ParseRefusal::Faults(FiltersetParseErrors { input, errors }))
             }
-            Err(Stop::OutOfMemory) => Err(ParseRefusal::OutOfMemory { input }),
+            Err(ParseStop::OutOfMemory(_)) => Err(ParseRefusal::OutOfMemory { input }),
         }
     }
 
@@ -128,10 +132,13 @@ impl Filterset {
         cx: &EvalContext<'_>,
     ) -> Result<bool, AllocError>
         requires { has_leaf is_group self.now.compiled ≡ false }
-        ensures holds { IfOk result (λ answer. IsTrue answer ↔ Holds self.now.compiled query.now (default_of cx.now) no_groups) }
+        ensures holds { IfOk result (λ answer.
+            IsTrue answer ↔ Holds self.now.compiled query.now (default_of cx.now) no_groups) }
 
         // Where the tree is compiled to the expression, the answer is the tree's meaning.
-        ensures meaning { IfOk result (λ answer. (packages : List PackageMetadata) → IsCompiled packages (tree_of self.now.parsed) self.now.compiled → IsTrue answer ↔ Meaning (tree_of self.now.parsed) packages query.now (default_of cx.now) no_groups) }
+        ensures meaning { let e = tree_of self.now.parsed in
+            IfOk result (λ answer. (packages : List PackageMetadata) → IsCompiled packages e self.now.compiled
+            → IsTrue answer ↔ Meaning e packages query.now (default_of cx.now) no_groups) }
     {
         self.compiled.matches_test(alloc, query, cx)
     }

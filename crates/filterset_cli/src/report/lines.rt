@@ -40,7 +40,8 @@ pub fn push_test(
 ) -> Result<(), AllocError>
     requires askable { IsAskable filterset.now }
     requires holds_all { default_of cx.now ≡ every_test }
-    ensures { OnOk result ((line : Text) × TestLine (tree_of filterset.now.parsed) (binary_row binary.now) (test_row test.now) line
+    ensures { OnOk result ((line : Text)
+        × TestLine (tree_of filterset.now.parsed) (binary_row binary.now) (test_row test.now) line
         × (string_bytes lines.new ≡ string_bytes lines.old ++ line)) }
 {
     let holds = holds_test(alloc, cx, filterset, binary, test)?;

@@ -44,8 +44,10 @@ fn push_accepted(
 ) -> Result<(), AllocError>
     requires plain { IsPlain setting.now }
     requires askable { IsAskable filterset.now }
-    ensures { OnOk result ((text : Text) × Pieces (BinaryLines (tree_of filterset.now.parsed)) (map binary_row setting.now.binaries.now) text
-        × (string_bytes lines.new ≡ string_bytes lines.old ++ (accepted_line index (tree_of filterset.now.parsed) ++ text))) }
+    ensures { OnOk result ((text : Text)
+        × Pieces (BinaryLines (tree_of filterset.now.parsed)) (map binary_row setting.now.binaries.now) text
+        × (string_bytes lines.new
+        ≡ string_bytes lines.old ++ (accepted_line index (tree_of filterset.now.parsed) ++ text))) }
 {
     let printed = &filterset.parsed;
     writeln!(lines, "filterset {index} accepted: {printed}")?;

@@ -1,63 +1,62 @@
 //! Reading expressions.
 ghost use Rattle.std.specs.Prelude.{◌≡◌, ℕ, suc, ◌<◌, ◌≤◌, length, IfOk, Some};
 ghost use Rattle.std.specs.Option.{option_map};
-ghost use Rattle.filterset_language.specs.Place.{place_of, IsBehind, IsAtOrBehind};
-ghost use Rattle.filterset_language.specs.Reading.{joiner_at, joiner_of, or_at};
 ghost use Rattle.filterset_language.specs.Tree.{leaf_of, Not, Parens, Set};
-ghost use Rattle.filterset_language.specs.Descent.{boxed_tree, operand_at, and_level_by, or_level_by, join, unite, set_at};
-ghost use Rattle.filterset_language.specs.Recovery.{Keeps, joined, Checked, AtOperand, AtName, NoOperand};
-ghost use Rattle.filterset_language.specs.Outcome.{GivesTree};
+ghost use Rattle.filterset_language.specs.Parsing.Place.{place_of, IsBehind, IsAtOrBehind};
+ghost use Rattle.filterset_language.specs.Parsing.Words.{joiner_at, or_at};
+ghost use Rattle.filterset_language.specs.Parsing.Descent.{boxed_tree, operand_at, and_level_by, or_level_by, join, unite, set_at};
+ghost use Rattle.filterset_language.specs.Parsing.Recovery.{StillStand, GoesOn, EndsBehind, joined, Checked, AtOperand, AtName, NoOperand};
+ghost use Rattle.filterset_language.specs.Parsing.Outcome.{ReadsTree, ReadsSet};
 
-use crate::parsing::leaves::{close, predicate};
-use crate::parsing::operators::{
-    joiner, misplaced_not, misplaced_operator, not_operator, or_operator, predicate_name,
-};
-use crate::parsing::tree::{NotOperator, OrOperator, ParsedExpr, ParsedLeaf};
-use crate::parsing::words::{Joiner, PredicateName};
-use crate::text::{Input, Read};
+use crate::parsing::input::{Input, Read};
+use crate::parsing::misplaced::{find_misplaced, find_misplaced_not};
+use crate::parsing::names::{PredicateName, read_name};
+use crate::parsing::operators::{read_joiner, read_not, read_or};
+use crate::parsing::predicates::{read_close, read_predicate};
+use crate::tree::{Joiner, NotOperator, OrOperator, ParsedExpr, ParsedLeaf};
 use filterset_faults::ParseSingleError;
 use std::alloc::{AllocError, Global};
 
 /// A leaf, a negation or parentheses.
 #[cycle(parser)]
-fn operand<'a>(
+fn read_operand<'a>(
     alloc: Global,
     faults: &mut Vec<ParseSingleError>,
     input: Input<'a>,
 ) -> Result<Read<'a, Box<ParsedExpr>>, AllocError>
     requires { AtOperand input }
-    ensures value { IfOk result (λ r. (n : ℕ) → length input.entry.rest.now ≤ n → GivesTree input.entry.text.now faults.old.items faults.new.items (option_map boxed_tree r.value) (place_of r.rest) (operand_at (suc n) (place_of input.entry))) }
-    ensures stand { IfOk result (λ r. Keeps input.entry.text.now faults.old.items faults.new.items) }
-    ensures behind { IfOk result (λ r. IsAtOrBehind input.entry r.rest) }
+    ensures value { ReadsTree input.entry faults.old faults.new result (λ n. operand_at (suc n)) }
+    ensures stand { StillStand input.entry faults.old faults.new result }
+    ensures behind { EndsBehind input.entry result }
 {
     let start = input.skip_blanks();
-    if let Some((name, rest)) = predicate_name(start) {
-        return set(alloc, faults, name, start, rest);
+    if let Some((name, rest)) = read_name(start) {
+        return read_set(alloc, faults, name, start, rest);
     }
-    if let Some((operator, rest)) = not_operator(start) {
-        let operand = operand(alloc, faults, rest)?;
+    if let Some((operator, rest)) = read_not(start) {
+        let operand = read_operand(alloc, faults, rest)?;
         return Ok(Read {
-            value: negated(alloc, operator, operand.value)?,
-            rest: operand.rest,
+            value: negate(alloc, operator, operand.value)?,
+            end: operand.end,
         });
     }
     if let Some(rest) = start.after("(") {
-        let inner = or_level(alloc, faults, rest)?;
-        let rest = close(faults, inner.rest)?;
+        let inner = read_or_level(alloc, faults, rest)?;
+        let rest = read_close(faults, inner.end)?;
         return Ok(Read {
-            value: in_parens(alloc, inner.value)?,
-            rest,
+            value: enclose(alloc, inner.value)?,
+            end: rest,
         });
     }
     Ok(Read {
         value: None,
-        rest: no_operand(faults, input, start)?,
+        end: report_no_operand(faults, input, start)?,
     })
 }
 
 /// Reports what stands in the place of an operand, and goes on behind it.
 #[inline(never)]
-fn no_operand<'a>(
+fn report_no_operand<'a>(
     faults: &mut Vec<ParseSingleError>,
     input: Input<'a>,
     start: Input<'a>,
@@ -66,24 +65,24 @@ fn no_operand<'a>(
     requires nothing { NoOperand (place_of input) (place_of start) }
     requires start { IsAtOrBehind input start }
     ensures more { IfOk result (λ r. length faults.old.items < length faults.new.items) }
-    ensures stand { IfOk result (λ r. Keeps input.entry.text.now faults.old.items faults.new.items) }
-    ensures behind { IfOk result (λ r. IsAtOrBehind input.entry r) }
+    ensures stand { StillStand input.entry faults.old faults.new result }
+    ensures behind { GoesOn input.entry result }
 {
-    if let Some(found) = misplaced_operator(start) {
+    if let Some(found) = find_misplaced(start) {
         faults.push(ParseSingleError::ExprFoundBinaryOp {
             op: found.op,
             suggest: found.suggest,
-            span: start.up_to(found.rest),
+            span: start.up_to(found.end),
         })?;
-        return Ok(found.rest);
+        return Ok(found.end);
     }
-    if let Some(found) = misplaced_not(start) {
+    if let Some(found) = find_misplaced_not(start) {
         faults.push(ParseSingleError::ExprFoundUnaryOp {
             op: found.op,
             suggest: found.suggest,
-            span: start.up_to(found.rest),
+            span: start.up_to(found.end),
         })?;
-        return Ok(found.rest);
+        return Ok(found.end);
     }
     faults.push(ParseSingleError::ExpectedExpr(input.to_end()))?;
     Ok(input)
@@ -91,60 +90,60 @@ fn no_operand<'a>(
 
 /// Operands of the level of `and`.
 #[cycle(parser)]
-fn and_level<'a>(
+fn read_and_level<'a>(
     alloc: Global,
     faults: &mut Vec<ParseSingleError>,
     input: Input<'a>,
 ) -> Result<Read<'a, Box<ParsedExpr>>, AllocError>
     requires { AtOperand input }
-    ensures value { IfOk result (λ r. (n : ℕ) → length input.entry.rest.now ≤ n → GivesTree input.entry.text.now faults.old.items faults.new.items (option_map boxed_tree r.value) (place_of r.rest) (and_level_by (operand_at (suc n)) (place_of input.entry))) }
-    ensures stand { IfOk result (λ r. Keeps input.entry.text.now faults.old.items faults.new.items) }
-    ensures behind { IfOk result (λ r. IsAtOrBehind input.entry r.rest) }
+    ensures value { ReadsTree input.entry faults.old faults.new result (λ n. and_level_by (operand_at (suc n))) }
+    ensures stand { StillStand input.entry faults.old faults.new result }
+    ensures behind { EndsBehind input.entry result }
 {
-    let mut level = operand(alloc, faults, input)?;
+    let mut level = read_operand(alloc, faults, input)?;
     loop {
-        let start = level.rest.skip_blanks();
-        let Some((joiner, rest)) = joiner(start) else {
+        let start = level.end.skip_blanks();
+        let Some((joiner, rest)) = read_joiner(start) else {
             return Ok(Read {
                 value: level.value,
-                rest: level.rest.before_blanks(start),
+                end: level.end.before_blanks(start),
             });
         };
         check_joiner(faults, joiner, start, rest)?;
-        let right = operand(alloc, faults, rest)?;
+        let right = read_operand(alloc, faults, rest)?;
         level = Read {
-            value: joined(alloc, joiner, level.value, right.value)?,
-            rest: right.rest,
+            value: join(alloc, joiner, level.value, right.value)?,
+            end: right.end,
         };
     }
 }
 
 /// Operands of the level of `or`.
 #[cycle(parser)]
-pub fn or_level<'a>(
+pub fn read_or_level<'a>(
     alloc: Global,
     faults: &mut Vec<ParseSingleError>,
     input: Input<'a>,
 ) -> Result<Read<'a, Box<ParsedExpr>>, AllocError>
     requires { AtOperand input }
-    ensures value { IfOk result (λ r. (n : ℕ) → length input.entry.rest.now ≤ n → GivesTree input.entry.text.now faults.old.items faults.new.items (option_map boxed_tree r.value) (place_of r.rest) (or_level_by (operand_at (suc n)) (place_of input.entry))) }
-    ensures stand { IfOk result (λ r. Keeps input.entry.text.now faults.old.items faults.new.items) }
-    ensures behind { IfOk result (λ r. IsAtOrBehind input.entry r.rest) }
+    ensures value { ReadsTree input.entry faults.old faults.new result (λ n. or_level_by (operand_at (suc n))) }
+    ensures stand { StillStand input.entry faults.old faults.new result }
+    ensures behind { EndsBehind input.entry result }
 {
-    let mut level = and_level(alloc, faults, input)?;
+    let mut level = read_and_level(alloc, faults, input)?;
     loop {
-        let start = level.rest.skip_blanks();
-        let Some((operator, rest)) = or_operator(start) else {
+        let start = level.end.skip_blanks();
+        let Some((operator, rest)) = read_or(start) else {
             return Ok(Read {
                 value: level.value,
-                rest: level.rest.before_blanks(start),
+                end: level.end.before_blanks(start),
             });
         };
         check_or(faults, operator, start, rest)?;
-        let right = and_level(alloc, faults, rest)?;
+        let right = read_and_level(alloc, faults, rest)?;
         level = Read {
-            value: united(alloc, operator, level.value, right.value)?,
-            rest: right.rest,
+            value: unite(alloc, operator, level.value, right.value)?,
+            end: right.end,
         };
     }
 }
@@ -157,10 +156,10 @@ fn check_joiner<'a>(
     start: Input<'a>,
     rest: Input<'a>,
 ) -> Result<(), AllocError>
-    requires stands { Some (option_map joiner_of joiner, place_of rest) ≡ joiner_at (place_of start) }
+    requires stands { Some (joiner, place_of rest) ≡ joiner_at (place_of start) }
     requires behind { IsBehind start rest }
-    ensures value { IfOk result (λ u. Checked (option_map joiner_of joiner) faults.old.items faults.new.items) }
-    ensures stand { IfOk result (λ u. Keeps start.entry.text.now faults.old.items faults.new.items) }
+    ensures value { IfOk result (λ u. Checked joiner faults.old.items faults.new.items) }
+    ensures stand { StillStand start.entry faults.old faults.new result }
 {
     if joiner.is_some() {
         return Ok(());
@@ -180,7 +179,7 @@ fn check_or<'a>(
     requires stands { Some (operator, place_of rest) ≡ or_at (place_of start) }
     requires behind { IsBehind start rest }
     ensures value { IfOk result (λ u. Checked operator faults.old.items faults.new.items) }
-    ensures stand { IfOk result (λ u. Keeps start.entry.text.now faults.old.items faults.new.items) }
+    ensures stand { StillStand start.entry faults.old faults.new result }
 {
     if operator.is_some() {
         return Ok(());
@@ -191,7 +190,7 @@ fn check_or<'a>(
 
 /// A predicate from `start` on, behind its name, as an expression.
 #[inline(never)]
-fn set<'a>(
+fn read_set<'a>(
     alloc: Global,
     faults: &mut Vec<ParseSingleError>,
     name: PredicateName,
@@ -200,14 +199,14 @@ fn set<'a>(
 ) -> Result<Read<'a, Box<ParsedExpr>>, AllocError>
     requires name { AtName name input }
     requires start { IsAtOrBehind start input }
-    ensures value { IfOk result (λ r. GivesTree input.entry.text.now faults.old.items faults.new.items (option_map boxed_tree r.value) (place_of r.rest) (set_at name start.entry.offset (place_of input.entry))) }
-    ensures stand { IfOk result (λ r. Keeps input.entry.text.now faults.old.items faults.new.items) }
-    ensures behind { IfOk result (λ r. IsAtOrBehind input.entry r.rest) }
+    ensures value { ReadsSet input.entry faults.old faults.new result (set_at name start.entry.offset) }
+    ensures stand { StillStand input.entry faults.old faults.new result }
+    ensures behind { EndsBehind input.entry result }
 {
-    let leaf = predicate(alloc, faults, name, start, input)?;
+    let leaf = read_predicate(alloc, faults, name, start, input)?;
     Ok(Read {
         value: leaf_expr(alloc, leaf.value)?,
-        rest: leaf.rest,
+        end: leaf.end,
     })
 }
 
@@ -223,12 +222,13 @@ fn leaf_expr(alloc: Global, leaf: Option<ParsedLeaf>) -> Result<Option<Box<Parse
 
 /// The negation of an operand, where there is one.
 #[inline(never)]
-fn negated(
+fn negate(
     alloc: Global,
     operator: NotOperator,
     operand: Option<Box<ParsedExpr>>,
 ) -> Result<Option<Box<ParsedExpr>>, AllocError>
-    ensures { IfOk result (λ e. option_map boxed_tree e ≡ option_map (λ t. Not operator t) (option_map boxed_tree operand)) }
+    ensures { IfOk result (λ e. option_map boxed_tree e
+        ≡ option_map (λ t. Not operator t) (option_map boxed_tree operand)) }
 {
     match operand {
         Some(operand) => Ok(Some(Box::new(alloc, ParsedExpr::Not(operator, operand))?)),
@@ -238,11 +238,12 @@ fn negated(
 
 /// An expression between parentheses, where there is one.
 #[inline(never)]
-fn in_parens(
+fn enclose(
     alloc: Global,
     inner: Option<Box<ParsedExpr>>,
 ) -> Result<Option<Box<ParsedExpr>>, AllocError>
-    ensures { IfOk result (λ e. option_map boxed_tree e ≡ option_map (λ t. Parens t) (option_map boxed_tree inner)) }
+    ensures { IfOk result (λ e. option_map boxed_tree e
+        ≡ option_map (λ t. Parens t) (option_map boxed_tree inner)) }
 {
     match inner {
         Some(inner) => Ok(Some(Box::new(alloc, ParsedExpr::Parens(inner))?)),
@@ -252,13 +253,14 @@ fn in_parens(
 
 /// Two operands and the operator between them, where all three are there.
 #[inline(never)]
-fn joined(
+fn join(
     alloc: Global,
     joiner: Option<Joiner>,
     left: Option<Box<ParsedExpr>>,
     right: Option<Box<ParsedExpr>>,
 ) -> Result<Option<Box<ParsedExpr>>, AllocError>
-    ensures { IfOk result (λ e. option_map boxed_tree e ≡ joined join (option_map joiner_of joiner) (option_map boxed_tree left) (option_map boxed_tree right)) }
+    ensures { IfOk result (λ e. option_map boxed_tree e
+        ≡ joined join joiner (option_map boxed_tree left) (option_map boxed_tree right)) }
 {
     let Some(joiner) = joiner else {
         return Ok(None);
@@ -278,13 +280,14 @@ fn joined(
 
 /// Two operands of the level of `or` and the operator between them, where all three are there.
 #[inline(never)]
-fn united(
+fn unite(
     alloc: Global,
     operator: Option<OrOperator>,
     left: Option<Box<ParsedExpr>>,
     right: Option<Box<ParsedExpr>>,
 ) -> Result<Option<Box<ParsedExpr>>, AllocError>
-    ensures { IfOk result (λ e. option_map boxed_tree e ≡ joined unite operator (option_map boxed_tree left) (option_map boxed_tree right)) }
+    ensures { IfOk result (λ e. option_map boxed_tree e
+        ≡ joined unite operator (option_map boxed_tree left) (option_map boxed_tree right)) }
 {
     let Some(operator) = operator else {
         return Ok(None);

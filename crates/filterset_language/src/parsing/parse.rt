@@ -3,18 +3,18 @@ ghost use Rattle.std.specs.Prelude.{◌≡◌, ℕ, suc, List, [], ◌∷◌, �
 ghost use Rattle.std.specs.Option.{option_map};
 ghost use Rattle.filterset_language.specs.Tree.{Tree, tree_of};
 ghost use Rattle.filterset_language.specs.Grammar.{Spells};
-ghost use Rattle.filterset_language.specs.Faults.{Stands};
-ghost use Rattle.filterset_language.specs.Parsed.{Reads, Comes, Refuses, SpellsNothing, Stops};
-ghost use Rattle.filterset_language.specs.Descent.{boxed_tree};
-ghost use Rattle.filterset_language.specs.Whole.{Wholly};
+ghost use Rattle.filterset_language.specs.Faults.{FaultStands};
+ghost use Rattle.filterset_language.specs.Parsed.{Reads, Comes, HasRefusedBodies, SpellsNothing, IsRefusalOf};
+ghost use Rattle.filterset_language.specs.Parsing.Descent.{boxed_tree};
+ghost use Rattle.filterset_language.specs.Parsing.Whole.{Wholly};
 ghost use Rattle.filterset_faults.specs.Span.{span, offset_of};
 ghost use Rattle.filterset_faults.specs.declared.span.SourceSpan.{SourceSpan};
 ghost use Rattle.filterset_faults.specs.declared.error.ParseSingleError.{ParseSingleError};
 ghost use Rattle.filterset_faults.specs.declared.error.ParseSingleError.TheVariants.{ExpectedEndOfExpression};
 
-use crate::parsing::expressions::or_level;
-use crate::parsing::tree::ParsedExpr;
-use crate::text::Input;
+use crate::parsing::expressions::read_or_level;
+use crate::parsing::input::Input;
+use crate::tree::ParsedExpr;
 use filterset_faults::ParseSingleError;
 use std::alloc::{AllocError, Global};
 
@@ -55,7 +55,7 @@ impl ParsedExpr {
         // The tree is spelled by the text and its patterns are read, or the text spells none.
         ensures tree { IfOk result (λ tree. Reads input.now (tree_of tree) ⊎ SpellsNothing input.now) }
         // Without a tree there are faults, which all stand; where the text spells a tree, they lie on bodies of it.
-        ensures stop { IfErr result (Stops input.now) }
+        ensures stop { IfErr result (IsRefusalOf input.now) }
     {
         let Parsed { tree, faults } = ParsedExpr::parse_with_faults(alloc, input)?;
         match tree {
@@ -71,44 +71,49 @@ impl ParsedExpr {
     /// of memory.
     pub fn parse_with_faults(alloc: Global, input: &str) -> Result<Parsed, AllocError>
         // Without a fault the tree is one that the text spells, and its patterns are read.
-        ensures clean { IfOk result (λ p. p.faults.items ≡ [] → (e : Tree SourceSpan) × Comes p e × Reads input.now e) }
+        ensures clean { IfOk result (λ p. p.faults.items ≡ []
+            → (e : Tree SourceSpan) × Comes p e × Reads input.now e) }
         // A tree that the text spells comes without a fault, or none comes and each fault lies on a body of the tree.
-        ensures spelled { IfOk result (λ p. (e : Tree SourceSpan) → Spells input.now e → (Comes p e × (p.faults.items ≡ [])) ⊎ Refuses input.now e p) }
+        ensures spelled { IfOk result (λ p. (e : Tree SourceSpan) → Spells input.now e
+            → (Comes p e × (p.faults.items ≡ [])) ⊎ HasRefusedBodies input.now e p) }
         // Every fault stands.
-        ensures stand { IfOk result (λ p. All (Stands input.now) p.faults.items) }
+        ensures stand { IfOk result (λ p. All (FaultStands input.now) p.faults.items) }
         // Where the one fault is that the text goes on behind the expression, what is before spells the tree.
-        ensures front { IfOk result (λ p. (s : SourceSpan) → p.faults.items ≡ ExpectedEndOfExpression s ∷ [] → (e : Tree SourceSpan) × Comes p e × Spells (take (offset_of s) input.now) e) }
+        ensures front { IfOk result (λ p. (s : SourceSpan) → p.faults.items ≡ ExpectedEndOfExpression s ∷ []
+            → (e : Tree SourceSpan) × Comes p e × Spells (take (offset_of s) input.now) e) }
         // That the text goes on behind the expression is said last, and so once at most.
-        ensures last { IfOk result (λ p. (s : SourceSpan) (before behind : List ParseSingleError) → p.faults.items ≡ before ++ ExpectedEndOfExpression s ∷ behind → behind ≡ []) }
+        ensures last { IfOk result (λ p. (s : SourceSpan) (before behind : List ParseSingleError)
+            → p.faults.items ≡ before ++ ExpectedEndOfExpression s ∷ behind → behind ≡ []) }
     {
-        read(alloc, input)
+        read_whole(alloc, input)
     }
 }
 
 /// Reads a text from its start to its end.
-fn read(alloc: Global, text: &str) -> Result<Parsed, AllocError>
+fn read_whole(alloc: Global, text: &str) -> Result<Parsed, AllocError>
     ensures { IfOk result (λ p. Wholly text.now (option_map tree_of p.tree) p.faults.items) }
 {
     let mut faults = Vec::new(alloc);
-    let whole = or_level(alloc, &mut faults, Input::new(text))?;
-    let tree = unboxed(whole.value);
-    if whole.rest.skip_blanks().rest.is_empty() {
+    let whole = read_or_level(alloc, &mut faults, Input::new(text))?;
+    let tree = unbox(whole.value);
+    if whole.end.skip_blanks().rest.is_empty() {
         return Ok(Parsed { tree, faults });
     }
-    goes_on(&mut faults, whole.rest)?;
+    report_rest(&mut faults, whole.end)?;
     Ok(Parsed { tree, faults })
 }
 
 /// Reports that the text goes on at `rest`, behind the expression.
-fn goes_on(faults: &mut Vec<ParseSingleError>, rest: Input<'_>) -> Result<(), AllocError>
-    ensures { IfOk result (λ u. faults.new.items ≡ faults.old.items ++ ExpectedEndOfExpression (span rest.entry.offset (length rest.entry.rest.now)) ∷ []) }
+fn report_rest(faults: &mut Vec<ParseSingleError>, rest: Input<'_>) -> Result<(), AllocError>
+    ensures { IfOk result (λ u. faults.new.items
+        ≡ faults.old.items ++ ExpectedEndOfExpression (span rest.entry.offset (length rest.entry.rest.now)) ∷ []) }
 {
     faults.push(ParseSingleError::ExpectedEndOfExpression(rest.to_end()))?;
     Ok(())
 }
 
 /// The tree, out of its box.
-fn unboxed(tree: Option<Box<ParsedExpr>>) -> Option<ParsedExpr>
+fn unbox(tree: Option<Box<ParsedExpr>>) -> Option<ParsedExpr>
     ensures { option_map tree_of result ≡ option_map boxed_tree tree }
 {
     match tree {

@@ -1,6 +1,6 @@
 //! The leaves of compiled expressions, and what they say of tests.
 ghost use Rattle.std.specs.Prelude.{◌≡◌, ◌↔◌, IfOk, IsTrue};
-ghost use Rattle.nextest_filtering.specs.Expression.{compiled_leaf, is_known_at_runtime, no_groups, HoldsOfTest};
+ghost use Rattle.nextest_filtering.specs.Expression.{compiled_leaf, is_runtime_only, no_groups, HoldsOfTest};
 
 use crate::expression::TestQuery;
 use filterset_faults::SourceSpan;
@@ -11,7 +11,7 @@ use std::collections::BTreeSet;
 
 /// A set of tests that a compiled expression is made of. A span is that of the matcher, or of the platform, in the
 /// text that the leaf was read from.
-#[derive(Debug, Drop, PartialEq, Eq)]
+#[derive(Debug, Drop)]
 pub enum FiltersetLeaf {
     /// The tests of these packages.
     Packages(BTreeSet<PackageId>),
@@ -39,7 +39,7 @@ impl FiltersetLeaf {
     /// Whether what the leaf says of a test may depend on more than the test's binary: true of `Test`, `Group` and
     /// `Default` alone.
     pub fn is_runtime_only(&self) -> bool
-        ensures { result ≡ is_known_at_runtime (compiled_leaf self.now) }
+        ensures { result ≡ is_runtime_only (compiled_leaf self.now) }
     {
         matches!(
             self,

@@ -2,7 +2,7 @@ use Rattle.std.proofs.Common.{rules, ◌≡◌, ◌⊎◌, List, ℕ, [], IfOk, 
 use Rattle.filterset_language.specs.Tree.{Tree, tree_of}
 use Rattle.filterset_language.specs.Grammar.{Spells}
 use Rattle.filterset_language.specs.Printing.{printed}
-use Rattle.filterset_language.specs.Parsed.{Comes, Refuses}
+use Rattle.filterset_language.specs.Parsed.{Comes, HasRefusedBodies}
 use Rattle.filterset_language.specs.declared.parsing.parse.Parsed.{Parsed}
 use Rattle.filterset_faults.specs.declared.span.SourceSpan.{SourceSpan}
 use Rattle.language_tests.specs.ReadingBack.{ComesBack}
@@ -18,8 +18,8 @@ returns g c formed =
     let e = tree_of c.args.expr.now in
     let same : c.as_str.result.now ≡ printed e = search rules in
     from_ok
-    (λ (p : Parsed). (d : Tree SourceSpan) → Spells c.as_str.result.now d → (Comes p d × (p.faults.items ≡ [])) ⊎ Refuses c.as_str.result.now d p)
+    (λ (p : Parsed). (d : Tree SourceSpan) → Spells c.as_str.result.now d → (Comes p d × (p.faults.items ≡ [])) ⊎ HasRefusedBodies c.as_str.result.now d p)
     (ComesBack e)
     c.parse_with_faults.result
     c.parse_with_faults.ensures.spelled
-    (λ p h. (d.0, d.2, subst (λ (t : List ℕ). (Comes p d.0 × (p.faults.items ≡ [])) ⊎ Refuses t d.0 p) same (h d.0 (subst (λ (t : List ℕ). Spells t d.0) (sym same) d.1))))
+    (λ p h. (d.0, d.2, subst (λ (t : List ℕ). (Comes p d.0 × (p.faults.items ≡ [])) ⊎ HasRefusedBodies t d.0 p) same (h d.0 (subst (λ (t : List ℕ). Spells t d.0) (sym same) d.1))))

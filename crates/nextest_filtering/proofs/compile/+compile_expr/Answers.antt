@@ -2,7 +2,8 @@ use Rattle.std.proofs.Common.{List}
 use Rattle.std.proofs.lemmas.Result.{IfOk-weaker}
 use Rattle.filterset_graph.specs.declared.package.PackageMetadata.{PackageMetadata}
 use Rattle.nextest_filtering.specs.Meaning.{IsCompiled}
-use Rattle.filterset_language.specs.Tree.{tree_of, Not, Union, Join, Both, Without}
+use Rattle.filterset_language.specs.Tree.{tree_of, Not, Union, Join}
+use Rattle.filterset_language.specs.declared.tree.Joiner.TheVariants.{Both, Without}
 use Rattle.nextest_filtering.proofs.compile.+compile_expr.Goals as goal
 
 pub returns-in_ok-compile_expr-in-Not : goal.returns-in_ok-compile_expr-in-Not

@@ -1,7 +1,7 @@
 use Rattle.std.proofs.Common.{◌≡◌, length, arith, ap}
 use Rattle.filterset_graph.specs.Packages.{ids}
 use Rattle.filterset_graph.specs.Index.{PlacesAre, AreRows, IsReversed}
-use Rattle.filterset_graph.specs.Refusals.{IsTrueOf}
+use Rattle.filterset_graph.specs.Refusals.{IsRefusalOf}
 use Rattle.filterset_graph.proofs.Paths.{rows_stay_below}
 use Rattle.filterset_graph.proofs.Rows.{PlacesAre-AllDiffer, LinksKnown-from_rows}
 use Rattle.filterset_graph.proofs.Refused.{handed_on, IsTrueOf-from_ids, IsTrueOf-from_links}
@@ -9,12 +9,12 @@ use Rattle.filterset_graph.proofs.graph.PackageGraph.new.Goals as goal
 
 pub returns-in_err-places-clause-refused : goal.returns-in_err-places-clause-refused
 returns-in_err-places-clause-refused c =
-    handed_on c.from_residual.result c.in_err-places.field-0.0 (IsTrueOf c.args.packages.items) c.from_residual.ensures.1
+    handed_on c.from_residual.result c.in_err-places.field-0.0 (IsRefusalOf c.args.packages.items) c.from_residual.ensures.1
     (IsTrueOf-from_ids c.args.packages.items c.in_err-places.field-0.0 (rw c.as_slice.ensures.value at c.in_err-places.ensures.refused))
 
 pub returns-in_err-links-clause-refused : goal.returns-in_err-links-clause-refused
 returns-in_err-links-clause-refused c =
-    handed_on c.from_residual-in_err-links.result c.in_err-links.field-0.0 (IsTrueOf c.args.packages.items) c.from_residual-in_err-links.ensures.1
+    handed_on c.from_residual-in_err-links.result c.in_err-links.field-0.0 (IsRefusalOf c.args.packages.items) c.from_residual-in_err-links.ensures.1
     (IsTrueOf-from_links c.in_ok-places.places c.args.packages.items c.in_err-links.field-0.0 (rw c.as_slice.ensures.value at c.in_ok-places.ensures.ok) (rw c.as_slice-2.ensures.value at c.in_err-links.ensures.refused))
 
 pub reversed-requires : goal.reversed-requires

@@ -1,13 +1,11 @@
 use Rattle.std.proofs.Common.{◌≡◌, Option, Some, None, ap, ◌∙◌, sym}
-use Rattle.filterset_language.specs.Place.{place_of}
-use Rattle.filterset_language.specs.Reading.{joiner_of}
+use Rattle.filterset_language.specs.Parsing.Place.{place_of}
 use Rattle.filterset_language.specs.Tree as tree
-use Rattle.std.specs.Option.{option_map}
 use Rattle.filterset_language.proofs.Recovering.{reported, option_none}
-use Rattle.filterset_language.proofs.Standing.{and_found}
+use Rattle.filterset_language.proofs.FaultsStand.{and_found}
 use Rattle.filterset_language.proofs.parsing.expressions.check_joiner.Goals as goal
 
 pub returns-clause-stand : goal.returns-clause-stand
 returns-clause-stand c =
-    let none : option_map joiner_of c.args.joiner ≡ None = ap (option_map joiner_of) (option_none c.args.joiner (sym c.is_some.ensures ∙ c.if-is_some.false)) in
+    let none : c.args.joiner ≡ None = option_none c.args.joiner (sym c.is_some.ensures ∙ c.if-is_some.false) in
     reported _ _ _ _ c.in_ok-push.ensures.items (rw c.up_to.ensures (and_found c.args.start c.args.rest (ap (λ (o : Option tree.Joiner). Some (o, place_of c.args.rest)) (sym none) ∙ c.requires.stands) c.requires.behind))

@@ -1,0 +1,390 @@
+-- A predicate that is read is spelled so.
+use Rattle.std.proofs.Common.{◌≡◌, ◌≢◌, ℕ, suc, ◌+◌, ◌<◌, Bool, true, false, cond, List, [], ◌∷◌, ◌++◌, length, take, Option, Some, None, refl, sym, ap, ◌∙◌, subst, arith, append_assoc, length-append, length-take, ⊎_elim}
+use Rattle.std.specs.Prelude.{codes, chars, Result, Ok, Err}
+use Rattle.std.specs.Option.{option_map}
+use Rattle.std.proofs.lemmas.List.{take-append-drop, nil_from_length}
+use Rattle.filterset_faults.specs.Span.{span}
+use Rattle.filterset_faults.specs.declared.span.SourceSpan.{SourceSpan}
+use Rattle.filterset_glob.specs.Grammar.{GlobText}
+use Rattle.filterset_glob.specs.Reading.{reading}
+use Rattle.filterset_glob.specs.Tokens.{Tokens}
+use Rattle.filterset_glob.specs.declared.fault.GlobConstructError.{GlobConstructError}
+use Rattle.filterset_glob.proofs.ReadIsSpelled.{glob_of_reading}
+use Rattle.filterset_graph.specs.declared.package.BuildPlatform.{BuildPlatform}
+use Rattle.filterset_language.specs.Text.{Blanks, Spelled, WhiteSpace}
+use Rattle.filterset_language.specs.Parsing.Front.{blank_len, close_len, is_white}
+use Rattle.filterset_language.specs.Parsing.Place.{Place, place, skip, after, behind, advanced}
+use Rattle.filterset_language.specs.Parsing.RawTexts.{raw_at, body_at, TextTaken}
+use Rattle.filterset_language.specs.Parsing.Globs.{glob_by, glob_in}
+use Rattle.filterset_language.specs.Platforms.{Names}
+use Rattle.filterset_language.specs.Parsing.PlatformNames.{platform_in}
+use Rattle.filterset_language.specs.Parsing.Words.{name_text}
+use Rattle.filterset_matchers.specs.Matcher.{Matcher, Equal, Contains, Glob, Regex}
+use Rattle.filterset_language.specs.Tree as tree
+use Rattle.filterset_language.specs.Tree.{Leaf, Predicate, Kind, Test, Matching, Platform, Default}
+use Rattle.filterset_language.specs.Faults.{EndsText}
+use Rattle.filterset_language.specs.Grammar.{Name, own_matching, matching_sign, Matches, begins_plainly, MatcherText, BehindMatcher, Call, LeafText}
+use Rattle.filterset_language.specs.Grammar as grammar
+use Rattle.filterset_language.specs.declared.tree.predicate.TextMatching.{TextMatching}
+use Rattle.filterset_language.specs.declared.tree.predicate.TextMatching.TheVariants as ways
+use Rattle.filterset_language.specs.declared.parsing.names.PredicateName.{PredicateName}
+use Rattle.filterset_language.specs.declared.parsing.names.PredicateName.TheVariants as names
+use Rattle.filterset_language.specs.Parsing.Descent.{◌>>=◌, regex_at, signed_or, made, signed_text, text_matcher_at, matcher_at, between, matching_at, platform_at, bare_end_at, bare_at, default_at, argument_at, leaf_at}
+use Rattle.filterset_language.proofs.Places.{behind_some, one_blank, one_newline, skip_stop}
+use Rattle.filterset_language.proofs.White.{white_from}
+use Rattle.filterset_language.proofs.Closing.{close_within, ends_stop}
+use Rattle.filterset_language.proofs.Sizes.{span_same}
+use Rattle.filterset_language.proofs.RawTexts.{text_takes}
+use Rattle.filterset_language.proofs.BodyReading.{regex_takes}
+use Rattle.filterset_language.proofs.Trimming.{platform_takes}
+use Rattle.filterset_language.proofs.PlatformArguments.{names_before, with_blanks}
+use Rattle.filterset_language.proofs.Takes.{bind_is, choose_is, is_some, Takes, Takes-then, skip_takes, after_takes}
+
+-- ---- what ends a text
+
+-- behind a text no blank is skipped
+none_skipped : (q : Place) → EndsText q.rest → skip q ≡ q
+none_skipped q ends = skip_stop q.at q.rest (ends_stop q.rest ends)
+
+-- so a closing parenthesis stands right behind it
+close_takes : (p q : Place) → EndsText p.rest → after (codes ")") (skip p) ≡ Some q → Takes p (codes ")") q
+close_takes p q ends e = after_takes (codes ")") p q (ap (after (codes ")")) (sym (none_skipped p ends)) ∙ e)
+
+no_blanks : (q : Place) (t : List ℕ) → EndsText q.rest → Takes q t (skip q) → t ≡ []
+no_blanks q t ends takes =
+    let at : (skip q).at ≡ q.at = ap (λ (p : Place). p.at) (none_skipped q ends) in
+    nil_from_length t (omega (arith, takes.offset))
+
+not_empty : (t : List ℕ) → 0 < length t → t ≢ []
+not_empty [] lt e = absurd (omega arith)
+not_empty (b ∷ t) lt e = cc
+
+-- ---- what a matcher without a sign begins with
+
+not_front : (c b : ℕ) (p : Place) (r : List ℕ) → p.rest ≡ b ∷ r → after (c ∷ []) p ≡ None → b ≢ c
+not_front c b p r is none e =
+    let h : behind (c ∷ []) p.rest ≡ Some r = behind_some (c ∷ []) p.rest r (is ∙ ap (λ (x : ℕ). x ∷ r) e) in
+    let f : after (c ∷ []) p ≡ Some (place (p.at + 1) r) = ap (option_map (λ (t : List ℕ). place (p.at + 1) t)) h in
+    let g : None ≡ Some (place (p.at + 1) r) = sym none ∙ f in
+    cc
+
+not_blank : (b : ℕ) (r : List ℕ) → blank_len (b ∷ r) ≡ 0 → (b ≢ 32) × (b ≢ 10) × (b ≡ 13 → (u : List ℕ) → r ≢ 10 ∷ u)
+not_blank b r e = (
+  λ is. let f : blank_len (b ∷ r) ≡ 1 = ap (λ (x : ℕ). blank_len (x ∷ r)) is ∙ one_blank r in absurd (omega arith),
+  λ is. let f : blank_len (b ∷ r) ≡ 1 = ap (λ (x : ℕ). blank_len (x ∷ r)) is ∙ one_newline r in absurd (omega arith),
+  λ is u also. let f : blank_len (b ∷ r) ≡ 2 = ap (λ (x : ℕ). blank_len (x ∷ r)) is ∙ ap (λ (x : List ℕ). blank_len (13 ∷ x)) also in absurd (omega arith),
+)
+
+-- neither a blank nor a sign stands at the place
+record Unsigned (p : Place) : Type 0 where
+  stop : blank_len p.rest ≡ 0
+  no_slash : after (codes "/") p ≡ None
+  no_hash : after (codes "#") p ≡ None
+  no_equal : after (codes "=") p ≡ None
+  no_tilde : after (codes "~") p ≡ None
+
+plainly : (p q : Place) (raw : List ℕ) → Unsigned p → Takes p raw q → begins_plainly raw
+plainly p q raw unsigned takes b t is =
+    let front : p.rest ≡ b ∷ (t ++ q.rest) = takes.parts ∙ ap (λ (w : List ℕ). w ++ q.rest) is in
+    let n = not_blank b (t ++ q.rest) (ap blank_len (sym front) ∙ unsigned.stop) in (
+      n.0,
+      n.1,
+      not_front 47 b p _ front unsigned.no_slash,
+      not_front 35 b p _ front unsigned.no_hash,
+      not_front 61 b p _ front unsigned.no_equal,
+      not_front 126 b p _ front unsigned.no_tilde,
+      λ return u also. n.2 return (u ++ q.rest) (ap (λ (w : List ℕ). w ++ q.rest) also),
+    )
+
+-- ---- what is made of a value
+
+-- a glob of the value, as a matcher
+abbrev IsGlob : List ℕ → Bool → Matcher → Type 0
+IsGlob value implicit m = (tokens : Tokens) × GlobText (chars value) tokens × (m ≡ Glob value tokens implicit)
+
+glob_takes : (value : List ℕ) (implicit : Bool) (m : Matcher) → glob_in value implicit ≡ Some m → IsGlob value implicit m
+glob_takes value implicit m e = from (reading (chars value)) refl e
+  where
+    from : (r : Result Tokens GlobConstructError) → reading (chars value) ≡ r → glob_by r value implicit ≡ Some m → IsGlob value implicit m
+    from (Ok tokens) h e = (tokens, glob_of_reading (chars value) tokens h, sym (is_some _ m e))
+    from (Err fault) h e = absurd cc
+
+-- what is made of a value matches by it
+made_matches : (how : TextMatching) (implicit : Bool) (value : List ℕ) (m : Matcher) → made (how, implicit) value ≡ Some m → Matches how value implicit m
+made_matches ways.Equal implicit value m e = sym (is_some _ m e)
+made_matches ways.Contains implicit value m e = sym (is_some _ m e)
+made_matches ways.Glob implicit value m e = glob_takes value implicit m e
+
+-- it is no regular expression
+made_short : (how : TextMatching) (implicit : Bool) (value : List ℕ) (m : Matcher) → made (how, implicit) value ≡ Some m → BehindMatcher m []
+made_short ways.Glob implicit value m e =
+    let g = glob_takes value implicit m e in
+    subst (λ (x : Matcher). BehindMatcher x []) (sym g.2) refl
+made_short ways.Equal implicit value m e = subst (λ (x : Matcher). BehindMatcher x []) (is_some (Equal value implicit) m e) refl
+made_short ways.Contains implicit value m e = subst (λ (x : Matcher). BehindMatcher x []) (is_some (Contains value implicit) m e) refl
+
+-- ---- matchers
+
+-- a matcher that is read: its text, and what the blanks behind it may be
+record MatcherTaken (predicate : Predicate) (p : Place) (m : Matcher) (q : Place) : Type 0 where
+  raw : List ℕ
+  takes : Takes p raw q
+  text : MatcherText predicate raw m
+  behind : (t : List ℕ) → Blanks t → Takes q t (skip q) → BehindMatcher m t
+
+regex_matcher_takes : (predicate : Predicate) (p i : Place) (x : Matcher × Place) → Takes p (codes "/") i → regex_at i ≡ Some x → MatcherTaken predicate p x.0 x.1
+regex_matcher_takes predicate p i x slash e =
+    let b = bind_is (body_at i) (λ y. Some (Regex y.0.0, y.1)) x e in
+    let pattern = b.0.0.0 in
+    let q = b.0.1 in
+    let t = regex_takes i pattern b.0.0.1 q b.1 in
+    let body : Takes i (t.body ++ 47 ∷ []) q = record { parts = t.parts ∙ sym (append_assoc t.body (47 ∷ []) q.rest); offset = omega (arith, t.offset, length-append t.body (47 ∷ [])) } in
+    let is : MatcherTaken predicate p (Regex pattern) q = record {
+      raw = 47 ∷ (t.body ++ 47 ∷ []);
+      takes = Takes-then p i q (codes "/") (t.body ++ 47 ∷ []) slash body;
+      text = grammar.regex t.body t.is refl;
+      behind = λ blanks are takes. are;
+    } in
+    subst (λ (y : Matcher × Place). MatcherTaken predicate p y.0 y.1) (is_some (Regex pattern, q) x b.2) is
+
+-- a text that is read, and the matcher that is made of its value
+record Made (how : TextMatching) (implicit : Bool) (p : Place) (m : Matcher) (q : Place) : Type 0 where
+  value : List ℕ
+  text : TextTaken p value q
+  is : made (how, implicit) value ≡ Some m
+
+made_is : (how : TextMatching) (implicit : Bool) (p : Place) (x : Matcher × Place) → signed_text ((how, implicit), p) ≡ Some x → Made how implicit p x.0 x.1
+made_is how implicit p x e =
+    let b = bind_is (raw_at p) (λ y. made (how, implicit) y.0 >>= λ m. Some (m, y.1)) x e in
+    let c = bind_is (made (how, implicit) b.0.0) (λ m. Some (m, b.0.1)) x b.2 in
+    subst (λ (y : Matcher × Place). Made how implicit p y.0 y.1) (is_some (c.0, b.0.1) x c.2) (record { value = b.0.0; text = text_takes p b.0.0 b.0.1 b.1; is = c.1 })
+
+text_behind : {how : TextMatching} {implicit : Bool} {p : Place} {m : Matcher} {q : Place} → Made how implicit p m q → (t : List ℕ) → Takes q t (skip q) → BehindMatcher m t
+text_behind {how} {implicit} {p} {m} {q} is t takes = subst (BehindMatcher m) (sym (no_blanks q t is.text.ends takes)) (made_short how implicit is.value m is.is)
+
+raw_takes : {p : Place} {value : List ℕ} {q : Place} (t : TextTaken p value q) → Takes p t.spelled.raw q
+raw_takes t = record { parts = t.spelled.parts; offset = t.spelled.offset }
+
+signed_takes : (predicate : Predicate) (how : TextMatching) (p i : Place) (x : Matcher × Place) → Takes p (matching_sign how ∷ []) i → signed_text ((how, false), i) ≡ Some x → MatcherTaken predicate p x.0 x.1
+signed_takes predicate how p i x front e =
+    let is = made_is how false i x e in
+    let t = is.text.spelled in
+    record {
+      raw = matching_sign how ∷ t.raw;
+      takes = Takes-then p i x.1 (matching_sign how ∷ []) t.raw front (raw_takes is.text);
+      text = grammar.signed how is.value t.spelled (not_empty t.raw is.text.some) (made_matches how false is.value x.0 is.is);
+      behind = λ blanks are takes. text_behind is blanks takes;
+    }
+
+implicit_takes : (predicate : Predicate) (p : Place) (x : Matcher × Place) → Unsigned p → signed_text ((own_matching predicate, true), p) ≡ Some x → MatcherTaken predicate p x.0 x.1
+implicit_takes predicate p x unsigned e =
+    let is = made_is (own_matching predicate) true p x e in
+    let t = is.text.spelled in
+    let takes = raw_takes is.text in
+    record {
+      raw = t.raw;
+      takes = takes;
+      text = grammar.implicit is.value t.spelled (not_empty t.raw is.text.some) (plainly p x.1 t.raw unsigned takes) (made_matches (own_matching predicate) true is.value x.0 is.is);
+      behind = λ blanks are takes. text_behind is blanks takes;
+    }
+
+-- a sign that stands there, or the other
+by_sign : (Is : (TextMatching × Bool) × Place → Type 0) (o : Option Place) (how : TextMatching) (other : (TextMatching × Bool) × Place)
+    → ((q : Place) → o ≡ Some q → Is ((how, false), q)) → (o ≡ None → Is other) → Is (signed_or o how other)
+by_sign Is (Some q) how other with_sign without = with_sign q refl
+by_sign Is None how other with_sign without = without refl
+
+matcher_takes : (predicate : Predicate) (p : Place) (x : Matcher × Place) → blank_len p.rest ≡ 0 → matcher_at predicate p ≡ Some x → MatcherTaken predicate p x.0 x.1
+matcher_takes predicate p x stop e =
+    ⊎_elim
+    (λ a. regex_matcher_takes predicate p a.0 x (after_takes (codes "/") p a.0 a.1) a.2)
+    (λ b. by_sign Is (after (codes "#") p) ways.Glob _ (λ q a. signed_takes predicate ways.Glob p q x (after_takes (codes "#") p q a))
+    (λ no_hash. by_sign Is (after (codes "=") p) ways.Equal _ (λ q a. signed_takes predicate ways.Equal p q x (after_takes (codes "=") p q a))
+    (λ no_equal. by_sign Is (after (codes "~") p) ways.Contains _ (λ q a. signed_takes predicate ways.Contains p q x (after_takes (codes "~") p q a))
+    (λ no_tilde. implicit_takes predicate p x (record { stop = stop; no_slash = b.0; no_hash = no_hash; no_equal = no_equal; no_tilde = no_tilde }))))
+    b.1)
+    (choose_is (after (codes "/") p) regex_at (text_matcher_at predicate p) x e)
+  where
+    Is : (TextMatching × Bool) × Place → Type 0
+    Is s = signed_text s ≡ Some x → MatcherTaken predicate p x.0 x.1
+
+-- ---- calls
+
+-- a name, blanks and an opening parenthesis
+record Opened (name : List ℕ) (s i : Place) : Type 0 where
+  blanks : List ℕ
+  are : Blanks blanks
+  parts : s.rest ≡ name ++ (blanks ++ (40 ∷ i.rest))
+  offset : i.at ≡ s.at + length name + length blanks + 1
+
+opened_takes : (name : List ℕ) (s q i : Place) → Takes s name q → after (codes "(") (skip q) ≡ Some i → Opened name s i
+opened_takes name s q i word e =
+    let k = skip_takes q.rest q.at in
+    let o = after_takes (codes "(") (skip q) i e in
+    record {
+      blanks = k.blanks;
+      are = k.are;
+      parts = word.parts ∙ ap (λ (t : List ℕ). name ++ t) (k.takes.parts ∙ ap (λ (t : List ℕ). k.blanks ++ t) o.parts);
+      offset = omega (arith, word.offset, k.takes.offset, o.offset);
+    }
+
+-- a name and an argument between parentheses
+record CallTaken (name argument : List ℕ) (s : Place) (inside : ℕ) (q : Place) : Type 0 where
+  own : List ℕ
+  takes : Takes s own q
+  call : Call name argument own s.at inside
+
+call_takes : (name argument : List ℕ) (s i j q : Place) → Opened name s i → Takes i argument j → Takes j (codes ")") q → CallTaken name argument s i.at q
+call_takes name argument s i j q o a close =
+    let inner = Takes-then i j q argument (41 ∷ []) a close in
+    let own : List ℕ = name ++ (o.blanks ++ (40 ∷ (argument ++ 41 ∷ []))) in
+    let whole : s.rest ≡ own ++ q.rest = o.parts ∙ ap (λ (t : List ℕ). name ++ (o.blanks ++ (40 ∷ t))) inner.parts ∙ simp append_assoc in
+    let size : length own ≡ length name + (length o.blanks + suc (length (argument ++ 41 ∷ []))) = simp length-append in
+    record {
+      own = own;
+      takes = record { parts = whole; offset = omega (arith, o.offset, inner.offset) };
+      call = record { blanks = o.blanks; are_blanks = o.are; text = refl; offset = o.offset };
+    }
+
+-- ---- predicates
+
+-- a predicate that is read
+pub record LeafTaken (s : Place) (l : Leaf SourceSpan) (q : Place) : Type 0 where
+  pub own : List ℕ
+  pub takes : Takes s own q
+  pub text : LeafText own s.at l
+
+-- the predicate and the place, as they were read
+leaf_is : (s : Place) (l : Leaf SourceSpan) (q : Place) (x : Leaf SourceSpan × Place) → Some (l, q) ≡ Some x → LeafTaken s l q → LeafTaken s x.0 x.1
+leaf_is s l q x e taken = subst (λ (y : Leaf SourceSpan × Place). LeafTaken s y.0 y.1) (is_some (l, q) x e) taken
+
+matching_call_takes : (p : Predicate) (m : Matcher) (s i j r : Place) → Opened (Name p) s i → matcher_at p (skip i) ≡ Some (m, j) → after (codes ")") (skip j) ≡ Some r → LeafTaken s (Matching p m (between i.at j.at)) r
+matching_call_takes p m s i j r o e close =
+    let before = skip_takes i.rest i.at in
+    let t = matcher_takes p (skip i) (m, j) before.stop e in
+    let behind = skip_takes j.rest j.at in
+    let argument = before.blanks ++ (t.raw ++ behind.blanks) in
+    let inside = Takes-then i (skip i) (skip j) before.blanks (t.raw ++ behind.blanks) before.takes (Takes-then (skip i) j (skip j) t.raw behind.blanks t.takes behind.takes) in
+    let call = call_takes (Name p) argument s i (skip j) r o inside (after_takes (codes ")") (skip j) r close) in
+    let s_is : between i.at j.at ≡ span i.at (length before.blanks + length t.raw) = span_same i.at (length before.blanks + length t.raw) j.at (omega (arith, before.takes.offset, t.takes.offset)) in
+    record {
+      own = call.own;
+      takes = call.takes;
+      text = grammar.matching {t = call.own} i.at before.blanks t.raw behind.blanks call.call before.are t.text (t.behind behind.blanks behind.are behind.takes) s_is;
+    }
+
+matching_takes : (p : Predicate) (s i : Place) (x : Leaf SourceSpan × Place) → Opened (Name p) s i → matching_at p i ≡ Some x → LeafTaken s x.0 x.1
+matching_takes p s i x o e =
+    let b = bind_is (matcher_at p (skip i)) (λ y. after (codes ")") (skip y.1) >>= λ r. Some (Matching p y.0 (between i.at y.1.at), r)) x e in
+    let m = b.0.0 in
+    let j = b.0.1 in
+    let c = bind_is (after (codes ")") (skip j)) (λ r. Some (Matching p m (between i.at j.at), r)) x b.2 in
+    leaf_is s (Matching p m (between i.at j.at)) c.0 x c.2 (matching_call_takes p m s i j c.0 o b.1 c.1)
+
+-- the argument of `platform`, with the blanks before it
+record PlatformTaken (i : Place) (q : BuildPlatform) (j : Place) : Type 0 where
+  raw : List ℕ
+  takes : Takes i raw j
+  value : List ℕ
+  spelled : Spelled raw value
+  names : Names value q
+  ends : EndsText j.rest
+
+platform_text_takes : (i j : Place) (value : List ℕ) (q : BuildPlatform) → raw_at (skip i) ≡ Some (value, j) → platform_in value ≡ Some q → PlatformTaken i q j
+platform_text_takes i j value q e is =
+    let k = skip_takes i.rest i.at in
+    let read = text_takes (skip i) value j e in
+    let t = with_blanks i (skip i) j value k.are k.takes read.spelled in
+    record {
+      raw = t.raw;
+      takes = record { parts = t.parts; offset = t.offset };
+      value = k.blanks ++ value;
+      spelled = t.spelled;
+      names = names_before k.are value q (platform_takes value q is);
+      ends = read.ends;
+    }
+
+platform_call_takes : (s i j r : Place) (q : BuildPlatform) → Opened (codes "platform") s i → PlatformTaken i q j → after (codes ")") (skip j) ≡ Some r → LeafTaken s (Platform q (between i.at j.at)) r
+platform_call_takes s i j r q o t e =
+    let call = call_takes (codes "platform") t.raw s i j r o t.takes (close_takes j r t.ends e) in
+    let s_is : between i.at j.at ≡ span i.at (length t.raw) = span_same i.at (length t.raw) j.at (sym t.takes.offset) in
+    record {
+      own = call.own;
+      takes = call.takes;
+      text = grammar.platform {t = call.own} i.at t.raw t.value call.call t.spelled t.names s_is;
+    }
+
+platform_leaf_takes : (s i : Place) (x : Leaf SourceSpan × Place) → Opened (codes "platform") s i → platform_at i ≡ Some x → LeafTaken s x.0 x.1
+platform_leaf_takes s i x o e =
+    let b = bind_is (raw_at (skip i)) (λ y. after (codes ")") (skip y.1) >>= λ r. platform_in y.0 >>= λ q. Some (Platform q (between i.at y.1.at), r)) x e in
+    let j = b.0.1 in
+    let c = bind_is (after (codes ")") (skip j)) (λ r. platform_in b.0.0 >>= λ q. Some (Platform q (between i.at j.at), r)) x b.2 in
+    let d = bind_is (platform_in b.0.0) (λ q. Some (Platform q (between i.at j.at), c.0)) x c.2 in
+    leaf_is s (Platform d.0 (between i.at j.at)) c.0 x d.2 (platform_call_takes s i j c.0 d.0 o (platform_text_takes i j b.0.0 d.0 b.1 d.1) c.1)
+
+-- white space and a closing parenthesis
+record WhiteTaken (p q : Place) : Type 0 where
+  white : List ℕ
+  are : WhiteSpace white
+  middle : Place
+  takes : Takes p white middle
+  close : Takes middle (codes ")") q
+
+bare_end_takes : (p q : Place) → bare_end_at p ≡ Some q → WhiteTaken p q
+bare_end_takes p q e = from (is_white (take (close_len p.rest) p.rest)) refl e
+  where
+    from : (v : Bool) → is_white (take (close_len p.rest) p.rest) ≡ v → cond v (after (codes ")") (advanced (close_len p.rest) p)) None ≡ Some q → WhiteTaken p q
+    from false h e = absurd cc
+    from true h e =
+        let n = close_len p.rest in
+        let len : length (take n p.rest) ≡ n = omega (arith, length-take n p.rest, close_within p.rest) in
+        record {
+          white = take n p.rest;
+          are = white_from (take n p.rest) h;
+          middle = advanced n p;
+          takes = record { parts = sym (take-append-drop n p.rest); offset = omega arith };
+          close = after_takes (codes ")") (advanced n p) q e;
+        }
+
+-- a name and white space between parentheses
+record BareTaken (name : List ℕ) (s : Place) (inside : ℕ) (q : Place) : Type 0 where
+  white : List ℕ
+  are : WhiteSpace white
+  taken : CallTaken name white s inside q
+
+bare_takes : (name : List ℕ) (s i q : Place) → Opened name s i → bare_end_at i ≡ Some q → BareTaken name s i.at q
+bare_takes name s i q o e =
+    let w = bare_end_takes i q e in
+    record { white = w.white; are = w.are; taken = call_takes name w.white s i w.middle q o w.takes w.close }
+
+default_takes : (s i : Place) (x : Leaf SourceSpan × Place) → Opened (codes "default") s i → default_at s.at i ≡ Some x → LeafTaken s x.0 x.1
+default_takes s i x o e =
+    let b = bind_is (bare_end_at i) (λ r. Some (Default (between s.at r.at), r)) x e in
+    let t = bare_takes (codes "default") s i b.0 o b.1 in
+    let own = t.taken.own in
+    let is : LeafTaken s (Default (between s.at b.0.at)) b.0 = record {
+      own = own;
+      takes = t.taken.takes;
+      text = grammar.default {t = own} i.at t.white t.taken.call t.are (span_same s.at (length own) b.0.at (sym t.taken.takes.offset));
+    } in
+    leaf_is s (Default (between s.at b.0.at)) b.0 x b.2 is
+
+bare_leaf_takes : (name : List ℕ) (l : Leaf SourceSpan) (s i : Place) (x : Leaf SourceSpan × Place) → Opened name s i
+    → ((own white : List ℕ) → Call name white own s.at i.at → WhiteSpace white → LeafText own s.at l) → bare_at l i ≡ Some x → LeafTaken s x.0 x.1
+bare_leaf_takes name l s i x o text e =
+    let b = bind_is (bare_end_at i) (λ r. Some (l, r)) x e in
+    let t = bare_takes name s i b.0 o b.1 in
+    leaf_is s l b.0 x b.2 (record { own = t.taken.own; takes = t.taken.takes; text = text t.taken.own t.white t.taken.call t.are })
+
+argument_takes : (n : PredicateName) (s i : Place) (x : Leaf SourceSpan × Place) → Opened (name_text n) s i → argument_at n s.at i ≡ Some x → LeafTaken s x.0 x.1
+argument_takes (names.Matching name) s i x o e = matching_takes name s i x o e
+argument_takes names.Platform s i x o e = platform_leaf_takes s i x o e
+argument_takes names.Default s i x o e = default_takes s i x o e
+argument_takes names.All s i x o e = bare_leaf_takes (codes "all") tree.All s i x o (λ own white call are. grammar.all i.at white call are) e
+argument_takes names.None s i x o e = bare_leaf_takes (codes "none") tree.None s i x o (λ own white call are. grammar.none i.at white call are) e
+
+-- what stands behind a name that was read
+pub leaf_takes : (s : Place) (n : PredicateName) (q : Place) (x : Leaf SourceSpan × Place) → Takes s (name_text n) q → leaf_at n s.at q ≡ Some x → LeafTaken s x.0 x.1
+leaf_takes s n q x word e =
+    let b = bind_is (after (codes "(") (skip q)) (λ i. argument_at n s.at i) x e in
+    argument_takes n s b.0 x (opened_takes (name_text n) s q b.0 word b.1) b.2

@@ -1,0 +1,23 @@
+use Rattle.std.proofs.Common.{◌≡◌, ◌∙◌, drop, sym, ap, subst}
+use Rattle.filterset_language.specs.Parsing.Front.{close_len}
+use Rattle.filterset_language.specs.Parsing.Place.{Place}
+use Rattle.filterset_language.specs.Parsing.RawTexts.{body_len}
+use Rattle.filterset_language.specs.Faults.{ClosesArgument}
+use Rattle.filterset_language.proofs.BodyReading.{body_boundary, body_taken}
+use Rattle.filterset_language.proofs.Closing.{close_behind}
+use Rattle.filterset_language.proofs.Recovering.{reported, keeps_along}
+use Rattle.filterset_language.proofs.RawTextFaults.{unclosed_found}
+use Rattle.filterset_language.proofs.parsing.regex_body.read_regex_body.Goals as goal
+
+pub advance-slash-requires-clause-boundary : goal.advance-slash-requires-clause-boundary
+advance-slash-requires-clause-boundary c = body_boundary _ _ (c.body_len-count.ensures.value ∙ ap (body_len 0) c.as_bytes.ensures.value)
+
+pub returns-in_ok-push-in-None-clause-stand : goal.returns-in_ok-push-in-None-clause-stand
+returns-in_ok-push-in-None-clause-stand c =
+    let rest : c.next_close-end.result.rest.now ≡ drop (close_len c.args.input.rest.now) c.args.input.rest.now = ap (λ (p : Place). p.rest) c.next_close-end.ensures.value in
+    let closes : ClosesArgument c.next_close-end.result.rest.now = subst ClosesArgument (sym rest) (close_behind c.args.input.rest.now) in
+    keeps_along _ _ _ _ c.next_close-end.ensures.behind.text (reported _ _ _ _ c.in_ok-push-in-None.ensures.items (rw c.here.ensures (unclosed_found c.next_close-end.result closes)))
+
+pub returns-in_ok-pattern-in-Some-clause-taken : goal.returns-in_ok-pattern-in-Some-clause-taken
+returns-in_ok-pattern-in-Some-clause-taken c =
+    body_taken c.args.input c.advance-slash.result c.in-Some.end _ _ _ _ (c.body_len-count.ensures.value ∙ ap (body_len 0) c.as_bytes.ensures.value) c.advance-slash.ensures.value c.in-Some.ensures.value c.range.ensures.value c.in_ok-pattern-in-Some.ensures c.up_to.ensures

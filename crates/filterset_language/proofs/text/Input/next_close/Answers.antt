@@ -1,7 +1,0 @@
-use Rattle.std.proofs.Common.{ap, ◌∙◌}
-use Rattle.filterset_language.specs.Front.{close_len}
-use Rattle.filterset_language.proofs.Closing.{close_boundary}
-use Rattle.filterset_language.proofs.text.Input.next_close.Goals as goal
-
-pub advance-requires-clause-boundary : goal.advance-requires-clause-boundary
-advance-requires-clause-boundary c = close_boundary _ _ (c.close_len.ensures.value ∙ ap close_len c.as_bytes.ensures.value)

@@ -1,6 +1,0 @@
-use Rattle.std.proofs.Common.{◌≡◌, ◌+◌, drop}
-use Rattle.filterset_language.specs.RawReading.{plain_len}
-use Rattle.filterset_language.proofs.text.raw.plain_len.Given as goal
-
-abbrev pub invariant-loop-i : goal.invariant-loop-i
-invariant-loop-i l = l.i + plain_len (drop l.i l.text) ≡ plain_len l.text

@@ -1,0 +1,16 @@
+use Rattle.std.proofs.Common.{◌≡◌, refl, sym, ◌∙◌, true, false}
+use Rattle.std.proofs.lemmas.List.{append-nil, map-append}
+use Rattle.filterset_language.specs.Tree.{leaf_of}
+use Rattle.filterset_language.proofs.tree.leaves.+add_leaves.Goals as goal
+
+pub returns-in_ok-push-in-Set : goal.returns-in_ok-push-in-Set
+returns-in_ok-push-in-Set g t c = λ kept computes.
+    let answer : c.keep.result ≡ kept (leaf_of c.in-Set.leaf) = computes c.in-Set.leaf c.keep.result (record { shown = _; shows = refl; says = record { met = c.keep.ensures } }) in
+    let is : kept (leaf_of c.in-Set.leaf) ≡ true = sym answer ∙ c.if-keep.true in
+    rw (c.in-Set.is, is, c.in_ok-push-in-Set.ensures.items) (map-append _ _ _)
+
+pub returns-else-keep : goal.returns-else-keep
+returns-else-keep g t c = λ kept computes.
+    let answer : c.keep.result ≡ kept (leaf_of c.in-Set.leaf) = computes c.in-Set.leaf c.keep.result (record { shown = _; shows = refl; says = record { met = c.keep.ensures } }) in
+    let isnt : kept (leaf_of c.in-Set.leaf) ≡ false = sym answer ∙ c.if-keep.false in
+    rw (c.in-Set.is, isnt) (sym (append-nil _))

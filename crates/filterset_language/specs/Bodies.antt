@@ -1,8 +1,0 @@
--- A body as contracts see it.
-use Rattle.std.specs.Prelude.{List, ℕ}
-use Rattle.std.specs.String.{string_bytes}
-use Rattle.filterset_faults.specs.declared.span.SourceSpan.{SourceSpan}
-use Rattle.filterset_language.specs.declared.text.regex_body.RegexBody.{RegexBody}
-
-abbrev pub seen_body : RegexBody → List ℕ × SourceSpan
-seen_body body = (string_bytes body.pattern, body.span)

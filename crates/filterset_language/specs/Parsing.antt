@@ -1,0 +1,14 @@
+-- Reading from left to right, and what the parser's functions promise each other. No public contract cites any of this.
+pub mod Front
+pub mod Escapes
+pub mod Seam
+pub mod Place
+pub mod RawTexts
+pub mod Bodies
+pub mod PlatformNames
+pub mod Globs
+pub mod Words
+pub mod Descent
+pub mod Recovery
+pub mod Outcome
+pub mod Whole

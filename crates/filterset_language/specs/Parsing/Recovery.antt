@@ -1,0 +1,133 @@
+-- What a reader says that goes on after a fault.
+use Rattle.std.specs.Prelude.{◌≡◌, ℕ, ◌<◌, ◌≤◌, List, length, take, codes, Option, None, Some, IsSome, MatchOption, All, Bool, true, false, Result, IfOk, Vec}
+use Rattle.std.specs.Option.{option_map}
+use Rattle.std.specs.declared.alloc.Global.{Global}
+use Rattle.filterset_language.specs.Parsing.Place.{Place, place_of, skip, after, after_word, advanced, IsAtOrBehind}
+use Rattle.filterset_language.specs.Parsing.Escapes.{escape_at}
+use Rattle.filterset_language.specs.Faults.{FaultStands, BeforeOperand, EndsWith, Misplaced, misplaced_and, misplaced_or, misplaced_AND, misplaced_OR, misplaced_ampersands, misplaced_pipes}
+use Rattle.filterset_language.specs.Parsing.Words.{name_at, not_at, name_text}
+use Rattle.filterset_language.specs.Parsing.Descent.{Placed, ◌>>=◌, Make}
+use Rattle.filterset_faults.specs.declared.error.ParseSingleError.{ParseSingleError}
+use Rattle.filterset_faults.specs.declared.error.ParseSingleError.TheVariants.{ExpectedEndOfExpression}
+use Rattle.filterset_language.specs.declared.parsing.names.PredicateName.{PredicateName}
+use Rattle.filterset_language.specs.declared.parsing.input.Input.{Input}
+use Rattle.filterset_language.specs.declared.parsing.input.Read.{Read}
+
+-- the list of faults grows; without a new fault the value is what reading gives, and with one reading gives nothing
+pub record Recovers {X : Type 0} (old new : List ParseSingleError) (value read : Option X) : Type 0 where
+  pub grows : length old ≤ length new
+  pub clean : length new ≡ length old → (new ≡ old) × (read ≡ value) × IsSome value
+  pub fault : length old < length new → read ≡ None
+
+-- the faults of a text
+abbrev pub FaultList : Type 0
+FaultList = Vec ParseSingleError Global
+
+-- whether the fault is that the expression ends before the text
+abbrev pub is_unread : ParseSingleError → Bool
+is_unread (ExpectedEndOfExpression s) = true
+is_unread _ = false
+
+-- a fault that a reader of a part of the text reports
+pub record Found (text : List ℕ) (fault : ParseSingleError) : Type 0 where
+  pub stands : FaultStands text fault
+  pub inside : is_unread fault ≡ false
+
+-- all these faults are of that kind
+pub record AllFound (text : List ℕ) (faults : List ParseSingleError) : Type 0 where
+  pub each : All (Found text) faults
+
+-- where all faults were found in the text, all still are
+abbrev pub Keeps : List ℕ → List ParseSingleError → List ParseSingleError → Type 0
+Keeps text old new = AllFound text old → AllFound text new
+
+-- a value, where there is one, and the place behind it
+abbrev pub beside : {Y : Type 0} → Place → Option Y → Option (Y × Place)
+beside q value = option_map (λ y. (y, q)) value
+
+-- what a reader carries: the value, seen by a view, and the place behind it
+abbrev pub carried : {X Y : Type 0} → (X → Y) → Read X → Option (Y × Place)
+carried view r = beside (place_of r.end) (option_map view r.value)
+
+-- a step over a text, with these faults before it and behind it: the place behind it is the one that reading gives, or
+-- a fault was added where reading gives none
+abbrev pub StepsOver : {E : Type 0} → FaultList → FaultList → Result Input E → Option Place → Type 0
+StepsOver old new result read = IfOk result (λ r. Recovers old.items new.items (Some (place_of r)) read)
+
+-- the same of what is read, seen by a view
+abbrev pub ReadsAs : {X Y E : Type 0}
+    → (X → Y) → FaultList → FaultList → Result (Read X) E → Option (Y × Place) → Type 0
+ReadsAs view old new result read = IfOk result (λ r. Recovers old.items new.items (carried view r) read)
+
+-- where all faults before were found in the text of the input, all faults behind are
+abbrev pub StillStand : {X E : Type 0} → Input → FaultList → FaultList → Result X E → Type 0
+StillStand input old new result = IfOk result (λ r. Keeps input.text.now old.items new.items)
+
+-- reading goes on at the input or behind it
+abbrev pub GoesOn : {E : Type 0} → Input → Result Input E → Type 0
+GoesOn input result = IfOk result (λ r. IsAtOrBehind input r)
+
+-- what is read ends at the input or behind it
+abbrev pub EndsBehind : {X E : Type 0} → Input → Result (Read X) E → Type 0
+EndsBehind input result = IfOk result (λ r. IsAtOrBehind input r.end)
+
+-- an operator and its operands, where all three are there
+abbrev pub joined : {O : Type 0} → Make O → Option O → Option Placed → Option Placed → Option Placed
+joined make op left right = op >>= λ o. left >>= λ l. right >>= λ r. Some (make o l r)
+
+-- what stands behind a backslash was passed: an escape, or nothing where none stands there, which is reported
+abbrev pub Passes : Place → Place → List ParseSingleError → List ParseSingleError → Type 0
+Passes p q old new =
+    MatchOption (escape_at p.rest) ((q ≡ p) × (length old < length new)) (λ e. (q ≡ advanced e.1 p) × (new ≡ old))
+
+-- an operator was looked at: an invalid one is reported
+abbrev pub Checked : {O : Type 0} → Option O → List ParseSingleError → List ParseSingleError → Type 0
+Checked (Some op) old new = new ≡ old
+Checked None old new = length old < length new
+
+-- an operand may stand at the input
+pub record AtOperand (input : Input) : Type 0 where
+  pub before : BeforeOperand (take input.offset input.text.now)
+
+-- a predicate's name ends at the input
+abbrev pub AtName : PredicateName → Input → Type 0
+AtName name input = EndsWith (take input.offset input.text.now) (name_text name)
+
+-- what stands behind the operator, where it stands at the place; a word has to end
+abbrev pub behind_misplaced : {op suggest : List ℕ} → Misplaced op suggest → Place → Option Place
+behind_misplaced misplaced_and p = after_word (codes "and") p
+behind_misplaced misplaced_or p = after_word (codes "or") p
+behind_misplaced misplaced_AND p = after_word (codes "AND") p
+behind_misplaced misplaced_OR p = after_word (codes "OR") p
+behind_misplaced misplaced_ampersands p = after (codes "&&") p
+behind_misplaced misplaced_pipes p = after (codes "||") p
+
+-- an operator stands at a place where an operand belongs
+pub record IsMisplaced (p : Place) (op suggest : List ℕ) (q : Place) : Type 0 where
+  pub suggested : Misplaced op suggest
+  pub stands : behind_misplaced suggested p ≡ Some q
+
+-- none of the words among these operators stands at the place
+pub record NoMisplacedWord (p : Place) : Type 0 where
+  pub no_and : None ≡ after_word (codes "and") p
+  pub no_or : None ≡ after_word (codes "or") p
+  pub no_AND : None ≡ after_word (codes "AND") p
+  pub no_OR : None ≡ after_word (codes "OR") p
+
+-- none of the signs does
+pub record NoMisplacedSign (p : Place) : Type 0 where
+  pub no_ampersands : None ≡ after (codes "&&") p
+  pub no_pipes : None ≡ after (codes "||") p
+
+-- `NOT` stands at a place where an operand belongs
+pub record IsCapitalNot (p : Place) (op suggest : List ℕ) (q : Place) : Type 0 where
+  pub stands : after_word op p ≡ Some q
+  pub is : op ≡ codes "NOT"
+  pub suggested : suggest ≡ codes "not"
+
+-- behind the blanks no operand begins
+pub record NoOperand (p s : Place) : Type 0 where
+  pub skipped : s ≡ skip p
+  pub no_name : None ≡ name_at s
+  pub no_not : None ≡ not_at s
+  pub no_open : None ≡ after (codes "(") s

@@ -1,0 +1,32 @@
+-- A text, what is left of it, and the place behind its blanks.
+use Rattle.std.specs.Prelude.{◌≡◌, ℕ, ◌+◌, ◌≤◌, List, [], ◌∷◌, length, drop, true, ◌&&◌, if◌then◌else◌, IsCharBoundary}
+use Rattle.std.specs.Str.{is_utf8}
+use Rattle.filterset_glob.specs.Signs.{◌∈◌}
+
+-- a byte offset, and the text from there on
+pub record Place : Type 0 where
+  pub at : ℕ
+  pub rest : List ℕ
+
+-- the place of this offset and this rest
+abbrev pub place : ℕ → List ℕ → Place
+place at rest = record { at = at; rest = rest }
+
+-- the place behind all blanks
+abbrev pub skip_from : ℕ → List ℕ → Place
+skip_from at [] = place at []
+skip_from at (b ∷ []) = if b ∈ " \n" then place (at + 1) [] else place at (b ∷ [])
+skip_from at (b ∷ c ∷ t) =
+    if b ∈ " \n" then skip_from (at + 1) (c ∷ t)
+    else (if (b ∈ "\r") && (c ∈ "\n") then skip_from (at + 2) t else place at (b ∷ c ∷ t))
+
+-- the rest of a text, from an offset on that stands between two characters
+pub record IsSeam (text rest : List ℕ) (offset : ℕ) : Type 0 where
+  pub within : offset ≤ length text
+  pub onward : drop offset text ≡ rest
+  pub utf8 : is_utf8 rest ≡ true
+
+-- so many bytes further on, behind the same blanks stands the same place
+pub record AreBlanks (offset : ℕ) (rest : List ℕ) (count : ℕ) : Type 0 where
+  pub boundary : IsCharBoundary rest count
+  pub same : skip_from (offset + count) (drop count rest) ≡ skip_from offset rest

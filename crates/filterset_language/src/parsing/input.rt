@@ -1,0 +1,193 @@
+//! Places of a text, and single steps from one to the next: blanks, words, the next `)`.
+ghost use Rattle.std.specs.Prelude.{◌≡◌, ◌+◌, ◌-◌, ◌≤◌, ◌<◌, ◌^◌, ◌∷◌, [], ◌++◌, length, min, take, drop, IsCharBoundary, MatchOption, IfSome, chars};
+ghost use Rattle.std.specs.Option.{option_map};
+ghost use Rattle.filterset_language.specs.Text.{ends_word};
+ghost use Rattle.filterset_language.specs.Parsing.Front.{blank_len, close_len};
+ghost use Rattle.filterset_language.specs.Parsing.Seam.{IsSeam, AreBlanks};
+ghost use Rattle.filterset_faults.specs.Span.{span};
+
+use filterset_faults::SourceSpan;
+
+/// A text, and what is left of it from a byte offset on.
+#[derive(Clone, Copy)]
+pub struct Input<'a> {
+    pub text: &'a str,
+    pub rest: &'a str,
+    pub offset: usize,
+    /// So many bytes at the front of `rest` are known to be blanks; there may be more.
+    blanks: usize,
+    ghost seam: { IsSeam text.now rest.now offset },
+    ghost fits: { offset + length rest.now < 2 ^ 64 },
+    ghost skipped: { AreBlanks offset rest.now blanks },
+}
+
+/// What was read: its value, where it has one, and where it ends, so that reading goes on there.
+#[derive(Drop)]
+pub struct Read<'a, T> {
+    pub value: Option<T>,
+    pub end: Input<'a>,
+}
+
+impl<'a> Input<'a> {
+    ghost use Rattle.filterset_language.specs.Parsing.Place.{place, advanced, skip, after, after_word, place_of, IsBehind, IsAtOrBehind};
+
+    /// The whole of a text.
+    #[tactic(auto, using(crate::proofs::Places::seam_start))]
+    pub fn new(text: &'a str) -> Input<'a>
+        ensures value { place_of result ≡ place 0 text.now }
+        ensures text { result.text.now ≡ text.now }
+    {
+        Input {
+            text,
+            rest: text,
+            offset: 0,
+            blanks: 0,
+        }
+    }
+
+    /// The place here, of no length.
+    pub fn here(self) -> SourceSpan
+        ensures { result ≡ span self.entry.offset 0 }
+    {
+        SourceSpan::new(self.offset, 0)
+    }
+
+    /// What stands from here to the end of the text.
+    pub fn to_end(self) -> SourceSpan
+        ensures { result ≡ span self.entry.offset (length self.entry.rest.now) }
+    {
+        SourceSpan::new(self.offset, self.rest.len())
+    }
+
+    /// What stands from here to a later place.
+    pub fn up_to(self, end: Input<'a>) -> SourceSpan
+        requires { self.offset ≤ end.offset }
+        ensures { result ≡ span self.entry.offset (end.entry.offset - self.entry.offset) }
+    {
+        SourceSpan::new(self.offset, end.offset - self.offset)
+    }
+
+    /// A backslash that begins no escape: from it on, as many bytes as stand behind it, at most two.
+    pub fn backslash(self) -> SourceSpan
+        requires { 0 < length self.rest.now }
+        ensures { result ≡ span self.entry.offset (min 2 (length self.entry.rest.now - 1)) }
+    {
+        SourceSpan::new(self.offset, std::cmp::min(2, self.rest.len() - 1))
+    }
+
+    /// The input at the next `)`, or at the end.
+    pub fn next_close(self) -> Input<'a>
+        ensures value { place_of result ≡ advanced (close_len self.entry.rest.now) (place_of self.entry) }
+        ensures behind { IsAtOrBehind self.entry result }
+    {
+        self.advance(close_len(self.rest.as_bytes()))
+    }
+
+    /// The input behind its first `count` bytes.
+    pub fn advance(self, count: usize) -> Input<'a>
+        requires within { count ≤ length self.rest.now }
+        requires boundary { IsCharBoundary self.rest.now count }
+        ensures value { place_of result ≡ advanced count (place_of self.entry) }
+        ensures behind { IsAtOrBehind self.entry result }
+    {
+        Input {
+            text: self.text,
+            rest: &self.rest[count..],
+            offset: self.offset + count,
+            blanks: 0,
+        }
+    }
+
+    /// The input behind all blanks.
+    pub fn skip_blanks(self) -> Input<'a>
+        ensures value { place_of result ≡ skip (place_of self.entry) }
+        ensures behind { IsAtOrBehind self.entry result }
+    {
+        let mut input = self.advance(self.blanks);
+        loop {
+            let count = blank_len(input.rest.as_bytes());
+            if count == 0 {
+                return input;
+            }
+            input = input.advance(count);
+        }
+    }
+
+    /// The same place, where the blanks up to `start`, the place behind them, are known and so not looked at again.
+    pub fn before_blanks(self, start: Input<'a>) -> Input<'a>
+        requires skipped { place_of start ≡ skip (place_of self) }
+        ensures value { place_of result ≡ place_of self.entry }
+        ensures known { result.blanks ≡ start.entry.offset - self.entry.offset }
+        ensures behind { IsAtOrBehind self.entry result }
+    {
+        Input {
+            text: self.text,
+            rest: self.rest,
+            offset: self.offset,
+            blanks: start.offset - self.offset,
+        }
+    }
+
+    /// The input behind a text, where that text stands here.
+    pub fn after(self, text: &str) -> Option<Input<'a>>
+        ensures value { option_map place_of result ≡ after text.now (place_of self.entry) }
+        ensures behind { IfSome result (λ x. 0 < length text.now → IsBehind self.entry x) }
+    {
+        match self.rest.strip_prefix(text) {
+            Some(rest) => Some(Input {
+                text: self.text,
+                rest,
+                offset: self.offset + text.len(),
+                blanks: 0,
+            }),
+            None => None,
+        }
+    }
+
+    /// The input behind a word, where that word stands here and ends.
+    pub fn after_word(self, word: &str) -> Option<Input<'a>>
+        ensures value { option_map place_of result ≡ after_word word.now (place_of self.entry) }
+        ensures behind { IfSome result (λ x. 0 < length word.now → IsBehind self.entry x) }
+    {
+        let input = self.after(word)?;
+        if ends_word(input.rest.as_bytes()) {
+            Some(input)
+        } else {
+            None
+        }
+    }
+}
+
+/// Whether a word may end before the text.
+fn ends_word(text: &[u8]) -> bool
+    ensures { result ≡ ends_word text.now }
+{
+    match text {
+        [] => true,
+        [b, ..] => !b.is_ascii_alphanumeric() && *b != b'_',
+    }
+}
+
+/// How many bytes the blank at the front of a text has, or 0 where there is none.
+fn blank_len(text: &[u8]) -> usize
+    ensures { result ≡ blank_len text.now }
+{
+    match text {
+        [b' ' | b'\n', ..] => 1,
+        [b'\r', b'\n', ..] => 2,
+        _ => 0,
+    }
+}
+
+/// How many bytes stand before the next `)`.
+fn close_len(text: &[u8]) -> usize
+    ensures value { result ≡ close_len text.now }
+    ensures within { result ≤ length text.now }
+{
+    for (i, b) in text.iter().enumerate() {
+        if *b == b')' {
+            return i;
+        }
+    }
+    text.len()
+}

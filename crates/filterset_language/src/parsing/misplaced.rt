@@ -1,0 +1,98 @@
+//! Operators that stand where an operand belongs.
+ghost use Rattle.std.specs.Prelude.{◌≡◌, ℕ, List, IfSome, None};
+ghost use Rattle.filterset_language.specs.Parsing.Place.{Place, place_of, IsBehind};
+ghost use Rattle.filterset_language.specs.Parsing.Recovery.{IsMisplaced, NoMisplacedWord, NoMisplacedSign, IsCapitalNot};
+
+use crate::parsing::input::Input;
+
+/// An operator that stands here in the place of an operand.
+#[derive(Clone, Copy)]
+pub struct Misplaced<'a> {
+    pub op: &'static str,
+    pub suggest: &'static str,
+    pub end: Input<'a>,
+}
+
+/// The operator with two operands that stands here, where an operand belongs.
+pub fn find_misplaced(input: Input<'_>) -> Option<Misplaced<'_>>
+    ensures value { IfSome result (λ x. IsMisplaced (place_of input.entry) x.op.now x.suggest.now (place_of x.end)) }
+    ensures none { result ≡ None → (op suggest : List ℕ) (q : Place)
+        → IsMisplaced (place_of input.entry) op suggest q → ⊥ }
+    ensures behind { IfSome result (λ x. IsBehind input.entry x.end) }
+{
+    match find_misplaced_word(input) {
+        Some(found) => Some(found),
+        None => find_misplaced_sign(input),
+    }
+}
+
+/// The word among these operators that stands here.
+fn find_misplaced_word(input: Input<'_>) -> Option<Misplaced<'_>>
+    ensures value { IfSome result (λ x. IsMisplaced (place_of input.entry) x.op.now x.suggest.now (place_of x.end)) }
+    ensures none { result ≡ None → NoMisplacedWord (place_of input.entry) }
+    ensures behind { IfSome result (λ x. IsBehind input.entry x.end) }
+{
+    if let Some(end) = input.after_word("and") {
+        return Some(Misplaced {
+            op: "and",
+            suggest: "and",
+            end,
+        });
+    }
+    if let Some(end) = input.after_word("or") {
+        return Some(Misplaced {
+            op: "or",
+            suggest: "or",
+            end,
+        });
+    }
+    if let Some(end) = input.after_word("AND") {
+        return Some(Misplaced {
+            op: "AND",
+            suggest: "and",
+            end,
+        });
+    }
+    let end = input.after_word("OR")?;
+    Some(Misplaced {
+        op: "OR",
+        suggest: "or",
+        end,
+    })
+}
+
+/// The sign of other languages that stands here.
+fn find_misplaced_sign(input: Input<'_>) -> Option<Misplaced<'_>>
+    ensures value { IfSome result (λ x. IsMisplaced (place_of input.entry) x.op.now x.suggest.now (place_of x.end)) }
+    ensures none { result ≡ None → NoMisplacedSign (place_of input.entry) }
+    ensures behind { IfSome result (λ x. IsBehind input.entry x.end) }
+{
+    if let Some(end) = input.after("&&") {
+        return Some(Misplaced {
+            op: "&&",
+            suggest: "&",
+            end,
+        });
+    }
+    let end = input.after("||")?;
+    Some(Misplaced {
+        op: "||",
+        suggest: "|",
+        end,
+    })
+}
+
+/// `NOT`, where it stands here.
+pub fn find_misplaced_not(input: Input<'_>) -> Option<Misplaced<'_>>
+    ensures value { IfSome result (λ x. IsCapitalNot (place_of input.entry) x.op.now x.suggest.now (place_of x.end)) }
+    ensures none { result ≡ None → (op suggest : List ℕ) (q : Place)
+        → IsCapitalNot (place_of input.entry) op suggest q → ⊥ }
+    ensures behind { IfSome result (λ x. IsBehind input.entry x.end) }
+{
+    let end = input.after_word("NOT")?;
+    Some(Misplaced {
+        op: "NOT",
+        suggest: "not",
+        end,
+    })
+}

@@ -1,0 +1,102 @@
+//! Reading the names of predicates.
+ghost use Rattle.std.specs.Prelude.{◌≡◌, ◌<◌, length, IfSome};
+ghost use Rattle.std.specs.Option.{option_map};
+ghost use Rattle.filterset_language.specs.Parsing.Place.{place_of, IsBehind};
+ghost use Rattle.filterset_language.specs.Parsing.Words.{seen, first_byte, named, either, binary_name_at, name_at};
+
+use crate::parsing::input::Input;
+use crate::tree::predicate::Predicate;
+
+/// A predicate's name.
+#[derive(Clone, Copy)]
+pub enum PredicateName {
+    Matching(Predicate),
+    Platform,
+    Default,
+    All,
+    None,
+}
+
+/// The predicate's name that stands here.
+pub fn read_name(input: Input<'_>) -> Option<(PredicateName, Input<'_>)>
+    ensures value { option_map seen result ≡ name_at (place_of input.entry) }
+    ensures behind { IfSome result (λ x. IsBehind input.entry x.1) }
+{
+    match first_byte(input.rest.as_bytes()) {
+        b'a' => read_named(input, "all", PredicateName::All),
+        b'b' => read_binary_name(input),
+        b'd' => {
+            let deps = PredicateName::Matching(Predicate::Deps);
+            read_either(input, "deps", deps, "default", PredicateName::Default)
+        }
+        b'g' => read_named(input, "group", PredicateName::Matching(Predicate::Group)),
+        b'k' => read_named(input, "kind", PredicateName::Matching(Predicate::Kind)),
+        b'n' => read_named(input, "none", PredicateName::None),
+        b'p' => {
+            let package = PredicateName::Matching(Predicate::Package);
+            read_either(
+                input,
+                "package",
+                package,
+                "platform",
+                PredicateName::Platform,
+            )
+        }
+        b'r' => read_named(input, "rdeps", PredicateName::Matching(Predicate::Rdeps)),
+        b't' => read_named(input, "test", PredicateName::Matching(Predicate::Test)),
+        _ => None,
+    }
+}
+
+/// `binary_id` or `binary`, where one of them stands here.
+fn read_binary_name(input: Input<'_>) -> Option<(PredicateName, Input<'_>)>
+    ensures value { option_map seen result ≡ binary_name_at (place_of input.entry) }
+    ensures behind { IfSome result (λ x. IsBehind input.entry x.1) }
+{
+    let id = PredicateName::Matching(Predicate::BinaryId);
+    let binary = PredicateName::Matching(Predicate::Binary);
+    read_either(input, "binary_id", id, "binary", binary)
+}
+
+/// The name, where its word stands here.
+fn read_named<'a>(
+    input: Input<'a>,
+    word: &str,
+    name: PredicateName,
+) -> Option<(PredicateName, Input<'a>)>
+    requires { 0 < length word.now }
+    ensures value { option_map seen result ≡ named word.now name (place_of input.entry) }
+    ensures behind { IfSome result (λ x. IsBehind input.entry x.1) }
+{
+    let rest = input.after(word)?;
+    Some((name, rest))
+}
+
+/// The first of two names whose word stands here.
+fn read_either<'a>(
+    input: Input<'a>,
+    first: &str,
+    name: PredicateName,
+    second: &str,
+    other: PredicateName,
+) -> Option<(PredicateName, Input<'a>)>
+    requires first { 0 < length first.now }
+    requires second { 0 < length second.now }
+    ensures value { option_map seen result ≡ either first.now name second.now other (place_of input.entry) }
+    ensures behind { IfSome result (λ x. IsBehind input.entry x.1) }
+{
+    if let Some(rest) = input.after(first) {
+        return Some((name, rest));
+    }
+    read_named(input, second, other)
+}
+
+/// The first byte of a text, and 0 where it has none.
+fn first_byte(text: &[u8]) -> u8
+    ensures { result ≡ first_byte text.now }
+{
+    match text {
+        [b, ..] => *b,
+        [] => 0,
+    }
+}

@@ -1,0 +1,19 @@
+//! The platform that a value names.
+ghost use Rattle.std.specs.Prelude.{◌≡◌, MatchOption};
+ghost use Rattle.filterset_language.specs.Platforms.{Names};
+ghost use Rattle.filterset_language.specs.Parsing.PlatformNames.{platform_in};
+ghost use Rattle.filterset_graph.specs.declared.package.BuildPlatform.{BuildPlatform};
+
+use filterset_graph::BuildPlatform;
+
+/// The platform whose name the value is, trimmed of white space.
+pub fn platform_of(value: &str) -> Option<BuildPlatform>
+    ensures value { result ≡ platform_in value.now }
+    ensures named { MatchOption result ((p : BuildPlatform) → Names value.now p → ⊥) (Names value.now) }
+{
+    match value.trim() {
+        "host" => Some(BuildPlatform::Host),
+        "target" => Some(BuildPlatform::Target),
+        _ => None,
+    }
+}

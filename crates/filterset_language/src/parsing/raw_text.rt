@@ -1,0 +1,119 @@
+//! Raw texts.
+ghost use Rattle.std.specs.Prelude.{◌≡◌, ◌≤◌, length, take, IfOk, IfSome, Some, codes};
+ghost use Rattle.std.specs.String.{string_bytes};
+ghost use Rattle.filterset_language.specs.Text.{is_plain};
+ghost use Rattle.filterset_language.specs.Faults.{EndsText};
+ghost use Rattle.filterset_language.specs.Parsing.Place.{place_of, after, advanced, IsAtOrBehind};
+ghost use Rattle.filterset_language.specs.Parsing.RawTexts.{plain_len, raw_at, SpelledTo};
+ghost use Rattle.filterset_language.specs.Parsing.Recovery.{ReadsAs, StillStand, GoesOn, EndsBehind, Passes};
+
+use crate::parsing::escapes::leading_escape;
+use crate::parsing::input::{Input, Read};
+use filterset_faults::ParseSingleError;
+use std::alloc::{AllocError, Global};
+
+/// Reads a raw text, up to the next `,` or `)` that is not escaped, or to the end.
+///
+/// Where a backslash begins no escape, that is reported and the text has no value; reading goes on
+/// behind the backslash. An empty text is reported, and is the value.
+pub fn read_raw_text<'a>(
+    alloc: Global,
+    faults: &mut Vec<ParseSingleError>,
+    input: Input<'a>,
+) -> Result<Read<'a, String>, AllocError>
+    ensures value { ReadsAs string_bytes faults.old faults.new result (raw_at (place_of input.entry)) }
+    ensures spelled { IfOk result (λ r. IfSome r.value (λ v.
+        SpelledTo (place_of input.entry) (string_bytes v) (place_of r.end))) }
+    ensures stand { StillStand input.entry faults.old faults.new result }
+    ensures behind { EndsBehind input.entry result }
+{
+    let (front, mut end) = read_plain(input);
+    let mut value = String::from_str(alloc, front)?;
+    while let Some(behind) = end.after("\\") {
+        let Some(escape) = leading_escape(behind.rest.as_bytes()) else {
+            faults.push(ParseSingleError::InvalidEscapeCharacter(end.backslash()))?;
+            let end = skip_raw_text(faults, behind)?;
+            return Ok(Read { value: None, end });
+        };
+        let (run, next) = read_plain(behind.advance(escape.len));
+        value.push(escape.character)?;
+        value.push_str(run)?;
+        end = next;
+    }
+    if end.offset == input.offset {
+        faults.push(ParseSingleError::InvalidString(end.here()))?;
+    }
+    Ok(Read {
+        value: Some(value),
+        end,
+    })
+}
+
+/// What stands for itself from here on, and the input behind it.
+fn read_plain<'a>(input: Input<'a>) -> (&'a str, Input<'a>)
+    ensures text { result.0.now ≡ take (plain_len input.entry.rest.now) input.entry.rest.now }
+    ensures value { place_of result.1 ≡ advanced (plain_len input.entry.rest.now) (place_of input.entry) }
+    ensures behind { IsAtOrBehind input.entry result.1 }
+{
+    let count = plain_len(input.rest.as_bytes());
+    (&input.rest[..count], input.advance(count))
+}
+
+/// How many bytes that stand for themselves are at the front.
+fn plain_len(text: &[u8]) -> usize
+    ensures value { result ≡ plain_len text.now }
+    ensures within { result ≤ length text.now }
+{
+    for (i, b) in text.iter().enumerate() {
+        if !is_plain(*b) {
+            return i;
+        }
+    }
+    text.len()
+}
+
+/// Whether a byte stands for itself in a raw text.
+fn is_plain(b: u8) -> bool
+    ensures { result ≡ is_plain b }
+{
+    !matches!(b, b',' | b')' | b'\\')
+}
+
+/// Goes on to the end of a raw text that has no value, and reports each further backslash that begins
+/// no escape.
+fn skip_raw_text<'a>(
+    faults: &mut Vec<ParseSingleError>,
+    input: Input<'a>,
+) -> Result<Input<'a>, AllocError>
+    ensures end { IfOk result (λ r. EndsText r.rest.now) }
+    ensures grows { IfOk result (λ r. length faults.old.items ≤ length faults.new.items) }
+    ensures stand { StillStand input.entry faults.old faults.new result }
+    ensures behind { GoesOn input.entry result }
+{
+    let mut end = read_plain(input).1;
+    while let Some(behind) = end.after("\\") {
+        let next = skip_escape(faults, end, behind)?;
+        end = read_plain(next).1;
+    }
+    Ok(end)
+}
+
+/// The input behind an escape, or behind a backslash that begins none, which is reported.
+fn skip_escape<'a>(
+    faults: &mut Vec<ParseSingleError>,
+    backslash: Input<'a>,
+    behind: Input<'a>,
+) -> Result<Input<'a>, AllocError>
+    requires { Some (place_of behind) ≡ after (codes "\\") (place_of backslash) }
+    ensures value { IfOk result (λ r. Passes (place_of behind.entry) (place_of r) faults.old.items faults.new.items) }
+    ensures stand { StillStand backslash.entry faults.old faults.new result }
+    ensures behind { GoesOn behind.entry result }
+{
+    match leading_escape(behind.rest.as_bytes()) {
+        Some(escape) => Ok(behind.advance(escape.len)),
+        None => {
+            faults.push(ParseSingleError::InvalidEscapeCharacter(backslash.backslash()))?;
+            Ok(behind)
+        }
+    }
+}

@@ -1,0 +1,77 @@
+//! Bodies of regular expressions.
+ghost use Rattle.std.specs.Prelude.{◌≡◌, ◌≤◌, length, IfOk, IfSome};
+ghost use Rattle.std.specs.String.{string_bytes};
+ghost use Rattle.filterset_language.specs.Text.{with_slashes};
+ghost use Rattle.filterset_language.specs.Parsing.Place.{place_of, IsAtOrBehind};
+ghost use Rattle.filterset_language.specs.Parsing.RawTexts.{body_len, body_at, BodyTaken};
+ghost use Rattle.filterset_language.specs.Parsing.Bodies.{seen_body};
+ghost use Rattle.filterset_language.specs.Parsing.Recovery.{ReadsAs, StillStand, EndsBehind};
+
+use crate::parsing::input::{Input, Read};
+use filterset_faults::{ParseSingleError, SourceSpan};
+use std::alloc::{AllocError, Global};
+
+/// The body of a regular expression: its pattern, and where it stands.
+#[derive(Drop)]
+pub struct RegexBody {
+    pub pattern: String,
+    pub span: SourceSpan,
+}
+
+/// Reads a body behind its opening `/`, and the closing one.
+///
+/// The body ends before the first `/` that does not directly follow a backslash. Where there is none,
+/// that is reported, the body has no value, and reading goes on at the next `)` or at the end.
+pub fn read_regex_body<'a>(
+    alloc: Global,
+    faults: &mut Vec<ParseSingleError>,
+    input: Input<'a>,
+) -> Result<Read<'a, RegexBody>, AllocError>
+    ensures value { ReadsAs seen_body faults.old faults.new result (body_at (place_of input.entry)) }
+    ensures taken { IfOk result (λ r. IfSome r.value (λ b.
+        BodyTaken (place_of input.entry) (string_bytes b.pattern) b.span (place_of r.end))) }
+    ensures stand { StillStand input.entry faults.old faults.new result }
+    ensures behind { EndsBehind input.entry result }
+{
+    let count = body_len(input.rest.as_bytes());
+    let slash = input.advance(count);
+    match slash.after("/") {
+        Some(end) => {
+            let pattern = pattern_of(alloc, &input.rest[..count])?;
+            Ok(Read {
+                value: Some(RegexBody {
+                    pattern,
+                    span: input.up_to(slash),
+                }),
+                end,
+            })
+        }
+        None => {
+            let end = input.next_close();
+            faults.push(ParseSingleError::ExpectedCloseRegex(end.here()))?;
+            Ok(Read { value: None, end })
+        }
+    }
+}
+
+/// How many bytes stand before the first `/` that does not directly follow a backslash.
+fn body_len(text: &[u8]) -> usize
+    ensures value { result ≡ body_len 0 text.now }
+    ensures within { result ≤ length text.now }
+{
+    let mut before = 0;
+    for (i, b) in text.iter().enumerate() {
+        if *b == b'/' && before != b'\\' {
+            return i;
+        }
+        before = *b;
+    }
+    text.len()
+}
+
+/// The pattern of a body: `\/` stands for `/`, and all else for itself.
+fn pattern_of(alloc: Global, body: &str) -> Result<String, AllocError>
+    ensures { IfOk result (λ p. string_bytes p ≡ with_slashes body.now) }
+{
+    body.replace(alloc, "\\/", "/")
+}

@@ -1,0 +1,162 @@
+//! The trees of filtersets.
+ghost use Rattle.std.specs.Prelude.{◌≡◌, IfOk};
+ghost use Rattle.filterset_language.specs.Tree.{leaf_of, tree_of, is_runtime_only};
+
+use filterset_faults::SourceSpan;
+use filterset_graph::BuildPlatform;
+use filterset_matchers::NameMatcher;
+use std::alloc::{AllocError, Global};
+
+mod equality;
+mod leaves;
+pub mod predicate;
+
+/// How a negation is written: `not` or `!`.
+#[derive(Clone, Copy, Debug, PartialEq, Eq)]
+pub enum NotOperator {
+    LiteralNot,
+    Exclamation,
+}
+
+/// How a union is written: `or`, `|` or `+`.
+#[derive(Clone, Copy, Debug, PartialEq, Eq)]
+pub enum OrOperator {
+    LiteralOr,
+    Pipe,
+    Plus,
+}
+
+/// How an intersection is written: `and` or `&`.
+#[derive(Clone, Copy, Debug, PartialEq, Eq)]
+pub enum AndOperator {
+    LiteralAnd,
+    Ampersand,
+}
+
+/// How a difference is written: `-`.
+#[derive(Clone, Copy, Debug, PartialEq, Eq)]
+pub enum DifferenceOperator {
+    Minus,
+}
+
+/// An operator of the level of `and`: both operands, or the first without the second.
+#[derive(Clone, Copy, Debug, PartialEq, Eq)]
+pub enum Joiner {
+    Both(AndOperator),
+    Without(DifferenceOperator),
+}
+
+/// A predicate of a filterset. Its span is that of its argument without the blanks behind a pattern, and of `default()`
+/// that of the whole predicate; `all()` and `none()` have none.
+#[derive(Debug, Drop)]
+pub enum ParsedLeaf<S = SourceSpan> {
+    /// The test's package, by its name.
+    Package(NameMatcher, S),
+    /// The packages that a package of that name depends on, and itself.
+    Deps(NameMatcher, S),
+    /// The packages that depend on a package of that name, and itself.
+    Rdeps(NameMatcher, S),
+    /// The kind of the test's binary.
+    Kind(NameMatcher, S),
+    /// The name of the test's binary.
+    Binary(NameMatcher, S),
+    /// The id of the test's binary.
+    BinaryId(NameMatcher, S),
+    /// The platform that the test's binary is built for.
+    Platform(BuildPlatform, S),
+    /// The test's name.
+    Test(NameMatcher, S),
+    /// The test's group.
+    Group(NameMatcher, S),
+    /// The default filter.
+    Default(S),
+    /// Every test.
+    All,
+    /// No test.
+    None,
+}
+
+impl<S> ParsedLeaf<S> {
+    /// Whether the test itself decides the predicate, and not its binary alone: `test`, `group` and `default`.
+    pub fn is_runtime_only(&self) -> bool
+        ensures { result ≡ is_runtime_only (leaf_of self.now) }
+    {
+        matches!(
+            self,
+            ParsedLeaf::Test(_, _) | ParsedLeaf::Group(_, _) | ParsedLeaf::Default(_)
+        )
+    }
+}
+
+impl<S: Copy> ParsedLeaf<S> {
+    /// A copy of the predicate, spans included. The only error is want of memory.
+    pub fn try_clone(&self, alloc: Global) -> Result<ParsedLeaf<S>, AllocError>
+        ensures { IfOk result (λ copy. leaf_of copy ≡ leaf_of self.now) }
+    {
+        Ok(match self {
+            ParsedLeaf::Package(matcher, span) => {
+                ParsedLeaf::Package(matcher.try_clone(alloc)?, *span)
+            }
+            ParsedLeaf::Deps(matcher, span) => ParsedLeaf::Deps(matcher.try_clone(alloc)?, *span),
+            ParsedLeaf::Rdeps(matcher, span) => ParsedLeaf::Rdeps(matcher.try_clone(alloc)?, *span),
+            ParsedLeaf::Kind(matcher, span) => ParsedLeaf::Kind(matcher.try_clone(alloc)?, *span),
+            ParsedLeaf::Binary(matcher, span) => {
+                ParsedLeaf::Binary(matcher.try_clone(alloc)?, *span)
+            }
+            ParsedLeaf::BinaryId(matcher, span) => {
+                ParsedLeaf::BinaryId(matcher.try_clone(alloc)?, *span)
+            }
+            ParsedLeaf::Platform(platform, span) => ParsedLeaf::Platform(*platform, *span),
+            ParsedLeaf::Test(matcher, span) => ParsedLeaf::Test(matcher.try_clone(alloc)?, *span),
+            ParsedLeaf::Group(matcher, span) => ParsedLeaf::Group(matcher.try_clone(alloc)?, *span),
+            ParsedLeaf::Default(span) => ParsedLeaf::Default(*span),
+            ParsedLeaf::All => ParsedLeaf::All,
+            ParsedLeaf::None => ParsedLeaf::None,
+        })
+    }
+}
+
+/// A filterset's tree. Both binary levels nest to the left.
+#[derive(Debug, Drop)]
+pub enum ParsedExpr<S = SourceSpan> {
+    Not(NotOperator, Box<ParsedExpr<S>>),
+    Union(OrOperator, Box<ParsedExpr<S>>, Box<ParsedExpr<S>>),
+    Intersection(AndOperator, Box<ParsedExpr<S>>, Box<ParsedExpr<S>>),
+    Difference(DifferenceOperator, Box<ParsedExpr<S>>, Box<ParsedExpr<S>>),
+    /// An expression between parentheses.
+    Parens(Box<ParsedExpr<S>>),
+    /// A predicate.
+    Set(ParsedLeaf<S>),
+}
+
+impl<S: Copy> ParsedExpr<S> {
+    /// A copy of the tree, spans included. The only error is want of memory.
+    pub fn try_clone(&self, alloc: Global) -> Result<ParsedExpr<S>, AllocError>
+        ensures { IfOk result (λ copy. tree_of copy ≡ tree_of self.now) }
+    {
+        Ok(match self {
+            ParsedExpr::Not(operator, operand) => {
+                ParsedExpr::Not(*operator, Box::new(alloc, operand.try_clone(alloc)?)?)
+            }
+            ParsedExpr::Union(operator, left, right) => {
+                let left = Box::new(alloc, left.try_clone(alloc)?)?;
+                let right = Box::new(alloc, right.try_clone(alloc)?)?;
+                ParsedExpr::Union(*operator, left, right)
+            }
+            ParsedExpr::Intersection(operator, left, right) => {
+                let left = Box::new(alloc, left.try_clone(alloc)?)?;
+                let right = Box::new(alloc, right.try_clone(alloc)?)?;
+                ParsedExpr::Intersection(*operator, left, right)
+            }
+            ParsedExpr::Difference(operator, left, right) => {
+                let left = Box::new(alloc, left.try_clone(alloc)?)?;
+                let right = Box::new(alloc, right.try_clone(alloc)?)?;
+                ParsedExpr::Difference(*operator, left, right)
+            }
+            ParsedExpr::Parens(inner) => {
+                ParsedExpr::Parens(Box::new(alloc, inner.try_clone(alloc)?)?)
+            }
+            ParsedExpr::Set(leaf) => ParsedExpr::Set(leaf.try_clone(alloc)?),
+        })
+    }
+}

@@ -1,0 +1,73 @@
+//! When trees are equal.
+ghost use Rattle.std.specs.Cmp.{on_equiv, on_per};
+ghost use Rattle.filterset_language.specs.Equality.{same_leaf, same_tree};
+ghost use Rattle.filterset_language.specs.EqualityLaws.{same_leaf_equiv, same_leaf_per, same_tree_equiv, same_tree_per};
+ghost use Rattle.filterset_language.specs.Tree.{leaf_of, tree_of};
+
+use crate::tree::{ParsedExpr, ParsedLeaf};
+
+/// All that the two hold is equal, their spans too; of globs the tokens alone are compared.
+impl<S: PartialEq> PartialEq for ParsedLeaf<S> {
+    ghost eq = { λ a b. same_leaf S.eq (leaf_of a) (leaf_of b) };
+
+    ghost laws = { on_per leaf_of (same_leaf_per S.laws) };
+
+    fn eq(&self, other: &ParsedLeaf<S>) -> bool {
+        match (self, other) {
+            (ParsedLeaf::Package(matcher, span), ParsedLeaf::Package(other_matcher, other_span))
+            | (ParsedLeaf::Deps(matcher, span), ParsedLeaf::Deps(other_matcher, other_span))
+            | (ParsedLeaf::Rdeps(matcher, span), ParsedLeaf::Rdeps(other_matcher, other_span))
+            | (ParsedLeaf::Kind(matcher, span), ParsedLeaf::Kind(other_matcher, other_span))
+            | (ParsedLeaf::Binary(matcher, span), ParsedLeaf::Binary(other_matcher, other_span))
+            | (ParsedLeaf::BinaryId(matcher, span), ParsedLeaf::BinaryId(other_matcher, other_span))
+            | (ParsedLeaf::Test(matcher, span), ParsedLeaf::Test(other_matcher, other_span))
+            | (ParsedLeaf::Group(matcher, span), ParsedLeaf::Group(other_matcher, other_span)) => {
+                matcher == other_matcher && span == other_span
+            }
+            (
+                ParsedLeaf::Platform(platform, span),
+                ParsedLeaf::Platform(other_platform, other_span),
+            ) => platform == other_platform && span == other_span,
+            (ParsedLeaf::Default(span), ParsedLeaf::Default(other_span)) => span == other_span,
+            (ParsedLeaf::All, ParsedLeaf::All) | (ParsedLeaf::None, ParsedLeaf::None) => true,
+            _ => false,
+        }
+    }
+}
+
+impl<S: Eq> Eq for ParsedLeaf<S> {
+    ghost laws = { on_equiv leaf_of (same_leaf_equiv S.Eq.laws) };
+}
+
+/// The two have the same shape and the same operators, and their leaves are equal.
+impl<S: PartialEq> PartialEq for ParsedExpr<S> {
+    ghost eq = { λ a b. same_tree S.eq (tree_of a) (tree_of b) };
+
+    ghost laws = { on_per tree_of (same_tree_per S.laws) };
+
+    fn eq(&self, other: &ParsedExpr<S>) -> bool {
+        match (self, other) {
+            (ParsedExpr::Not(operator, operand), ParsedExpr::Not(other_operator, other_operand)) =>
+                { operator == other_operator && operand == other_operand }
+            (
+                ParsedExpr::Union(operator, left, right),
+                ParsedExpr::Union(other_operator, other_left, other_right),
+            ) => operator == other_operator && left == other_left && right == other_right,
+            (
+                ParsedExpr::Intersection(operator, left, right),
+                ParsedExpr::Intersection(other_operator, other_left, other_right),
+            ) => operator == other_operator && left == other_left && right == other_right,
+            (
+                ParsedExpr::Difference(operator, left, right),
+                ParsedExpr::Difference(other_operator, other_left, other_right),
+            ) => operator == other_operator && left == other_left && right == other_right,
+            (ParsedExpr::Parens(inner), ParsedExpr::Parens(other_inner)) => inner == other_inner,
+            (ParsedExpr::Set(leaf), ParsedExpr::Set(other_leaf)) => leaf == other_leaf,
+            _ => false,
+        }
+    }
+}
+
+impl<S: Eq> Eq for ParsedExpr<S> {
+    ghost laws = { on_equiv tree_of (same_tree_equiv S.Eq.laws) };
+}

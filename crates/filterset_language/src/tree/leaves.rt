@@ -1,0 +1,61 @@
+//! The predicates of a tree, in their order.
+ghost use Rattle.std.specs.Prelude.{◌≡◌, ◌++◌, Bool, map, IfOk, OnOk};
+ghost use Rattle.std.specs.List.{filter};
+ghost use Rattle.filterset_language.specs.Tree.{Leaf, leaf_of, tree_of, tree_leaves, runtime_only, AnswersAs};
+
+use crate::tree::{ParsedExpr, ParsedLeaf};
+use std::alloc::{AllocError, Global};
+
+impl<S> ParsedExpr<S> {
+    /// The predicates of the tree that `keep` answers `true` of, from left to right. Where it keeps none, no memory is
+    /// taken. The only error is want of memory.
+    pub fn leaves_where<F: Fn(&ParsedLeaf<S>) -> bool>(
+        &self,
+        alloc: Global,
+        keep: F,
+    ) -> Result<Vec<&ParsedLeaf<S>>, AllocError>
+        requires { F.IsAlwaysCallable keep }
+        ensures { (kept : Leaf S → Bool) → AnswersAs F.Fn keep kept → IfOk result (λ found.
+            map (λ leaf. leaf_of leaf.now) found.items ≡ filter kept (tree_leaves (tree_of self.now))) }
+    {
+        let mut found = Vec::new(alloc);
+        add_leaves(self, &keep, &mut found)?;
+        Ok(found)
+    }
+
+    /// The predicates that the test itself decides, and not its binary alone, from left to right: `test`, `group` and
+    /// `default`. The only error is want of memory.
+    pub fn runtime_only_leaves(&self, alloc: Global) -> Result<Vec<&ParsedLeaf<S>>, AllocError>
+        ensures { IfOk result (λ found. map (λ leaf. leaf_of leaf.now) found.items ≡ runtime_only (tree_of self.now)) }
+    {
+        self.leaves_where(alloc, |leaf| leaf.is_runtime_only())
+    }
+}
+
+/// Adds the predicates of the tree that `keep` answers `true` of, from left to right.
+fn add_leaves<'e, S, F: Fn(&ParsedLeaf<S>) -> bool>(
+    expr: &'e ParsedExpr<S>,
+    keep: &F,
+    found: &mut Vec<&'e ParsedLeaf<S>>,
+) -> Result<(), AllocError>
+    requires { F.IsAlwaysCallable keep.now }
+    ensures { (kept : Leaf S → Bool) → AnswersAs F.Fn keep.now kept → OnOk result (
+        map (λ leaf. leaf_of leaf.now) found.new.items
+        ≡ map (λ leaf. leaf_of leaf.now) found.old.items ++ filter kept (tree_leaves (tree_of expr.now))) }
+{
+    match expr {
+        ParsedExpr::Not(_, e) | ParsedExpr::Parens(e) => add_leaves(e, keep, found),
+        ParsedExpr::Union(_, a, b)
+        | ParsedExpr::Intersection(_, a, b)
+        | ParsedExpr::Difference(_, a, b) => {
+            add_leaves(a, keep, found)?;
+            add_leaves(b, keep, found)
+        }
+        ParsedExpr::Set(leaf) => {
+            if keep(leaf) {
+                found.push(leaf)?;
+            }
+            Ok(())
+        }
+    }
+}
