@@ -1,21 +1,27 @@
 //! Lists of a tree's predicates, and the reference text, which names each predicate.
 use crate::support::tables::compare;
+use filterset_language::{Predicate, TextMatching};
 use nextest_filtering::{FILTERSET_REFERENCE_MD, ParsedExpr, ParsedLeaf};
 use std::alloc::{AllocError, Global};
 use std::fmt::Write;
 use std::process::Abort;
 use std::test::Fail;
 
-/// The predicates of a tree that only a test decides, as they print, with a blank between them.
-fn listed(alloc: Global, tree: &ParsedExpr) -> Result<String, AllocError> {
+/// Predicates as they print, with a blank between them.
+fn written(alloc: Global, leaves: &[&ParsedLeaf]) -> Result<String, AllocError> {
     let mut found = String::new(alloc);
-    for leaf in tree.runtime_only_leaves(alloc)? {
+    for leaf in leaves {
         if !found.is_empty() {
             found.push_str(" ")?;
         }
         write!(found, "{leaf}")?;
     }
     Ok(found)
+}
+
+/// The predicates of a tree that only a test decides.
+fn listed(alloc: Global, tree: &ParsedExpr) -> Result<String, AllocError> {
+    written(alloc, &tree.runtime_only_leaves(alloc)?)
 }
 
 /// The same of the tree of a text.
@@ -61,6 +67,47 @@ fn lists_what_only_a_test_decides(rt: HostRuntime) -> Result<(), Fail> {
             ),
         ],
     )
+}
+
+/// Whether the predicate is one of packages.
+fn is_of_packages(leaf: &ParsedLeaf) -> bool {
+    matches!(
+        leaf,
+        ParsedLeaf::Package(..) | ParsedLeaf::Deps(..) | ParsedLeaf::Rdeps(..)
+    )
+}
+
+#[test]
+fn lists_what_a_test_of_leaves_keeps(rt: HostRuntime) -> Result<(), Fail> {
+    let alloc = rt.alloc();
+    let text = "rdeps(a) - (test(b) or !package(c)) & deps(d) | package(c) + all()";
+    let parsed = ParsedExpr::parse_with_faults(alloc, text)?;
+    let tree = parsed.tree.ok_or("no tree")?;
+    let of_packages = tree.leaves_where(alloc, is_of_packages)?;
+    let found = written(alloc, &of_packages)?;
+    compare(&rt, text, &found, "rdeps(a) package(c) deps(d) package(c)");
+    let every = tree.leaves_where(alloc, |_| true)?;
+    let found = written(alloc, &every)?;
+    let wanted = "rdeps(a) test(b) package(c) deps(d) package(c) all()";
+    compare(&rt, text, &found, wanted);
+    assert!(rt; tree.leaves_where(alloc, |_| false)?.is_empty());
+    Ok(())
+}
+
+#[test]
+fn predicates_match_by_a_text_of_their_own(rt: HostRuntime) {
+    assert!(rt; Predicate::Kind.own_matching() == TextMatching::Equal);
+    assert!(rt; Predicate::Test.own_matching() == TextMatching::Contains);
+    for predicate in [
+        Predicate::Package,
+        Predicate::Deps,
+        Predicate::Rdeps,
+        Predicate::Binary,
+        Predicate::BinaryId,
+        Predicate::Group,
+    ] {
+        assert!(rt; predicate.own_matching() == TextMatching::Glob);
+    }
 }
 
 #[test]
