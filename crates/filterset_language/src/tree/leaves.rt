@@ -7,8 +7,8 @@ use crate::tree::{ParsedExpr, ParsedLeaf};
 use std::alloc::{AllocError, Global};
 
 impl<S> ParsedExpr<S> {
-    /// The predicates of the tree that `keep` answers `true` of, from left to right. Where it keeps none, no memory is
-    /// taken. The only error is want of memory.
+    /// The predicates of the tree that `keep` answers `true` of, from left to right. The only error is want of
+    /// memory.
     pub fn leaves_where<F: Fn(&ParsedLeaf<S>) -> bool>(
         &self,
         alloc: Global,
