@@ -1,0 +1,2 @@
+pub mod FaultsLieWithin
+pub mod AnswersOfTests

@@ -1,0 +1,2 @@
+pub mod Underlining
+pub mod Selecting

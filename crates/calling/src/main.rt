@@ -1,0 +1,118 @@
+//! A caller of `nextest_filtering`: reads filtersets, says which tests each of them holds of, and underlines the faults
+//! of those that are refused. `docs/CALLING.md` goes through it.
+#![tactic(auto)]
+
+ghost use Rattle.std.specs.Prelude.{◌≡◌, All, IfOk, [], string_bytes};
+ghost use Rattle.calling.specs.Underlining.{LiesWithin};
+
+mod selecting;
+mod underlining;
+
+use nextest_filtering::{
+    BinaryQuery, BuildPlatform, CompiledExpr, EvalContext, FiltersetParseErrors, GraphRefusal,
+    PackageGraph, PackageId, ParseContext, RustBinaryId, RustTestBinaryKind, TestCaseName,
+    TestQuery,
+};
+use selecting::{Selection, select};
+use std::alloc::{AllocError, Global};
+use std::io;
+use underlining::underline;
+
+/// The filtersets that are read. The third one and those behind it are refused.
+const FILTERSETS: [&str; 5] = [
+    "test(parse) and not test(slow) or test(=net::get)",
+    "test(#parse::*) - test(/_list$/)",
+    "test(a,b)",
+    "NOT all()",
+    "test(=é) none()",
+];
+
+/// The workspace without packages.
+fn no_packages(alloc: Global) -> Result<PackageGraph, AllocError>
+    ensures { IfOk result (λ graph. graph ≡ []) }
+{
+    match PackageGraph::new(alloc, Vec::new(alloc)) {
+        Ok(graph) => Ok(graph),
+        Err(GraphRefusal::OutOfMemory(refused)) => Err(refused),
+        Err(_) => unreachable!(),
+    }
+}
+
+/// Prints a filterset, and whether it holds of each test.
+fn print_answers(
+    rt: &impl Print,
+    filterset: &str,
+    tests: &[TestQuery<'_>],
+    answers: &[bool],
+) -> io::Result<()> {
+    println!(rt; "{filterset}")?;
+    for (test, holds) in tests.iter().zip(answers) {
+        let name = test.test_name.as_str();
+        let answer = if *holds { "yes" } else { "no" };
+        println!(rt; "  {name}: {answer}")?;
+    }
+    Ok(())
+}
+
+/// Prints each fault: the text, underlined, with what is said of it, and help.
+fn print_faults(rt: &impl Print, alloc: Global, refused: &FiltersetParseErrors) -> io::Result<()>
+    requires { All (LiesWithin (string_bytes refused.now.input)) refused.now.errors.items }
+{
+    for fault in &refused.errors {
+        if let Some(span) = fault.span() {
+            let lines = underline(alloc, refused.input.as_str(), span)?;
+            print!(rt; "{lines} ")?;
+        }
+        if let Some(label) = fault.label() {
+            println!(rt; "{label}")?;
+        }
+        if let Some(help) = fault.help() {
+            println!(rt; "help: {help}")?;
+        }
+    }
+    Ok(())
+}
+
+fn main(rt: HostRuntime) -> io::Result<()> {
+    let alloc = rt.alloc();
+    let graph = no_packages(alloc)?;
+    let parse_context = ParseContext::new(alloc, &graph)?;
+    let default_filter = CompiledExpr::ALL;
+    let eval_context = EvalContext::new(&default_filter);
+    let package_id = PackageId::new(String::from_str(alloc, "text 0.1.0")?);
+    let binary_id = RustBinaryId::new(alloc, "text")?;
+    let binary_query = BinaryQuery {
+        package_id: &package_id,
+        binary_id: &binary_id,
+        binary_name: "text",
+        kind: &RustTestBinaryKind::LIB,
+        platform: BuildPlatform::Target,
+    };
+    let names = [
+        TestCaseName::new(alloc, "parse::reads_a_list")?,
+        TestCaseName::new(alloc, "parse::slow_sum")?,
+        TestCaseName::new(alloc, "net::get")?,
+    ];
+    let tests = [
+        TestQuery {
+            binary_query,
+            test_name: &names[0],
+        },
+        TestQuery {
+            binary_query,
+            test_name: &names[1],
+        },
+        TestQuery {
+            binary_query,
+            test_name: &names[2],
+        },
+    ];
+    for text in FILTERSETS {
+        let filterset = String::from_str(alloc, text)?;
+        match select(alloc, filterset, &parse_context, &eval_context, &tests)? {
+            Selection::Answers(answers) => print_answers(&rt, text, &tests, answers.as_slice())?,
+            Selection::Refused(refused) => print_faults(&rt, alloc, &refused)?,
+        }
+    }
+    Ok(())
+}

@@ -1,0 +1,82 @@
+//! Which tests a filterset holds of.
+ghost use Rattle.std.specs.Prelude.{◌≡◌, false, IfOk, List};
+ghost use Rattle.std.specs.List.{AllZip};
+ghost use Rattle.filterset_graph.specs.declared.package.PackageMetadata.{PackageMetadata};
+ghost use Rattle.filterset_language.specs.Tree.{tree_of};
+ghost use Rattle.nextest_filtering.specs.Compiling.{packages_of};
+ghost use Rattle.nextest_filtering.specs.Contexts.{default_of};
+ghost use Rattle.nextest_filtering.specs.Expression.{has_leaf, is_group};
+ghost use Rattle.nextest_filtering.specs.Meaning.{IsCompiled};
+ghost use Rattle.calling.specs.Selecting.{CanBeUnderlined, IsAnswered, IsRefused, Tells};
+
+use nextest_filtering::{
+    EvalContext, Filterset, FiltersetKind, FiltersetParseErrors, KnownGroups, ParseContext,
+    ParseRefusal, TestQuery,
+};
+use std::alloc::{AllocError, Global};
+use std::collections::HashSet;
+
+/// What a text says of some tests.
+#[derive(Debug, Drop)]
+pub enum Selection {
+    /// For each test, in their order, whether the filterset holds of it.
+    Answers(Vec<bool>),
+    /// The text, which comes back, and its faults.
+    Refused(FiltersetParseErrors),
+}
+
+/// Reads a filterset and asks it of each test. It is an error only for want of memory, and then nothing is known of the
+/// text.
+pub fn select(
+    alloc: Global,
+    text: String,
+    parse_context: &ParseContext<'_>,
+    eval_context: &EvalContext<'_>,
+    tests: &[TestQuery<'_>],
+) -> Result<Selection, AllocError>
+    ensures answered { let packages = packages_of parse_context.now in
+        let default = default_of eval_context.now in
+        IfOk result (IsAnswered packages default text tests.now) }
+    ensures refused { IfOk result (IsRefused text) }
+    ensures within { IfOk result CanBeUnderlined }
+{
+    let known_groups = KnownGroups::Known {
+        custom_groups: HashSet::new(alloc),
+    };
+    match Filterset::parse(
+        alloc,
+        text,
+        parse_context,
+        FiltersetKind::Test,
+        &known_groups,
+    ) {
+        Ok(filterset) => Ok(Selection::Answers(answers_of(
+            alloc,
+            &filterset,
+            eval_context,
+            tests,
+        )?)),
+        Err(ParseRefusal::Faults(refused)) => Ok(Selection::Refused(refused)),
+        Err(ParseRefusal::OutOfMemory { .. }) => Err(AllocError),
+    }
+}
+
+/// Asks a filterset of each test.
+fn answers_of(
+    alloc: Global,
+    filterset: &Filterset,
+    eval_context: &EvalContext<'_>,
+    tests: &[TestQuery<'_>],
+) -> Result<Vec<bool>, AllocError>
+    requires { has_leaf is_group filterset.now.compiled ≡ false }
+    ensures { let e = tree_of filterset.now.parsed in
+        let default = default_of eval_context.now in
+        IfOk result (λ answers. (packages : List PackageMetadata) → IsCompiled packages e filterset.now.compiled
+        → AllZip (Tells packages default e) tests.now answers.items) }
+{
+    let mut answers = Vec::with_capacity(alloc, tests.len())?;
+    for test in tests {
+        answers.push(filterset.matches_test(alloc, test, eval_context)?)?;
+    }
+    Ok(answers)
+}
