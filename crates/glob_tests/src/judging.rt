@@ -1,5 +1,5 @@
 //! What the tests judge by. It is proved like the crates below, so that no test passes for a judge that is lax.
-ghost use Rattle.std.specs.Prelude.{◌≡◌, ◌↔◌, IfOk, IsTrue};
+ghost use Rattle.std.specs.Prelude.{◌↔◌, IfOk, IsTrue};
 ghost use Rattle.std.specs.Str.{chars};
 ghost use Rattle.filterset_glob.specs.Matching.{Matches};
 
@@ -22,11 +22,4 @@ pub fn is_answer(
     let answer = glob.is_match(alloc, text)?;
     let counted = glob.is_match_counted(alloc, text, &mut steps)?;
     Ok(answer == wanted && counted == wanted)
-}
-
-/// Whether what was found is what is wanted, byte for byte.
-pub fn agrees(found: &str, wanted: &str) -> bool
-    ensures { IsTrue result ↔ found.now ≡ wanted.now }
-{
-    found == wanted
 }

@@ -1,47 +1,11 @@
-//! What globs are read as, and which of them are equal.
-use crate::tables::{glob, reads};
-use filterset_glob::{GlobBranch, GlobToken};
+//! Tokens as values, and which globs are equal.
+use filterset_glob::{GenericGlob, GlobBranch, GlobToken};
+use std::alloc::Global;
 use std::test::Fail;
 
-#[test]
-fn tokens_of_segments(rt: HostRuntime) -> Result<(), Fail> {
-    reads(
-        &rt,
-        "
-        ∅ | []
-        ** | [Star]
-        **/** | [Star]
-        **/**/a | [DeepFirst, Literal(a)]
-        a** | [Literal(a), Star, Star]
-        a/**/ | [Literal(a), DeepMid]
-        /** | [DeepLast]
-        **/ | [DeepFirst]
-        ***/? | [Star, Star, Star, Literal(/), AnyChar]
-        {b,**/a} | [Alternates([Literal(b)], [DeepFirst, Literal(a)])]
-        {} | [Alternates([])]
-        ",
-        11,
-    )
-}
-
-#[test]
-fn ranges_of_classes(rt: HostRuntime) -> Result<(), Fail> {
-    reads(
-        &rt,
-        "
-        []a] | [Class(]-] a-a)]
-        [a-] | [Class(a-a ---)]
-        [--a] | [Class(--a)]
-        [--] | [Class(--- ---)]
-        [a-c-e] | [Class(a-e)]
-        [a-z-b] | [Class(a-b)]
-        [!]a] | [NegatedClass(]-] a-a)]
-        [^a] | [NegatedClass(a-a)]
-        [!!] | [NegatedClass(!-!)]
-        [a!] | [Class(a-a !-!)]
-        ",
-        10,
-    )
+/// The glob of this text.
+fn glob(alloc: Global, text: &str) -> Result<GenericGlob, Fail> {
+    Ok(GenericGlob::new(alloc, String::from_str(alloc, text)?)?)
 }
 
 #[test]

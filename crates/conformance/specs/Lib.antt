@@ -1,0 +1,4 @@
+pub mod Ending
+pub mod Judging
+pub mod Report
+pub mod Rows

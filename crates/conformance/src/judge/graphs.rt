@@ -1,0 +1,173 @@
+//! Putting a list of packages to the library: which depend on which, or why it is no graph. Each call notes
+//! what was found otherwise than the row says.
+ghost use Rattle.std.specs.Prelude.{OnOk};
+ghost use Rattle.conformance.specs.Judging.{IsClean};
+
+use crate::lines::Lines;
+use crate::rows::{DependsRow, GraphRow, PackageRow, RefusedRow, SearchRow};
+use nextest_filtering::{DependsRefusal, GraphRefusal, PackageGraph, PackageId, PackageMetadata};
+use std::alloc::{AllocError, Global};
+
+/// Notes what is found of the lists of packages otherwise than their rows say.
+pub fn judge_graphs(alloc: Global, lines: &mut Lines, rows: &[GraphRow]) -> Result<(), AllocError>
+    ensures { OnOk result (IsClean lines.new → IsClean lines.old) }
+{
+    for row in rows {
+        lines.begin("graph");
+        judge_graph(alloc, lines, row)?;
+    }
+    Ok(())
+}
+
+/// Notes what is found of the packages otherwise than their row says.
+fn judge_graph(alloc: Global, lines: &mut Lines, row: &GraphRow) -> Result<(), AllocError>
+    ensures { OnOk result (IsClean lines.new → IsClean lines.old) }
+{
+    let packages = packages(alloc, &row.packages)?;
+    let refused = match PackageGraph::new(alloc, packages) {
+        Ok(graph) => return judge_questions(alloc, lines, row, &graph),
+        Err(GraphRefusal::RepeatedId { at }) => RefusedRow::Repeated { at },
+        Err(GraphRefusal::UnknownLink { package, link }) => RefusedRow::Unknown { package, link },
+        Err(GraphRefusal::OutOfMemory(refused)) => return Err(refused),
+    };
+    let found = format!(in alloc; "{refused:?}")?;
+    lines.note(row.refused == Some(refused), "refusal", "", found.as_str())
+}
+
+/// The packages of the rows, each with its name for its id.
+fn packages(alloc: Global, rows: &[PackageRow]) -> Result<Vec<PackageMetadata>, AllocError> {
+    let mut all = Vec::new(alloc);
+    for row in rows {
+        all.push(package(alloc, row)?)?;
+    }
+    Ok(all)
+}
+
+/// The package of the row.
+fn package(alloc: Global, row: &PackageRow) -> Result<PackageMetadata, AllocError> {
+    Ok(PackageMetadata {
+        id: id(alloc, row.name.as_str())?,
+        name: String::from_str(alloc, row.name.as_str())?,
+        in_workspace: row.in_workspace,
+        build_targets: Vec::new(alloc),
+        links: ids(alloc, &row.links)?,
+    })
+}
+
+/// The ids with these texts.
+fn ids(alloc: Global, texts: &[String]) -> Result<Vec<PackageId>, AllocError> {
+    let mut all = Vec::new(alloc);
+    for text in texts {
+        all.push(id(alloc, text.as_str())?)?;
+    }
+    Ok(all)
+}
+
+/// The id with this text.
+fn id(alloc: Global, text: &str) -> Result<PackageId, AllocError> {
+    Ok(PackageId::new(String::from_str(alloc, text)?))
+}
+
+/// A graph is wanted, and it answers the questions of the row.
+fn judge_questions(
+    alloc: Global,
+    lines: &mut Lines,
+    row: &GraphRow,
+    graph: &PackageGraph,
+) -> Result<(), AllocError>
+    ensures { OnOk result (IsClean lines.new → IsClean lines.old) }
+{
+    lines.note(row.refused.is_none(), "refusal", "", "none")?;
+    judge_dependencies(alloc, lines, graph, &row.depends)?;
+    judge_searches(alloc, lines, graph, &row.searches)
+}
+
+/// Which package depends on which is as the rows say.
+fn judge_dependencies(
+    alloc: Global,
+    lines: &mut Lines,
+    graph: &PackageGraph,
+    rows: &[DependsRow],
+) -> Result<(), AllocError>
+    ensures { OnOk result (IsClean lines.new → IsClean lines.old) }
+{
+    for asked in rows {
+        judge_depends(alloc, lines, graph, asked)?;
+    }
+    Ok(())
+}
+
+/// The searches mark what the rows say.
+fn judge_searches(
+    alloc: Global,
+    lines: &mut Lines,
+    graph: &PackageGraph,
+    rows: &[SearchRow],
+) -> Result<(), AllocError>
+    ensures { OnOk result (IsClean lines.new → IsClean lines.old) }
+{
+    for asked in rows {
+        judge_search(alloc, lines, graph, asked)?;
+    }
+    Ok(())
+}
+
+/// Whether one package depends on another one is as the row says.
+fn judge_depends(
+    alloc: Global,
+    lines: &mut Lines,
+    graph: &PackageGraph,
+    asked: &DependsRow,
+) -> Result<(), AllocError>
+    ensures { OnOk result (IsClean lines.new → IsClean lines.old) }
+{
+    let from = id(alloc, asked.from.as_str())?;
+    let to = id(alloc, asked.to.as_str())?;
+    let found = match graph.depends_on(alloc, &from, &to) {
+        Ok(answer) => Some(answer),
+        Err(DependsRefusal::UnknownPackage) => None,
+        Err(DependsRefusal::OutOfMemory(refused)) => return Err(refused),
+    };
+    let shown = format!(in alloc; "{found:?}")?;
+    let same = found == asked.answer;
+    lines.note(same, "question", asked.from.as_str(), shown.as_str())
+}
+
+/// One search marks the packages that the row says.
+fn judge_search(
+    alloc: Global,
+    lines: &mut Lines,
+    graph: &PackageGraph,
+    asked: &SearchRow,
+) -> Result<(), AllocError>
+    ensures { OnOk result (IsClean lines.new → IsClean lines.old) }
+{
+    let starts = marks(alloc, graph.packages(), &asked.starts)?;
+    let reached = marks(alloc, graph.packages(), &asked.reached)?;
+    let reaching = marks(alloc, graph.packages(), &asked.reaching)?;
+    if starts.len() != graph.packages().len() {
+        return lines.note(false, "search", "starts", "another count");
+    }
+    let found = graph.reached_from(alloc, &starts)?;
+    lines.note(found == reached, "search", "reached", "others")?;
+    let found = graph.reaching(alloc, &starts)?;
+    lines.note(found == reaching, "search", "reaching", "others")
+}
+
+/// A mark for each package: whether its name is one of these.
+fn marks(
+    alloc: Global,
+    packages: &[PackageMetadata],
+    names: &[String],
+) -> Result<Vec<bool>, AllocError> {
+    let mut all = Vec::new(alloc);
+    for package in packages {
+        all.push(is_named(package.name(), names))?;
+    }
+    Ok(all)
+}
+
+/// Whether a name is one of these.
+fn is_named(name: &str, names: &[String]) -> bool {
+    names.iter().any(|one| one.as_str() == name)
+}

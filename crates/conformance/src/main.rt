@@ -1,0 +1,32 @@
+//! Reads the rows of the language's suite on standard input, puts each to the library, and writes a line for each thing
+//! that was found otherwise than its row says, and then how many rows there were.
+#![tactic(auto)]
+
+mod ending;
+mod entry;
+mod judge;
+mod judging;
+mod lines;
+mod report;
+mod rows;
+mod run;
+mod shapes;
+#[cfg(test)]
+mod tests;
+mod tokens;
+
+use ending::status;
+use records::{FromReader, ToWriter};
+use run::run;
+use std::process::ExitCode;
+
+fn main(rt: HostRuntime) -> ExitCode {
+    let mut input = FromReader::new(rt.stdin());
+    let mut output = ToWriter::new(rt.stdout());
+    let ended = run(rt.alloc(), &mut input, &mut output);
+    if let Err(fault) = ended {
+        // A line that cannot be written changes nothing.
+        let _ = eprintln!(rt; "{fault}");
+    }
+    ExitCode::from(status(ended))
+}

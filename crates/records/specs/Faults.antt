@@ -1,0 +1,10 @@
+-- Why a run gives nothing.
+use Rattle.std.specs.Prelude.{ℕ, List, codes}
+use Rattle.records.specs.declared.fault.RunFault.{RunFault}
+use Rattle.records.specs.declared.fault.RunFault.TheVariants.{Memory, Read, Write}
+
+-- what is told of a fault
+abbrev pub fault_text : RunFault → List ℕ
+fault_text (Memory refused) = codes "memory refused"
+fault_text Read = codes "read failed"
+fault_text Write = codes "write failed"
