@@ -1,19 +1,30 @@
 -- Faults lie within the text that is refused by them.
-use Rattle.std.proofs.Common.{◌≡◌, ℕ, ◌+◌, ◌≤◌, List, [], ◌∷◌, ◌++◌, length, codes, ap, sym, ◌∙◌, subst, arith, length-append}
-use Rattle.std.specs.Prelude.{All}
-use Rattle.std.specs.List.{filter_map}
+use Rattle.std.proofs.Common.{◌≡◌, ℕ, ◌+◌, ◌≤◌, List, [], ◌∷◌, ◌++◌, length, codes, ap, sym, ◌∙◌, subst, arith, length-append, inl, inr}
+use Rattle.std.specs.Prelude.{All, IfSome, Option, Some, None, string_bytes}
+use Rattle.std.specs.List.{cons_option, filter_map}
 use Rattle.std.proofs.lemmas.List.Elements.{All-nil, All-cons, All-head, All-tail, All-append, All-weaker}
+use Rattle.std.specs.declared.alloc.Global.{Global}
+use Rattle.std.specs.declared.string.String.{String}
 use Rattle.filterset_faults.specs.declared.error.ParseSingleError.{ParseSingleError}
-use Rattle.filterset_faults.specs.declared.error.ParseSingleError.TheVariants.{UnsupportedExpression}
+use Rattle.filterset_faults.specs.declared.kind.FiltersetKind.{FiltersetKind}
+use Rattle.filterset_faults.specs.declared.kind.FiltersetKind.TheVariants.{TestArchive, OverrideFilter, DefaultFilter}
+use Rattle.filterset_faults.specs.declared.kind.FiltersetKind.TheVariants as kinds
+use Rattle.filterset_faults.specs.declared.parse_errors.FiltersetParseErrors.{FiltersetParseErrors}
 use Rattle.filterset_faults.specs.declared.span.SourceSpan.{SourceSpan}
+use Rattle.filterset_graph.specs.declared.package.PackageMetadata.{PackageMetadata}
 use Rattle.filterset_language.specs.Faults.{FaultStands}
 use Rattle.filterset_language.specs.Grammar as grammar
 use Rattle.filterset_language.specs.Grammar.{not_text, or_text, join_text, Call, LeafText, Basic, AndLevel, OrLevel, Spells}
 use Rattle.filterset_language.specs.Tree as tree
 use Rattle.filterset_language.specs.Tree.{Leaf, Tree, tree_leaves}
-use Rattle.filterset_language.specs.declared.tree.predicate.Predicate.TheVariants.{Test}
-use Rattle.nextest_filtering.specs.Compiling.{unsupported_fault, IsRefusedWith, found, unsupported}
+use Rattle.filterset_language.specs.declared.tree.predicate.Predicate.TheVariants.{Package, Deps, Rdeps, Binary, BinaryId, Test, Group}
+use Rattle.nextest_filtering.specs.Bans.{ban}
+use Rattle.nextest_filtering.specs.Checks.{AreUnmatched, SaysUnmatched}
+use Rattle.nextest_filtering.specs.Compiling.{IsRefusedWith, found, rejected, IsRejectedWith, banned, unmatched}
+use Rattle.nextest_filtering.specs.declared.compile.context.KnownGroups.{KnownGroups}
+use Rattle.calling.specs.Selecting.{CanBeUnderlined, IsRefused}
 use Rattle.calling.specs.Underlining.{LiesWithin}
+use Rattle.calling.specs.declared.selecting.Selection.TheVariants.{Refused}
 
 -- ---- leaves
 
@@ -80,23 +91,69 @@ spelled_ends text e s = or_ends (length text) (omega (arith, ap length s.whole, 
 
 -- ---- faults
 
--- so do the faults of its leaves
-faults_of_leaves : (text : List ℕ) (leaves : List (Leaf SourceSpan)) → All (EndsBy (length text)) leaves → All (LiesWithin text) (filter_map unsupported_fault leaves)
-faults_of_leaves text [] all = All-nil (LiesWithin text)
-faults_of_leaves text (leaf ∷ leaves) all =
-    first leaf (All-head (EndsBy (length text)) leaf leaves all) (faults_of_leaves text leaves (All-tail (EndsBy (length text)) leaf leaves all))
-  where
-    first : (l : Leaf SourceSpan) → EndsBy (length text) l → All (LiesWithin text) (filter_map unsupported_fault leaves)
-        → All (LiesWithin text) (filter_map unsupported_fault (l ∷ leaves))
-    first (tree.Matching Test m s) ends more = more
-    first (tree.Matching p m s) ends more = All-cons (LiesWithin text) (UnsupportedExpression s) (filter_map unsupported_fault leaves) ends more
-    first (tree.Platform q s) ends more = All-cons (LiesWithin text) (UnsupportedExpression s) (filter_map unsupported_fault leaves) ends more
-    first (tree.Default s) ends more = All-cons (LiesWithin text) (UnsupportedExpression s) (filter_map unsupported_fault leaves) ends more
-    first tree.All ends more = more
-    first tree.None ends more = more
+-- so does the fault of a banned leaf
+ban_LiesWithin : (text : List ℕ) (kind : FiltersetKind) (leaf : Leaf SourceSpan) → EndsBy (length text) leaf → IfSome (ban kind leaf) (LiesWithin text)
+ban_LiesWithin text OverrideFilter (tree.Matching Group m s) ends = ends
+ban_LiesWithin text TestArchive (tree.Matching Test m s) ends = ends
+ban_LiesWithin text TestArchive (tree.Matching Group m s) ends = ends
+ban_LiesWithin text DefaultFilter (tree.Matching Group m s) ends = ends
+ban_LiesWithin text DefaultFilter (tree.Default s) ends = ends
+ban_LiesWithin text kind leaf ends = tt
 
--- the faults of a refusal lie within the text
-pub refused_LiesWithin : (text : List ℕ) (faults : List ParseSingleError) → IsRefusedWith text faults → All (LiesWithin text) faults
-refused_LiesWithin text faults (found unread) = All-weaker (FaultStands text) (LiesWithin text) (λ fault stands. stands.within) faults unread.stand
-refused_LiesWithin text faults (unsupported e reads is some) =
-    subst (λ fs. All (LiesWithin text) fs) (sym is) (faults_of_leaves text (tree_leaves e) (spelled_ends text e reads.spelled))
+-- one more fault, where there is one
+some_more : (text : List ℕ) (fault : Option ParseSingleError) (faults : List ParseSingleError) → IfSome fault (LiesWithin text) → All (LiesWithin text) faults
+    → All (LiesWithin text) (cons_option fault faults)
+some_more text (Some fault) faults one all = All-cons (LiesWithin text) fault faults one all
+some_more text None faults one all = all
+
+-- the faults of banned leaves
+bans_LieWithin : (text : List ℕ) (kind : FiltersetKind) (leaves : List (Leaf SourceSpan)) → All (EndsBy (length text)) leaves
+    → All (LiesWithin text) (filter_map (ban kind) leaves)
+bans_LieWithin text kind [] all = All-nil (LiesWithin text)
+bans_LieWithin text kind (leaf ∷ leaves) all =
+    some_more text (ban kind leaf) (filter_map (ban kind) leaves)
+    (ban_LiesWithin text kind leaf (All-head (EndsBy (length text)) leaf leaves all))
+    (bans_LieWithin text kind leaves (All-tail (EndsBy (length text)) leaf leaves all))
+
+-- the fault of a leaf that hits nothing
+unmatched_LiesWithin : (text : List ℕ) (leaf : Leaf SourceSpan) (fault : ParseSingleError) → EndsBy (length text) leaf → SaysUnmatched leaf fault → LiesWithin text fault
+unmatched_LiesWithin text (tree.Matching Package m s) fault ends is = rw is ends
+unmatched_LiesWithin text (tree.Matching Deps m s) fault ends is = rw is ends
+unmatched_LiesWithin text (tree.Matching Rdeps m s) fault ends is = rw is ends
+unmatched_LiesWithin text (tree.Matching Binary m s) fault ends is = rw is ends
+unmatched_LiesWithin text (tree.Matching BinaryId m s) fault ends is = rw is ends
+unmatched_LiesWithin text (tree.Matching Group m s) fault ends is = rw is ends
+unmatched_LiesWithin text leaf fault ends is = absurd is
+
+-- the faults of such leaves
+unmatched_LieWithin : (text : List ℕ) (packages : List PackageMetadata) (groups : KnownGroups) (leaves : List (Leaf SourceSpan)) (faults : List ParseSingleError)
+    → All (EndsBy (length text)) leaves → AreUnmatched packages groups leaves faults → All (LiesWithin text) faults
+unmatched_LieWithin text packages groups [] faults all is = rw is (All-nil (LiesWithin text))
+unmatched_LieWithin text packages groups (leaf ∷ leaves) faults all (inl hit) =
+    unmatched_LieWithin text packages groups leaves faults (All-tail (EndsBy (length text)) leaf leaves all) hit.1
+unmatched_LieWithin text packages groups (leaf ∷ leaves) faults all (inr (fault, others, missed, is, says, behind)) =
+    rw is (All-cons (LiesWithin text) fault others
+    (unmatched_LiesWithin text leaf fault (All-head (EndsBy (length text)) leaf leaves all) says)
+    (unmatched_LieWithin text packages groups leaves others (All-tail (EndsBy (length text)) leaf leaves all) behind))
+
+-- the faults that refuse a tree
+rejected_LiesWithin : (text : List ℕ) (kind : FiltersetKind) (packages : List PackageMetadata) (groups : KnownGroups) (e : Tree SourceSpan) (faults : List ParseSingleError)
+    → Spells text e → IsRejectedWith kind packages groups e faults → All (LiesWithin text) faults
+rejected_LiesWithin text kind packages groups e faults spelled (banned is some) =
+    subst (λ fs. All (LiesWithin text) fs) (sym is) (bans_LieWithin text kind (tree_leaves e) (spelled_ends text e spelled))
+rejected_LiesWithin text kind packages groups e faults spelled (unmatched allowed are some) =
+    unmatched_LieWithin text packages groups (tree_leaves e) faults (spelled_ends text e spelled) are
+
+-- the faults of a refusal
+refused_LiesWithin : (text : List ℕ) (kind : FiltersetKind) (packages : List PackageMetadata) (groups : KnownGroups) (faults : List ParseSingleError)
+    → IsRefusedWith text kind packages groups faults → All (LiesWithin text) faults
+refused_LiesWithin text kind packages groups faults (found unread) =
+    All-weaker (FaultStands text) (LiesWithin text) (λ fault stands. stands.within) faults unread.stand
+refused_LiesWithin text kind packages groups faults (rejected e reads why) = rejected_LiesWithin text kind packages groups e faults reads.spelled why
+
+-- the faults of a refused text can be underlined in it
+pub refused_can_be_underlined : (packages : List PackageMetadata) (text : String Global) (refused : FiltersetParseErrors)
+    → IsRefused packages text (Refused refused) → CanBeUnderlined (Refused refused)
+refused_can_be_underlined packages text refused (same, (groups, alone, why)) =
+    subst (λ (t : String Global). All (LiesWithin (string_bytes t)) refused.errors.items) (sym same)
+    (refused_LiesWithin (string_bytes text) kinds.Test packages groups refused.errors.items why)

@@ -18,13 +18,15 @@ use std::alloc::{AllocError, Global};
 use std::io;
 use underlining::underline;
 
-/// The filtersets that are read. The third one and those behind it are refused.
-const FILTERSETS: [&str; 5] = [
+/// The filtersets that are read. The third one needs groups, and those behind it are refused.
+const FILTERSETS: [&str; 7] = [
     "test(parse) and not test(slow) or test(=net::get)",
     "test(#parse::*) - test(/_list$/)",
+    "group(=@global) and kind(lib)",
     "test(a,b)",
     "NOT all()",
     "test(=é) none()",
+    "test(get) or package(core)",
 ];
 
 /// The workspace without packages.
@@ -111,6 +113,9 @@ fn main(rt: HostRuntime) -> io::Result<()> {
         let filterset = String::from_str(alloc, text)?;
         match select(alloc, filterset, &parse_context, &eval_context, &tests)? {
             Selection::Answers(answers) => print_answers(&rt, text, &tests, answers.as_slice())?,
+            Selection::NeedsGroups(filterset) => {
+                println!(rt; "{}\n  needs the groups of tests", filterset.input)?
+            }
             Selection::Refused(refused) => print_faults(&rt, alloc, &refused)?,
         }
     }

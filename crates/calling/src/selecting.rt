@@ -7,7 +7,7 @@ ghost use Rattle.nextest_filtering.specs.Compiling.{packages_of};
 ghost use Rattle.nextest_filtering.specs.Contexts.{default_of};
 ghost use Rattle.nextest_filtering.specs.Expression.{has_leaf, is_group};
 ghost use Rattle.nextest_filtering.specs.Meaning.{IsCompiled};
-ghost use Rattle.calling.specs.Selecting.{CanBeUnderlined, IsAnswered, IsRefused, Tells};
+ghost use Rattle.calling.specs.Selecting.{CanBeUnderlined, IsAnswered, IsLeftToGroups, IsRefused, Tells};
 
 use nextest_filtering::{
     EvalContext, Filterset, FiltersetKind, FiltersetParseErrors, KnownGroups, ParseContext,
@@ -21,12 +21,14 @@ use std::collections::HashSet;
 pub enum Selection {
     /// For each test, in their order, whether the filterset holds of it.
     Answers(Vec<bool>),
+    /// The filterset, which holds a `group(..)`: whether it holds of a test depends on the test's group too.
+    NeedsGroups(Filterset),
     /// The text, which comes back, and its faults.
     Refused(FiltersetParseErrors),
 }
 
-/// Reads a filterset and asks it of each test. It is an error only for want of memory, and then nothing is known of the
-/// text.
+/// Reads a filterset and asks it of each test, unless it holds a `group(..)`: then it is read, and comes back. No group
+/// is known but `@global`. It is an error only for want of memory, and then nothing is known of the text.
 pub fn select(
     alloc: Global,
     text: String,
@@ -37,28 +39,29 @@ pub fn select(
     ensures answered { let packages = packages_of parse_context.now in
         let default = default_of eval_context.now in
         IfOk result (IsAnswered packages default text tests.now) }
-    ensures refused { IfOk result (IsRefused text) }
+    ensures needs_groups { IfOk result (IsLeftToGroups (packages_of parse_context.now) text) }
+    ensures refused { IfOk result (IsRefused (packages_of parse_context.now) text) }
     ensures within { IfOk result CanBeUnderlined }
 {
     let known_groups = KnownGroups::Known {
         custom_groups: HashSet::new(alloc),
     };
-    match Filterset::parse(
+    let filterset = match Filterset::parse(
         alloc,
         text,
         parse_context,
         FiltersetKind::Test,
         &known_groups,
     ) {
-        Ok(filterset) => Ok(Selection::Answers(answers_of(
-            alloc,
-            &filterset,
-            eval_context,
-            tests,
-        )?)),
-        Err(ParseRefusal::Faults(refused)) => Ok(Selection::Refused(refused)),
-        Err(ParseRefusal::OutOfMemory { .. }) => Err(AllocError),
+        Ok(filterset) => filterset,
+        Err(ParseRefusal::Faults(refused)) => return Ok(Selection::Refused(refused)),
+        Err(ParseRefusal::OutOfMemory { .. }) => return Err(AllocError),
+    };
+    if filterset.compiled.has_group_matchers() {
+        return Ok(Selection::NeedsGroups(filterset));
     }
+    let answers = answers_of(alloc, &filterset, eval_context, tests)?;
+    Ok(Selection::Answers(answers))
 }
 
 /// Asks a filterset of each test.

@@ -1,18 +1,17 @@
 -- What the rows are judged by.
-use Rattle.std.specs.Prelude.{◌≡◌, ◌↔◌, Bool, IsTrue, List, [], Some, codes, string_bytes}
+use Rattle.std.specs.Prelude.{◌≡◌, ◌↔◌, Bool, IsTrue, List, [], Some, string_bytes}
 use Rattle.std.specs.List.{AllZip}
 use Rattle.filterset_faults.specs.Faults.{code_of, span_of}
 use Rattle.filterset_faults.specs.Span.{span}
 use Rattle.filterset_faults.specs.declared.error.ParseSingleError.{ParseSingleError}
-use Rattle.filterset_graph.specs.declared.package.BuildPlatform.TheVariants.{Host}
 use Rattle.nextest_filtering.specs.Expression.{Holds, no_groups}
 use Rattle.nextest_filtering.specs.declared.expression.CompiledExpr.{CompiledExpr}
 use Rattle.nextest_filtering.specs.declared.expression.CompiledExpr.TheVariants as compiled
 use Rattle.nextest_filtering.specs.declared.expression.leaves.FiltersetLeaf.TheVariants as leaf
 use Rattle.nextest_filtering.specs.declared.expression.query.TestQuery.{TestQuery}
 use Rattle.nextest_filtering.specs.declared.filterset.Filterset as filtersets
-use Rattle.conformance.specs.Report.{Text}
 use Rattle.conformance.specs.declared.lines.Lines.{Lines}
+use Rattle.conformance.specs.declared.rows.asked.TestRow.{TestRow}
 use Rattle.conformance.specs.declared.rows.texts.FaultRow.{FaultRow}
 
 -- the fault has the code and the span of the row
@@ -28,20 +27,20 @@ AreFaultsOf = AllZip IsFaultOf
 abbrev pub IsClean : Lines → Type 0
 IsClean lines = string_bytes lines.text ≡ []
 
--- the question is about the test of this name in the binary `cli` of the package `p`
-pub record IsNamed (query : TestQuery) (name : Text) : Type 0 where
-  pub package_id : query.binary_query.package_id.now ≡ codes "p"
-  pub binary_id : query.binary_query.binary_id.now ≡ codes "p::bin/cli"
-  pub binary_name : query.binary_query.binary_name.now ≡ codes "cli"
-  pub kind : query.binary_query.kind.now ≡ codes "bin"
-  pub platform : query.binary_query.platform ≡ Host
-  pub test_name : query.test_name.now ≡ name
+-- the question is about the test of the row
+pub record IsAbout (query : TestQuery) (test : TestRow) : Type 0 where
+  pub package_id : query.binary_query.package_id.now ≡ test.package_id
+  pub binary_id : query.binary_query.binary_id.now ≡ test.binary_id
+  pub binary_name : query.binary_query.binary_name.now ≡ string_bytes test.binary_name
+  pub kind : query.binary_query.kind.now ≡ test.kind
+  pub platform : query.binary_query.platform ≡ test.platform
+  pub test_name : query.test_name.now ≡ test.name
 
 -- the default filter, which holds every test
 abbrev pub every_test : CompiledExpr
 every_test = compiled.Set leaf.All
 
--- the answer is right of the test of this name
-abbrev pub Tells : filtersets.Filterset → Text → Bool → Type 0
-Tells filterset name answer =
-    (query : TestQuery) × IsNamed query name × (IsTrue answer ↔ Holds filterset.compiled query every_test no_groups)
+-- the answer is right of the test of the row
+abbrev pub Tells : filtersets.Filterset → TestRow → Bool → Type 0
+Tells filterset test answer =
+    (query : TestQuery) × IsAbout query test × (IsTrue answer ↔ Holds filterset.compiled query every_test no_groups)

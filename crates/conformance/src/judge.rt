@@ -5,7 +5,7 @@ mod graphs;
 mod matchers;
 mod texts;
 
-pub use filtersets::judge_filtersets;
+pub use filtersets::{judge_filtersets, judge_workspaces};
 pub use globs::judge_globs;
 pub use graphs::judge_graphs;
 pub use matchers::judge_matchers;

@@ -4,7 +4,9 @@ ghost use Rattle.conformance.specs.Report.{Report};
 
 use crate::ending::Outcome;
 use crate::entry::{Entry, RowRefusal};
-use crate::judge::{judge_filtersets, judge_globs, judge_graphs, judge_matchers, judge_texts};
+use crate::judge::{
+    judge_filtersets, judge_globs, judge_graphs, judge_matchers, judge_texts, judge_workspaces,
+};
 use crate::lines::Lines;
 use crate::rows::Suite;
 use serde_json::Value;
@@ -43,5 +45,6 @@ fn report_suite(alloc: Global, suite: &Suite) -> Result<(String, Outcome), Alloc
     judge_matchers(alloc, &mut lines, &suite.matchers)?;
     judge_filtersets(alloc, &mut lines, &suite.filtersets)?;
     judge_graphs(alloc, &mut lines, &suite.graphs)?;
+    judge_workspaces(alloc, &mut lines, &suite.workspaces)?;
     lines.counted()
 }

@@ -59,6 +59,19 @@ const WRONG: &str = r#"{
 {"packages":[{"name":"a","in_workspace":true,"links":["b"]},{"name":"b","in_workspace":true,"links":[]}],"depends":[["a","c",false]]},
 {"packages":[{"name":"a","in_workspace":true,"links":["b"]},{"name":"b","in_workspace":true,"links":[]}],"searches":[{"starts":["b"],"reached":["a","b"],"reaching":["a","b"]}]},
 {"packages":[{"name":"a","in_workspace":true,"links":["b"]},{"name":"b","in_workspace":true,"links":[]}],"searches":[{"starts":["b"],"reached":["b"],"reaching":["b"]}]}
+],
+"workspaces":[
+{"packages":[{"name":"a","in_workspace":true,"links":["b"]}],"filtersets":[]},
+{"packages":[{"name":"a","in_workspace":true,"targets":[["lib","a"]],"links":[]}],"groups":["g"],"filtersets":[
+{"filterset":"package(a)","matches":[{"package":"a"},{"package":"b"}]},
+{"filterset":"binary_id(a)","misses":[{"id":"b"},{"id":"a"}]},
+{"filterset":"binary(a)","matches":[{"binary":"b"}]},
+{"filterset":"kind(bin)","matches":[{"kind":"lib"}]},
+{"filterset":"platform(host)","matches":[{"platform":"target"}]},
+{"filterset":"group(g)","matches":["t"]},
+{"filterset":"group(h)"},
+{"filterset":"group(g)","kind":"default-filter","faults":[["BannedPredicate",6,1]],"labels":["no test groups matched this"]}
+]}
 ]}"#;
 
 const REPORT_OF_WRONG: &str = "row 1: faults of the text and: ExprFoundBinaryOp (0, 3)
@@ -107,8 +120,8 @@ row 28: print of the matcher a: a
 row 28: print of the matcher a: a
 row 29: value of the matcher a: not refused
 row 30: value of the matcher (: refused
-row 31: match of the filterset test(=a): ab
-row 32: miss of the filterset test(=a): a
+row 31: match of the filterset test(=a): p p::bin/cli ab
+row 32: miss of the filterset test(=a): p p::bin/cli a
 row 33: faults of the filterset all(): none
 row 34: faults of the filterset and: ExprFoundBinaryOp (0, 3)
 row 35: faults of the filterset and: ExprFoundBinaryOp (0, 3)
@@ -120,7 +133,16 @@ row 40: question of the graph a: Some(true)
 row 41: question of the graph a: None
 row 42: search of the graph reached: others
 row 43: search of the graph reaching: others
-43 rows
+row 44: packages of the workspace : no graph
+row 45: match of the filterset package(a): b p::bin/cli t
+row 46: miss of the filterset binary_id(a): p a t
+row 47: match of the filterset binary(a): p p::bin/cli t
+row 48: match of the filterset kind(bin): p p::bin/cli t
+row 49: match of the filterset platform(host): p p::bin/cli t
+row 50: groups of the filterset group(g): asked of a test without a group
+row 51: faults of the filterset group(h): NoGroupMatch (6, 1)
+row 52: labels of the filterset group(g): [group() is not available in default-filter expressions]
+52 rows
 ";
 
 const RIGHT: &str = r#"{
@@ -134,7 +156,8 @@ const RIGHT: &str = r#"{
 ],
 "matchers":[{"matcher":"regex","value":"a|b","print":"/a|b/","matches":["b"],"misses":["c"]}],
 "filtersets":[{"filterset":"test(=a)","matches":["a"],"misses":["ab"]}],
-"graphs":[{"packages":[{"name":"a","in_workspace":true,"links":["a"]}],"depends":[["a","a",true]],"searches":[{"starts":["a"],"reached":["a"],"reaching":["a"]}]}]}"#;
+"graphs":[{"packages":[{"name":"a","in_workspace":true,"links":["a"]}],"depends":[["a","a",true]],"searches":[{"starts":["a"],"reached":["a"],"reaching":["a"]}]}],
+"workspaces":[{"packages":[{"name":"a","in_workspace":true,"targets":[["lib","a"]],"links":[]}],"groups":["g"],"filtersets":[{"filterset":"deps(a) and group(g)"}]}]}"#;
 
 /// The report of these rows is this one.
 fn reports(
@@ -159,11 +182,11 @@ fn other_values_are_no_rows(rt: HostRuntime) -> Result<(), Fail> {
     reports(&rt, "{", "rows refused: not JSON\n", Outcome::NotASuite)?;
     for rows in [
         "[]",
-        r#"{"texts":[],"globs":[],"matchers":[],"filtersets":[]}"#,
-        r#"{"texts":[],"globs":[],"matchers":[],"filtersets":[],"graphs":[],"other":[]}"#,
-        r#"{"texts":[{"text":"all()","fault":[]}],"globs":[],"matchers":[],"filtersets":[],"graphs":[]}"#,
-        r#"{"texts":[{"text":"and","faults":[["ExpectedExpr",0]]}],"globs":[],"matchers":[],"filtersets":[],"graphs":[]}"#,
-        r#"{"texts":[{"text":1}],"globs":[],"matchers":[],"filtersets":[],"graphs":[]}"#,
+        r#"{"texts":[],"globs":[],"matchers":[],"filtersets":[],"workspaces":[]}"#,
+        r#"{"texts":[],"globs":[],"matchers":[],"filtersets":[],"graphs":[],"workspaces":[],"other":[]}"#,
+        r#"{"texts":[{"text":"all()","fault":[]}],"globs":[],"matchers":[],"filtersets":[],"graphs":[],"workspaces":[]}"#,
+        r#"{"texts":[{"text":"and","faults":[["ExpectedExpr",0]]}],"globs":[],"matchers":[],"filtersets":[],"graphs":[],"workspaces":[]}"#,
+        r#"{"texts":[{"text":1}],"globs":[],"matchers":[],"filtersets":[],"graphs":[],"workspaces":[]}"#,
     ] {
         reports(&rt, rows, "rows refused: not a suite\n", Outcome::NotASuite)?;
     }
@@ -174,7 +197,7 @@ fn other_values_are_no_rows(rt: HostRuntime) -> Result<(), Fail> {
 fn rows_or_wants_memory(rt: HostRuntime) {
     match report(rt.alloc(), RIGHT.as_bytes()) {
         Ok((text, outcome)) => {
-            assert!(rt; text.as_str() == "7 rows\n", "{text}");
+            assert!(rt; text.as_str() == "8 rows\n", "{text}");
             assert_eq!(rt; outcome, Outcome::AllHold);
         }
         Err(AllocError) => {}

@@ -1,6 +1,4 @@
 //! What filtersets and compiled expressions say of tests.
-use crate::judging::is_fault;
-use nextest_filtering::errors::ParseSingleError;
 use nextest_filtering::{
     BinaryQuery, BuildPlatform, CompiledExpr, EvalContext, Filterset, FiltersetKind, FiltersetLeaf,
     FiltersetParseErrors, KnownGroups, NameMatcher, PackageGraph, PackageId, ParseContext,
@@ -13,7 +11,7 @@ use std::test::Fail;
 
 /// The test `name` of the binary `cli` of the package `p`, with the id `p::bin/cli`, built for the host.
 #[derive(Drop)]
-pub struct Asked {
+struct Asked {
     package: PackageId,
     id: RustBinaryId,
     kind: RustTestBinaryKind,
@@ -21,7 +19,7 @@ pub struct Asked {
 }
 
 impl Asked {
-    pub fn new(alloc: Global, name: &str) -> Result<Asked, AllocError> {
+    fn new(alloc: Global, name: &str) -> Result<Asked, AllocError> {
         Ok(Asked {
             package: PackageId::new(String::from_str(alloc, "p")?),
             id: RustBinaryId::new(alloc, "p::bin/cli")?,
@@ -30,7 +28,7 @@ impl Asked {
         })
     }
 
-    pub fn query(&self) -> TestQuery<'_> {
+    fn query(&self) -> TestQuery<'_> {
         TestQuery {
             binary_query: BinaryQuery {
                 package_id: &self.package,
@@ -122,81 +120,6 @@ fn input_of(read: Result<Filterset, ParseRefusal>) -> String {
         }
         Err(ParseRefusal::OutOfMemory { input }) => input,
     }
-}
-
-/// A fault: its code, and the offset and the length of its span.
-pub type Fault<'a> = (&'a str, usize, usize);
-
-fn are_faults(found: &[ParseSingleError], wanted: &[Fault<'_>]) -> bool {
-    for (found, (code, offset, len)) in found.iter().zip(wanted) {
-        if !is_fault(found, code, *offset, *len) {
-            return false;
-        }
-    }
-    found.len() == wanted.len()
-}
-
-/// The text is refused for these faults, in this order, and comes back.
-fn is_refused(
-    rt: &(impl AllocGlobal + Abort),
-    text: &str,
-    wanted: &[Fault<'_>],
-) -> Result<(), Fail> {
-    let read = read(rt.alloc(), text)?;
-    assert!(rt; has_faults(&read), "{text}");
-    if let Err(ParseRefusal::Faults(found)) = &read {
-        assert!(rt; found.input.as_str() == text, "{text}");
-        assert!(rt; are_faults(found.errors.as_slice(), wanted), "{text}");
-    }
-    Ok(())
-}
-
-/// Texts that are refused, each for these faults.
-pub fn are_refused(
-    rt: &(impl AllocGlobal + Abort),
-    rows: &[(&str, &[Fault<'_>])],
-) -> Result<(), Fail> {
-    for (text, wanted) in rows {
-        is_refused(rt, text, wanted)?;
-    }
-    Ok(())
-}
-
-/// Whether the filterset of this text holds of the test `name`, under a default filter of all tests.
-pub fn says(rt: &impl Abort, alloc: Global, text: &str, name: &str) -> Result<bool, Fail> {
-    let filterset = read(alloc, text)?.ok().ok_or("refused")?;
-    assert!(rt; filterset.input.as_str() == text);
-    assert!(rt; !filterset.compiled.has_group_matchers());
-    let all = CompiledExpr::ALL;
-    let asked = Asked::new(alloc, name)?;
-    Ok(filterset.matches_test(alloc, &asked.query(), &EvalContext::new(&all))?)
-}
-
-#[test]
-fn texts_answer_by_their_meaning(rt: HostRuntime) -> Result<(), Fail> {
-    let alloc = rt.alloc();
-    for (text, name, answer) in [
-        ("not test(~slow) and all()", "slow_sum", false),
-        ("not test(~slow) and all()", "quick", true),
-        ("!all()&not none()", "a", false),
-        ("not!all()", "a", true),
-        ("test(=quick)", "quick", true),
-        ("test(=quick)", "quicker", false),
-        ("test(quick)", "a::quicker", true),
-        ("test( foo )", "a foo b", true),
-        ("test( foo )", "a foo", false),
-        ("test(==a)", "=a", true),
-        ("all() - test(quick)", "quick", false),
-        ("all() - test(quick)", "slow", true),
-        ("all() - all() - all()", "a", false),
-        ("all() - none() & none()", "a", false),
-        ("all()\r\nand none()", "a", false),
-        ("none()", "a", false),
-    ] {
-        let said = says(&rt, alloc, text, name)?;
-        assert!(rt; said == answer, "{text} of {name}");
-    }
-    Ok(())
 }
 
 /// A refused text comes back, with faults that a copy repeats.
@@ -493,5 +416,27 @@ fn try_clone_or_wants_memory(rt: HostRuntime) {
         if let Ok(copy) = filterset.try_clone(alloc) {
             assert!(rt; copy == *filterset);
         }
+    }
+}
+
+#[test]
+fn filterset_or_wants_memory(rt: HostRuntime) {
+    let alloc = rt.alloc();
+    let text = r"not test(=a\u{62}) | (test(#{c\,d}*) + test(/e|f/)) - none()";
+    let (Ok(asked), Ok(read)) = (Asked::new(alloc, "def"), read(alloc, text)) else {
+        return;
+    };
+    assert!(rt; !matches!(read, Err(ParseRefusal::Faults(_))));
+    let Ok(filterset) = &read else {
+        return;
+    };
+    assert!(rt; filterset.input.as_str() == text);
+    if let Ok(copy) = filterset.try_clone(alloc) {
+        assert!(rt; copy == *filterset);
+    }
+    let all = CompiledExpr::ALL;
+    assert!(rt; !filterset.compiled.has_group_matchers());
+    if let Ok(said) = filterset.matches_test(alloc, &asked.query(), &EvalContext::new(&all)) {
+        assert!(rt; said);
     }
 }

@@ -1,23 +1,10 @@
 //! What the tests judge by. It is proved like the crates below, so that no test passes for a judge that is lax.
-ghost use Rattle.std.specs.Prelude.{◌≡◌, ◌↔◌, IsTrue, Some};
-ghost use Rattle.filterset_faults.specs.Faults.{code_of, span_of};
-ghost use Rattle.filterset_faults.specs.Span.{span};
+ghost use Rattle.std.specs.Prelude.{◌≡◌, ◌↔◌, IsTrue};
 ghost use Rattle.nextest_filtering.specs.Equality.{compared_compiled, compared_formula, same_compiled_leaf, same_formula};
 ghost use Rattle.nextest_filtering.specs.Equality.{same_filterset, same_test_query};
 ghost use Rattle.nextest_filtering.specs.Expression.{compiled_leaf, formula};
 
-use filterset_faults::ParseSingleError;
 use nextest_filtering::{CompiledExpr, Filterset, FiltersetLeaf, TestQuery};
-
-/// Whether a fault has this code, and a span with this offset and this length in bytes.
-pub fn is_fault(found: &ParseSingleError, code: &str, offset: usize, len: usize) -> bool
-    ensures { IsTrue result ↔ ((code_of found.now ≡ code.now) × (span_of found.now ≡ Some (span offset len))) }
-{
-    match found.span() {
-        Some(span) => found.code() == code && span.offset() == offset && span.len() == len,
-        None => false,
-    }
-}
 
 /// Whether two leaves are equal: the same is compared of them, which is all but the texts and the signs of globs.
 pub fn leaves_agree(one: &FiltersetLeaf, other: &FiltersetLeaf) -> bool

@@ -6,8 +6,6 @@
 #![tactic(auto)]
 
 #[cfg(test)]
-mod answers;
-#[cfg(test)]
 mod equality;
 #[cfg(test)]
 mod filtersets;
@@ -18,5 +16,3 @@ mod judging;
 mod matchers;
 #[cfg(test)]
 mod support;
-#[cfg(test)]
-mod unsupported;

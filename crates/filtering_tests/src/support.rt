@@ -83,14 +83,3 @@ pub const FOUR: [Row<'static>; 4] = [
     ("c", true, &["x"]),
     ("x", false, &["a"]),
 ];
-
-/// A workspace of seven: `g` stands on `e`, `e` and `f` on `d`, `d` on `b` and `c`, `c` on `a`.
-pub const SEVEN: [Row<'static>; 7] = [
-    ("crate_a", true, &[]),
-    ("crate_b", true, &[]),
-    ("crate_c", true, &["crate_a"]),
-    ("crate_d", true, &["crate_b", "crate_c"]),
-    ("crate_e", true, &["crate_d"]),
-    ("crate_f", true, &["crate_d"]),
-    ("crate_g", true, &["crate_e"]),
-];

@@ -4,8 +4,11 @@ use Rattle.std.specs.List.{enumerate_from}
 use Rattle.std.proofs.lemmas.List.{append-nil, map-append, take_more}
 use Rattle.std.proofs.lemmas.List.FromFn.{get_or-enumerate_from, length-enumerate_from}
 use Rattle.filterset_cli.specs.Shape.{Text}
-use Rattle.filterset_cli.specs.Report.{Account, Pieces, Report, Section, Sections, outcome_of}
-use Rattle.filterset_cli.specs.declared.ending.Outcome.{Outcome}
+use Rattle.filterset_cli.specs.Report.{AnswerLines, BinaryLines, Pieces, Section, Sections}
+use Rattle.filterset_language.specs.Tree.{Tree}
+use Rattle.filterset_faults.specs.declared.span.SourceSpan.{SourceSpan}
+use Rattle.nextest_filtering.specs.Meaning.{has_tree_leaf, is_group_predicate}
+use Rattle.filterset_graph.specs.declared.package.PackageMetadata.{PackageMetadata}
 use Rattle.filterset_cli.specs.Record.{BinaryRow}
 use Rattle.std.proofs.Math.Bool.{and_assoc, and-true}
 
@@ -23,19 +26,24 @@ Pieces-more P f xs i x text piece lt at are is =
     let mapped : map f (take (i + 1) xs) ≡ map f (take i xs) ++ f x ∷ [] = ap (map f) more ∙ map-append f (take i xs) (x ∷ []) in
     rw mapped (Pieces-push P (map f (take i xs)) (f x) text piece are is)
 
+-- the lines of the binaries, where the tree holds no `group` predicate
+pub AnswerLines-ungrouped : (packages : List PackageMetadata) (tree : Tree SourceSpan) (binaries : List BinaryRow) (lines : Text) →
+    has_tree_leaf is_group_predicate tree ≡ false → Pieces (BinaryLines packages tree) binaries lines → AnswerLines packages tree binaries lines
+AnswerLines-ungrouped packages tree binaries lines ungrouped pieces = rw ungrouped pieces
+
 -- what was added twice
 pub added_twice : (old mid new text piece : Text) → mid ≡ old ++ text → new ≡ mid ++ piece → new ≡ old ++ (text ++ piece)
 added_twice old mid new text piece first second = second ∙ ap (λ t. t ++ piece) first ∙ append_assoc old text piece
 
 -- the section of one more filterset
-pub Sections-push : (binaries : List BinaryRow) (i : ℕ) (ts : List Text) (t : Text) (all accepted : Bool) (text section : Text) →
-    Sections binaries i ts all text → Section binaries (i + length ts) t accepted section →
-    Sections binaries i (ts ++ t ∷ []) (all && accepted) (text ++ section)
-Sections-push binaries i [] t all accepted text section (is_true, none) is =
+pub Sections-push : (packages : List PackageMetadata) (binaries : List BinaryRow) (i : ℕ) (ts : List Text) (t : Text) (all accepted : Bool) (text section : Text) →
+    Sections packages binaries i ts all text → Section packages binaries (i + length ts) t accepted section →
+    Sections packages binaries i (ts ++ t ∷ []) (all && accepted) (text ++ section)
+Sections-push packages binaries i [] t all accepted text section (is_true, none) is =
     (accepted, true, section, [], ap (λ b. b && accepted) is_true ∙ sym (and-true accepted), ap (λ x. x ++ section) none ∙ sym (append-nil section), rw add-zero at is, (refl, refl))
-Sections-push binaries i (u ∷ us) t all accepted text section (first, others, front, rest, both, whole, is_first, are) is =
+Sections-push packages binaries i (u ∷ us) t all accepted text section (first, others, front, rest, both, whole, is_first, are) is =
     let shifted : i + length (u ∷ us) ≡ suc i + length us = omega arith in
-    let further : Section binaries (suc i + length us) t accepted section = rw shifted at is in (
+    let further : Section packages binaries (suc i + length us) t accepted section = rw shifted at is in (
       first,
       others && accepted,
       front,
@@ -43,7 +51,7 @@ Sections-push binaries i (u ∷ us) t all accepted text section (first, others, 
       ap (λ b. b && accepted) both ∙ and_assoc first others accepted,
       ap (λ x. x ++ section) whole ∙ append_assoc front rest section,
       is_first,
-      Sections-push binaries (suc i) us t others accepted rest section are further,
+      Sections-push packages binaries (suc i) us t others accepted rest section are further,
     )
 
 -- the texts of numbered texts
@@ -65,8 +73,3 @@ pub number_is_place : {A : Type 0} (xs : List A) (n : ℕ) (p : ℕ × A) → n 
 number_is_place xs n p lt at =
     let below : n < length xs = rw length-enumerate_from at lt in
     ap (λ q. q.0) (at ∙ get_or-enumerate_from 0 xs n p below) ∙ zero-add n
-
--- the report of a record that was read
-pub Report-Account : (input output : Text) (all : Bool) (outcome : Outcome) → outcome ≡ outcome_of all → Account input output all → Report input output outcome
-Report-Account input output true outcome is account = rw is account
-Report-Account input output false outcome is account = rw is account

@@ -1,9 +1,13 @@
 -- The record of the program, and which JSON values stand for it.
-use Rattle.std.specs.Prelude.{List, [], ◌∷◌, codes}
+use Rattle.std.specs.Prelude.{true, List, [], ◌∷◌, codes, string_bytes}
 use Rattle.serde_json.specs.Data.{Data}
 use Rattle.filterset_graph.specs.Platforms.{platform_text}
 use Rattle.filterset_graph.specs.declared.package.BuildPlatform.{BuildPlatform}
-use Rattle.filterset_cli.specs.Shape.{Text, IsText, IsListOf, IsObjectWith, Required, Optional}
+use Rattle.filterset_graph.specs.declared.package.BuildTarget.{BuildTarget}
+use Rattle.filterset_graph.specs.declared.package.BuildTargetId.{BuildTargetId}
+use Rattle.filterset_graph.specs.declared.package.BuildTargetId.TheVariants.{Library, Binary, Example, Test, Benchmark, BuildScript}
+use Rattle.filterset_graph.specs.declared.package.PackageMetadata.{PackageMetadata}
+use Rattle.filterset_cli.specs.Shape.{Text, IsText, IsBoolean, IsListOf, IsObjectWith, Required, Optional}
 
 pub record TestRow : Type 0 where
   pub name : Text
@@ -18,11 +22,40 @@ pub record BinaryRow : Type 0 where
 
 pub record RecordRow : Type 0 where
   pub filtersets : List Text
+  pub packages : List PackageMetadata
   pub binaries : List BinaryRow
 
 -- the value is the platform's name
 abbrev pub IsPlatform : Data → BuildPlatform → Type 0
 IsPlatform d platform = IsText d (platform_text platform)
+
+-- what each kind of build targets is called
+abbrev pub target_kind : BuildTargetId → Text
+target_kind Library = codes "lib"
+target_kind Binary = codes "bin"
+target_kind Example = codes "example"
+target_kind Test = codes "test"
+target_kind Benchmark = codes "bench"
+target_kind BuildScript = codes "build"
+
+-- the value is what the kind is called
+abbrev pub IsTargetKind : Data → BuildTargetId → Type 0
+IsTargetKind d id = IsText d (target_kind id)
+
+abbrev pub IsTarget : Data → BuildTarget → Type 0
+IsTarget d target = IsObjectWith (codes "kind" ∷ codes "name" ∷ []) d
+    × Required (codes "kind") IsTargetKind d target.id
+    × Required (codes "name") IsText d (string_bytes target.name)
+
+-- a package, which belongs to the workspace where nothing else is said
+abbrev pub IsPackage : Data → PackageMetadata → Type 0
+IsPackage d p =
+    IsObjectWith (codes "id" ∷ codes "name" ∷ codes "workspace" ∷ codes "targets" ∷ codes "links" ∷ []) d
+    × Required (codes "id") IsText d p.id
+    × Required (codes "name") IsText d (string_bytes p.name)
+    × Optional (codes "workspace") IsBoolean true d p.in_workspace
+    × Optional (codes "targets") (IsListOf IsTarget) [] d p.build_targets.items
+    × Optional (codes "links") (IsListOf IsText) [] d p.links.items
 
 abbrev pub IsTest : Data → TestRow → Type 0
 IsTest d test = IsObjectWith (codes "name" ∷ []) d
@@ -40,6 +73,7 @@ IsBinary d binary =
     × Optional (codes "tests") (IsListOf IsTest) [] d binary.tests
 
 abbrev pub IsRecord : Data → RecordRow → Type 0
-IsRecord d row = IsObjectWith (codes "filtersets" ∷ codes "binaries" ∷ []) d
+IsRecord d row = IsObjectWith (codes "filtersets" ∷ codes "packages" ∷ codes "binaries" ∷ []) d
     × Required (codes "filtersets") (IsListOf IsText) d row.filtersets
+    × Optional (codes "packages") (IsListOf IsPackage) [] d row.packages
     × Optional (codes "binaries") (IsListOf IsBinary) [] d row.binaries

@@ -1,9 +1,11 @@
 -- Which reports, and which outcomes, a record may have.
-use Rattle.std.specs.Prelude.{◌≡◌, ◌⊎◌, ◌++◌, ◌&&◌, Bool, true, false, ℕ, suc, List, [], ◌∷◌, length, Option, Some, None, codes, decimal}
+use Rattle.std.specs.Prelude.{◌≡◌, ◌⊎◌, ◌++◌, ◌&&◌, Bool, true, false, MatchBool, ℕ, suc, List, [], ◌∷◌, length, Option, Some, None, codes, decimal}
 use Rattle.std.specs.List.{flat_map}
 use Rattle.std.specs.Str.{IsUtf8}
 use Rattle.serde_json.specs.Data.{Data}
 use Rattle.serde_json.specs.Read.{read}
+use Rattle.filterset_graph.specs.Packages.{ids, AllDiffer, IsFirstRepeat, LinksKnown, IsFirstUnknownLink}
+use Rattle.filterset_graph.specs.declared.package.PackageMetadata.{PackageMetadata}
 use Rattle.filterset_language.specs.Tree.{Tree}
 use Rattle.filterset_language.specs.Printing.{printed}
 use Rattle.filterset_faults.specs.Faults.{code_of, span_of, label_of, help_of}
@@ -12,8 +14,8 @@ use Rattle.filterset_faults.specs.declared.span.SourceSpan.{SourceSpan}
 use Rattle.filterset_faults.specs.declared.error.ParseSingleError.{ParseSingleError}
 use Rattle.filterset_cli.specs.Shape.{Text}
 use Rattle.filterset_cli.specs.Record.{BinaryRow, TestRow, RecordRow, IsRecord}
-use Rattle.nextest_filtering.specs.Compiling.{IsRefusedWith}
-use Rattle.filterset_cli.specs.Library.{IsFilterset, Tells}
+use Rattle.nextest_filtering.specs.Meaning.{has_tree_leaf, is_group_predicate}
+use Rattle.filterset_cli.specs.Library.{IsFilterset, IsRefused, Tells}
 use Rattle.filterset_cli.specs.declared.ending.Outcome.{Outcome}
 use Rattle.filterset_cli.specs.declared.ending.Outcome.TheVariants.{AllAccepted, SomeRefused, RecordRefused}
 
@@ -29,14 +31,19 @@ answer_text true = codes "yes"
 answer_text false = codes "no"
 
 -- the line of a test
-abbrev pub TestLine : Tree SourceSpan → BinaryRow → TestRow → Text → Type 0
-TestLine tree binary test line = (answer : Bool) × Tells tree binary test answer
+abbrev pub TestLine : List PackageMetadata → Tree SourceSpan → BinaryRow → TestRow → Text → Type 0
+TestLine packages tree binary test line = (answer : Bool) × Tells packages tree binary test answer
     × (line ≡ codes "  test " ++ (binary.id ++ (codes " "
     ++ (test.name ++ (codes ": " ++ (answer_text answer ++ codes "\n"))))))
 
 -- the lines of a binary
-abbrev pub BinaryLines : Tree SourceSpan → BinaryRow → Text → Type 0
-BinaryLines tree binary = Pieces (TestLine tree binary) binary.tests
+abbrev pub BinaryLines : List PackageMetadata → Tree SourceSpan → BinaryRow → Text → Type 0
+BinaryLines packages tree binary = Pieces (TestLine packages tree binary) binary.tests
+
+-- the lines of the binaries; there are none where the tree holds a `group` predicate
+abbrev pub AnswerLines : List PackageMetadata → Tree SourceSpan → List BinaryRow → Text → Type 0
+AnswerLines packages tree binaries lines =
+    MatchBool (has_tree_leaf is_group_predicate tree) (lines ≡ []) (Pieces (BinaryLines packages tree) binaries lines)
 
 abbrev pub accepted_line : ℕ → Tree SourceSpan → Text
 accepted_line index tree =
@@ -70,21 +77,21 @@ refused_line index count =
 -- ---- all filtersets
 
 -- what is written of the filterset at this place, and whether it is accepted
-abbrev pub Section : List BinaryRow → ℕ → Text → Bool → Text → Type 0
-Section binaries index text true section =
-    (tree : Tree SourceSpan) × (lines : Text) × IsFilterset text tree
-    × (section ≡ accepted_line index tree ++ lines) × Pieces (BinaryLines tree) binaries lines
-Section binaries index text false section =
-    (faults : List ParseSingleError) × IsRefusedWith text faults
+abbrev pub Section : List PackageMetadata → List BinaryRow → ℕ → Text → Bool → Text → Type 0
+Section packages binaries index text true section =
+    (tree : Tree SourceSpan) × (lines : Text) × IsFilterset packages text tree
+    × (section ≡ accepted_line index tree ++ lines) × AnswerLines packages tree binaries lines
+Section packages binaries index text false section =
+    (faults : List ParseSingleError) × IsRefused packages text faults
     × (section ≡ refused_line index (length faults) ++ flat_map fault_lines faults)
 
 -- what is written of the filtersets from this place on, and whether all of them are accepted
-abbrev pub Sections : List BinaryRow → ℕ → List Text → Bool → Text → Type 0
-Sections binaries index [] all text = (all ≡ true) × (text ≡ [])
-Sections binaries index (t ∷ ts) all text =
+abbrev pub Sections : List PackageMetadata → List BinaryRow → ℕ → List Text → Bool → Text → Type 0
+Sections packages binaries index [] all text = (all ≡ true) × (text ≡ [])
+Sections packages binaries index (t ∷ ts) all text =
     (accepted : Bool) × (others : Bool) × (front : Text) × (rest : Text)
     × (all ≡ (accepted && others)) × (text ≡ front ++ rest)
-    × Section binaries index t accepted front × Sections binaries (suc index) ts others rest
+    × Section packages binaries index t accepted front × Sections packages binaries (suc index) ts others rest
 
 -- ---- the record
 
@@ -92,25 +99,46 @@ Sections binaries index (t ∷ ts) all text =
 abbrev pub IsJson : Text → Data → Type 0
 IsJson input d = IsUtf8 input × (read input ≡ Some d)
 
--- the one line that stands for a whole report
-abbrev pub RefusalLine : Text → Text → Type 0
-RefusalLine input output =
-    (((d : Data) → ¬ (IsJson input d)) × (output ≡ codes "record refused: not JSON\n"))
-    ⊎ ((d : Data) × IsJson input d × ((row : RecordRow) → ¬ (IsRecord d row))
-    × (output ≡ codes "record refused: not a record\n"))
+-- the lines that refuse packages
+abbrev pub repeated_line : ℕ → Text
+repeated_line at = codes "record refused: repeated package id at " ++ (decimal at ++ codes "\n")
 
--- what is written of a record's filtersets, and whether all of them are accepted
-abbrev pub Account : Text → Text → Bool → Type 0
-Account input output all =
-    (d : Data) × (row : RecordRow) × IsJson input d × IsRecord d row
-    × Sections row.binaries 0 row.filtersets all output
+abbrev pub unknown_line : ℕ → ℕ → Text
+unknown_line owner link =
+    codes "record refused: unknown link " ++ (decimal link ++ (codes " of package " ++ (decimal owner ++ codes "\n")))
 
--- how a run ends whose record was read
+-- The line that refuses these packages. It names the first place whose id stands at an earlier place; or, where no id is
+-- repeated, the first place of a package, and in it the first place of a link, that names no package.
+abbrev pub PackagesLine : List PackageMetadata → Text → Type 0
+PackagesLine packages output =
+    ((at : ℕ) × IsFirstRepeat (ids packages) at × (output ≡ repeated_line at))
+    ⊎ ((owner : ℕ) × (link : ℕ) × AllDiffer (ids packages) × IsFirstUnknownLink packages owner link
+    × (output ≡ unknown_line owner link))
+
+-- The ids of the packages differ, and each link names one of them. This is written of the filtersets, and tells whether
+-- all of them are accepted.
+abbrev pub Account : RecordRow → Text → Bool → Type 0
+Account row output all =
+    AllDiffer (ids row.packages) × LinksKnown row.packages
+    × Sections row.packages row.binaries 0 row.filtersets all output
+
+-- how a run ends whose filtersets were read
 abbrev pub outcome_of : Bool → Outcome
 outcome_of true = AllAccepted
 outcome_of false = SomeRefused
 
-abbrev pub Report : Text → Text → Outcome → Type 0
-Report input output AllAccepted = Account input output true
-Report input output SomeRefused = Account input output false
-Report input output RecordRefused = RefusalLine input output
+-- which reports, and which outcomes, a record with these parts may have
+abbrev pub RecordReport : RecordRow → Text → Outcome → Type 0
+RecordReport row output AllAccepted = Account row output true
+RecordReport row output SomeRefused = Account row output false
+RecordReport row output RecordRefused = PackagesLine row.packages output
+
+-- which reports, and which outcomes, an input may have: the line of one that is no JSON, the line of one that is no
+-- record, and else what its record may have
+pub data Report (input output : Text) (outcome : Outcome) : Type 0 where
+  no_json : ((d : Data) → ¬ (IsJson input d)) → output ≡ codes "record refused: not JSON\n" → outcome ≡ RecordRefused
+      → Report input output outcome
+  no_record : (d : Data) → IsJson input d → ((row : RecordRow) → ¬ (IsRecord d row))
+      → output ≡ codes "record refused: not a record\n" → outcome ≡ RecordRefused → Report input output outcome
+  of_record : (d : Data) → (row : RecordRow) → IsJson input d → IsRecord d row → RecordReport row output outcome
+      → Report input output outcome

@@ -19,5 +19,8 @@ binary_row binary = record {
 }
 
 abbrev pub record_row : Record → RecordRow
-record_row r =
-    record { filtersets = map (λ s. string_bytes s) r.filtersets.items; binaries = map binary_row r.binaries.items }
+record_row r = record {
+  filtersets = map (λ s. string_bytes s) r.filtersets.items;
+  packages = r.packages.items;
+  binaries = map binary_row r.binaries.items;
+}

@@ -3,7 +3,7 @@ use Rattle.std.specs.Prelude.{◌≡◌, ℕ, Bool, List, [], ◌∷◌, Contain
 use Rattle.std.specs.Borrow.{Bor}
 use Rattle.std.specs.List.{list_any}
 use Rattle.std.specs.Str.{bytes_eq}
-use Rattle.serde_json.specs.Data.{Data, string, array, object, Items, no_items, item, Members, no_members, member}
+use Rattle.serde_json.specs.Data.{Data, boolean, string, array, object, Items, no_items, item, Members, no_members, member}
 use Rattle.serde_json.specs.Find.{get}
 
 -- a text, by its bytes
@@ -13,6 +13,10 @@ Text = List ℕ
 -- the value is this text
 abbrev pub IsText : Data → Text → Type 0
 IsText d text = d ≡ string text
+
+-- the value is true or false, and this is which
+abbrev pub IsBoolean : Data → Bool → Type 0
+IsBoolean d b = d ≡ boolean b
 
 -- P holds of each item and the entry at its place, and there are as many of both
 abbrev pub Each : {A : Type 0} → (Data → A → Type 0) → Items → List A → Type 0

@@ -57,7 +57,7 @@ pub trait Entry: Drop {
 }
 
 /// The text that the value is.
-fn text_of(value: &Value) -> Result<&str, RecordRefusal>
+pub fn text_of(value: &Value) -> Result<&str, RecordRefusal>
     ensures read { IfOk result (λ text. IsText (view value.now) text.now) }
     ensures refused { IfErr result (λ refusal. (refusal ≡ RecordRefusal.NotARecord)
         × ((text : Text) → ¬ (IsText (view value.now) text))) }
@@ -75,6 +75,19 @@ impl Entry for String {
 
     fn read(alloc: Global, value: &Value) -> Result<String, RecordRefusal> {
         Ok(String::from_str(alloc, text_of(value)?)?)
+    }
+}
+
+impl Entry for bool {
+    ghost use Rattle.std.specs.Prelude.{Bool};
+    ghost use Rattle.filterset_cli.specs.Shape.{IsBoolean};
+
+    ghost stands_for = { IsBoolean };
+
+    ghost has_shape = { λ d. (b : Bool) × IsBoolean d b };
+
+    fn read(_alloc: Global, value: &Value) -> Result<bool, RecordRefusal> {
+        value.as_bool().ok_or(RecordRefusal::NotARecord)
     }
 }
 
@@ -186,6 +199,24 @@ pub fn required<T: Entry>(alloc: Global, value: &Value, key: &str) -> Result<T, 
     match value.get(key) {
         Some(found) => T::read(alloc, found),
         None => Err(RecordRefusal::NotARecord),
+    }
+}
+
+/// The entry under a key, or this one where the key is missing.
+pub fn optional<T: Entry>(
+    alloc: Global,
+    value: &Value,
+    key: &str,
+    default: T,
+) -> Result<T, RecordRefusal>
+    ensures read { IfOk result (λ entry. MatchOption (get key.now (view value.now)) (entry ≡ default)
+        (λ d. T.stands_for d entry)) }
+    ensures refused { IsErrOf result RecordRefusal.NotARecord
+        → ¬ (IfSome (get key.now (view value.now)) T.has_shape) }
+{
+    match value.get(key) {
+        Some(found) => T::read(alloc, found),
+        None => Ok(default),
     }
 }
 

@@ -1,9 +1,13 @@
 //! The record and its parts.
 
 use crate::entry::{Entry, RecordRefusal, is_object_with, optional_list, required, required_list};
-use nextest_filtering::{BuildPlatform, PackageId, RustBinaryId, RustTestBinaryKind, TestCaseName};
+use nextest_filtering::{
+    BuildPlatform, PackageId, PackageMetadata, RustBinaryId, RustTestBinaryKind, TestCaseName,
+};
 use serde_json::Value;
 use std::alloc::Global;
+
+mod packages;
 
 /// A test of a binary.
 #[derive(Debug, Drop)]
@@ -68,6 +72,7 @@ impl Entry for BinaryEntry {
 #[derive(Debug, Drop)]
 pub struct Record {
     pub filtersets: Vec<String>,
+    pub packages: Vec<PackageMetadata>,
     pub binaries: Vec<BinaryEntry>,
 }
 
@@ -80,11 +85,12 @@ impl Entry for Record {
     ghost has_shape = { λ d. (row : RecordRow) × IsRecord d row };
 
     fn read(alloc: Global, value: &Value) -> Result<Record, RecordRefusal> {
-        if !is_object_with(value, &["filtersets", "binaries"]) {
+        if !is_object_with(value, &["filtersets", "packages", "binaries"]) {
             return Err(RecordRefusal::NotARecord);
         }
         Ok(Record {
             filtersets: required_list(alloc, value, "filtersets")?,
+            packages: optional_list(alloc, value, "packages")?,
             binaries: optional_list(alloc, value, "binaries")?,
         })
     }

@@ -143,6 +143,11 @@ fn reports(rt: HostRuntime) -> Result<(), Fail> {
             Outcome::AllAccepted,
         ),
         (r#"{"filtersets":[]}"#, "", Outcome::AllAccepted),
+        (
+            r#"{"packages":[],"filtersets":[]}"#,
+            "",
+            Outcome::AllAccepted,
+        ),
         // The last value of a key is the one that is read.
         (
             r#"{"filtersets":1,"filtersets":[]}"#,
@@ -162,6 +167,60 @@ fn reports(rt: HostRuntime) -> Result<(), Fail> {
     ] {
         let (ended, written) = answer(rt.alloc(), record.as_bytes())?;
         assert_eq!(rt; ended, Ok(outcome), "at {record}");
+        assert!(rt; written.as_slice() == report.as_bytes(), "at {record}");
+    }
+    Ok(())
+}
+
+/// The package `a` of the workspace, which depends on `b` outside of it, and a test of each.
+const LINKED: &str = r#"{
+"packages":[{"id":"1","name":"a","links":["2"]},{"id":"2","name":"b","workspace":false}],
+"binaries":[
+{"package":"1","id":"a","name":"a","kind":"lib","platform":"target","tests":[{"name":"x"}]},
+{"package":"2","id":"b","name":"b","kind":"lib","platform":"target","tests":[{"name":"y"}]}],
+"filtersets":["package(a)","deps(a)","package(b)","not package(a)","group(@global) or all()","group(b)"]}"#;
+
+const LINKED_REPORT: &str = "filterset 0 accepted: package(a)
+  test a x: yes
+  test b y: no
+filterset 1 accepted: deps(a)
+  test a x: yes
+  test b y: no
+filterset 2 refused: 1
+  fault 8 1 NoPackageMatch: no packages matched this
+filterset 3 accepted: not package(a)
+  test a x: no
+  test b y: yes
+filterset 4 accepted: group(@global) or all()
+filterset 5 refused: 1
+  fault 6 1 NoGroupMatch: no test groups matched this
+";
+
+/// A package with a target of each kind, and filtersets that name what is made of each.
+const TARGETS: &str = r#"{
+"packages":[{"id":"1","name":"a","workspace":true,"targets":[
+{"kind":"lib","name":"l"},{"kind":"bin","name":"p"},{"kind":"example","name":"e"},
+{"kind":"test","name":"t"},{"kind":"bench","name":"s"},{"kind":"build","name":"m"}]}],
+"filtersets":["binary_id(=a)","binary_id(=a::bin/p)","binary_id(=a::example/e)","binary_id(=a::t)",
+"binary_id(=a::bench/s)","binary(=l)","binary(=m)","binary_id(#*m)"]}"#;
+
+const TARGETS_REPORT: &str = "filterset 0 accepted: binary_id(=a)
+filterset 1 accepted: binary_id(=a::bin\\/p)
+filterset 2 accepted: binary_id(=a::example\\/e)
+filterset 3 accepted: binary_id(=a::t)
+filterset 4 accepted: binary_id(=a::bench\\/s)
+filterset 5 accepted: binary(=l)
+filterset 6 refused: 1
+  fault 7 2 NoBinaryNameMatch: no binary names matched this
+filterset 7 refused: 1
+  fault 10 3 NoBinaryIdMatch: no binary IDs matched this
+";
+
+#[test]
+fn reports_over_packages(rt: HostRuntime) -> Result<(), Fail> {
+    for (record, report) in [(LINKED, LINKED_REPORT), (TARGETS, TARGETS_REPORT)] {
+        let (ended, written) = answer(rt.alloc(), record.as_bytes())?;
+        assert_eq!(rt; ended, Ok(Outcome::SomeRefused), "at {record}");
         assert!(rt; written.as_slice() == report.as_bytes(), "at {record}");
     }
     Ok(())
@@ -235,10 +294,71 @@ fn refuses(rt: &(impl AllocGlobal + Abort), record: &str, report: &str) -> Resul
 }
 
 #[test]
+fn packages_of_another_shape_are_refused(rt: HostRuntime) -> Result<(), Fail> {
+    for record in [
+        r#"{"packages":null,"filtersets":[]}"#,
+        r#"{"packages":{},"filtersets":[]}"#,
+        r#"{"packages":["a"],"filtersets":[]}"#,
+        r#"{"packages":[{"id":"a"}],"filtersets":[]}"#,
+        r#"{"packages":[{"name":"a"}],"filtersets":[]}"#,
+        r#"{"packages":[{"id":1,"name":"a"}],"filtersets":[]}"#,
+        r#"{"packages":[{"id":"a","name":"a","workspace":null}],"filtersets":[]}"#,
+        r#"{"packages":[{"id":"a","name":"a","workspace":"true"}],"filtersets":[]}"#,
+        r#"{"packages":[{"id":"a","name":"a","targets":null}],"filtersets":[]}"#,
+        r#"{"packages":[{"id":"a","name":"a","targets":["lib"]}],"filtersets":[]}"#,
+        r#"{"packages":[{"id":"a","name":"a","targets":[{"kind":"lib"}]}],"filtersets":[]}"#,
+        r#"{"packages":[{"id":"a","name":"a","targets":[{"kind":"proc-macro","name":"a"}]}],"filtersets":[]}"#,
+        r#"{"packages":[{"id":"a","name":"a","links":null}],"filtersets":[]}"#,
+        r#"{"packages":[{"id":"a","name":"a","links":[null]}],"filtersets":[]}"#,
+    ] {
+        refuses(&rt, record, NO_RECORD)?;
+    }
+    Ok(())
+}
+
+#[test]
+fn packages_that_make_no_graph_are_refused(rt: HostRuntime) -> Result<(), Fail> {
+    for (record, report) in [
+        (
+            r#"{"packages":[{"id":"a","name":"a"},{"id":"a","name":"b"}],"filtersets":[]}"#,
+            "record refused: repeated package id at 1\n",
+        ),
+        (
+            r#"{"packages":[{"id":"a","name":"a"},{"id":"b","name":"a"},{"id":"b","name":"b"},
+            {"id":"a","name":"a"}],"filtersets":["x"]}"#,
+            "record refused: repeated package id at 2\n",
+        ),
+        (
+            r#"{"packages":[{"id":"a","name":"a","links":["b"]}],"filtersets":[]}"#,
+            "record refused: unknown link 0 of package 0\n",
+        ),
+        (
+            r#"{"packages":[{"id":"a","name":"x","links":["b"]},{"id":"b","name":"y"},
+            {"id":"c","name":"z","links":["a","x"]}],"filtersets":["x"]}"#,
+            "record refused: unknown link 1 of package 2\n",
+        ),
+        // A repeated id comes before an unknown link.
+        (
+            r#"{"packages":[{"id":"a","name":"a","links":["zz"]},{"id":"a","name":"b"}],"filtersets":[]}"#,
+            "record refused: repeated package id at 1\n",
+        ),
+        // A value of another shape comes before both.
+        (
+            r#"{"packages":[{"id":"a","name":"a","links":["zz"]},{"id":"a","name":"b"}],"filtersets":1}"#,
+            NO_RECORD,
+        ),
+    ] {
+        refuses(&rt, record, report)?;
+    }
+    Ok(())
+}
+
+#[test]
 fn records_with_other_keys_are_refused(rt: HostRuntime) -> Result<(), Fail> {
     for record in [
-        r#"{"packages":[],"filtersets":[]}"#,
         r#"{"groups":[],"filtersets":[]}"#,
+        r#"{"packages":[{"id":"a","name":"a","version":"1"}],"filtersets":[]}"#,
+        r#"{"packages":[{"id":"a","name":"a","targets":[{"kind":"lib","name":"a","path":"x"}]}],"filtersets":[]}"#,
         r#"{"default":"all()","filtersets":[]}"#,
         r#"{"filtersets":[{"text":"all()","kind":"test"}]}"#,
         r#"{"filtersets":[],"binaries":[{"package":"p","id":"p","name":"p","kind":"lib","platform":"host","path":"x"}]}"#,

@@ -1,5 +1,5 @@
 //! Lists of a tree's predicates, and the reference text, which names each predicate.
-use crate::support::tables::compare;
+use crate::support::compare;
 use filterset_language::{Predicate, TextMatching};
 use nextest_filtering::{FILTERSET_REFERENCE_MD, ParsedExpr, ParsedLeaf};
 use std::alloc::{AllocError, Global};
@@ -17,56 +17,6 @@ fn written(alloc: Global, leaves: &[&ParsedLeaf]) -> Result<String, AllocError> 
         write!(found, "{leaf}")?;
     }
     Ok(found)
-}
-
-/// The predicates of a tree that only a test decides.
-fn listed(alloc: Global, tree: &ParsedExpr) -> Result<String, AllocError> {
-    written(alloc, &tree.runtime_only_leaves(alloc)?)
-}
-
-/// The same of the tree of a text.
-fn listed_of(alloc: Global, text: &str) -> Result<String, AllocError> {
-    let parsed = ParsedExpr::parse_with_faults(alloc, text)?;
-    match &parsed.tree {
-        Some(tree) => listed(alloc, tree),
-        None => format!(in alloc; "no tree"),
-    }
-}
-
-/// Texts, and their predicates that only a test decides.
-fn lists(rt: &(impl AllocGlobal + Abort), rows: &[(&str, &str)]) -> Result<(), Fail> {
-    for (text, wanted) in rows {
-        let found = listed_of(rt.alloc(), text)?;
-        compare(rt, text, &found, wanted);
-    }
-    Ok(())
-}
-
-#[test]
-fn lists_what_only_a_test_decides(rt: HostRuntime) -> Result<(), Fail> {
-    lists(
-        &rt,
-        &[
-            ("test(a)", "test(a)"),
-            ("default( )", "default()"),
-            (
-                "default() and group(x) and package(nope)",
-                "default() group(x)",
-            ),
-            (
-                "test(a) | group(b) - default()",
-                "test(a) group(b) default()",
-            ),
-            ("not (test(a) & test(a))", "test(a) test(a)"),
-            ("package(a) or deps(a) or rdeps(a) or kind(a)", ""),
-            ("binary(a) & binary_id(a) - platform(host)", ""),
-            ("all() + none()", ""),
-            (
-                "(test(1) and (test(2) or kind(3))) - !test(4)",
-                "test(1) test(2) test(4)",
-            ),
-        ],
-    )
 }
 
 /// Whether the predicate is one of packages.

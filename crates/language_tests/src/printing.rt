@@ -1,8 +1,7 @@
 //! What trees made by hand print, and what reading gives of that.
 use crate::reading_back::{print_alike, read_back};
 use crate::support::made::made;
-use crate::support::tables::compare;
-use crate::support::{described, outline, structure};
+use crate::support::{compare, described, outline, structure};
 use nextest_filtering::errors::SourceSpan;
 use nextest_filtering::{Parsed, ParsedExpr, ParsedLeaf};
 use std::process::Abort;

@@ -1,22 +1,18 @@
-//! What the tests share: faults, trees and repeated texts written out.
-use nextest_filtering::ParsedExpr;
+//! What the tests share: faults and trees written out, and held against the wanted texts.
+use crate::judging::agrees;
 use nextest_filtering::errors::ParseSingleError;
 use std::alloc::{AllocError, Global};
 use std::fmt::Write;
+use std::process::Abort;
 
 pub mod made;
 mod shapes;
-pub mod tables;
 
 pub use shapes::{outline, structure};
 
-/// `piece`, `count` times.
-pub fn repeated(alloc: Global, piece: &str, count: usize) -> Result<String, AllocError> {
-    let mut text = String::new(alloc);
-    for _ in 0..count {
-        text.push_str(piece)?;
-    }
-    Ok(text)
+/// What was found of a text is what is wanted.
+pub fn compare(rt: &impl Abort, text: &str, found: &String, wanted: &str) {
+    assert!(rt; agrees(found.as_str(), wanted), "{text}: {found}");
 }
 
 /// The faults, each by its code and its span.
@@ -32,12 +28,4 @@ pub fn described(alloc: Global, faults: &[ParseSingleError]) -> Result<String, A
         }
     }
     Ok(text)
-}
-
-/// What a tree prints, or that there is none.
-pub fn printed(alloc: Global, tree: &Option<ParsedExpr>) -> Result<String, AllocError> {
-    match tree {
-        Some(tree) => format!(in alloc; "{tree}"),
-        None => format!(in alloc; "no tree"),
-    }
 }

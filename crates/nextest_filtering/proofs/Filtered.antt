@@ -38,3 +38,11 @@ module _ {X Y Z : Type 0} (h : Y → Option Z) (v : X → Y) (xs : List X) (k : 
   gathers_none is =
       let none : h (v (get_or xs k d)) ≡ None = sym here ∙ is in
       so_far ∙ sym (one_more h v xs k d lt ∙ ap (λ (p : Option Z). filter_map h (map v (take k xs)) ++ cons_option p []) none ∙ append-nil _)
+
+-- the elements that pass, with one more
+pub next_chosen : {X Y : Type 0} (h : X → Option Y) (xs : List X) (i : ℕ) (x : X) → i < length xs → x ≡ get_or xs i x
+    → filter_map h (take (i + 1) xs) ≡ filter_map h (take i xs) ++ cons_option (h x) []
+next_chosen {X} {Y} h xs i x within is =
+    let next : i + 1 ≡ suc i = omega arith in
+    ap (λ (n : ℕ). filter_map h (take n xs)) next ∙ ap (filter_map h) (take-suc xs i x within) ∙ filter_map-append h (take i xs) (get_or xs i x ∷ [])
+    ∙ ap (λ (y : X). filter_map h (take i xs) ++ cons_option (h y) []) (sym is)

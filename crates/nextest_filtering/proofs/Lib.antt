@@ -1,6 +1,11 @@
 pub mod PackageIds
 pub mod Shapes
 pub mod Meanings
-pub mod Supported
+pub mod Members
+pub mod Binaries
+pub mod Banned
+pub mod Unmatched
+pub mod Groups
+pub mod PackageSets
 pub mod Refusals
 pub mod Filtered

@@ -1,36 +1,65 @@
 -- Why texts are refused.
-use Rattle.std.proofs.Common.{◌≡◌, ◌≢◌, ◌⊎◌, inl, inr, ⊎_elim, ℕ, List, [], ap, sym, ◌∙◌, subst}
-use Rattle.std.specs.Prelude.{All, Result, Ok, Err, IsErrAnd, IfErr}
+use Rattle.std.proofs.Common.{◌≡◌, ◌≢◌, ◌⊎◌, inl, inr, ⊎_elim, ℕ, List, [], sym, ◌∙◌, subst}
+use Rattle.std.specs.Prelude.{All, Result, Ok, Err, IsErrAnd, IfErr, OnOk}
 use Rattle.filterset_faults.specs.declared.error.ParseSingleError.{ParseSingleError}
+use Rattle.filterset_faults.specs.declared.kind.FiltersetKind.{FiltersetKind}
 use Rattle.filterset_faults.specs.declared.span.SourceSpan.{SourceSpan}
-use Rattle.nextest_filtering.specs.Compiling.{unsupported_faults, IsRefusedWith, found, unsupported, IsStopOf, IsUnsupported}
+use Rattle.filterset_graph.specs.declared.package.PackageMetadata.{PackageMetadata}
 use Rattle.filterset_language.specs.Faults.{FaultStands}
 use Rattle.filterset_language.specs.Grammar.{Spells}
-use Rattle.filterset_language.specs.Parsed.{Reads, LiesOnBody, Comes, HasRefusedBodies}
-use Rattle.filterset_language.specs.Tree.{Tree}
+use Rattle.filterset_language.specs.Parsed.{Reads, LiesOnBody, Comes, HasRefusedBodies, IsUnreadWith}
+use Rattle.filterset_language.specs.Parsed.{IsRefusalOf as IsUnread}
+use Rattle.filterset_language.specs.Tree.{Tree, tree_leaves}
 use Rattle.filterset_language.specs.declared.parsing.parse.ParseStop.{ParseStop}
 use Rattle.filterset_language.specs.declared.parsing.parse.ParseStop.TheVariants as stop
 use Rattle.filterset_language.specs.declared.parsing.parse.Parsed.{Parsed}
 use Rattle.filterset_language.proofs.SpelledIsRead.{one_tree}
+use Rattle.nextest_filtering.specs.Compiling.{IsFiltersetOf, IsRejectedWith, banned, unmatched, IsRefusedWith, found, rejected, IsStopOf, IsRejectionOf}
+use Rattle.nextest_filtering.specs.declared.compile.context.KnownGroups.{KnownGroups}
+use Rattle.nextest_filtering.proofs.Banned.{no_bans}
+use Rattle.nextest_filtering.proofs.Unmatched.{all_matched}
 
 -- faults of a parse refuse the text
 pub refuted : (text : List ℕ) (p : Parsed) → p.faults.items ≢ [] → All (FaultStands text) p.faults.items
-    → ((e : Tree SourceSpan) → Spells text e → (Comes p e × (p.faults.items ≡ [])) ⊎ HasRefusedBodies text e p) → IsRefusedWith text p.faults.items
-refuted text p some stand spelled = found (record { some = some; stand = stand; bodies = λ e spells. ⊎_elim (λ clean. absurd (some clean.1)) (λ refuses. refuses.bodies) (spelled e spells) })
-
--- a stopped compiler stops the reading
-pub stopped : (text : List ℕ) (e : Tree SourceSpan) (s : ParseStop) → Reads text e → IsUnsupported e s → IsStopOf text s
-stopped text e (stop.Faults faults) reads is = unsupported e reads is.0 is.1
-stopped text e (stop.OutOfMemory error) reads is = tt
+    → ((e : Tree SourceSpan) → Spells text e → (Comes p e × (p.faults.items ≡ [])) ⊎ HasRefusedBodies text e p) → IsUnreadWith text p.faults.items
+refuted text p some stand spelled = record { some = some; stand = stand; bodies = λ e spells. ⊎_elim (λ clean. absurd (some clean.1)) (λ refuses. refuses.bodies) (spelled e spells) }
 
 -- an error that a `?` hands on
 pub handed_on : {T E : Type 0} (r : Result T E) (e : E) (P : E → Type 0) → IsErrAnd r (λ y. y ≡ e) → P e → IfErr r P
 handed_on (Ok x) e P is h = tt
 handed_on (Err y) e P is h = subst P (sym is) h
 
--- what the faults are where the text spells a tree: it is the one that was read
-pub of_tree : (text : List ℕ) (faults : List ParseSingleError) (e : Tree SourceSpan) → Spells text e → IsRefusedWith text faults
-    → All (LiesOnBody text e) faults ⊎ ((faults ≡ unsupported_faults e) × (unsupported_faults e ≢ []))
-of_tree text faults e spells (found refutes) = inl (refutes.bodies e spells)
-of_tree text faults e spells (unsupported d reads are some) =
-    let same = ap unsupported_faults (one_tree text d e reads.spelled spells) in inr (are ∙ same, λ none. some (are ∙ same ∙ none))
+-- what holds anyway holds where a call returns
+pub where_it_returns : {T E P : Type 0} (r : Result T E) → P → OnOk r P
+where_it_returns (Ok x) p = p
+where_it_returns (Err e) p = tt
+
+module _ (text : List ℕ) (kind : FiltersetKind) (packages : List PackageMetadata) (groups : KnownGroups) where
+  -- a stopped parser stops the reading
+  pub unread : (s : ParseStop) → IsUnread text s → IsStopOf text kind packages groups s
+  unread (stop.Faults faults) is = found is
+  unread (stop.OutOfMemory error) is = tt
+
+  -- so does a stopped compiler
+  pub stopped : (e : Tree SourceSpan) (s : ParseStop) → Reads text e → IsRejectionOf kind packages groups e s → IsStopOf text kind packages groups s
+  stopped e (stop.Faults faults) reads is = rejected e reads is
+  stopped e (stop.OutOfMemory error) reads is = tt
+
+  -- what the faults are where the text spells a tree: it is the one that was read
+  pub of_tree : (faults : List ParseSingleError) (e : Tree SourceSpan) → Spells text e → IsRefusedWith text kind packages groups faults
+      → All (LiesOnBody text e) faults ⊎ IsRejectedWith kind packages groups e faults
+  of_tree faults e spells (found refutes) = inl (refutes.bodies e spells)
+  of_tree faults e spells (rejected d reads is) =
+      inr (subst (λ (t : Tree SourceSpan). IsRejectedWith kind packages groups t faults) (one_tree text d e reads.spelled spells) is)
+
+  -- a tree that makes the text a filterset is not refused
+  not_rejected : (e : Tree SourceSpan) (faults : List ParseSingleError) → IsFiltersetOf text kind packages groups e → IsRejectedWith kind packages groups e faults → ⊥
+  not_rejected e faults is (banned are some) = some (are ∙ no_bans kind e is.allowed)
+  not_rejected e faults is (unmatched allowed are some) = some (all_matched packages groups (tree_leaves e) faults is.checked are)
+
+  -- so only bodies are
+  pub of_filterset : (faults : List ParseSingleError) (e : Tree SourceSpan) → IsFiltersetOf text kind packages groups e → IsRefusedWith text kind packages groups faults
+      → (faults ≢ []) × All (LiesOnBody text e) faults
+  of_filterset faults e is (found refutes) = (refutes.some, refutes.bodies e is.reads.spelled)
+  of_filterset faults e is (rejected d reads r) =
+      absurd (not_rejected e faults is (subst (λ (t : Tree SourceSpan). IsRejectedWith kind packages groups t faults) (one_tree text d e reads.spelled is.reads.spelled) r))

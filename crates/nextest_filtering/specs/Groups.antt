@@ -1,4 +1,8 @@
 -- What is known of the groups of tests.
+use Rattle.std.specs.Prelude.{◌≡◌, ◌⊎◌, ℕ, List, Contains, codes, string_bytes}
+use Rattle.std.specs.HashSet.{keys}
+use Rattle.std.specs.declared.alloc.Global.{Global}
+use Rattle.std.specs.declared.string.String.{String}
 use Rattle.nextest_filtering.specs.declared.compile.context.KnownGroups.{KnownGroups}
 use Rattle.nextest_filtering.specs.declared.compile.context.KnownGroups.TheVariants.{Known, Unavailable}
 
@@ -6,3 +10,10 @@ use Rattle.nextest_filtering.specs.declared.compile.context.KnownGroups.TheVaria
 abbrev pub IsKnown : KnownGroups → Type 0
 IsKnown (Known custom_groups) = Unit {0}
 IsKnown Unavailable = ⊥
+
+-- the name is that of a known group: `@global`, or a custom one
+abbrev pub IsGroupName : KnownGroups → List ℕ → Type 0
+IsGroupName (Known custom_groups) name =
+    (name ≡ codes "@global")
+    ⊎ ((custom : String Global) × Contains (keys custom_groups) custom × (string_bytes custom ≡ name))
+IsGroupName Unavailable name = ⊥

@@ -5,4 +5,9 @@ pub mod EqualityLaws
 pub mod Meaning
 pub mod Contexts
 pub mod Groups
+pub mod Bans
+pub mod Binaries
+pub mod PackageMarks
+pub mod Asking
+pub mod Checks
 pub mod Compiling

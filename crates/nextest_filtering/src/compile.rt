@@ -1,61 +1,102 @@
 //! From a filterset's tree to a compiled expression.
-ghost use Rattle.std.specs.Prelude.{◌≡◌, List, [], IfOk, OnOk, IfErr, None};
-ghost use Rattle.filterset_graph.specs.declared.package.PackageMetadata.{PackageMetadata};
-ghost use Rattle.nextest_filtering.specs.Compiling.{unsupported_faults, unsupported_span, IsSupported, IsUnsupported};
-ghost use Rattle.nextest_filtering.specs.Expression.{compiled_leaf, formula};
+ghost use Rattle.std.specs.Prelude.{◌≡◌, IfOk, OnOk, IfErr};
+ghost use Rattle.nextest_filtering.specs.Bans.{IsAllowed};
+ghost use Rattle.nextest_filtering.specs.Checks.{AddsUnmatched, AllChecked};
+ghost use Rattle.nextest_filtering.specs.Compiling.{packages_of, IsRejectionOf};
+ghost use Rattle.nextest_filtering.specs.Expression.{formula};
 ghost use Rattle.nextest_filtering.specs.Formula.{Negation, Disjunction, Conjunction};
-ghost use Rattle.nextest_filtering.specs.Meaning.{IsCompiled, IsCompiledLeaf};
-ghost use Rattle.filterset_language.specs.Tree.{leaf_of, tree_of};
+ghost use Rattle.nextest_filtering.specs.Meaning.{IsCompiled};
+ghost use Rattle.filterset_language.specs.Tree.{tree_of, tree_leaves};
 
-use crate::expression::{CompiledExpr, FiltersetLeaf};
-use filterset_language::{ParseStop, ParsedExpr, ParsedLeaf};
+use crate::expression::CompiledExpr;
+use filterset_faults::{FiltersetKind, ParseSingleError};
+use filterset_language::{ParseStop, ParsedExpr};
 use std::alloc::{AllocError, Global};
 
+mod asking;
+mod bans;
+mod checks;
 mod context;
 mod leaves;
+mod packages;
 
+use bans::{banned_leaves, bans};
 pub use context::{KnownGroups, ParseContext};
-use leaves::{unsupported_faults, unsupported_leaves};
+use leaves::compile_leaf;
 
-/// The compiled expression of a tree. There is a fault for each leaf that is not compiled yet, from left to right, and
-/// no expression where there is one.
-pub(crate) fn compile(alloc: Global, expr: &ParsedExpr) -> Result<CompiledExpr, ParseStop>
-    ensures supported { OnOk result (unsupported_faults (tree_of expr.now) ≡ []) }
-    ensures compiled { IfOk result (λ compiled.
-        (packages : List PackageMetadata) → IsCompiled packages (tree_of expr.now) compiled) }
-    ensures refused { IfErr result (IsUnsupported (tree_of expr.now)) }
+/// The compiled expression of a tree.
+///
+/// Where a filterset of this kind may not hold some of its predicates, there is a fault for each of these alone. Else
+/// there is a fault for each predicate that has to hit something and hits nothing. Faults stand in the order of the
+/// predicates.
+pub(crate) fn compile(
+    alloc: Global,
+    cx: &ParseContext<'_>,
+    kind: FiltersetKind,
+    known_groups: &KnownGroups,
+    expr: &ParsedExpr,
+) -> Result<CompiledExpr, ParseStop>
+    ensures allowed { OnOk result (IsAllowed kind (tree_of expr.now)) }
+    ensures checked { OnOk result (AllChecked (packages_of cx.now) known_groups.now (tree_of expr.now)) }
+    ensures compiled { IfOk result (IsCompiled (packages_of cx.now) (tree_of expr.now)) }
+    ensures refused { IfErr result (IsRejectionOf kind (packages_of cx.now) known_groups.now (tree_of expr.now)) }
 {
-    let leaves = unsupported_leaves(alloc, expr)?;
-    if !leaves.is_empty() {
-        return Err(ParseStop::Faults(unsupported_faults(alloc, &leaves)?));
+    let banned = banned_leaves(alloc, kind, expr)?;
+    if !banned.is_empty() {
+        return Err(ParseStop::Faults(bans(alloc, kind, &banned)?));
     }
-    Ok(compile_expr(alloc, expr)?)
+    let mut faults = Vec::new(alloc);
+    let compiled = compile_expr(alloc, cx, known_groups, expr, &mut faults)?;
+    if !faults.is_empty() {
+        return Err(ParseStop::Faults(faults));
+    }
+    Ok(compiled)
 }
 
-/// The compiled expression of a tree whose leaves are all compiled: `a - b` becomes `a` and not `b`, and
-/// parentheses become what they hold.
-fn compile_expr(alloc: Global, expr: &ParsedExpr) -> Result<CompiledExpr, AllocError>
-    requires { IsSupported (tree_of expr.now) }
-    ensures { IfOk result (λ compiled.
-        (packages : List PackageMetadata) → IsCompiled packages (tree_of expr.now) compiled) }
+/// The compiled expression of a tree: `a - b` becomes `a` and not `b`, and parentheses become what they hold. Adds a
+/// fault for each predicate that hits nothing, from left to right.
+fn compile_expr(
+    alloc: Global,
+    cx: &ParseContext<'_>,
+    known_groups: &KnownGroups,
+    expr: &ParsedExpr,
+    faults: &mut Vec<ParseSingleError>,
+) -> Result<CompiledExpr, AllocError>
+    ensures compiled { IfOk result (IsCompiled (packages_of cx.now) (tree_of expr.now)) }
+    ensures unmatched { OnOk result (AddsUnmatched (packages_of cx.now) known_groups.now
+        (tree_leaves (tree_of expr.now)) faults.old.items faults.new.items) }
 {
     match expr {
-        ParsedExpr::Not(_, e) => negation(alloc, compile_expr(alloc, e)?),
+        ParsedExpr::Not(_, e) => {
+            negation(alloc, compile_expr(alloc, cx, known_groups, e, faults)?)
+        }
         ParsedExpr::Union(_, a, b) => {
-            let left = compile_expr(alloc, a)?;
-            disjunction(alloc, left, compile_expr(alloc, b)?)
+            let left = compile_expr(alloc, cx, known_groups, a, faults)?;
+            disjunction(
+                alloc,
+                left,
+                compile_expr(alloc, cx, known_groups, b, faults)?,
+            )
         }
         ParsedExpr::Intersection(_, a, b) => {
-            let left = compile_expr(alloc, a)?;
-            conjunction(alloc, left, compile_expr(alloc, b)?)
+            let left = compile_expr(alloc, cx, known_groups, a, faults)?;
+            conjunction(
+                alloc,
+                left,
+                compile_expr(alloc, cx, known_groups, b, faults)?,
+            )
         }
         ParsedExpr::Difference(_, a, b) => {
-            let left = compile_expr(alloc, a)?;
-            difference(alloc, left, compile_expr(alloc, b)?)
+            let left = compile_expr(alloc, cx, known_groups, a, faults)?;
+            difference(
+                alloc,
+                left,
+                compile_expr(alloc, cx, known_groups, b, faults)?,
+            )
         }
-        ParsedExpr::Parens(e) => compile_expr(alloc, e),
+        ParsedExpr::Parens(e) => compile_expr(alloc, cx, known_groups, e, faults),
         ParsedExpr::Set(leaf) => {
-            let set = compile_leaf(alloc, leaf)?;
+            let set = compile_leaf(alloc, cx, known_groups, leaf, faults)?;
             Ok(CompiledExpr::Set(set))
         }
     }
@@ -101,20 +142,4 @@ fn difference(
     ensures { IfOk result (λ made. formula made ≡ Conjunction (formula left) (Negation (formula right))) }
 {
     conjunction(alloc, left, negation(alloc, right)?)
-}
-
-/// The compiled leaf of one that is compiled.
-fn compile_leaf(alloc: Global, leaf: &ParsedLeaf) -> Result<FiltersetLeaf, AllocError>
-    requires { unsupported_span (leaf_of leaf.now) ≡ None }
-    ensures { IfOk result (λ compiled.
-        (packages : List PackageMetadata) → IsCompiledLeaf packages (leaf_of leaf.now) (compiled_leaf compiled)) }
-{
-    match leaf {
-        ParsedLeaf::Test(matcher, span) => {
-            Ok(FiltersetLeaf::Test(matcher.try_clone(alloc)?, *span))
-        }
-        ParsedLeaf::All => Ok(FiltersetLeaf::All),
-        ParsedLeaf::None => Ok(FiltersetLeaf::None),
-        _ => unreachable!(),
-    }
 }

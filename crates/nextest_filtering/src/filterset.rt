@@ -1,17 +1,18 @@
 //! Filtersets: a text, its tree, and the compiled expression.
-ghost use Rattle.std.specs.Prelude.{◌≡◌, ◌↔◌, false, List, [], IfOk, IfErr, IsTrue, codes, string_bytes};
+ghost use Rattle.std.specs.Prelude.{◌≡◌, ◌≢◌, ◌↔◌, false, List, IfOk, IfErr, IsTrue, codes, string_bytes};
 ghost use Rattle.std.specs.Str.Iter.{HasSubslice};
 ghost use Rattle.filterset_faults.specs.declared.kind.FiltersetKind.TheVariants as kinds;
 ghost use Rattle.filterset_graph.specs.declared.package.PackageMetadata.{PackageMetadata};
 ghost use Rattle.filterset_faults.specs.declared.span.SourceSpan.{SourceSpan};
-ghost use Rattle.nextest_filtering.specs.Compiling.{packages_of, unsupported_faults, SaysTheSame};
-ghost use Rattle.nextest_filtering.specs.Compiling.{IsRefusalOf, IsRefusalOfTree, IsStopOf};
+ghost use Rattle.nextest_filtering.specs.Compiling.{packages_of, IsFiltersetOf, SaysTheSame};
+ghost use Rattle.nextest_filtering.specs.Compiling.{IsRefusalOf, IsRefusalOfBodies, IsRefusalOfTree, IsStopOf};
 ghost use Rattle.nextest_filtering.specs.Contexts.{default_of};
 ghost use Rattle.nextest_filtering.specs.Expression.{formula, has_leaf, is_default, is_group, no_groups, Holds};
 ghost use Rattle.filterset_language.specs.Grammar.{Spells};
 ghost use Rattle.nextest_filtering.specs.Groups.{IsKnown};
 ghost use Rattle.nextest_filtering.specs.Meaning.{has_tree_leaf, is_default_predicate, is_group_predicate, IsCompiled, Meaning};
 ghost use Rattle.filterset_language.specs.Parsed.{Reads};
+ghost use Rattle.filterset_language.specs.Parsed.{IsRefusalOf as IsUnread};
 ghost use Rattle.filterset_language.specs.Tree.{Tree, tree_of};
 
 use crate::compile::{KnownGroups, ParseContext, compile};
@@ -43,7 +44,7 @@ pub enum ParseRefusal {
 /// Reads a text.
 fn read_tree(alloc: Global, text: &str) -> Result<ParsedExpr, ParseStop>
     ensures spelled { IfOk result (λ parsed. Reads text.now (tree_of parsed)) }
-    ensures refused { IfErr result (IsStopOf text.now) }
+    ensures refused { IfErr result (IsUnread text.now) }
 {
     let Parsed { tree, faults } = ParsedExpr::parse_with_faults(alloc, text)?;
     match tree {
@@ -53,26 +54,38 @@ fn read_tree(alloc: Global, text: &str) -> Result<ParsedExpr, ParseStop>
 }
 
 /// Reads and compiles a text.
-fn read(alloc: Global, text: &str) -> Result<(ParsedExpr, CompiledExpr), ParseStop>
-    ensures spelled { IfOk result (λ made. Reads text.now (tree_of made.0)) }
-    ensures supported { IfOk result (λ made. unsupported_faults (tree_of made.0) ≡ []) }
-    ensures compiled { IfOk result (λ made.
-        (packages : List PackageMetadata) → IsCompiled packages (tree_of made.0) made.1) }
-    ensures refused { IfErr result (IsStopOf text.now) }
+fn read(
+    alloc: Global,
+    text: &str,
+    cx: &ParseContext<'_>,
+    kind: FiltersetKind,
+    known_groups: &KnownGroups,
+) -> Result<(ParsedExpr, CompiledExpr), ParseStop>
+    ensures accepted { IfOk result (λ made.
+        IsFiltersetOf text.now kind (packages_of cx.now) known_groups.now (tree_of made.0)) }
+    ensures compiled { IfOk result (λ made. IsCompiled (packages_of cx.now) (tree_of made.0) made.1) }
+    ensures refused { IfErr result (IsStopOf text.now kind (packages_of cx.now) known_groups.now) }
 {
     let parsed = read_tree(alloc, text)?;
-    let compiled = compile(alloc, &parsed)?;
+    let compiled = compile(alloc, cx, kind, known_groups, &parsed)?;
     Ok((parsed, compiled))
 }
 
 impl Filterset {
     /// Reads a filterset and compiles it.
     ///
-    /// A text is accepted exactly where the language spells it, `regex` builds each of its patterns, and each of its
-    /// predicates is one that is compiled for now: `test`, `all` or `none`. Each other predicate of a text that was
-    /// read is answered by one `UnsupportedExpression` at its span, from left to right. A refusal hands the text back.
+    /// A text is accepted exactly where the language spells it, `regex` builds each of its patterns, none of its
+    /// predicates is banned from filtersets of this kind, and each predicate that names packages, test binaries or
+    /// groups hits one:
     ///
-    /// For now the kind is `Test`, and the groups are known.
+    /// - `package`, `deps` and `rdeps` the name of a package of the workspace;
+    /// - `binary` the name, and `binary_id` the id, of a test binary of the workspace;
+    /// - `group` the name of a known group, of which `@global` is always one.
+    ///
+    /// A refusal hands the text back. Where the text was read, its faults are those of the banned predicates alone,
+    /// or else those of the predicates that hit nothing, from left to right, with the spans of their arguments.
+    ///
+    /// For a filterset of kind `Test` the groups are known. All other kinds ban `group`, so they need not be.
     pub fn parse(
         alloc: Global,
         input: String,
@@ -80,13 +93,13 @@ impl Filterset {
         kind: FiltersetKind,
         known_groups: &KnownGroups,
     ) -> Result<Filterset, ParseRefusal>
-        requires kind { kind ≡ kinds.Test }
-        requires known { IsKnown known_groups.now }
+        requires known { kind ≡ kinds.Test → IsKnown known_groups.now }
 
-        // What was accepted is the text, its tree, each leaf of which is compiled, and what this is compiled to.
+        // What was accepted is the text, the tree that makes it a filterset of this kind, and what the tree is
+        // compiled to.
         ensures input { IfOk result (λ made. made.input ≡ input) }
-        ensures spelled { IfOk result (λ made. Reads (string_bytes input) (tree_of made.parsed)) }
-        ensures supported { IfOk result (λ made. unsupported_faults (tree_of made.parsed) ≡ []) }
+        ensures accepted { IfOk result (λ made. IsFiltersetOf (string_bytes input) kind (packages_of cx.now)
+            known_groups.now (tree_of made.parsed)) }
         ensures compiled { IfOk result (λ made. IsCompiled (packages_of cx.now) (tree_of made.parsed) made.compiled) }
 
         // So the compiled expression says of each test what the tree says, and holds the same leaves.
@@ -96,19 +109,26 @@ impl Filterset {
         ensures groups { IfOk result (λ made.
             has_leaf is_group made.compiled ≡ has_tree_leaf is_group_predicate (tree_of made.parsed)) }
 
-        // As `default` and `group` are not compiled yet, what was accepted holds neither.
-        ensures no_default { IfOk result (λ made. has_leaf is_default made.compiled ≡ false) }
-        ensures no_group { IfOk result (λ made. has_leaf is_group made.compiled ≡ false) }
+        // A default filter holds no `default` leaf, and only a filterset of kind `Test` may hold a `group` leaf. So a
+        // default filter is one that evaluation may take.
+        ensures no_default { kind ≡ kinds.DefaultFilter →
+            IfOk result (λ made. has_leaf is_default made.compiled ≡ false) }
+        ensures no_group { kind ≢ kinds.Test → IfOk result (λ made. has_leaf is_group made.compiled ≡ false) }
 
-        // A refusal is by faults that the parser found, or by leaves that are not compiled yet.
-        ensures refused { IfErr result (IsRefusalOf input) }
+        // A refusal is by faults that the parser found, or by banned predicates, or by ones that hit nothing.
+        ensures refused { IfErr result (IsRefusalOf input kind (packages_of cx.now) known_groups.now) }
 
-        // Where the text spells a tree, only the bodies of its regular expressions, its leaves that are not compiled
-        // yet and want of memory refuse it.
-        ensures complete { (e : Tree SourceSpan) → Spells (string_bytes input) e
-            → IfErr result (IsRefusalOfTree (string_bytes input) e) }
+        // Where the text spells a tree, only the bodies of its regular expressions, its banned predicates, those that
+        // hit nothing and want of memory refuse it.
+        ensures spelled { (e : Tree SourceSpan) → Spells (string_bytes input) e
+            → IfErr result (IsRefusalOfTree (string_bytes input) kind (packages_of cx.now) known_groups.now e) }
+
+        // Where a tree makes it a filterset, only the bodies of its regular expressions and want of memory do.
+        ensures complete { (e : Tree SourceSpan)
+            → IsFiltersetOf (string_bytes input) kind (packages_of cx.now) known_groups.now e
+            → IfErr result (IsRefusalOfBodies (string_bytes input) e) }
     {
-        match read(alloc, input.as_str()) {
+        match read(alloc, input.as_str(), cx, kind, known_groups) {
             Ok((parsed, compiled)) => Ok(Filterset {
                 input,
                 parsed,

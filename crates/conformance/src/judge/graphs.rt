@@ -4,8 +4,10 @@ ghost use Rattle.std.specs.Prelude.{OnOk};
 ghost use Rattle.conformance.specs.Judging.{IsClean};
 
 use crate::lines::Lines;
-use crate::rows::{DependsRow, GraphRow, PackageRow, RefusedRow, SearchRow};
-use nextest_filtering::{DependsRefusal, GraphRefusal, PackageGraph, PackageId, PackageMetadata};
+use crate::rows::{DependsRow, GraphRow, PackageRow, RefusedRow, SearchRow, TargetRow};
+use nextest_filtering::{
+    BuildTarget, DependsRefusal, GraphRefusal, PackageGraph, PackageId, PackageMetadata,
+};
 use std::alloc::{AllocError, Global};
 
 /// Notes what is found of the lists of packages otherwise than their rows say.
@@ -35,7 +37,7 @@ fn judge_graph(alloc: Global, lines: &mut Lines, row: &GraphRow) -> Result<(), A
 }
 
 /// The packages of the rows, each with its name for its id.
-fn packages(alloc: Global, rows: &[PackageRow]) -> Result<Vec<PackageMetadata>, AllocError> {
+pub fn packages(alloc: Global, rows: &[PackageRow]) -> Result<Vec<PackageMetadata>, AllocError> {
     let mut all = Vec::new(alloc);
     for row in rows {
         all.push(package(alloc, row)?)?;
@@ -49,9 +51,21 @@ fn package(alloc: Global, row: &PackageRow) -> Result<PackageMetadata, AllocErro
         id: id(alloc, row.name.as_str())?,
         name: String::from_str(alloc, row.name.as_str())?,
         in_workspace: row.in_workspace,
-        build_targets: Vec::new(alloc),
+        build_targets: targets(alloc, &row.targets)?,
         links: ids(alloc, &row.links)?,
     })
+}
+
+/// The build targets of the rows.
+fn targets(alloc: Global, rows: &[TargetRow]) -> Result<Vec<BuildTarget>, AllocError> {
+    let mut all = Vec::new(alloc);
+    for row in rows {
+        all.push(BuildTarget {
+            id: row.id,
+            name: String::from_str(alloc, row.name.as_str())?,
+        })?;
+    }
+    Ok(all)
 }
 
 /// The ids with these texts.

@@ -3,23 +3,57 @@ use crate::entry::{
     Entry, RowRefusal, object_with, optional, optional_list, part, parts_of, required,
     required_list,
 };
+use nextest_filtering::BuildTargetId;
 use serde_json::Value;
 use std::alloc::Global;
 
-/// A package, whose id is its name, and the ids of the packages that it stands on.
+/// A build target of a package: its kind and its name.
+#[derive(Debug, Drop)]
+pub struct TargetRow {
+    pub id: BuildTargetId,
+    pub name: String,
+}
+
+impl Entry for BuildTargetId {
+    fn read(_alloc: Global, value: &Value) -> Result<BuildTargetId, RowRefusal> {
+        match value.as_str() {
+            Some("lib") => Ok(BuildTargetId::Library),
+            Some("bin") => Ok(BuildTargetId::Binary),
+            Some("example") => Ok(BuildTargetId::Example),
+            Some("test") => Ok(BuildTargetId::Test),
+            Some("bench") => Ok(BuildTargetId::Benchmark),
+            Some("build") => Ok(BuildTargetId::BuildScript),
+            _ => Err(RowRefusal::NotARow),
+        }
+    }
+}
+
+impl Entry for TargetRow {
+    fn read(alloc: Global, value: &Value) -> Result<TargetRow, RowRefusal> {
+        let parts = parts_of(value, 2)?;
+        Ok(TargetRow {
+            id: part(alloc, parts, 0)?,
+            name: part(alloc, parts, 1)?,
+        })
+    }
+}
+
+/// A package, whose id is its name, its build targets, and the ids of the packages that it stands on.
 #[derive(Debug, Drop)]
 pub struct PackageRow {
     pub name: String,
     pub in_workspace: bool,
+    pub targets: Vec<TargetRow>,
     pub links: Vec<String>,
 }
 
 impl Entry for PackageRow {
     fn read(alloc: Global, value: &Value) -> Result<PackageRow, RowRefusal> {
-        object_with(value, &["name", "in_workspace", "links"])?;
+        object_with(value, &["name", "in_workspace", "targets", "links"])?;
         Ok(PackageRow {
             name: required(alloc, value, "name")?,
             in_workspace: required(alloc, value, "in_workspace")?,
+            targets: optional_list(alloc, value, "targets")?,
             links: required_list(alloc, value, "links")?,
         })
     }

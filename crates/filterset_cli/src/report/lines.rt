@@ -1,50 +1,51 @@
 //! The lines of a report.
 ghost use Rattle.std.specs.Prelude.{◌≡◌, ◌++◌, IfOk, OnOk, string_bytes};
 ghost use Rattle.filterset_language.specs.Tree.{tree_of};
-ghost use Rattle.nextest_filtering.specs.Contexts.{default_of};
 ghost use Rattle.filterset_cli.specs.Shape.{Text};
 ghost use Rattle.filterset_cli.specs.Rows.{binary_row, test_row};
-ghost use Rattle.filterset_cli.specs.Library.{IsAskable, Tells, every_test};
+ghost use Rattle.filterset_cli.specs.Library.{IsAskable, IsPlain, Tells, known_packages};
 ghost use Rattle.filterset_cli.specs.Report.{TestLine, fault_lines};
 
 use crate::record::{BinaryEntry, TestEntry};
-use crate::report::setting::query_of;
-use nextest_filtering::{EvalContext, Filterset, ParseSingleError};
+use crate::report::setting::{Setting, query_of};
+use nextest_filtering::{Filterset, ParseSingleError};
 use std::alloc::{AllocError, Global};
 use std::fmt::Write;
 
 /// Whether the filterset holds the test of the binary.
 fn holds_test(
     alloc: Global,
-    cx: &EvalContext<'_>,
+    setting: &Setting<'_>,
     filterset: &Filterset,
     binary: &BinaryEntry,
     test: &TestEntry,
 ) -> Result<bool, AllocError>
-    requires askable { IsAskable filterset.now }
-    requires holds_all { default_of cx.now ≡ every_test }
-    ensures { IfOk result (Tells (tree_of filterset.now.parsed) (binary_row binary.now) (test_row test.now)) }
+    requires plain { IsPlain setting.now }
+    requires askable { IsAskable (known_packages setting.now) filterset.now }
+    ensures { IfOk result (Tells (known_packages setting.now) (tree_of filterset.now.parsed) (binary_row binary.now)
+        (test_row test.now)) }
 {
     let query = query_of(binary, test);
-    filterset.matches_test(alloc, &query, cx)
+    filterset.matches_test(alloc, &query, &setting.eval_context)
 }
 
 /// Adds the line of a test: whether the filterset holds it.
 pub fn push_test(
     lines: &mut String,
     alloc: Global,
-    cx: &EvalContext<'_>,
+    setting: &Setting<'_>,
     filterset: &Filterset,
     binary: &BinaryEntry,
     test: &TestEntry,
 ) -> Result<(), AllocError>
-    requires askable { IsAskable filterset.now }
-    requires holds_all { default_of cx.now ≡ every_test }
+    requires plain { IsPlain setting.now }
+    requires askable { IsAskable (known_packages setting.now) filterset.now }
     ensures { OnOk result ((line : Text)
-        × TestLine (tree_of filterset.now.parsed) (binary_row binary.now) (test_row test.now) line
+        × TestLine (known_packages setting.now) (tree_of filterset.now.parsed) (binary_row binary.now)
+        (test_row test.now) line
         × (string_bytes lines.new ≡ string_bytes lines.old ++ line)) }
 {
-    let holds = holds_test(alloc, cx, filterset, binary, test)?;
+    let holds = holds_test(alloc, setting, filterset, binary, test)?;
     let id = binary.id.as_str();
     let name = test.name.as_str();
     let answer = if holds { "yes" } else { "no" };

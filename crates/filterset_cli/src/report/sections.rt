@@ -2,16 +2,17 @@
 ghost use Rattle.std.specs.Prelude.{◌≡◌, ◌++◌, IfOk, OnOk, length, map, string_bytes};
 ghost use Rattle.std.specs.List.{flat_map};
 ghost use Rattle.filterset_language.specs.Tree.{tree_of};
-ghost use Rattle.nextest_filtering.specs.Contexts.{default_of};
+ghost use Rattle.nextest_filtering.specs.Expression.{has_leaf, is_group};
+ghost use Rattle.nextest_filtering.specs.Meaning.{has_tree_leaf, is_group_predicate, IsCompiled};
 ghost use Rattle.filterset_cli.specs.Shape.{Text};
 ghost use Rattle.filterset_cli.specs.Rows.{binary_row};
-ghost use Rattle.filterset_cli.specs.Library.{IsAskable, IsPlain, every_test};
-ghost use Rattle.filterset_cli.specs.Report.{BinaryLines, Pieces, Section, Sections, accepted_line, fault_lines, refused_line};
+ghost use Rattle.filterset_cli.specs.Library.{IsAskable, IsPlain, known_packages};
+ghost use Rattle.filterset_cli.specs.Report.{AnswerLines, BinaryLines, Pieces, Section, Sections, accepted_line, fault_lines, refused_line};
 
 use crate::record::BinaryEntry;
 use crate::report::lines::{push_fault, push_test};
 use crate::report::setting::Setting;
-use nextest_filtering::{EvalContext, Filterset, FiltersetKind, ParseRefusal, ParseSingleError};
+use nextest_filtering::{Filterset, FiltersetKind, ParseRefusal, ParseSingleError};
 use std::alloc::{AllocError, Global};
 use std::fmt::Write;
 
@@ -19,22 +20,43 @@ use std::fmt::Write;
 fn push_binary(
     lines: &mut String,
     alloc: Global,
-    cx: &EvalContext<'_>,
+    setting: &Setting<'_>,
     filterset: &Filterset,
     binary: &BinaryEntry,
 ) -> Result<(), AllocError>
-    requires askable { IsAskable filterset.now }
-    requires holds_all { default_of cx.now ≡ every_test }
-    ensures { OnOk result ((text : Text) × BinaryLines (tree_of filterset.now.parsed) (binary_row binary.now) text
+    requires plain { IsPlain setting.now }
+    requires askable { IsAskable (known_packages setting.now) filterset.now }
+    ensures { OnOk result ((text : Text)
+        × BinaryLines (known_packages setting.now) (tree_of filterset.now.parsed) (binary_row binary.now) text
         × (string_bytes lines.new ≡ string_bytes lines.old ++ text)) }
 {
     for test in &binary.tests {
-        push_test(lines, alloc, cx, filterset, binary, test)?;
+        push_test(lines, alloc, setting, filterset, binary, test)?;
     }
     Ok(())
 }
 
-/// Adds what is said of an accepted filterset.
+/// Adds the lines of the binaries.
+fn push_binaries(
+    lines: &mut String,
+    alloc: Global,
+    setting: &Setting<'_>,
+    filterset: &Filterset,
+) -> Result<(), AllocError>
+    requires plain { IsPlain setting.now }
+    requires askable { IsAskable (known_packages setting.now) filterset.now }
+    ensures { OnOk result ((text : Text)
+        × Pieces (BinaryLines (known_packages setting.now) (tree_of filterset.now.parsed))
+        (map binary_row setting.now.binaries.now) text
+        × (string_bytes lines.new ≡ string_bytes lines.old ++ text)) }
+{
+    for binary in setting.binaries {
+        push_binary(lines, alloc, setting, filterset, binary)?;
+    }
+    Ok(())
+}
+
+/// Adds what is said of an accepted filterset. Of one with a `group` predicate nothing is said of the tests.
 fn push_accepted(
     lines: &mut String,
     alloc: Global,
@@ -43,18 +65,21 @@ fn push_accepted(
     filterset: &Filterset,
 ) -> Result<(), AllocError>
     requires plain { IsPlain setting.now }
-    requires askable { IsAskable filterset.now }
+    requires compiled { IsCompiled (known_packages setting.now) (tree_of filterset.now.parsed) filterset.now.compiled }
+    requires groups { has_leaf is_group filterset.now.compiled
+        ≡ has_tree_leaf is_group_predicate (tree_of filterset.now.parsed) }
     ensures { OnOk result ((text : Text)
-        × Pieces (BinaryLines (tree_of filterset.now.parsed)) (map binary_row setting.now.binaries.now) text
+        × AnswerLines (known_packages setting.now) (tree_of filterset.now.parsed)
+        (map binary_row setting.now.binaries.now) text
         × (string_bytes lines.new
         ≡ string_bytes lines.old ++ (accepted_line index (tree_of filterset.now.parsed) ++ text))) }
 {
     let printed = &filterset.parsed;
     writeln!(lines, "filterset {index} accepted: {printed}")?;
-    for binary in setting.binaries {
-        push_binary(lines, alloc, &setting.eval_context, filterset, binary)?;
+    if filterset.compiled.has_group_matchers() {
+        return Ok(());
     }
-    Ok(())
+    push_binaries(lines, alloc, setting, filterset)
 }
 
 /// Adds what is said of a refused filterset.
@@ -84,7 +109,8 @@ fn push_section(
 ) -> Result<bool, AllocError>
     requires { IsPlain setting.now }
     ensures { IfOk result (λ accepted. (section : Text)
-        × Section (map binary_row setting.now.binaries.now) index (string_bytes text) accepted section
+        × Section (known_packages setting.now) (map binary_row setting.now.binaries.now) index (string_bytes text)
+        accepted section
         × (string_bytes lines.new ≡ string_bytes lines.old ++ section)) }
 {
     let known_groups = &setting.known_groups;
@@ -116,7 +142,8 @@ pub fn push_sections(
 ) -> Result<bool, AllocError>
     requires { IsPlain setting.now }
     ensures { IfOk result (λ all. (text : Text)
-        × Sections (map binary_row setting.now.binaries.now) 0 (map (λ t. string_bytes t) filtersets.items) all text
+        × Sections (known_packages setting.now) (map binary_row setting.now.binaries.now) 0
+        (map (λ t. string_bytes t) filtersets.items) all text
         × (string_bytes lines.new ≡ string_bytes lines.old ++ text)) }
 {
     let mut all_accepted = true;

@@ -1,13 +1,9 @@
 //! What the filtersets of a record are read and asked with.
-ghost use Rattle.std.specs.Prelude.{◌≡◌, IfOk, []};
 ghost use Rattle.filterset_cli.specs.Rows.{binary_row, test_row};
 ghost use Rattle.filterset_cli.specs.Library.{IsAbout};
 
 use crate::record::{BinaryEntry, TestEntry};
-use nextest_filtering::{
-    BinaryQuery, EvalContext, GraphRefusal, KnownGroups, PackageGraph, ParseContext, TestQuery,
-};
-use std::alloc::{AllocError, Global};
+use nextest_filtering::{BinaryQuery, EvalContext, KnownGroups, ParseContext, TestQuery};
 
 /// What the filtersets of a record are read and asked with.
 #[derive(Debug, Drop)]
@@ -16,17 +12,6 @@ pub struct Setting<'a> {
     pub known_groups: KnownGroups,
     pub eval_context: EvalContext<'a>,
     pub binaries: &'a [BinaryEntry],
-}
-
-/// The graph without packages.
-pub fn empty_graph(alloc: Global) -> Result<PackageGraph, AllocError>
-    ensures { IfOk result (λ graph. graph ≡ []) }
-{
-    match PackageGraph::new(alloc, Vec::new(alloc)) {
-        Ok(graph) => Ok(graph),
-        Err(GraphRefusal::OutOfMemory(refused)) => Err(refused),
-        Err(_) => unreachable!(),
-    }
 }
 
 /// The question about a test of a binary.

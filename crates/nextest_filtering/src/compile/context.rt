@@ -1,24 +1,48 @@
 //! What filtersets are read against.
-ghost use Rattle.std.specs.Prelude.{◌≡◌, IfOk};
+ghost use Rattle.std.specs.Prelude.{◌≡◌, ◌++◌, IfOk, OnOk, map};
+ghost use Rattle.std.specs.List.{flat_map};
+ghost use Rattle.nextest_filtering.specs.Binaries.{binaries_of, binary_row, binary_with, members_of, test_binaries};
 
-use filterset_graph::PackageGraph;
+use filterset_graph::{
+    BuildTarget, PackageGraph, PackageMetadata, RustBinaryId, RustTestBinaryKind,
+};
 use std::alloc::{AllocError, Global};
 use std::collections::HashSet;
 
-/// The packages that a filterset may name.
+/// A test binary of the workspace.
+#[derive(Debug, Drop)]
+pub(super) struct TestBinary<'g> {
+    pub name: &'g str,
+    pub id: RustBinaryId,
+}
+
+/// The packages that a filterset may name, and the test binaries of those of them that belong to the workspace.
 #[derive(Debug, Drop)]
 pub struct ParseContext<'g> {
     graph: &'g PackageGraph,
+    /// The packages of the workspace.
+    members: Vec<&'g PackageMetadata>,
+    /// Their test binaries.
+    binaries: Vec<TestBinary<'g>>,
+    ghost members_are: { map (λ p. p.now) members.items ≡ members_of graph.now },
+    ghost binaries_are: { map binary_row binaries.items ≡ test_binaries graph.now },
 }
 
 impl<'g> ParseContext<'g> {
     ghost use Rattle.nextest_filtering.specs.Compiling.{packages_of};
 
-    /// The context over these packages. It is an error only for want of memory.
-    pub fn new(_alloc: Global, graph: &'g PackageGraph) -> Result<ParseContext<'g>, AllocError>
+    /// The context over these packages. It lists the packages of the workspace and the names and ids of their test
+    /// binaries, once for all filtersets. It is an error only for want of memory.
+    pub fn new(alloc: Global, graph: &'g PackageGraph) -> Result<ParseContext<'g>, AllocError>
         ensures { IfOk result (λ cx. packages_of cx ≡ graph.now) }
     {
-        Ok(ParseContext { graph })
+        let members = members(alloc, graph.packages())?;
+        let binaries = test_binaries(alloc, &members)?;
+        Ok(ParseContext {
+            graph,
+            members,
+            binaries,
+        })
     }
 
     /// The packages.
@@ -27,6 +51,79 @@ impl<'g> ParseContext<'g> {
     {
         self.graph
     }
+
+    /// The packages of the workspace, in their order.
+    pub(super) fn members(&self) -> &[&'g PackageMetadata]
+        ensures { map (λ p. p.now) result.now ≡ members_of (packages_of self.now) }
+    {
+        &self.members
+    }
+
+    /// The test binaries of the workspace.
+    pub(super) fn binaries(&self) -> &[TestBinary<'g>]
+        ensures { map binary_row result.now ≡ test_binaries (packages_of self.now) }
+    {
+        &self.binaries
+    }
+}
+
+/// The packages of the workspace, in their order.
+fn members(alloc: Global, packages: &[PackageMetadata]) -> Result<Vec<&PackageMetadata>, AllocError>
+    ensures { IfOk result (λ members. map (λ p. p.now) members.items ≡ members_of packages.now) }
+{
+    let mut members = Vec::new(alloc);
+    for package in packages {
+        if package.in_workspace {
+            members.push(package)?;
+        }
+    }
+    Ok(members)
+}
+
+/// The test binaries of these packages, in their order.
+fn test_binaries<'g>(
+    alloc: Global,
+    packages: &[&'g PackageMetadata],
+) -> Result<Vec<TestBinary<'g>>, AllocError>
+    ensures { IfOk result (λ binaries.
+        map binary_row binaries.items ≡ flat_map binaries_of (map (λ p. p.now) packages.now)) }
+{
+    let mut binaries = Vec::new(alloc);
+    for package in packages {
+        push_binaries(alloc, package, &mut binaries)?;
+    }
+    Ok(binaries)
+}
+
+/// Adds the test binaries of a package.
+fn push_binaries<'g>(
+    alloc: Global,
+    owner: &'g PackageMetadata,
+    binaries: &mut Vec<TestBinary<'g>>,
+) -> Result<(), AllocError>
+    ensures { OnOk result
+        (map binary_row binaries.new.items ≡ map binary_row binaries.old.items ++ binaries_of owner.now) }
+{
+    for target in &owner.build_targets {
+        if let Some(kind) = target.id.binary_kind() {
+            binaries.push(test_binary(alloc, owner, target, kind)?)?;
+        }
+    }
+    Ok(())
+}
+
+/// The test binary of this kind that is made of a target of a package.
+fn test_binary<'g>(
+    alloc: Global,
+    owner: &PackageMetadata,
+    target: &'g BuildTarget,
+    kind: RustTestBinaryKind,
+) -> Result<TestBinary<'g>, AllocError>
+    ensures { IfOk result (λ binary. binary_row binary ≡ binary_with owner.now target.now kind) }
+{
+    let name = target.name.as_str();
+    let id = RustBinaryId::from_parts(alloc, owner.name(), &kind, name)?;
+    Ok(TestBinary { name, id })
 }
 
 /// What is known of the groups of tests where a filterset is read.
@@ -34,6 +131,6 @@ impl<'g> ParseContext<'g> {
 pub enum KnownGroups {
     /// These groups, and `@global`, which need not be named.
     Known { custom_groups: HashSet<String> },
-    /// The groups are not known. Today no filterset may be read so.
+    /// The groups are not known. No filterset of kind `Test` may be read so; those of all other kinds hold no `group`.
     Unavailable,
 }

@@ -18,8 +18,8 @@ impl<'a> EvalContext<'a> {
 
     /// The context with this default filter.
     ///
-    /// [`CompiledExpr::has_default_leaf`] and [`CompiledExpr::has_group_matchers`] test the two conditions. Today the
-    /// compiled expression of every filterset meets both.
+    /// [`CompiledExpr::has_default_leaf`] and [`CompiledExpr::has_group_matchers`] test the two conditions. The compiled
+    /// expression of a filterset of kind `DefaultFilter` meets both.
     pub fn new(default_filter: &'a CompiledExpr) -> EvalContext<'a>
         requires no_default { has_leaf is_default default_filter.now ≡ false }
         requires no_group { has_leaf is_group default_filter.now ≡ false }

@@ -1,34 +1,26 @@
-use Rattle.std.proofs.Common.{List}
-use Rattle.std.proofs.lemmas.Result.{IfOk-weaker}
-use Rattle.filterset_graph.specs.declared.package.PackageMetadata.{PackageMetadata}
-use Rattle.nextest_filtering.specs.Meaning.{IsCompiled}
-use Rattle.filterset_language.specs.Tree.{tree_of, Not, Union, Join}
-use Rattle.filterset_language.specs.declared.tree.Joiner.TheVariants.{Both, Without}
+use Rattle.filterset_language.specs.Tree.{tree_of, tree_leaves}
+use Rattle.nextest_filtering.specs.Compiling.{packages_of}
+use Rattle.nextest_filtering.proofs.Refusals.{where_it_returns}
+use Rattle.nextest_filtering.proofs.Unmatched.{added_twice}
 use Rattle.nextest_filtering.proofs.compile.+compile_expr.Goals as goal
 
-pub returns-in_ok-compile_expr-in-Not : goal.returns-in_ok-compile_expr-in-Not
-returns-in_ok-compile_expr-in-Not t c =
-    let tree = Not c.in-Not.field-0 (tree_of c.deref.result.now) in
-    rw (c.in-Not.is, ← c.deref.ensures) (IfOk-weaker c.negation.result _ (λ made. (packages : List PackageMetadata) → IsCompiled packages tree made)
-    (λ made e packages. rw e (c.in_ok-compile_expr-in-Not.ensures packages)) c.negation.ensures)
+pub returns-in_ok-compile_expr-in-Union-clause-unmatched : goal.returns-in_ok-compile_expr-in-Union-clause-unmatched
+returns-in_ok-compile_expr-in-Union-clause-unmatched t c =
+    let left = tree_leaves (tree_of c.deref-in-Union.result.now) in
+    let right = tree_leaves (tree_of c.deref-in-Union-2.result.now) in
+    rw (c.in-Union.is, ← c.deref-in-Union.ensures, ← c.deref-in-Union-2.ensures) (where_it_returns c.disjunction.result
+    (added_twice (packages_of c.args.cx.now) c.args.known_groups.now left right c.args.faults.now.items _ c.compile_expr-in-Union-2.new.faults.items c.in_ok-left-in-Union.ensures.unmatched c.in_ok-compile_expr-in-Union.ensures.unmatched))
 
-pub returns-in_ok-compile_expr-in-Union : goal.returns-in_ok-compile_expr-in-Union
-returns-in_ok-compile_expr-in-Union t c =
-    let tree = Union c.in-Union.field-0 (tree_of c.deref-in-Union.result.now) (tree_of c.deref-in-Union-2.result.now) in
-    rw (c.in-Union.is, ← c.deref-in-Union.ensures, ← c.deref-in-Union-2.ensures) (IfOk-weaker c.disjunction.result _ (λ made. (packages : List PackageMetadata) → IsCompiled packages tree made)
-    (λ made e packages. rw e (c.in_ok-left-in-Union.ensures packages, c.in_ok-compile_expr-in-Union.ensures packages)) c.disjunction.ensures)
+pub returns-in_ok-compile_expr-in-Intersection-clause-unmatched : goal.returns-in_ok-compile_expr-in-Intersection-clause-unmatched
+returns-in_ok-compile_expr-in-Intersection-clause-unmatched t c =
+    let left = tree_leaves (tree_of c.deref-in-Intersection.result.now) in
+    let right = tree_leaves (tree_of c.deref-in-Intersection-2.result.now) in
+    rw (c.in-Intersection.is, ← c.deref-in-Intersection.ensures, ← c.deref-in-Intersection-2.ensures) (where_it_returns c.conjunction.result
+    (added_twice (packages_of c.args.cx.now) c.args.known_groups.now left right c.args.faults.now.items _ c.compile_expr-in-Intersection-2.new.faults.items c.in_ok-left-in-Intersection.ensures.unmatched c.in_ok-compile_expr-in-Intersection.ensures.unmatched))
 
-pub returns-in_ok-compile_expr-in-Intersection : goal.returns-in_ok-compile_expr-in-Intersection
-returns-in_ok-compile_expr-in-Intersection t c =
-    let tree = Join (Both c.in-Intersection.field-0) (tree_of c.deref-in-Intersection.result.now) (tree_of c.deref-in-Intersection-2.result.now) in
-    rw (c.in-Intersection.is, ← c.deref-in-Intersection.ensures, ← c.deref-in-Intersection-2.ensures) (IfOk-weaker c.conjunction.result _ (λ made. (packages : List PackageMetadata) → IsCompiled packages tree made)
-    (λ made e packages. rw e (c.in_ok-left-in-Intersection.ensures packages, c.in_ok-compile_expr-in-Intersection.ensures packages)) c.conjunction.ensures)
-
-pub returns-in_ok-compile_expr-in-Difference : goal.returns-in_ok-compile_expr-in-Difference
-returns-in_ok-compile_expr-in-Difference t c =
-    let tree = Join (Without c.in-Difference.field-0) (tree_of c.deref-in-Difference.result.now) (tree_of c.deref-in-Difference-2.result.now) in
-    rw (c.in-Difference.is, ← c.deref-in-Difference.ensures, ← c.deref-in-Difference-2.ensures) (IfOk-weaker c.difference.result _ (λ made. (packages : List PackageMetadata) → IsCompiled packages tree made)
-    (λ made e packages. rw e (c.in_ok-left-in-Difference.ensures packages, c.in_ok-compile_expr-in-Difference.ensures packages)) c.difference.ensures)
-
-pub returns-in-Parens : goal.returns-in-Parens
-returns-in-Parens t c = rw (c.in-Parens.is, ← c.deref-in-Parens.ensures) c.compile_expr-in-Parens.ensures
+pub returns-in_ok-compile_expr-in-Difference-clause-unmatched : goal.returns-in_ok-compile_expr-in-Difference-clause-unmatched
+returns-in_ok-compile_expr-in-Difference-clause-unmatched t c =
+    let left = tree_leaves (tree_of c.deref-in-Difference.result.now) in
+    let right = tree_leaves (tree_of c.deref-in-Difference-2.result.now) in
+    rw (c.in-Difference.is, ← c.deref-in-Difference.ensures, ← c.deref-in-Difference-2.ensures) (where_it_returns c.difference.result
+    (added_twice (packages_of c.args.cx.now) c.args.known_groups.now left right c.args.faults.now.items _ c.compile_expr-in-Difference-2.new.faults.items c.in_ok-left-in-Difference.ensures.unmatched c.in_ok-compile_expr-in-Difference.ensures.unmatched))

@@ -1,20 +1,15 @@
-use Rattle.std.proofs.Common.{rules, arith, ◌≡◌, ◌<◌, ◌++◌, length, get_or}
+use Rattle.std.proofs.Common.{rules, ◌≡◌, false, string_bytes, ◌++◌}
+use Rattle.std.proofs.lemmas.Result.{on_ok_weaker}
 use Rattle.filterset_language.specs.Tree.{tree_of}
-use Rattle.filterset_cli.specs.Report.{BinaryLines}
-use Rattle.filterset_cli.specs.Rows.{binary_row}
-use Rattle.filterset_cli.proofs.ReportLemmas.{Pieces-more, added_twice}
+use Rattle.nextest_filtering.specs.Meaning.{has_tree_leaf, is_group_predicate}
+use Rattle.filterset_cli.specs.Report.{accepted_line}
+use Rattle.filterset_cli.proofs.ReportLemmas.{AnswerLines-ungrouped, added_twice}
 use Rattle.filterset_cli.proofs.report.sections.push_accepted.Goals as goal
 
-pub loop-binary-preserved : goal.loop-binary-preserved
-loop-binary-preserved c =
-    let before = c.loop-binary.invariant in
-    let piece = c.in_ok-push_binary.ensures in
-    let binaries = c.args.setting.now.binaries.now in
-    let i = c.loop-binary.binary-index in
-    let binary = c.binary-item.result in
-    let lt : i < length binaries = omega (arith, c.loop-binary-test.true) in
-    let at : get_or binaries i binary ≡ binary = search (rules, c.binary-item.is) in (
-      before.0 ++ piece.0,
-      Pieces-more (BinaryLines (tree_of c.args.filterset.now.parsed)) binary_row binaries i binary _ _ lt at before.1 piece.1,
-      added_twice _ _ _ _ _ before.2 piece.2,
-    )
+pub returns : goal.returns
+returns c =
+    let tree = tree_of c.args.filterset.now.parsed in
+    let ungrouped : has_tree_leaf is_group_predicate tree ≡ false = cc in
+    let line : string_bytes c.writeln.new.self ≡ string_bytes c.args.lines.now ++ accepted_line c.args.index tree = search rules in
+    on_ok_weaker c.push_binaries.result (λ (text, pieces, more).
+    (text, AnswerLines-ungrouped _ tree _ text ungrouped pieces, added_twice _ _ _ _ text line more)) c.push_binaries.ensures

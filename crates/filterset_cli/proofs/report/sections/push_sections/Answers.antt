@@ -2,6 +2,7 @@ use Rattle.std.proofs.Common.{◌≡◌, ℕ, ◌+◌, Global, String, zero-add,
 use Rattle.std.proofs.lemmas.Iterator.Adapters.{YieldsList-from_vec}
 use Rattle.std.proofs.lemmas.Iterator.Consumers.{YieldsList-end, YieldsList-from_enumerate, YieldsList-turn}
 use Rattle.std.proofs.lemmas.List.{length-map, map-append}
+use Rattle.filterset_cli.specs.Library.{known_packages}
 use Rattle.filterset_cli.specs.Rows.{binary_row}
 use Rattle.filterset_cli.proofs.ReportLemmas.{Sections-push, added_twice, map-pairs, number_is_place}
 use Rattle.filterset_cli.proofs.report.sections.push_sections.Goals as goal
@@ -26,5 +27,5 @@ loop-index-preserved c =
     let texts = map text_of c.loop-index.yielded in
     let place : c.in-Some.index ≡ length c.loop-index.yielded = number_is_place items (length c.loop-index.yielded) item turn.0 turn.1 in
     let index : c.in-Some.index ≡ 0 + length texts = place ∙ sym (length-map c.loop-index.yielded text_of) ∙ sym (zero-add (length texts)) in
-    let pushed = Sections-push (map binary_row c.args.setting.now.binaries.now) 0 texts (string_bytes c.in-Some.text) _ _ _ _ before.1 (rw index at section.1) in
+    let pushed = Sections-push (known_packages c.args.setting.now) (map binary_row c.args.setting.now.binaries.now) 0 texts (string_bytes c.in-Some.text) _ _ _ _ before.1 (rw index at section.1) in
     (before.0 ++ section.0, (rw (map-append text_of c.loop-index.yielded (item ∷ [])) pushed), added_twice _ _ _ _ _ before.2 section.2)

@@ -1,0 +1,9 @@
+use Rattle.std.proofs.Common.{◌↔◌, ℕ, Contains, List}
+use Rattle.nextest_filtering.specs.PackageMarks.{IsMarkedMemberAt}
+use Rattle.nextest_filtering.proofs.PackageSets.{IsGivenBefore}
+use Rattle.nextest_filtering.proofs.compile.packages.marked_members.Given as goal
+
+-- the ids are those of such packages so far
+abbrev pub invariant-loop-place : goal.invariant-loop-place
+invariant-loop-place l =
+    (id : List ℕ) → Contains l.ids.keys id ↔ IsGivenBefore (IsMarkedMemberAt l.packages l.marks) l.place id

@@ -1,0 +1,61 @@
+-- Which predicates hit something of the workspace or of the known groups, and the faults of those that do not.
+use Rattle.std.specs.Prelude.{◌≡◌, ◌⊎◌, ◌++◌, ℕ, List, [], ◌∷◌, All}
+use Rattle.filterset_faults.specs.declared.error.ParseSingleError.{ParseSingleError}
+use Rattle.filterset_faults.specs.declared.error.ParseSingleError.TheVariants.{NoPackageMatch, NoBinaryNameMatch, NoBinaryIdMatch, NoGroupMatch}
+use Rattle.filterset_faults.specs.declared.span.SourceSpan.{SourceSpan}
+use Rattle.filterset_graph.specs.Binaries.{IsBinaryName, IsBinaryId}
+use Rattle.filterset_graph.specs.declared.package.PackageMetadata.{PackageMetadata}
+use Rattle.filterset_matchers.specs.Matcher.{Matcher, Hits}
+use Rattle.filterset_language.specs.Tree.{Leaf, Tree, Matching, tree_leaves}
+use Rattle.filterset_language.specs.declared.tree.predicate.Predicate.TheVariants.{Package, Deps, Rdeps, Binary, BinaryId, Group}
+use Rattle.nextest_filtering.specs.Groups.{IsGroupName}
+use Rattle.nextest_filtering.specs.Meaning.{IsNamed}
+use Rattle.nextest_filtering.specs.declared.compile.context.KnownGroups.{KnownGroups}
+
+-- the matcher hits one of these texts
+abbrev pub HitsSome : Matcher → (List ℕ → Type 0) → Type 0
+HitsSome matcher IsOne = (text : List ℕ) × IsOne text × Hits matcher text
+
+-- the predicate hits something: one of packages the name of a package of the workspace, `binary` the name of a test
+-- binary, `binary_id` the id of one, and `group` the name of a known group; all others need hit nothing
+abbrev pub IsChecked : List PackageMetadata → KnownGroups → Leaf SourceSpan → Type 0
+IsChecked packages groups (Matching Package matcher span) = (p : PackageMetadata) × IsNamed packages matcher p
+IsChecked packages groups (Matching Deps matcher span) = (p : PackageMetadata) × IsNamed packages matcher p
+IsChecked packages groups (Matching Rdeps matcher span) = (p : PackageMetadata) × IsNamed packages matcher p
+IsChecked packages groups (Matching Binary matcher span) = HitsSome matcher (IsBinaryName packages)
+IsChecked packages groups (Matching BinaryId matcher span) = HitsSome matcher (IsBinaryId packages)
+IsChecked packages groups (Matching Group matcher span) = HitsSome matcher (IsGroupName groups)
+IsChecked packages groups _ = Unit {0}
+
+-- each predicate of the tree hits something
+abbrev pub AllChecked : List PackageMetadata → KnownGroups → Tree SourceSpan → Type 0
+AllChecked packages groups e = All (IsChecked packages groups) (tree_leaves e)
+
+-- the fault says that the predicate hits nothing
+abbrev pub SaysUnmatched : Leaf SourceSpan → ParseSingleError → Type 0
+SaysUnmatched (Matching Package matcher span) fault = fault ≡ NoPackageMatch span
+SaysUnmatched (Matching Deps matcher span) fault = fault ≡ NoPackageMatch span
+SaysUnmatched (Matching Rdeps matcher span) fault = fault ≡ NoPackageMatch span
+SaysUnmatched (Matching Binary matcher span) fault = fault ≡ NoBinaryNameMatch span
+SaysUnmatched (Matching BinaryId matcher span) fault = fault ≡ NoBinaryIdMatch span
+SaysUnmatched (Matching Group matcher span) fault = fault ≡ NoGroupMatch span
+SaysUnmatched _ fault = ⊥
+
+-- these are the faults of these predicates, one for each that hits nothing, in their order
+abbrev pub AreUnmatched :
+    List PackageMetadata → KnownGroups → List (Leaf SourceSpan) → List ParseSingleError → Type 0
+AreUnmatched packages groups [] faults = faults ≡ []
+AreUnmatched packages groups (leaf ∷ leaves) faults =
+    (IsChecked packages groups leaf × AreUnmatched packages groups leaves faults)
+    ⊎ ((fault : ParseSingleError) × (others : List ParseSingleError) × (¬ IsChecked packages groups leaf)
+    × (faults ≡ fault ∷ others) × SaysUnmatched leaf fault × AreUnmatched packages groups leaves others)
+
+-- the faults of these predicates were added
+abbrev pub AddsUnmatched :
+    List PackageMetadata → KnownGroups → List (Leaf SourceSpan) → List ParseSingleError → List ParseSingleError → Type 0
+AddsUnmatched packages groups leaves old new =
+    (added : List ParseSingleError) × (new ≡ old ++ added) × AreUnmatched packages groups leaves added
+
+-- the fault was added, unless something holds that keeps it away
+abbrev pub AddsUnless : Type 0 → ParseSingleError → List ParseSingleError → List ParseSingleError → Type 0
+AddsUnless Holds fault old new = (Holds × (new ≡ old)) ⊎ (¬ Holds × (new ≡ old ++ fault ∷ []))

@@ -1,0 +1,68 @@
+//! Predicates that a filterset of some kind may not hold.
+ghost use Rattle.std.specs.Prelude.{◌≡◌, map, IfOk};
+ghost use Rattle.std.specs.List.{filter, filter_map};
+ghost use Rattle.nextest_filtering.specs.Bans.{ban, banned, is_banned};
+ghost use Rattle.filterset_language.specs.Tree.{leaf_of, tree_of, tree_leaves};
+
+use filterset_faults::{BannedPredicateReason, FiltersetKind, ParseSingleError, SourceSpan};
+use filterset_language::{ParsedExpr, ParsedLeaf};
+use std::alloc::{AllocError, Global};
+
+/// The predicates that a filterset of this kind may not hold, from left to right.
+pub(super) fn banned_leaves(
+    alloc: Global,
+    kind: FiltersetKind,
+    expr: &ParsedExpr,
+) -> Result<Vec<&ParsedLeaf>, AllocError>
+    ensures { IfOk result (λ found.
+        map (λ leaf. leaf_of leaf.now) found.items ≡ filter (is_banned kind) (tree_leaves (tree_of expr.now))) }
+{
+    expr.leaves_where(alloc, |leaf| banned(kind, leaf).is_some())
+}
+
+/// The faults of such predicates, in their order.
+#[cold]
+#[inline(never)]
+pub(super) fn bans(
+    alloc: Global,
+    kind: FiltersetKind,
+    leaves: &[&ParsedLeaf],
+) -> Result<Vec<ParseSingleError>, AllocError>
+    ensures { IfOk result (λ faults.
+        faults.items ≡ filter_map (ban kind) (map (λ leaf. leaf_of leaf.now) leaves.now)) }
+{
+    let mut faults = Vec::with_capacity(alloc, leaves.len())?;
+    for leaf in leaves {
+        if let Some((span, reason)) = banned(kind, leaf) {
+            faults.push(ParseSingleError::BannedPredicate { span, kind, reason })?;
+        }
+    }
+    Ok(faults)
+}
+
+/// The span of a predicate that a filterset of this kind may not hold, and why it may not.
+fn banned(kind: FiltersetKind, leaf: &ParsedLeaf) -> Option<(SourceSpan, BannedPredicateReason)>
+    ensures { result ≡ banned kind (leaf_of leaf.now) }
+{
+    match (kind, leaf) {
+        (FiltersetKind::OverrideFilter, ParsedLeaf::Group(_, span)) => {
+            Some((*span, BannedPredicateReason::GroupCircularDependency))
+        }
+        (FiltersetKind::TestArchive, ParsedLeaf::Test(_, span)) => {
+            Some((*span, BannedPredicateReason::TestNotAvailableInArchive))
+        }
+        (FiltersetKind::TestArchive, ParsedLeaf::Group(_, span)) => {
+            Some((*span, BannedPredicateReason::GroupNotAvailableInArchive))
+        }
+        (FiltersetKind::DefaultFilter, ParsedLeaf::Default(span)) => {
+            Some((*span, BannedPredicateReason::DefaultInfiniteRecursion))
+        }
+        (FiltersetKind::DefaultFilter, ParsedLeaf::Group(_, span)) => {
+            Some((
+                *span,
+                BannedPredicateReason::GroupNotAvailableInDefaultFilter,
+            ))
+        }
+        _ => None,
+    }
+}
