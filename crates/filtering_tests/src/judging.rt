@@ -34,5 +34,5 @@ pub fn filtersets_agree(one: &Filterset, other: &Filterset) -> bool
 pub fn questions_agree(one: &TestQuery<'_>, other: &TestQuery<'_>) -> bool
     ensures { result ≡ same_test_query one.now other.now }
 {
-    one == other
+    *one == *other
 }
