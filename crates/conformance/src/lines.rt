@@ -55,7 +55,7 @@ impl Lines {
         let place = self.place;
         writeln!(
             self.text,
-            "row {place}: {what} of the {kind} {subject}: {found}"
+            "at {place}: {what} of the {kind} {subject}: {found}"
         )
     }
 

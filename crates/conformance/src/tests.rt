@@ -74,74 +74,74 @@ const WRONG: &str = r#"{
 ]}
 ]}"#;
 
-const REPORT_OF_WRONG: &str = "row 1: faults of the text and: ExprFoundBinaryOp (0, 3)
-row 1: faults of the text and: ExprFoundBinaryOp (0, 3)
-row 2: faults of the text and: ExprFoundBinaryOp (0, 3)
-row 2: faults of the text and: ExprFoundBinaryOp (0, 3)
-row 3: faults of the text and: ExprFoundBinaryOp (0, 3)
-row 3: faults of the text and: ExprFoundBinaryOp (0, 3)
-row 4: faults of the text and: ExprFoundBinaryOp (0, 3)
-row 4: faults of the text and: ExprFoundBinaryOp (0, 3)
-row 5: faults of the text and: ExprFoundBinaryOp (0, 3)
-row 5: faults of the text and: ExprFoundBinaryOp (0, 3)
-row 6: tree of the text all(): all
-row 6: tree of the text all(): all
-row 7: tree of the text all(): all
-row 7: tree of the text all(): all
-row 8: tree of the text and: no tree
-row 8: tree of the text and: no tree
-row 9: print of the text all(): all()
-row 9: print of the text all(): all()
-row 10: print of the text and: no tree
-row 10: print of the text and: no tree
-row 11: message of the text : expected expression
+const REPORT_OF_WRONG: &str = "at 1: faults of the text and: ExprFoundBinaryOp (0, 3)
+at 1: faults of the text and: ExprFoundBinaryOp (0, 3)
+at 2: faults of the text and: ExprFoundBinaryOp (0, 3)
+at 2: faults of the text and: ExprFoundBinaryOp (0, 3)
+at 3: faults of the text and: ExprFoundBinaryOp (0, 3)
+at 3: faults of the text and: ExprFoundBinaryOp (0, 3)
+at 4: faults of the text and: ExprFoundBinaryOp (0, 3)
+at 4: faults of the text and: ExprFoundBinaryOp (0, 3)
+at 5: faults of the text and: ExprFoundBinaryOp (0, 3)
+at 5: faults of the text and: ExprFoundBinaryOp (0, 3)
+at 6: tree of the text all(): all
+at 6: tree of the text all(): all
+at 7: tree of the text all(): all
+at 7: tree of the text all(): all
+at 8: tree of the text and: no tree
+at 8: tree of the text and: no tree
+at 9: print of the text all(): all()
+at 9: print of the text all(): all()
+at 10: print of the text and: no tree
+at 10: print of the text and: no tree
+at 11: message of the text : expected expression
 missing expression
-row 12: message of the text : expected expression
+at 12: message of the text : expected expression
 missing expression
-row 13: count of faults of the text : another count
-row 14: predicate of the text test(a): test(a)
-row 15: predicates of the text test(a): another count
-row 15: predicate by itself of the text test(a): otherwise
-row 16: predicates of the text and: no tree
-row 17: tokens of the glob a?: [Literal(a), AnyChar]
-row 18: match of the glob a?: a
-row 19: miss of the glob a?: ab
-row 20: match of the glob a: abb
-row 21: n of the glob : no number
-row 22: fault of the glob a: none
-row 23: fault of the glob a}b: UnopenedAlternates
-row 24: fault of the glob a}b: UnopenedAlternates
-row 25: message of the glob a}b: unopened alternates; missing '{'
-row 26: match of the matcher =a: ab
-row 26: match of the matcher =a: ab
-row 27: miss of the matcher ~a: ab
-row 27: miss of the matcher ~a: ab
-row 28: print of the matcher a: a
-row 28: print of the matcher a: a
-row 29: value of the matcher a: not refused
-row 30: value of the matcher (: refused
-row 31: match of the filterset test(=a): p p::bin/cli ab
-row 32: miss of the filterset test(=a): p p::bin/cli a
-row 33: faults of the filterset all(): none
-row 34: faults of the filterset and: ExprFoundBinaryOp (0, 3)
-row 35: faults of the filterset and: ExprFoundBinaryOp (0, 3)
-row 36: refusal of the graph : none
-row 37: refusal of the graph : Unknown { package: 0, link: 0 }
-row 38: refusal of the graph : Unknown { package: 0, link: 0 }
-row 39: refusal of the graph : Repeated { at: 1 }
-row 40: question of the graph a: Some(true)
-row 41: question of the graph a: None
-row 42: search of the graph reached: others
-row 43: search of the graph reaching: others
-row 44: packages of the workspace : no graph
-row 45: match of the filterset package(a): b p::bin/cli t
-row 46: miss of the filterset binary_id(a): p a t
-row 47: match of the filterset binary(a): p p::bin/cli t
-row 48: match of the filterset kind(bin): p p::bin/cli t
-row 49: match of the filterset platform(host): p p::bin/cli t
-row 50: groups of the filterset group(g): asked of a test without a group
-row 51: faults of the filterset group(h): NoGroupMatch (6, 1)
-row 52: labels of the filterset group(g): [group() is not available in default-filter expressions]
+at 13: count of faults of the text : another count
+at 14: predicate of the text test(a): test(a)
+at 15: predicates of the text test(a): another count
+at 15: predicate by itself of the text test(a): otherwise
+at 16: predicates of the text and: no tree
+at 17: tokens of the glob a?: [Literal(a), AnyChar]
+at 18: match of the glob a?: a
+at 19: miss of the glob a?: ab
+at 20: match of the glob a: abb
+at 21: n of the glob : no number
+at 22: fault of the glob a: none
+at 23: fault of the glob a}b: UnopenedAlternates
+at 24: fault of the glob a}b: UnopenedAlternates
+at 25: message of the glob a}b: unopened alternates; missing '{'
+at 26: match of the matcher =a: ab
+at 26: match of the matcher =a: ab
+at 27: miss of the matcher ~a: ab
+at 27: miss of the matcher ~a: ab
+at 28: print of the matcher a: a
+at 28: print of the matcher a: a
+at 29: value of the matcher a: not refused
+at 30: value of the matcher (: refused
+at 31: match of the filterset test(=a): p p::bin/cli ab
+at 32: miss of the filterset test(=a): p p::bin/cli a
+at 33: faults of the filterset all(): none
+at 34: faults of the filterset and: ExprFoundBinaryOp (0, 3)
+at 35: faults of the filterset and: ExprFoundBinaryOp (0, 3)
+at 36: refusal of the graph : none
+at 37: refusal of the graph : Unknown { package: 0, link: 0 }
+at 38: refusal of the graph : Unknown { package: 0, link: 0 }
+at 39: refusal of the graph : Repeated { at: 1 }
+at 40: question of the graph a: Some(true)
+at 41: question of the graph a: None
+at 42: search of the graph reached: others
+at 43: search of the graph reaching: others
+at 44: packages of the workspace : no graph
+at 45: match of the filterset package(a): b p::bin/cli t
+at 46: miss of the filterset binary_id(a): p a t
+at 47: match of the filterset binary(a): p p::bin/cli t
+at 48: match of the filterset kind(bin): p p::bin/cli t
+at 49: match of the filterset platform(host): p p::bin/cli t
+at 50: groups of the filterset group(g): asked of a test without a group
+at 51: faults of the filterset group(h): NoGroupMatch (6, 1)
+at 52: labels of the filterset group(g): [group() is not available in default-filter expressions]
 52 rows
 ";
 
