@@ -9,12 +9,12 @@ use Rattle.filterset_faults.specs.declared.span.SourceSpan.{SourceSpan}
 use Rattle.filterset_graph.specs.declared.package.PackageMetadata.{PackageMetadata}
 use Rattle.filterset_language.specs.Tree.{Tree, tree_of}
 use Rattle.nextest_filtering.specs.Compiling.{IsFiltersetOf, IsRefusedWith}
-use Rattle.nextest_filtering.specs.Expression.{no_groups}
-use Rattle.nextest_filtering.specs.Meaning.{Meaning, has_tree_leaf, is_group_predicate}
+use Rattle.filterset_expression.specs.Expression.{no_groups}
+use Rattle.filterset_expression.specs.Meaning.{Meaning, has_tree_leaf, is_group_predicate}
 use Rattle.nextest_filtering.specs.declared.compile.context.KnownGroups.{KnownGroups}
 use Rattle.nextest_filtering.specs.declared.compile.context.KnownGroups.TheVariants.{Known, Unavailable}
-use Rattle.nextest_filtering.specs.declared.expression.CompiledExpr.{CompiledExpr}
-use Rattle.nextest_filtering.specs.declared.expression.query.TestQuery.{TestQuery}
+use Rattle.filterset_expression.specs.declared.expression.CompiledExpr.{CompiledExpr}
+use Rattle.filterset_expression.specs.declared.query.TestQuery.{TestQuery}
 use Rattle.calling.specs.Underlining.{LiesWithin}
 use Rattle.calling.specs.declared.selecting.Selection.{Selection}
 use Rattle.calling.specs.declared.selecting.Selection.TheVariants.{Answers, NeedsGroups, Refused}

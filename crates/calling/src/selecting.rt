@@ -4,9 +4,9 @@ ghost use Rattle.std.specs.List.{AllZip};
 ghost use Rattle.filterset_graph.specs.declared.package.PackageMetadata.{PackageMetadata};
 ghost use Rattle.filterset_language.specs.Tree.{tree_of};
 ghost use Rattle.nextest_filtering.specs.Compiling.{packages_of};
-ghost use Rattle.nextest_filtering.specs.Contexts.{default_of};
-ghost use Rattle.nextest_filtering.specs.Expression.{has_leaf, is_group};
-ghost use Rattle.nextest_filtering.specs.Meaning.{IsCompiled};
+ghost use Rattle.filterset_expression.specs.Contexts.{default_of};
+ghost use Rattle.filterset_expression.specs.Expression.{has_leaf, is_group};
+ghost use Rattle.filterset_expression.specs.Meaning.{IsCompiled};
 ghost use Rattle.calling.specs.Selecting.{CanBeUnderlined, IsAnswered, IsLeftToGroups, IsRefused, Tells};
 
 use nextest_filtering::{

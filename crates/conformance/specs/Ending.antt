@@ -1,8 +1,8 @@
 -- How the program ends.
 use Rattle.std.specs.Prelude.{ℕ, Result, Ok, Err}
 use Rattle.records.specs.declared.fault.RunFault.{RunFault}
-use Rattle.conformance.specs.declared.ending.Outcome.{Outcome}
-use Rattle.conformance.specs.declared.ending.Outcome.TheVariants.{AllHold, SomeDiffer, NotASuite}
+use Rattle.suite_verdicts.specs.declared.lines.Outcome.{Outcome}
+use Rattle.suite_verdicts.specs.declared.lines.Outcome.TheVariants.{AllHold, SomeDiffer, NotASuite}
 
 -- the exit status
 abbrev pub status_of : Result Outcome RunFault → ℕ

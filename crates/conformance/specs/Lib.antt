@@ -1,4 +1,2 @@
 pub mod Ending
-pub mod Judging
 pub mod Report
-pub mod Rows

@@ -3,14 +3,7 @@ ghost use Rattle.std.specs.Prelude.{◌≡◌};
 ghost use Rattle.conformance.specs.Ending.{status_of};
 
 use records::RunFault;
-
-/// What a report says of the rows.
-#[derive(Clone, Copy, Debug, PartialEq, Eq)]
-pub enum Outcome {
-    AllHold,
-    SomeDiffer,
-    NotASuite,
-}
+use suite_verdicts::Outcome;
 
 /// The exit status that a run ends with.
 pub fn status(ended: Result<Outcome, RunFault>) -> u8

@@ -3,17 +3,10 @@
 #![tactic(auto)]
 
 mod ending;
-mod entry;
-mod judge;
-mod judging;
-mod lines;
 mod report;
-mod rows;
 mod run;
-mod shapes;
 #[cfg(test)]
 mod tests;
-mod tokens;
 
 use ending::status;
 use records::{FromReader, ToWriter};

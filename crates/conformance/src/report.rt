@@ -2,15 +2,12 @@
 ghost use Rattle.std.specs.Prelude.{◌≡◌, IfOk, string_bytes};
 ghost use Rattle.conformance.specs.Report.{Report};
 
-use crate::ending::Outcome;
-use crate::entry::{Entry, RowRefusal};
-use crate::judge::{
-    judge_filtersets, judge_globs, judge_graphs, judge_matchers, judge_texts, judge_workspaces,
-};
-use crate::lines::Lines;
-use crate::rows::Suite;
 use serde_json::Value;
 use std::alloc::{AllocError, Global};
+use suite_filtersets::{judge_filtersets, judge_workspaces};
+use suite_language::{judge_globs, judge_graphs, judge_matchers, judge_texts};
+use suite_rows::{Entry, RowRefusal, Suite};
+use suite_verdicts::{Lines, Outcome};
 
 /// The report of a suite's bytes, and what it says of the rows.
 pub fn report(alloc: Global, input: &[u8]) -> Result<(String, Outcome), AllocError>

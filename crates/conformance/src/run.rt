@@ -1,13 +1,14 @@
 //! A run: rows in, their report out.
 ghost use Rattle.std.specs.Prelude.{◌≡◌, ◌≢◌, ◌++◌, Err, IfErr, IfOk, IsTrue, OnOk};
 ghost use Rattle.std.specs.Io.KnownBytes.{Appends};
-ghost use Rattle.conformance.specs.Report.{Report, Text};
-ghost use Rattle.conformance.specs.declared.ending.Outcome.{Outcome};
+ghost use Rattle.conformance.specs.Report.{Report};
+ghost use Rattle.suite_verdicts.specs.Lines.{Text};
+ghost use Rattle.suite_verdicts.specs.declared.lines.Outcome.{Outcome};
 
-use crate::ending::Outcome;
 use crate::report::report;
 use records::{RunFault, Sink, Source, read_all, write_all};
 use std::alloc::Global;
+use suite_verdicts::Outcome;
 
 /// Reads the rows to their end, and then writes their report. The report is made before the first byte of it is
 /// written.

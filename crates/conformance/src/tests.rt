@@ -1,10 +1,10 @@
 //! Rows that are wrong, one in each thing that a row can say, and the whole report of them: no judge is lax. Rows that
 //! hold, values that are no rows, and want of memory.
-use crate::ending::Outcome;
 use crate::report::report;
 use std::alloc::AllocError;
 use std::process::Abort;
 use std::test::Fail;
+use suite_verdicts::Outcome;
 
 const WRONG: &str = r#"{
 "texts":[
@@ -48,7 +48,15 @@ const WRONG: &str = r#"{
 {"filterset":"test(=a)","misses":["ab","a"]},
 {"filterset":"all()","faults":[]},
 {"filterset":"and"},
-{"filterset":"and","faults":[["ExprFoundBinaryOp",1,3]]}
+{"filterset":"and","faults":[["ExprFoundBinaryOp",1,3]]},
+{"filterset":"all()","default":"default()"},
+{"filterset":"default()","default":"test(a)","matches":["b"],"misses":["a"]},
+{"filterset":"not all()","steps":["all()"]},
+{"filterset":"all() or test(a)","steps":["test(a)","all()","Or"]},
+{"filterset":"test(a)","binaries":{"yes":[{}],"no":[{}],"unknown":[{}]}},
+{"filterset":"all()","binaries":{"yes":[{}],"no":[{}],"unknown":[{}]}},
+{"filterset":"none()","binaries":{"yes":[{}],"no":[{}],"unknown":[{}]}},
+{"filterset":"default()","default":"test(a)","binaries":{"yes":[{}]}}
 ],
 "graphs":[
 {"packages":[{"name":"a","in_workspace":true,"links":[]}],"refused":{"repeated":0}},
@@ -70,7 +78,13 @@ const WRONG: &str = r#"{
 {"filterset":"platform(host)","matches":[{"platform":"target"}]},
 {"filterset":"group(g)","matches":["t"]},
 {"filterset":"group(h)"},
-{"filterset":"group(g)","kind":"default-filter","faults":[["BannedPredicate",6,1]],"labels":["no test groups matched this"]}
+{"filterset":"group(g)","kind":"default-filter","faults":[["BannedPredicate",6,1]],"labels":["no test groups matched this"]},
+{"filterset":"group(g)","misses":[{"group":"g"}]},
+{"filterset":"package(a)","binaries":{"yes":[{"package":"b"}]}},
+{"filterset":"binary_id(a)","binaries":{"yes":[{"id":"b"}]}},
+{"filterset":"binary(a)","binaries":{"yes":[{"binary":"b"}]}},
+{"filterset":"kind(bin)","binaries":{"yes":[{"kind":"lib"}]}},
+{"filterset":"platform(host)","binaries":{"yes":[{"platform":"target"}]}}
 ]}
 ]}"#;
 
@@ -125,24 +139,42 @@ at 32: miss of the filterset test(=a): p p::bin/cli a
 at 33: faults of the filterset all(): none
 at 34: faults of the filterset and: ExprFoundBinaryOp (0, 3)
 at 35: faults of the filterset and: ExprFoundBinaryOp (0, 3)
-at 36: refusal of the graph : none
-at 37: refusal of the graph : Unknown { package: 0, link: 0 }
-at 38: refusal of the graph : Unknown { package: 0, link: 0 }
-at 39: refusal of the graph : Repeated { at: 1 }
-at 40: question of the graph a: Some(true)
-at 41: question of the graph a: None
-at 42: search of the graph reached: others
-at 43: search of the graph reaching: others
-at 44: packages of the workspace : no graph
-at 45: match of the filterset package(a): b p::bin/cli t
-at 46: miss of the filterset binary_id(a): p a t
-at 47: match of the filterset binary(a): p p::bin/cli t
-at 48: match of the filterset kind(bin): p p::bin/cli t
-at 49: match of the filterset platform(host): p p::bin/cli t
-at 50: groups of the filterset group(g): asked of a test without a group
-at 51: faults of the filterset group(h): NoGroupMatch (6, 1)
-at 52: labels of the filterset group(g): [group() is not available in default-filter expressions]
-52 rows
+at 36: default filter of the filterset all(): BannedPredicate (0, 9)
+at 37: match of the filterset default(): p p::bin/cli b
+at 37: miss of the filterset default(): p p::bin/cli a
+at 38: steps of the filterset not all(): [all()][Not]
+at 39: steps of the filterset all() or test(a): [all()][test(a)][Or]
+at 40: yes of the filterset test(a): p p::bin/cli cli bin host
+at 40: no of the filterset test(a): p p::bin/cli cli bin host
+at 41: no of the filterset all(): p p::bin/cli cli bin host
+at 41: unknown of the filterset all(): p p::bin/cli cli bin host
+at 42: yes of the filterset none(): p p::bin/cli cli bin host
+at 42: unknown of the filterset none(): p p::bin/cli cli bin host
+at 43: yes of the filterset default(): p p::bin/cli cli bin host
+at 44: refusal of the graph : none
+at 45: refusal of the graph : Unknown { package: 0, link: 0 }
+at 46: refusal of the graph : Unknown { package: 0, link: 0 }
+at 47: refusal of the graph : Repeated { at: 1 }
+at 48: question of the graph a: Some(true)
+at 49: question of the graph a: None
+at 50: search of the graph reached: others
+at 51: search of the graph reaching: others
+at 52: packages of the workspace : no graph
+at 53: match of the filterset package(a): b p::bin/cli t
+at 54: miss of the filterset binary_id(a): p a t
+at 55: match of the filterset binary(a): p p::bin/cli t
+at 56: match of the filterset kind(bin): p p::bin/cli t
+at 57: match of the filterset platform(host): p p::bin/cli t
+at 58: match of the filterset group(g): p p::bin/cli t
+at 59: faults of the filterset group(h): NoGroupMatch (6, 1)
+at 60: labels of the filterset group(g): [group() is not available in default-filter expressions]
+at 61: miss of the filterset group(g): p p::bin/cli t
+at 62: yes of the filterset package(a): b p::bin/cli cli bin host
+at 63: yes of the filterset binary_id(a): p b cli bin host
+at 64: yes of the filterset binary(a): p p::bin/cli b bin host
+at 65: yes of the filterset kind(bin): p p::bin/cli cli lib host
+at 66: yes of the filterset platform(host): p p::bin/cli cli bin target
+66 rows
 ";
 
 const RIGHT: &str = r#"{
@@ -157,7 +189,7 @@ const RIGHT: &str = r#"{
 "matchers":[{"matcher":"regex","value":"a|b","print":"/a|b/","matches":["b"],"misses":["c"]}],
 "filtersets":[{"filterset":"test(=a)","matches":["a"],"misses":["ab"]}],
 "graphs":[{"packages":[{"name":"a","in_workspace":true,"links":["a"]}],"depends":[["a","a",true]],"searches":[{"starts":["a"],"reached":["a"],"reaching":["a"]}]}],
-"workspaces":[{"packages":[{"name":"a","in_workspace":true,"targets":[["lib","a"]],"links":[]}],"groups":["g"],"filtersets":[{"filterset":"deps(a) and group(g)"}]}]}"#;
+"workspaces":[{"packages":[{"name":"a","in_workspace":true,"targets":[["lib","a"]],"links":[]}],"groups":["g"],"filtersets":[{"filterset":"default() and group(g)","default":"deps(a)","steps":["packages(a)","group(g)","And"],"binaries":{"yes":[],"no":[{}],"unknown":[{"package":"a"}]},"matches":[{"package":"a","group":"g"}],"misses":["t"]}]}]}"#;
 
 /// The report of these rows is this one.
 fn reports(
@@ -187,6 +219,9 @@ fn other_values_are_no_rows(rt: HostRuntime) -> Result<(), Fail> {
         r#"{"texts":[{"text":"all()","fault":[]}],"globs":[],"matchers":[],"filtersets":[],"graphs":[],"workspaces":[]}"#,
         r#"{"texts":[{"text":"and","faults":[["ExpectedExpr",0]]}],"globs":[],"matchers":[],"filtersets":[],"graphs":[],"workspaces":[]}"#,
         r#"{"texts":[{"text":1}],"globs":[],"matchers":[],"filtersets":[],"graphs":[],"workspaces":[]}"#,
+        r#"{"texts":[],"globs":[],"matchers":[],"filtersets":[{"filterset":"all()","default":null}],"graphs":[],"workspaces":[]}"#,
+        r#"{"texts":[],"globs":[],"matchers":[],"filtersets":[{"filterset":"all()","binaries":{"maybe":[]}}],"graphs":[],"workspaces":[]}"#,
+        r#"{"texts":[],"globs":[],"matchers":[],"filtersets":[{"filterset":"all()","binaries":{"yes":[{"name":"t"}]}}],"graphs":[],"workspaces":[]}"#,
     ] {
         reports(&rt, rows, "rows refused: not a suite\n", Outcome::NotASuite)?;
     }

@@ -1,8 +1,9 @@
 //! What filtersets and compiled expressions say of tests.
 use nextest_filtering::{
     BinaryQuery, BuildPlatform, CompiledExpr, EvalContext, Filterset, FiltersetKind, FiltersetLeaf,
-    FiltersetParseErrors, KnownGroups, NameMatcher, PackageGraph, PackageId, ParseContext,
-    ParseRefusal, RustBinaryId, RustTestBinaryKind, SourceSpan, TestCaseName, TestQuery,
+    FiltersetParseErrors, FlatExpr, KnownGroups, NameMatcher, PackageGraph, PackageId,
+    ParseContext, ParseRefusal, RustBinaryId, RustTestBinaryKind, SourceSpan, TestCaseName,
+    TestQuery,
 };
 use std::alloc::{AllocError, Global};
 use std::collections::{BTreeSet, HashSet};
@@ -11,7 +12,7 @@ use std::test::Fail;
 
 /// The test `name` of the binary `cli` of the package `p`, with the id `p::bin/cli`, built for the host.
 #[derive(Drop)]
-struct Asked {
+pub struct Asked {
     package: PackageId,
     id: RustBinaryId,
     kind: RustTestBinaryKind,
@@ -19,7 +20,7 @@ struct Asked {
 }
 
 impl Asked {
-    fn new(alloc: Global, name: &str) -> Result<Asked, AllocError> {
+    pub fn new(alloc: Global, name: &str) -> Result<Asked, AllocError> {
         Ok(Asked {
             package: PackageId::new(String::from_str(alloc, "p")?),
             id: RustBinaryId::new(alloc, "p::bin/cli")?,
@@ -28,7 +29,7 @@ impl Asked {
         })
     }
 
-    fn query(&self) -> TestQuery<'_> {
+    pub fn query(&self) -> TestQuery<'_> {
         TestQuery {
             binary_query: BinaryQuery {
                 package_id: &self.package,
@@ -81,7 +82,7 @@ pub fn read(alloc: Global, text: &str) -> Result<Result<Filterset, ParseRefusal>
     Ok(Filterset::parse(alloc, input, &cx, FiltersetKind::Test, &known))
 }
 
-/// Whether an expression holds of the test `name`, under this default filter.
+/// Whether an expression holds of the test `name`, under this default filter. Its steps say the same.
 fn holds(
     rt: &impl Abort,
     alloc: Global,
@@ -93,7 +94,12 @@ fn holds(
     assert!(rt; !default_filter.has_default_leaf());
     assert!(rt; !default_filter.has_group_matchers());
     let asked = Asked::new(alloc, name)?;
-    Ok(expr.matches_test(alloc, &asked.query(), &EvalContext::new(default_filter))?)
+    let cx = EvalContext::new(default_filter);
+    let said = expr.matches_test(alloc, &asked.query(), &cx)?;
+    let flat = FlatExpr::new(alloc, expr, &cx)?;
+    assert!(rt; !flat.has_group_matchers());
+    assert_eq!(rt; flat.matches_test(alloc, &asked.query())?, said);
+    Ok(said)
 }
 
 fn has_faults(read: &Result<Filterset, ParseRefusal>) -> bool {

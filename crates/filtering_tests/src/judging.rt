@@ -1,8 +1,9 @@
 //! What the tests judge by. It is proved like the crates below, so that no test passes for a judge that is lax.
 ghost use Rattle.std.specs.Prelude.{◌≡◌, ◌↔◌, IsTrue};
-ghost use Rattle.nextest_filtering.specs.Equality.{compared_compiled, compared_formula, same_compiled_leaf, same_formula};
-ghost use Rattle.nextest_filtering.specs.Equality.{same_filterset, same_test_query};
-ghost use Rattle.nextest_filtering.specs.Expression.{compiled_leaf, formula};
+ghost use Rattle.filterset_expression.specs.Equality.{compared_compiled, compared_formula, same_compiled_leaf, same_formula};
+ghost use Rattle.filterset_expression.specs.Equality.{same_test_query};
+ghost use Rattle.nextest_filtering.specs.Equality.{same_filterset};
+ghost use Rattle.filterset_expression.specs.Expression.{compiled_leaf, formula};
 
 use nextest_filtering::{CompiledExpr, Filterset, FiltersetLeaf, TestQuery};
 

@@ -8,6 +8,8 @@
 #[cfg(test)]
 mod equality;
 #[cfg(test)]
+mod evaluation;
+#[cfg(test)]
 mod filtersets;
 #[cfg(test)]
 mod graph;

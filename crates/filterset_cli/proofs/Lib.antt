@@ -1,3 +1,4 @@
-pub mod BytesLemmas
 pub mod ShapeLemmas
 pub mod ReportLemmas
+pub mod LookupLemmas
+pub mod GroupLemmas

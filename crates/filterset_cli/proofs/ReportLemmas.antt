@@ -1,16 +1,20 @@
 -- Texts that are made piece by piece.
-use Rattle.std.proofs.Common.{◌≡◌, ℕ, suc, Bool, true, false, ◌&&◌, add-zero, zero-add, arith, ◌+◌, ◌<◌, List, [], ◌∷◌, ◌++◌, length, map, take, get_or, ◌∙◌, sym, ap, append_assoc, refl}
+use Rattle.std.proofs.Common.{Result, Ok, Err, IfOk, ◌≡◌, ℕ, suc, Bool, true, false, ◌&&◌, add-zero, zero-add, arith, ◌+◌, ◌<◌, List, [], ◌∷◌, ◌++◌, length, map, take, get_or, ◌∙◌, sym, ap, subst, append_assoc, refl}
 use Rattle.std.specs.List.{enumerate_from}
 use Rattle.std.proofs.lemmas.List.{append-nil, map-append, take_more}
 use Rattle.std.proofs.lemmas.List.FromFn.{get_or-enumerate_from, length-enumerate_from}
 use Rattle.filterset_cli.specs.Shape.{Text}
-use Rattle.filterset_cli.specs.Report.{AnswerLines, BinaryLines, Pieces, Section, Sections}
-use Rattle.filterset_language.specs.Tree.{Tree}
-use Rattle.filterset_faults.specs.declared.span.SourceSpan.{SourceSpan}
-use Rattle.nextest_filtering.specs.Meaning.{has_tree_leaf, is_group_predicate}
-use Rattle.filterset_graph.specs.declared.package.PackageMetadata.{PackageMetadata}
-use Rattle.filterset_cli.specs.Record.{BinaryRow}
+use Rattle.filterset_cli.specs.Library.{Background}
+use Rattle.filterset_cli.specs.Report.{IsBackgroundOf, MakeGraph, Pieces, RecordReport, Section, Sections, outcome_of}
+use Rattle.filterset_cli.specs.Record.{FiltersetRow, RecordRow}
+use Rattle.filterset_cli.specs.declared.ending.Outcome.{Outcome}
 use Rattle.std.proofs.Math.Bool.{and_assoc, and-true}
+use Rattle.std.proofs.Math.Seq.{take-length}
+
+-- what two clauses say together
+pub both_ok : {X Y : Type 0} (r : Result X Y) (P Q R : X → Type 0) → ((x : X) → P x → Q x → R x) → IfOk r P → IfOk r Q → IfOk r R
+both_ok (Ok x) P Q R more p q = more x p q
+both_ok (Err e) P Q R more p q = tt
 
 -- one more piece
 pub Pieces-push : {A : Type 0} (P : A → Text → Type 0) (xs : List A) (x : A) (text piece : Text) → Pieces P xs text → P x piece → Pieces P (xs ++ x ∷ []) (text ++ piece)
@@ -26,24 +30,23 @@ Pieces-more P f xs i x text piece lt at are is =
     let mapped : map f (take (i + 1) xs) ≡ map f (take i xs) ++ f x ∷ [] = ap (map f) more ∙ map-append f (take i xs) (x ∷ []) in
     rw mapped (Pieces-push P (map f (take i xs)) (f x) text piece are is)
 
--- the lines of the binaries, where the tree holds no `group` predicate
-pub AnswerLines-ungrouped : (packages : List PackageMetadata) (tree : Tree SourceSpan) (binaries : List BinaryRow) (lines : Text) →
-    has_tree_leaf is_group_predicate tree ≡ false → Pieces (BinaryLines packages tree) binaries lines → AnswerLines packages tree binaries lines
-AnswerLines-ungrouped packages tree binaries lines ungrouped pieces = rw ungrouped pieces
+-- as many elements as there are
+pub taken_all : {A B : Type 0} (f : A → B) (xs : List A) (n : ℕ) → n ≡ length xs → map f (take n xs) ≡ map f xs
+taken_all f xs n e = ap (map f) (ap (λ k. take k xs) e ∙ take-length xs)
 
 -- what was added twice
 pub added_twice : (old mid new text piece : Text) → mid ≡ old ++ text → new ≡ mid ++ piece → new ≡ old ++ (text ++ piece)
 added_twice old mid new text piece first second = second ∙ ap (λ t. t ++ piece) first ∙ append_assoc old text piece
 
 -- the section of one more filterset
-pub Sections-push : (packages : List PackageMetadata) (binaries : List BinaryRow) (i : ℕ) (ts : List Text) (t : Text) (all accepted : Bool) (text section : Text) →
-    Sections packages binaries i ts all text → Section packages binaries (i + length ts) t accepted section →
-    Sections packages binaries i (ts ++ t ∷ []) (all && accepted) (text ++ section)
-Sections-push packages binaries i [] t all accepted text section (is_true, none) is =
+pub Sections-push : (background : Background) (i : ℕ) (ts : List FiltersetRow) (t : FiltersetRow) (all accepted : Bool) (text section : Text) →
+    Sections background i ts all text → Section background (i + length ts) t accepted section →
+    Sections background i (ts ++ t ∷ []) (all && accepted) (text ++ section)
+Sections-push background i [] t all accepted text section (is_true, none) is =
     (accepted, true, section, [], ap (λ b. b && accepted) is_true ∙ sym (and-true accepted), ap (λ x. x ++ section) none ∙ sym (append-nil section), rw add-zero at is, (refl, refl))
-Sections-push packages binaries i (u ∷ us) t all accepted text section (first, others, front, rest, both, whole, is_first, are) is =
+Sections-push background i (u ∷ us) t all accepted text section (first, others, front, rest, both, whole, is_first, are) is =
     let shifted : i + length (u ∷ us) ≡ suc i + length us = omega arith in
-    let further : Section packages binaries (suc i + length us) t accepted section = rw shifted at is in (
+    let further : Section background (suc i + length us) t accepted section = rw shifted at is in (
       first,
       others && accepted,
       front,
@@ -51,7 +54,7 @@ Sections-push packages binaries i (u ∷ us) t all accepted text section (first,
       ap (λ b. b && accepted) both ∙ and_assoc first others accepted,
       ap (λ x. x ++ section) whole ∙ append_assoc front rest section,
       is_first,
-      Sections-push packages binaries (suc i) us t others accepted rest section are further,
+      Sections-push background (suc i) us t others accepted rest section are further,
     )
 
 -- the texts of numbered texts
@@ -73,3 +76,9 @@ pub number_is_place : {A : Type 0} (xs : List A) (n : ℕ) (p : ℕ × A) → n 
 number_is_place xs n p lt at =
     let below : n < length xs = rw length-enumerate_from at lt in
     ap (λ q. q.0) (at ∙ get_or-enumerate_from 0 xs n p below) ∙ zero-add n
+
+-- a report of filtersets, with the outcome that says whether all of them are accepted
+pub reported : (row : RecordRow) (background : Background) (text : Text) (outcome : Outcome) (all : Bool) → MakeGraph row.packages → IsBackgroundOf row background →
+    Sections background 0 row.filtersets all text → outcome ≡ outcome_of all → RecordReport row text outcome
+reported row background text outcome true graph is sections says = subst (RecordReport row text) (sym says) (background, graph, is, sections)
+reported row background text outcome false graph is sections says = subst (RecordReport row text) (sym says) (background, graph, is, sections)

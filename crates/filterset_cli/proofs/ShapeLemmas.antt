@@ -8,7 +8,7 @@ use Rattle.serde_json.specs.Data.{Data, null, boolean, number, string, array, ob
 use Rattle.serde_json.specs.Find.{as_object}
 use Rattle.serde_json.specs.View.{view, items_view, members_view}
 use Rattle.serde_json.specs.declared.value.Value.{Value}
-use Rattle.filterset_cli.specs.Shape.{Each, EachHas, IsListOf, IsListWith, KeysAmong, is_named}
+use Rattle.filterset_cli.specs.Shape.{Each, EachHas, IsListOf, IsListWith, IsText, KeysAmong, Text, is_named}
 
 -- one more item, and one more entry
 pub Each-push : {A : Type 0} (P : Data → A → Type 0) (vs : List Value) (ys : List A) (v : Value) (y : A) → Each P (items_view vs) ys → P (view v) y →
@@ -52,6 +52,12 @@ pub Optional-shape : {A : Type 0} (P : Data → A → Type 0) (o : Option Data) 
     MatchOption o (xs ≡ []) (λ d. IsListOf P d xs) → IfSome o (IsListWith (λ d. (x : A) × P d x))
 Optional-shape P None xs h = tt
 Optional-shape P (Some d) xs h = (h.0, h.1, EachHas-Each P h.0 xs h.2)
+
+-- a text under a key that may be missing is one where the key is there
+pub Optional-text : (o : Option Data) (text default : Text) →
+    MatchOption o (text ≡ default) (λ d. IsText d text) → IfSome o (λ d. (x : Text) × IsText d x)
+Optional-text None text default h = tt
+Optional-text (Some d) text default h = (text, h)
 
 pub EachHas-at : (P : Data → Type 0) (vs : List Value) (i : ℕ) (d : Value) → i < length vs → EachHas P (items_view vs) → P (view (get_or vs i d))
 EachHas-at P [] i d lt h = absurd (omega arith)

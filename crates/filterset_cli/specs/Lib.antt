@@ -1,7 +1,8 @@
 pub mod Ending
-pub mod Marks
 pub mod Shape
 pub mod Record
 pub mod Rows
+pub mod Lookup
 pub mod Library
+pub mod Asking
 pub mod Report

@@ -1,74 +1,82 @@
--- What the library says of the program's texts and tests: each text as a filterset of kind test, over packages and
--- without custom groups, and with a default filter that holds every test.
-use Rattle.std.specs.Prelude.{◌≡◌, ◌↔◌, Bool, false, IsTrue, List}
-use Rattle.std.specs.HashSet.{IsEmpty}
-use Rattle.nextest_filtering.specs.Compiling.{packages_of, IsFiltersetOf, IsRefusedWith}
-use Rattle.nextest_filtering.specs.Contexts.{default_of}
-use Rattle.nextest_filtering.specs.Expression.{has_leaf, is_group, no_groups}
-use Rattle.nextest_filtering.specs.Meaning.{IsCompiled, Meaning}
-use Rattle.filterset_language.specs.Tree.{Tree, tree_of}
-use Rattle.filterset_faults.specs.declared.error.ParseSingleError.{ParseSingleError}
+-- What the library says of the program's filtersets, binaries and tests.
+use Rattle.std.specs.Prelude.{◌≡◌, ◌↔◌, Bool, IsTrue, Option, Some, None, List, Contains, map, string_bytes}
+use Rattle.std.specs.HashSet.{keys}
+use Rattle.filterset_expression.specs.BinaryMeaning.{IsDefiniteTree, IsUndecidedTree}
+use Rattle.nextest_filtering.specs.Compiling.{packages_of, IsFiltersetOf}
+use Rattle.filterset_expression.specs.Contexts.{default_of}
+use Rattle.filterset_expression.specs.Meaning.{IsCompiled, Meaning}
+use Rattle.filterset_language.specs.Tree.{Tree}
 use Rattle.filterset_faults.specs.declared.kind.FiltersetKind.TheVariants as kinds
 use Rattle.filterset_faults.specs.declared.span.SourceSpan.{SourceSpan}
 use Rattle.filterset_graph.specs.declared.package.PackageMetadata.{PackageMetadata}
 use Rattle.nextest_filtering.specs.declared.compile.context.KnownGroups.{KnownGroups}
 use Rattle.nextest_filtering.specs.declared.compile.context.KnownGroups.TheVariants.{Known, Unavailable}
-use Rattle.nextest_filtering.specs.declared.filterset.Filterset as filtersets
-use Rattle.nextest_filtering.specs.declared.expression.CompiledExpr.{CompiledExpr}
-use Rattle.nextest_filtering.specs.declared.expression.CompiledExpr.TheVariants as compiled
-use Rattle.nextest_filtering.specs.declared.expression.leaves.FiltersetLeaf.TheVariants as leaf
-use Rattle.nextest_filtering.specs.declared.expression.query.TestQuery.{TestQuery}
+use Rattle.filterset_expression.specs.declared.expression.CompiledExpr.{CompiledExpr}
+use Rattle.filterset_expression.specs.declared.query.BinaryQuery.{BinaryQuery}
+use Rattle.filterset_expression.specs.declared.query.TestQuery.{TestQuery}
 use Rattle.filterset_cli.specs.declared.report.setting.Setting.{Setting}
+use Rattle.filterset_cli.specs.Lookup.{hits_recorded_group}
+use Rattle.filterset_cli.specs.Rows.{binary_row}
 use Rattle.filterset_cli.specs.Shape.{Text}
 use Rattle.filterset_cli.specs.Record.{BinaryRow, TestRow}
 
--- the groups are known, and none is a custom one
-abbrev pub HasNoCustomGroups : KnownGroups → Type 0
-HasNoCustomGroups (Known custom_groups) = IsEmpty custom_groups
-HasNoCustomGroups Unavailable = ⊥
+-- ---- what filtersets are read against and asked with
 
--- the text is a filterset over these packages, and this is its tree
-pub record IsFilterset (packages : List PackageMetadata) (text : Text) (tree : Tree SourceSpan) : Type 0 where
+-- the packages, the groups that are known, the default filter, and the binaries that are asked about
+pub record Background : Type 0 where
+  pub packages : List PackageMetadata
   pub groups : KnownGroups
-  pub plain : HasNoCustomGroups groups
-  pub accepted : IsFiltersetOf text kinds.Test packages groups tree
+  pub default : CompiledExpr
+  pub binaries : List BinaryRow
 
--- these faults refuse the text as a filterset over these packages
-pub record IsRefused (packages : List PackageMetadata) (text : Text) (faults : List ParseSingleError) : Type 0 where
-  pub groups : KnownGroups
-  pub plain : HasNoCustomGroups groups
-  pub refused : IsRefusedWith text kinds.Test packages groups faults
+abbrev pub background_of : Setting → Background
+background_of setting = record {
+  packages = packages_of setting.parse_context;
+  groups = setting.known_groups;
+  default = default_of setting.eval_context;
+  binaries = map binary_row setting.lookup.binaries.now;
+}
 
--- the filterset may be asked, and its answers are those of its tree over these packages
-pub record IsAskable (packages : List PackageMetadata) (filterset : filtersets.Filterset) : Type 0 where
-  pub compiled : IsCompiled packages (tree_of filterset.parsed) filterset.compiled
-  pub ungrouped : has_leaf is_group filterset.compiled ≡ false
+-- the groups are known, and the custom ones have these names and no others
+abbrev pub AreGroups : List Text → KnownGroups → Type 0
+AreGroups names (Known custom_groups) =
+    (name : Text) → Contains (map (λ s. string_bytes s) (keys custom_groups)) name ↔ Contains names name
+AreGroups names Unavailable = ⊥
 
--- the default filter, which holds every test
-abbrev pub every_test : CompiledExpr
-every_test = compiled.Set leaf.All
+-- the text is a default filter, and the expression is what its tree is compiled to
+abbrev pub IsDefaultFilter : List PackageMetadata → KnownGroups → Text → CompiledExpr → Type 0
+IsDefaultFilter packages groups text default =
+    (tree : Tree SourceSpan) × IsFiltersetOf text kinds.DefaultFilter packages groups tree
+    × IsCompiled packages tree default
 
--- the packages that filtersets are read against
-abbrev pub known_packages : Setting → List PackageMetadata
-known_packages setting = packages_of setting.parse_context
+-- ---- questions and answers
 
--- no custom groups, and a default filter that holds every test
-pub record IsPlain (setting : Setting) : Type 0 where
-  pub no_custom : HasNoCustomGroups setting.known_groups
-  pub holds_all : default_of setting.eval_context ≡ every_test
+-- the query is about the binary
+pub record IsAboutBinary (binary : BinaryRow) (query : BinaryQuery) : Type 0 where
+  pub package_id : query.package_id.now ≡ binary.package_id
+  pub binary_id : query.binary_id.now ≡ binary.id
+  pub binary_name : query.binary_name.now ≡ binary.name
+  pub kind : query.kind.now ≡ binary.kind
+  pub platform : query.platform ≡ binary.platform
 
 -- the query is about the test of the binary
 pub record IsAbout (binary : BinaryRow) (test : TestRow) (query : TestQuery) : Type 0 where
-  pub package_id : query.binary_query.package_id.now ≡ binary.package_id
-  pub binary_id : query.binary_query.binary_id.now ≡ binary.id
-  pub binary_name : query.binary_query.binary_name.now ≡ binary.name
-  pub kind : query.binary_query.kind.now ≡ binary.kind
-  pub platform : query.binary_query.platform ≡ binary.platform
+  pub of_binary : IsAboutBinary binary query.binary_query
   pub test_name : query.test_name.now ≡ test.name
 
--- the answer tells whether the tree is true of the test of the binary, over these packages
-pub record Tells (packages : List PackageMetadata) (tree : Tree SourceSpan) (binary : BinaryRow) (test : TestRow)
+-- the answer tells what the tree says of the binary: the one value that it takes, or that it takes both
+pub record TellsOfBinary (background : Background) (tree : Tree SourceSpan) (binary : BinaryRow)
+    (answer : Option Bool) : Type 0 where
+  pub query : BinaryQuery
+  pub about : IsAboutBinary binary query
+  pub definite : (b : Bool)
+      → (answer ≡ Some b) ↔ IsDefiniteTree tree background.packages query background.default b
+  pub undecided : (answer ≡ None) ↔ IsUndecidedTree tree background.packages query background.default
+
+-- the answer tells whether the tree is true of the test of the binary
+pub record Tells (background : Background) (tree : Tree SourceSpan) (binary : BinaryRow) (test : TestRow)
     (answer : Bool) : Type 0 where
   pub query : TestQuery
   pub about : IsAbout binary test query
-  pub says : IsTrue answer ↔ Meaning tree packages query every_test no_groups
+  pub says : IsTrue answer ↔ Meaning tree background.packages query background.default
+      (hits_recorded_group background.binaries)

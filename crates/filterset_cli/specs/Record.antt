@@ -1,6 +1,9 @@
 -- The record of the program, and which JSON values stand for it.
-use Rattle.std.specs.Prelude.{true, List, [], ◌∷◌, codes, string_bytes}
+use Rattle.std.specs.Prelude.{◌≡◌, ◌⊎◌, true, List, [], ◌∷◌, codes, string_bytes}
 use Rattle.serde_json.specs.Data.{Data}
+use Rattle.filterset_faults.specs.Texts.{kind_text}
+use Rattle.filterset_faults.specs.declared.kind.FiltersetKind.{FiltersetKind}
+use Rattle.filterset_faults.specs.declared.kind.FiltersetKind.TheVariants as kinds
 use Rattle.filterset_graph.specs.Platforms.{platform_text}
 use Rattle.filterset_graph.specs.declared.package.BuildPlatform.{BuildPlatform}
 use Rattle.filterset_graph.specs.declared.package.BuildTarget.{BuildTarget}
@@ -11,6 +14,7 @@ use Rattle.filterset_cli.specs.Shape.{Text, IsText, IsBoolean, IsListOf, IsObjec
 
 pub record TestRow : Type 0 where
   pub name : Text
+  pub group : Text
 
 pub record BinaryRow : Type 0 where
   pub package_id : Text
@@ -20,9 +24,15 @@ pub record BinaryRow : Type 0 where
   pub platform : BuildPlatform
   pub tests : List TestRow
 
+pub record FiltersetRow : Type 0 where
+  pub text : Text
+  pub kind : FiltersetKind
+
 pub record RecordRow : Type 0 where
-  pub filtersets : List Text
+  pub filtersets : List FiltersetRow
   pub packages : List PackageMetadata
+  pub groups : List Text
+  pub default_filter : Text
   pub binaries : List BinaryRow
 
 -- the value is the platform's name
@@ -57,9 +67,11 @@ IsPackage d p =
     × Optional (codes "targets") (IsListOf IsTarget) [] d p.build_targets.items
     × Optional (codes "links") (IsListOf IsText) [] d p.links.items
 
+-- a test, which is in the global group where nothing else is said
 abbrev pub IsTest : Data → TestRow → Type 0
-IsTest d test = IsObjectWith (codes "name" ∷ []) d
+IsTest d test = IsObjectWith (codes "name" ∷ codes "group" ∷ []) d
     × Required (codes "name") IsText d test.name
+    × Optional (codes "group") IsText (codes "@global") d test.group
 
 abbrev pub IsBinary : Data → BinaryRow → Type 0
 IsBinary d binary =
@@ -72,8 +84,28 @@ IsBinary d binary =
     × Required (codes "platform") IsPlatform d binary.platform
     × Optional (codes "tests") (IsListOf IsTest) [] d binary.tests
 
+-- the value is what the kind of filtersets is called
+abbrev pub IsFiltersetKind : Data → FiltersetKind → Type 0
+IsFiltersetKind d kind = IsText d (kind_text kind)
+
+-- an object with a text and a kind
+abbrev pub IsFiltersetObject : Data → FiltersetRow → Type 0
+IsFiltersetObject d filterset = IsObjectWith (codes "text" ∷ codes "kind" ∷ []) d
+    × Required (codes "text") IsText d filterset.text
+    × Required (codes "kind") IsFiltersetKind d filterset.kind
+
+-- a filterset: a text alone, of kind test, or an object
+abbrev pub IsFilterset : Data → FiltersetRow → Type 0
+IsFilterset d filterset =
+    (IsText d filterset.text × (filterset.kind ≡ kinds.Test)) ⊎ IsFiltersetObject d filterset
+
+-- a record, whose default filter holds every test where nothing else is said
 abbrev pub IsRecord : Data → RecordRow → Type 0
-IsRecord d row = IsObjectWith (codes "filtersets" ∷ codes "packages" ∷ codes "binaries" ∷ []) d
-    × Required (codes "filtersets") (IsListOf IsText) d row.filtersets
+IsRecord d row =
+    IsObjectWith
+    (codes "filtersets" ∷ codes "packages" ∷ codes "groups" ∷ codes "default" ∷ codes "binaries" ∷ []) d
+    × Required (codes "filtersets") (IsListOf IsFilterset) d row.filtersets
     × Optional (codes "packages") (IsListOf IsPackage) [] d row.packages
+    × Optional (codes "groups") (IsListOf IsText) [] d row.groups
+    × Optional (codes "default") IsText (codes "all()") d row.default_filter
     × Optional (codes "binaries") (IsListOf IsBinary) [] d row.binaries

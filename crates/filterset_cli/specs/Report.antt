@@ -1,5 +1,5 @@
 -- Which reports, and which outcomes, a record may have.
-use Rattle.std.specs.Prelude.{◌≡◌, ◌⊎◌, ◌++◌, ◌&&◌, Bool, true, false, MatchBool, ℕ, suc, List, [], ◌∷◌, length, Option, Some, None, codes, decimal}
+use Rattle.std.specs.Prelude.{◌≡◌, ◌⊎◌, ◌++◌, ◌&&◌, Bool, true, false, ℕ, suc, List, [], ◌∷◌, length, Option, Some, None, codes, decimal}
 use Rattle.std.specs.List.{flat_map}
 use Rattle.std.specs.Str.{IsUtf8}
 use Rattle.serde_json.specs.Data.{Data}
@@ -12,10 +12,12 @@ use Rattle.filterset_faults.specs.Faults.{code_of, span_of, label_of, help_of}
 use Rattle.filterset_faults.specs.Span.{offset_of, length_of}
 use Rattle.filterset_faults.specs.declared.span.SourceSpan.{SourceSpan}
 use Rattle.filterset_faults.specs.declared.error.ParseSingleError.{ParseSingleError}
+use Rattle.filterset_faults.specs.declared.kind.FiltersetKind.TheVariants as kinds
 use Rattle.filterset_cli.specs.Shape.{Text}
-use Rattle.filterset_cli.specs.Record.{BinaryRow, TestRow, RecordRow, IsRecord}
-use Rattle.nextest_filtering.specs.Meaning.{has_tree_leaf, is_group_predicate}
-use Rattle.filterset_cli.specs.Library.{IsFilterset, IsRefused, Tells}
+use Rattle.filterset_cli.specs.Record.{BinaryRow, FiltersetRow, TestRow, RecordRow, IsRecord}
+use Rattle.nextest_filtering.specs.Compiling.{IsFiltersetOf, IsRefusedWith}
+use Rattle.nextest_filtering.specs.declared.compile.context.KnownGroups.{KnownGroups}
+use Rattle.filterset_cli.specs.Library.{AreGroups, Background, IsDefaultFilter, Tells, TellsOfBinary}
 use Rattle.filterset_cli.specs.declared.ending.Outcome.{Outcome}
 use Rattle.filterset_cli.specs.declared.ending.Outcome.TheVariants.{AllAccepted, SomeRefused, RecordRefused}
 
@@ -30,20 +32,29 @@ abbrev pub answer_text : Bool → Text
 answer_text true = codes "yes"
 answer_text false = codes "no"
 
+abbrev pub binary_answer_text : Option Bool → Text
+binary_answer_text (Some answer) = answer_text answer
+binary_answer_text None = codes "unknown"
+
 -- the line of a test
-abbrev pub TestLine : List PackageMetadata → Tree SourceSpan → BinaryRow → TestRow → Text → Type 0
-TestLine packages tree binary test line = (answer : Bool) × Tells packages tree binary test answer
+abbrev pub TestLine : Background → Tree SourceSpan → BinaryRow → TestRow → Text → Type 0
+TestLine background tree binary test line = (answer : Bool) × Tells background tree binary test answer
     × (line ≡ codes "  test " ++ (binary.id ++ (codes " "
     ++ (test.name ++ (codes ": " ++ (answer_text answer ++ codes "\n"))))))
 
--- the lines of a binary
-abbrev pub BinaryLines : List PackageMetadata → Tree SourceSpan → BinaryRow → Text → Type 0
-BinaryLines packages tree binary = Pieces (TestLine packages tree binary) binary.tests
+-- the line of a binary
+abbrev pub BinaryLine : Background → Tree SourceSpan → BinaryRow → Text → Type 0
+BinaryLine background tree binary line = (answer : Option Bool) × TellsOfBinary background tree binary answer
+    × (line ≡ codes "  binary " ++ (binary.id ++ (codes ": " ++ (binary_answer_text answer ++ codes "\n"))))
 
--- the lines of the binaries; there are none where the tree holds a `group` predicate
-abbrev pub AnswerLines : List PackageMetadata → Tree SourceSpan → List BinaryRow → Text → Type 0
-AnswerLines packages tree binaries lines =
-    MatchBool (has_tree_leaf is_group_predicate tree) (lines ≡ []) (Pieces (BinaryLines packages tree) binaries lines)
+-- the line of a binary, and those of its tests
+abbrev pub BinaryLines : Background → Tree SourceSpan → BinaryRow → Text → Type 0
+BinaryLines background tree binary lines = (first : Text) × (others : Text) × (lines ≡ first ++ others)
+    × BinaryLine background tree binary first × Pieces (TestLine background tree binary) binary.tests others
+
+-- the lines of all binaries
+abbrev pub AnswerLines : Background → Tree SourceSpan → Text → Type 0
+AnswerLines background tree = Pieces (BinaryLines background tree) background.binaries
 
 abbrev pub accepted_line : ℕ → Tree SourceSpan → Text
 accepted_line index tree =
@@ -70,28 +81,33 @@ fault_lines fault =
     codes "  fault " ++ (place_text (span_of fault) ++ (code_of fault
     ++ (label_text (label_of fault) ++ (codes "\n" ++ help_line (help_of fault)))))
 
-abbrev pub refused_line : ℕ → ℕ → Text
-refused_line index count =
-    codes "filterset " ++ (decimal index ++ (codes " refused: " ++ (decimal count ++ codes "\n")))
+-- how many faults there are, and their lines
+abbrev pub faults_text : List ParseSingleError → Text
+faults_text faults = decimal (length faults) ++ (codes "\n" ++ flat_map fault_lines faults)
+
+abbrev pub refused_text : ℕ → List ParseSingleError → Text
+refused_text index faults = codes "filterset " ++ (decimal index ++ (codes " refused: " ++ faults_text faults))
 
 -- ---- all filtersets
 
 -- what is written of the filterset at this place, and whether it is accepted
-abbrev pub Section : List PackageMetadata → List BinaryRow → ℕ → Text → Bool → Text → Type 0
-Section packages binaries index text true section =
-    (tree : Tree SourceSpan) × (lines : Text) × IsFilterset packages text tree
-    × (section ≡ accepted_line index tree ++ lines) × AnswerLines packages tree binaries lines
-Section packages binaries index text false section =
-    (faults : List ParseSingleError) × IsRefused packages text faults
-    × (section ≡ refused_line index (length faults) ++ flat_map fault_lines faults)
+abbrev pub Section : Background → ℕ → FiltersetRow → Bool → Text → Type 0
+Section background index filterset true section =
+    (tree : Tree SourceSpan) × (lines : Text)
+    × IsFiltersetOf filterset.text filterset.kind background.packages background.groups tree
+    × (section ≡ accepted_line index tree ++ lines) × AnswerLines background tree lines
+Section background index filterset false section =
+    (faults : List ParseSingleError)
+    × IsRefusedWith filterset.text filterset.kind background.packages background.groups faults
+    × (section ≡ refused_text index faults)
 
 -- what is written of the filtersets from this place on, and whether all of them are accepted
-abbrev pub Sections : List PackageMetadata → List BinaryRow → ℕ → List Text → Bool → Text → Type 0
-Sections packages binaries index [] all text = (all ≡ true) × (text ≡ [])
-Sections packages binaries index (t ∷ ts) all text =
+abbrev pub Sections : Background → ℕ → List FiltersetRow → Bool → Text → Type 0
+Sections background index [] all text = (all ≡ true) × (text ≡ [])
+Sections background index (t ∷ ts) all text =
     (accepted : Bool) × (others : Bool) × (front : Text) × (rest : Text)
     × (all ≡ (accepted && others)) × (text ≡ front ++ rest)
-    × Section packages binaries index t accepted front × Sections packages binaries (suc index) ts others rest
+    × Section background index t accepted front × Sections background (suc index) ts others rest
 
 -- ---- the record
 
@@ -115,12 +131,31 @@ PackagesLine packages output =
     ⊎ ((owner : ℕ) × (link : ℕ) × AllDiffer (ids packages) × IsFirstUnknownLink packages owner link
     × (output ≡ unknown_line owner link))
 
--- The ids of the packages differ, and each link names one of them. This is written of the filtersets, and tells whether
--- all of them are accepted.
+-- the ids of the packages differ, and each link names one of them
+abbrev pub MakeGraph : List PackageMetadata → Type 0
+MakeGraph packages = AllDiffer (ids packages) × LinksKnown packages
+
+-- the lines that refuse the default filter, over packages that make a graph
+abbrev pub DefaultLines : RecordRow → Text → Type 0
+DefaultLines row output =
+    (groups : KnownGroups) × (faults : List ParseSingleError)
+    × MakeGraph row.packages × AreGroups row.groups groups
+    × IsRefusedWith row.default_filter kinds.DefaultFilter row.packages groups faults
+    × (output ≡ codes "default refused: " ++ faults_text faults)
+
+-- the record's filtersets are read against this, and asked with it
+pub record IsBackgroundOf (row : RecordRow) (background : Background) : Type 0 where
+  pub packages : background.packages ≡ row.packages
+  pub groups : AreGroups row.groups background.groups
+  pub default : IsDefaultFilter background.packages background.groups row.default_filter background.default
+  pub binaries : background.binaries ≡ row.binaries
+
+-- The packages make a graph, and the default filter is one. This is written of the filtersets, and tells whether all of
+-- them are accepted.
 abbrev pub Account : RecordRow → Text → Bool → Type 0
 Account row output all =
-    AllDiffer (ids row.packages) × LinksKnown row.packages
-    × Sections row.packages row.binaries 0 row.filtersets all output
+    (background : Background) × MakeGraph row.packages × IsBackgroundOf row background
+    × Sections background 0 row.filtersets all output
 
 -- how a run ends whose filtersets were read
 abbrev pub outcome_of : Bool → Outcome
@@ -131,7 +166,7 @@ outcome_of false = SomeRefused
 abbrev pub RecordReport : RecordRow → Text → Outcome → Type 0
 RecordReport row output AllAccepted = Account row output true
 RecordReport row output SomeRefused = Account row output false
-RecordReport row output RecordRefused = PackagesLine row.packages output
+RecordReport row output RecordRefused = PackagesLine row.packages output ⊎ DefaultLines row output
 
 -- which reports, and which outcomes, an input may have: the line of one that is no JSON, the line of one that is no
 -- record, and else what its record may have

@@ -1,9 +1,8 @@
-//! How the program ends: what a run gives or what stops it, the line that is told of that, and the exit status.
+//! How the program ends: what a run says of the record, and the exit status.
 ghost use Rattle.std.specs.Prelude.{◌≡◌};
 ghost use Rattle.filterset_cli.specs.Ending.{status_of};
 
-use std::alloc::AllocError;
-use std::fmt;
+use records::RunFault;
 
 /// What a report says of the record.
 #[derive(Clone, Copy, Debug, PartialEq, Eq)]
@@ -11,40 +10,6 @@ pub enum Outcome {
     AllAccepted,
     SomeRefused,
     RecordRefused,
-}
-
-/// Why a run gave no outcome.
-#[derive(Clone, Copy, Debug, PartialEq, Eq)]
-pub enum RunFault {
-    Memory(AllocError),
-    Read,
-    Write,
-}
-
-impl fmt::Display for RunFault {
-    ghost use Rattle.std.specs.Prelude.{Some};
-    ghost use Rattle.filterset_cli.specs.Ending.{fault_text};
-
-    ghost output = { λ fault. Some (fault_text fault) };
-
-    fn fmt<W: fmt::Write>(&self, f: &mut fmt::Formatter<W>) -> fmt::Result {
-        f.write_str(match self {
-            RunFault::Memory(_) => "memory refused",
-            RunFault::Read => "read failed",
-            RunFault::Write => "write failed",
-        })
-    }
-}
-
-impl From<AllocError> for RunFault {
-    ghost use Rattle.std.specs.Prelude.{◌≡◌};
-    ghost use Rattle.filterset_cli.specs.declared.ending.RunFault.TheVariants.{Memory};
-
-    ghost from_gives = { λ refused fault. fault ≡ Memory refused };
-
-    fn from(refused: AllocError) -> RunFault {
-        RunFault::Memory(refused)
-    }
 }
 
 /// The exit status that a run ends with.

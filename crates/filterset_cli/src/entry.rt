@@ -220,6 +220,25 @@ pub fn optional<T: Entry>(
     }
 }
 
+/// The text under a key, or this one where the key is missing.
+pub fn optional_text(
+    alloc: Global,
+    value: &Value,
+    key: &str,
+    default: &str,
+) -> Result<String, RecordRefusal>
+    ensures read { IfOk result (λ text. MatchOption (get key.now (view value.now))
+        (string_bytes text ≡ default.now) (λ d. IsText d (string_bytes text))) }
+    ensures refused { IsErrOf result RecordRefusal.NotARecord
+        → ¬ (IfSome (get key.now (view value.now)) (λ d. (text : Text) × IsText d text)) }
+{
+    let text = match value.get(key) {
+        Some(found) => text_of(found)?,
+        None => default,
+    };
+    Ok(String::from_str(alloc, text)?)
+}
+
 /// The entries of the list under a key, which has to be there.
 pub fn required_list<T: Entry>(
     alloc: Global,

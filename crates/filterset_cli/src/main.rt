@@ -3,18 +3,16 @@
 
 mod ending;
 mod entry;
+mod lookup;
 mod record;
 mod report;
 mod run;
-mod sink;
-mod source;
 #[cfg(test)]
 mod tests;
 
 use ending::status;
+use records::{FromReader, ToWriter};
 use run::run;
-use sink::ToWriter;
-use source::FromReader;
 use std::process::ExitCode;
 
 fn main(rt: HostRuntime) -> ExitCode {

@@ -1,18 +1,25 @@
 //! The record and its parts.
 
-use crate::entry::{Entry, RecordRefusal, is_object_with, optional_list, required, required_list};
+use crate::entry::{
+    Entry, RecordRefusal, is_object_with, optional_list, optional_text, required, required_list,
+};
 use nextest_filtering::{
-    BuildPlatform, PackageId, PackageMetadata, RustBinaryId, RustTestBinaryKind, TestCaseName,
+    BuildPlatform, GLOBAL_TEST_GROUP, PackageId, PackageMetadata, RustBinaryId, RustTestBinaryKind,
+    TestCaseName,
 };
 use serde_json::Value;
 use std::alloc::Global;
 
+mod filtersets;
 mod packages;
+
+pub use filtersets::FiltersetEntry;
 
 /// A test of a binary.
 #[derive(Debug, Drop)]
 pub struct TestEntry {
     pub name: TestCaseName,
+    pub group: String,
 }
 
 impl Entry for TestEntry {
@@ -24,11 +31,12 @@ impl Entry for TestEntry {
     ghost has_shape = { λ d. (test : TestRow) × IsTest d test };
 
     fn read(alloc: Global, value: &Value) -> Result<TestEntry, RecordRefusal> {
-        if !is_object_with(value, &["name"]) {
+        if !is_object_with(value, &["name", "group"]) {
             return Err(RecordRefusal::NotARecord);
         }
         Ok(TestEntry {
             name: required(alloc, value, "name")?,
+            group: optional_text(alloc, value, "group", GLOBAL_TEST_GROUP)?,
         })
     }
 }
@@ -71,8 +79,12 @@ impl Entry for BinaryEntry {
 /// The whole record.
 #[derive(Debug, Drop)]
 pub struct Record {
-    pub filtersets: Vec<String>,
+    pub filtersets: Vec<FiltersetEntry>,
     pub packages: Vec<PackageMetadata>,
+    /// The names of the custom groups.
+    pub groups: Vec<String>,
+    /// The text of the default filter.
+    pub default_filter: String,
     pub binaries: Vec<BinaryEntry>,
 }
 
@@ -85,12 +97,15 @@ impl Entry for Record {
     ghost has_shape = { λ d. (row : RecordRow) × IsRecord d row };
 
     fn read(alloc: Global, value: &Value) -> Result<Record, RecordRefusal> {
-        if !is_object_with(value, &["filtersets", "packages", "binaries"]) {
+        let names = ["filtersets", "packages", "groups", "default", "binaries"];
+        if !is_object_with(value, &names) {
             return Err(RecordRefusal::NotARecord);
         }
         Ok(Record {
             filtersets: required_list(alloc, value, "filtersets")?,
             packages: optional_list(alloc, value, "packages")?,
+            groups: optional_list(alloc, value, "groups")?,
+            default_filter: optional_text(alloc, value, "default", "all()")?,
             binaries: optional_list(alloc, value, "binaries")?,
         })
     }

@@ -1,21 +1,25 @@
 //! The report of a record.
-ghost use Rattle.std.specs.Prelude.{◌≡◌, Bool, IfOk, List, map, string_bytes};
+ghost use Rattle.std.specs.Prelude.{◌≡◌, ◌++◌, Bool, IfOk, List, codes, map, string_bytes};
 ghost use Rattle.filterset_graph.specs.Refusals.{IsRefusalOf};
 ghost use Rattle.filterset_graph.specs.declared.package.PackageMetadata.{PackageMetadata};
-ghost use Rattle.filterset_cli.specs.Rows.{binary_row, record_row};
-ghost use Rattle.filterset_cli.specs.Report.{PackagesLine, RecordReport, Report, Sections, outcome_of};
+ghost use Rattle.nextest_filtering.specs.Groups.{IsKnown};
+ghost use Rattle.filterset_cli.specs.Library.{AreGroups, background_of};
+ghost use Rattle.filterset_cli.specs.Shape.{Text};
+ghost use Rattle.filterset_cli.specs.Report.{MakeGraph, PackagesLine, RecordReport, Report, Sections, faults_text, outcome_of};
+ghost use Rattle.filterset_cli.specs.Rows.{binary_row, filterset_row, record_row};
 
 use crate::ending::Outcome;
 use crate::entry::{Entry, RecordRefusal};
-use crate::record::{BinaryEntry, Record};
+use crate::lookup::RecordLookup;
+use crate::record::{BinaryEntry, FiltersetEntry, Record};
 use nextest_filtering::{
-    CompiledExpr, EvalContext, GraphRefusal, KnownGroups, PackageGraph, ParseContext,
+    EvalContext, Filterset, FiltersetKind, GraphRefusal, KnownGroups, PackageGraph, ParseContext,
+    ParseRefusal, ParseSingleError,
 };
-use sections::push_sections;
+use sections::{push_faults, push_sections};
 use serde_json::Value;
 use setting::Setting;
 use std::alloc::{AllocError, Global};
-use std::collections::HashSet;
 
 mod lines;
 mod sections;
@@ -45,18 +49,29 @@ fn refusal(alloc: Global, line: &str) -> Result<(String, Outcome), AllocError>
 }
 
 /// The report of a record.
-fn report_record(alloc: Global, record: Record) -> Result<(String, Outcome), AllocError>
-    ensures { IfOk result (λ made. RecordReport (record_row «record») (string_bytes made.0) made.1) }
+fn report_record(alloc: Global, entries: Record) -> Result<(String, Outcome), AllocError>
+    ensures { IfOk result (λ made. RecordReport (record_row entries) (string_bytes made.0) made.1) }
 {
     let Record {
         filtersets,
         packages,
+        groups,
+        default_filter,
         binaries,
-    } = record;
-    match PackageGraph::new(alloc, packages) {
-        Ok(graph) => report_filtersets(alloc, &graph, filtersets, binaries.as_slice()),
-        Err(refusal) => Ok((packages_line(alloc, refusal)?, Outcome::RecordRefused)),
-    }
+    } = entries;
+    let graph = match PackageGraph::new(alloc, packages) {
+        Ok(graph) => graph,
+        Err(refusal) => return Ok((packages_line(alloc, refusal)?, Outcome::RecordRefused)),
+    };
+    let known_groups = known_groups(alloc, groups)?;
+    report_filtersets(
+        alloc,
+        &graph,
+        known_groups,
+        default_filter,
+        filtersets,
+        &binaries,
+    )
 }
 
 /// The line that says why packages make no graph.
@@ -75,29 +90,78 @@ fn packages_line(alloc: Global, refusal: GraphRefusal) -> Result<String, AllocEr
     }
 }
 
-/// The report of filtersets, over these packages and about the tests of these binaries.
-fn report_filtersets<'a>(
+/// The default filter's refusal: how many faults it has, and their lines.
+fn default_refusal(alloc: Global, faults: &[ParseSingleError]) -> Result<String, AllocError>
+    ensures { IfOk result (λ lines. string_bytes lines ≡ codes "default refused: " ++ faults_text faults.now) }
+{
+    let mut lines = String::from_str(alloc, "default refused: ")?;
+    push_faults(&mut lines, faults)?;
+    Ok(lines)
+}
+
+/// These custom groups, as what is known of groups.
+fn known_groups(alloc: Global, names: Vec<String>) -> Result<KnownGroups, AllocError>
+    ensures groups { IfOk result (AreGroups (map (λ s. string_bytes s) names.items)) }
+    ensures known { IfOk result IsKnown }
+{
+    Ok(KnownGroups::Known {
+        custom_groups: names.into_iter().collect(alloc)?,
+    })
+}
+
+/// The report of filtersets, over these packages and groups, and about these binaries. It is the refusal of the default
+/// filter where the text is none.
+fn report_filtersets(
     alloc: Global,
-    graph: &'a PackageGraph,
-    filtersets: Vec<String>,
-    binaries: &'a [BinaryEntry],
+    graph: &PackageGraph,
+    known_groups: KnownGroups,
+    default_filter: String,
+    filtersets: Vec<FiltersetEntry>,
+    binaries: &[BinaryEntry],
 ) -> Result<(String, Outcome), AllocError>
+    requires graph { MakeGraph graph.now }
+    requires known { IsKnown known_groups }
+    ensures { IfOk result (λ made. (names : List Text) → AreGroups names known_groups → RecordReport (record {
+      filtersets = map filterset_row filtersets.items;
+      packages = graph.now;
+      groups = names;
+      default_filter = string_bytes default_filter;
+      binaries = map binary_row binaries.now;
+    }) (string_bytes made.0) made.1) }
+{
+    let parse_context = ParseContext::new(alloc, graph)?;
+    let kind = FiltersetKind::DefaultFilter;
+    match Filterset::parse(alloc, default_filter, &parse_context, kind, &known_groups) {
+        Ok(default_filter) => {
+            let setting = Setting {
+                parse_context,
+                known_groups,
+                eval_context: EvalContext::new(&default_filter.compiled),
+                lookup: RecordLookup { binaries },
+            };
+            report_sections(alloc, &setting, filtersets)
+        }
+        Err(ParseRefusal::Faults(refused)) => {
+            let lines = default_refusal(alloc, refused.errors.as_slice())?;
+            Ok((lines, Outcome::RecordRefused))
+        }
+        Err(ParseRefusal::OutOfMemory { .. }) => Err(AllocError),
+    }
+}
+
+/// The report of filtersets.
+fn report_sections(
+    alloc: Global,
+    setting: &Setting<'_>,
+    filtersets: Vec<FiltersetEntry>,
+) -> Result<(String, Outcome), AllocError>
+    requires { IsKnown setting.now.known_groups }
     ensures { IfOk result (λ made. (all : Bool)
-        × Sections graph.now (map binary_row binaries.now) 0 (map (λ t. string_bytes t) filtersets.items) all
-        (string_bytes made.0)
+        × Sections (background_of setting.now) 0 (map filterset_row filtersets.items) all (string_bytes made.0)
         × (made.1 ≡ outcome_of all)) }
 {
-    let default_filter = CompiledExpr::ALL;
-    let setting = Setting {
-        parse_context: ParseContext::new(alloc, graph)?,
-        known_groups: KnownGroups::Known {
-            custom_groups: HashSet::new(alloc),
-        },
-        eval_context: EvalContext::new(&default_filter),
-        binaries,
-    };
     let mut lines = String::new(alloc);
-    let all_accepted = push_sections(&mut lines, alloc, &setting, filtersets)?;
+    let all_accepted = push_sections(&mut lines, alloc, setting, filtersets)?;
     let outcome = if all_accepted {
         Outcome::AllAccepted
     } else {

@@ -5,10 +5,9 @@ ghost use Rattle.filterset_cli.specs.Report.{Report};
 ghost use Rattle.filterset_cli.specs.Shape.{Text};
 ghost use Rattle.filterset_cli.specs.declared.ending.Outcome.{Outcome};
 
-use crate::ending::{Outcome, RunFault};
+use crate::ending::Outcome;
 use crate::report::report;
-use crate::sink::{Sink, write_all};
-use crate::source::{Source, read_all};
+use records::{RunFault, Sink, Source, read_all, write_all};
 use std::alloc::Global;
 
 /// Reads a record to its end, and then writes its report. The report is made before the first byte

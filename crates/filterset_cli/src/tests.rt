@@ -1,13 +1,14 @@
-use crate::ending::{Outcome, RunFault};
+use crate::ending::Outcome;
 use crate::run::run;
-use crate::sink::{Sink, ToWriter};
-use crate::source::{FromReader, Source};
 use crate::status;
+use records::{FromReader, RunFault, Sink, Source, ToWriter};
 use std::alloc::{AllocError, Global};
 use std::io;
 use std::io::ErrorKind;
 use std::process::Abort;
 use std::test::Fail;
+
+mod questions;
 
 /// Gives one byte a read, and fails at the read before which so many were good.
 #[derive(Drop)]
@@ -105,8 +106,11 @@ impl Sink for Stopping<'_> {
 const STORED: &str =
     r#"{"binaries":[{"package":"p","id":"p","name":"p","kind":"lib","platform":"target","tests":[{"name":"slow_sum"},{"name":"quick"}]}],"filtersets":["not test(~slow) and all()"]}"#;
 
-const STORED_REPORT: &str =
-    "filterset 0 accepted: not test(~slow) and all()\n  test p slow_sum: no\n  test p quick: yes\n";
+const STORED_REPORT: &str = "filterset 0 accepted: not test(~slow) and all()
+  binary p: unknown
+  test p slow_sum: no
+  test p quick: yes
+";
 
 const MISPLACED: &str =
     "filterset 0 refused: 2\n  fault 0 3 ExprFoundBinaryOp: `and` is a binary operator\n  help: use `<expr> and <expr>` instead\n  fault 3 6 ExpectedEndOfExpression: unparsed input\n";
@@ -161,7 +165,7 @@ fn reports(rt: HostRuntime) -> Result<(), Fail> {
         ),
         (
             r#"{"binaries":[{"package":"p","id":"i","name":"n","kind":"odd","platform":"host"},{"package":"","id":"","name":"","kind":"","platform":"target","tests":[{"name":"a\nb"}]}],"filtersets":["all()"]}"#,
-            "filterset 0 accepted: all()\n  test  a\nb: yes\n",
+            "filterset 0 accepted: all()\n  binary i: yes\n  binary : yes\n  test  a\nb: yes\n",
             Outcome::AllAccepted,
         ),
     ] {
@@ -181,17 +185,27 @@ const LINKED: &str = r#"{
 "filtersets":["package(a)","deps(a)","package(b)","not package(a)","group(@global) or all()","group(b)"]}"#;
 
 const LINKED_REPORT: &str = "filterset 0 accepted: package(a)
+  binary a: yes
   test a x: yes
+  binary b: no
   test b y: no
 filterset 1 accepted: deps(a)
+  binary a: yes
   test a x: yes
+  binary b: no
   test b y: no
 filterset 2 refused: 1
   fault 8 1 NoPackageMatch: no packages matched this
 filterset 3 accepted: not package(a)
+  binary a: no
   test a x: no
+  binary b: yes
   test b y: yes
 filterset 4 accepted: group(@global) or all()
+  binary a: yes
+  test a x: yes
+  binary b: yes
+  test b y: yes
 filterset 5 refused: 1
   fault 6 1 NoGroupMatch: no test groups matched this
 ";
@@ -356,13 +370,13 @@ fn packages_that_make_no_graph_are_refused(rt: HostRuntime) -> Result<(), Fail> 
 #[test]
 fn records_with_other_keys_are_refused(rt: HostRuntime) -> Result<(), Fail> {
     for record in [
-        r#"{"groups":[],"filtersets":[]}"#,
+        r#"{"group":[],"filtersets":[]}"#,
         r#"{"packages":[{"id":"a","name":"a","version":"1"}],"filtersets":[]}"#,
         r#"{"packages":[{"id":"a","name":"a","targets":[{"kind":"lib","name":"a","path":"x"}]}],"filtersets":[]}"#,
-        r#"{"default":"all()","filtersets":[]}"#,
-        r#"{"filtersets":[{"text":"all()","kind":"test"}]}"#,
+        r#"{"default_filter":"all()","filtersets":[]}"#,
+        r#"{"filtersets":[{"text":"all()","kind":"test","name":"x"}]}"#,
         r#"{"filtersets":[],"binaries":[{"package":"p","id":"p","name":"p","kind":"lib","platform":"host","path":"x"}]}"#,
-        r#"{"filtersets":[],"binaries":[{"package":"p","id":"p","name":"p","kind":"lib","platform":"host","tests":[{"name":"x","group":"g"}]}]}"#,
+        r#"{"filtersets":[],"binaries":[{"package":"p","id":"p","name":"p","kind":"lib","platform":"host","tests":[{"name":"x","groups":"g"}]}]}"#,
     ] {
         refuses(&rt, record, NO_RECORD)?;
     }
@@ -439,6 +453,11 @@ fn a_run_reports_or_wants_memory(rt: HostRuntime) {
             r#"{"filtersets":["and(a, b)"]}"#,
             MISPLACED,
             Outcome::SomeRefused,
+        ),
+        (
+            questions::GROUPED,
+            questions::GROUPED_REPORT,
+            Outcome::AllAccepted,
         ),
         ("{}", NO_RECORD, Outcome::RecordRefused),
     ] {

@@ -15,7 +15,7 @@ use Rattle.filterset_language.specs.Tree as tree
 use Rattle.filterset_language.specs.Tree.{Leaf, Tree, Matching, Platform, Default, tree_leaves}
 use Rattle.filterset_language.specs.declared.tree.predicate.Predicate.TheVariants.{Package, Deps, Rdeps, Kind, Binary, BinaryId, Test, Group}
 use Rattle.nextest_filtering.specs.Bans.{banned, is_banned, ban, bans, IsAllowed}
-use Rattle.nextest_filtering.specs.Meaning.{has_tree_leaf, is_default_predicate, is_group_predicate}
+use Rattle.filterset_expression.specs.Meaning.{has_tree_leaf, is_default_predicate, is_group_predicate}
 use Rattle.nextest_filtering.proofs.Filtered.{filtered_first}
 
 module _ (kind : FiltersetKind) where

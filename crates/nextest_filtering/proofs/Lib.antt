@@ -1,6 +1,3 @@
-pub mod PackageIds
-pub mod Shapes
-pub mod Meanings
 pub mod Members
 pub mod Binaries
 pub mod Banned

@@ -18,7 +18,7 @@ use Rattle.filterset_graph.specs.Packages.{Path, ids, AllDiffer}
 use Rattle.filterset_graph.specs.Walks.{IsMarked}
 use Rattle.filterset_graph.specs.declared.package.PackageMetadata.{PackageMetadata}
 use Rattle.filterset_matchers.specs.Matcher.{Matcher, Hits}
-use Rattle.nextest_filtering.specs.Meaning.{IsMember, IsNamed, IsPackage, IsDependency, IsDependent}
+use Rattle.filterset_expression.specs.Meaning.{IsMember, IsNamed, IsPackage, IsDependency, IsDependent}
 use Rattle.nextest_filtering.specs.Binaries.{members_of}
 use Rattle.nextest_filtering.specs.PackageMarks.{IsNamedAt, MarksNamed, IsMarkedMember}
 use Rattle.nextest_filtering.proofs.Members.{none_in, first, later, first_or_later, kept, from_filter}

@@ -9,7 +9,7 @@ use Rattle.filterset_matchers.specs.Matcher.{Matcher, Hits}
 use Rattle.filterset_language.specs.Tree.{Leaf, Tree, Matching, tree_leaves}
 use Rattle.filterset_language.specs.declared.tree.predicate.Predicate.TheVariants.{Package, Deps, Rdeps, Binary, BinaryId, Group}
 use Rattle.nextest_filtering.specs.Groups.{IsGroupName}
-use Rattle.nextest_filtering.specs.Meaning.{IsNamed}
+use Rattle.filterset_expression.specs.Meaning.{IsNamed}
 use Rattle.nextest_filtering.specs.declared.compile.context.KnownGroups.{KnownGroups}
 
 -- the matcher hits one of these texts

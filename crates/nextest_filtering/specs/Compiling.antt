@@ -1,5 +1,5 @@
 -- What is promised of a filterset that was read, or refused.
-use Rattle.std.specs.Prelude.{◌≡◌, ◌≢◌, ◌↔◌, ◌⊎◌, ℕ, Bool, List, [], All, IsTrue, string_bytes}
+use Rattle.std.specs.Prelude.{◌≡◌, ◌≢◌, ◌⊎◌, ℕ, List, [], All, string_bytes}
 use Rattle.std.specs.declared.alloc.Global.{Global}
 use Rattle.std.specs.declared.string.String.{String}
 use Rattle.filterset_faults.specs.declared.error.ParseSingleError.{ParseSingleError}
@@ -10,17 +10,12 @@ use Rattle.filterset_language.specs.Parsed.{Reads, LiesOnBody, IsUnreadWith}
 use Rattle.filterset_language.specs.Tree.{Tree, tree_leaves}
 use Rattle.filterset_language.specs.declared.parsing.parse.ParseStop.{ParseStop}
 use Rattle.filterset_language.specs.declared.parsing.parse.ParseStop.TheVariants as stop
-use Rattle.filterset_matchers.specs.Matcher.{Matcher}
 use Rattle.nextest_filtering.specs.Bans.{bans, IsAllowed}
 use Rattle.nextest_filtering.specs.Checks.{AllChecked, AreUnmatched}
-use Rattle.nextest_filtering.specs.Expression.{Holds}
-use Rattle.nextest_filtering.specs.Meaning.{Meaning}
 use Rattle.nextest_filtering.specs.declared.compile.context.KnownGroups.{KnownGroups}
 use Rattle.nextest_filtering.specs.declared.compile.context.ParseContext.{ParseContext}
 use Rattle.nextest_filtering.specs.declared.filterset.ParseRefusal.{ParseRefusal}
 use Rattle.nextest_filtering.specs.declared.filterset.ParseRefusal.TheVariants.{Faults, OutOfMemory}
-use Rattle.nextest_filtering.specs.declared.expression.CompiledExpr.{CompiledExpr}
-use Rattle.nextest_filtering.specs.declared.expression.query.TestQuery.{TestQuery}
 
 -- the packages that a context knows
 abbrev pub packages_of : ParseContext → List PackageMetadata
@@ -36,17 +31,6 @@ pub record IsFiltersetOf (text : List ℕ) (kind : FiltersetKind) (packages : Li
   pub reads : Reads text e
   pub allowed : IsAllowed kind e
   pub checked : AllChecked packages groups e
-
--- some tree makes the text a filterset
-abbrev pub Accepts : List ℕ → FiltersetKind → List PackageMetadata → KnownGroups → Type 0
-Accepts text kind packages groups = (e : Tree SourceSpan) × IsFiltersetOf text kind packages groups e
-
--- the expression says of each test what the tree says, for every default filter and every lookup of groups
-abbrev pub SaysTheSame : List PackageMetadata → Tree SourceSpan → CompiledExpr → Type 0
-SaysTheSame packages e compiled =
-    (test : TestQuery) (default : CompiledExpr) (lookup : TestQuery → Matcher → Bool)
-    → Holds compiled test default (λ t m. IsTrue (lookup t m))
-    ↔ Meaning e packages test default (λ t m. IsTrue (lookup t m))
 
 -- ---- refusal
 

@@ -1,9 +1,4 @@
-pub mod Formula
-pub mod Expression
 pub mod Equality
-pub mod EqualityLaws
-pub mod Meaning
-pub mod Contexts
 pub mod Groups
 pub mod Bans
 pub mod Binaries

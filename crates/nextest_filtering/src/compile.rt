@@ -1,16 +1,16 @@
 //! From a filterset's tree to a compiled expression.
-ghost use Rattle.std.specs.Prelude.{◌≡◌, IfOk, OnOk, IfErr};
+ghost use Rattle.std.specs.Prelude.{◌≡◌, ◌∷◌, [], IfOk, OnOk, IfErr};
 ghost use Rattle.nextest_filtering.specs.Bans.{IsAllowed};
 ghost use Rattle.nextest_filtering.specs.Checks.{AddsUnmatched, AllChecked};
 ghost use Rattle.nextest_filtering.specs.Compiling.{packages_of, IsRejectionOf};
-ghost use Rattle.nextest_filtering.specs.Expression.{formula};
-ghost use Rattle.nextest_filtering.specs.Formula.{Negation, Disjunction, Conjunction};
-ghost use Rattle.nextest_filtering.specs.Meaning.{IsCompiled};
-ghost use Rattle.filterset_language.specs.Tree.{tree_of, tree_leaves};
+ghost use Rattle.filterset_expression.specs.Expression.{formula};
+ghost use Rattle.filterset_expression.specs.Formula.{Negation, Disjunction, Conjunction};
+ghost use Rattle.filterset_expression.specs.Meaning.{IsCompiled};
+ghost use Rattle.filterset_language.specs.Tree.{leaf_of, tree_of, tree_leaves, Set};
 
-use crate::expression::CompiledExpr;
+use filterset_expression::CompiledExpr;
 use filterset_faults::{FiltersetKind, ParseSingleError};
-use filterset_language::{ParseStop, ParsedExpr};
+use filterset_language::{ParseStop, ParsedExpr, ParsedLeaf};
 use std::alloc::{AllocError, Global};
 
 mod asking;
@@ -50,19 +50,21 @@ pub(crate) fn compile(
     if !faults.is_empty() {
         return Err(ParseStop::Faults(faults));
     }
-    Ok(compiled)
+    Ok(Box::into_inner(compiled))
 }
 
 /// The compiled expression of a tree: `a - b` becomes `a` and not `b`, and parentheses become what they hold. Adds a
 /// fault for each predicate that hits nothing, from left to right.
+///
+/// It is recursive, so what it makes stands in boxes: an expression by value would take more of the stack at each level.
 fn compile_expr(
     alloc: Global,
     cx: &ParseContext<'_>,
     known_groups: &KnownGroups,
     expr: &ParsedExpr,
     faults: &mut Vec<ParseSingleError>,
-) -> Result<CompiledExpr, AllocError>
-    ensures compiled { IfOk result (IsCompiled (packages_of cx.now) (tree_of expr.now)) }
+) -> Result<Box<CompiledExpr>, AllocError>
+    ensures compiled { IfOk result (λ made. IsCompiled (packages_of cx.now) (tree_of expr.now) made.value) }
     ensures unmatched { OnOk result (AddsUnmatched (packages_of cx.now) known_groups.now
         (tree_leaves (tree_of expr.now)) faults.old.items faults.new.items) }
 {
@@ -95,51 +97,67 @@ fn compile_expr(
             )
         }
         ParsedExpr::Parens(e) => compile_expr(alloc, cx, known_groups, e, faults),
-        ParsedExpr::Set(leaf) => {
-            let set = compile_leaf(alloc, cx, known_groups, leaf, faults)?;
-            Ok(CompiledExpr::Set(set))
-        }
+        ParsedExpr::Set(leaf) => compile_set(alloc, cx, known_groups, leaf, faults),
     }
 }
 
-/// The tests that are not in the set.
-fn negation(alloc: Global, e: CompiledExpr) -> Result<CompiledExpr, AllocError>
-    ensures { IfOk result (λ made. formula made ≡ Negation (formula e)) }
+/// The compiled expression of a predicate. Adds its fault where it has to hit something and hits nothing.
+#[inline(never)]
+fn compile_set(
+    alloc: Global,
+    cx: &ParseContext<'_>,
+    known_groups: &KnownGroups,
+    leaf: &ParsedLeaf,
+    faults: &mut Vec<ParseSingleError>,
+) -> Result<Box<CompiledExpr>, AllocError>
+    ensures compiled { IfOk result (λ made. IsCompiled (packages_of cx.now) (Set (leaf_of leaf.now)) made.value) }
+    ensures unmatched { OnOk result (AddsUnmatched (packages_of cx.now) known_groups.now
+        (leaf_of leaf.now ∷ []) faults.old.items faults.new.items) }
 {
-    Ok(CompiledExpr::Not(Box::new(alloc, e)?))
+    let set = compile_leaf(alloc, cx, known_groups, leaf, faults)?;
+    Ok(Box::new(alloc, CompiledExpr::Set(set))?)
+}
+
+/// The tests that are not in the set.
+#[inline(never)]
+fn negation(alloc: Global, e: Box<CompiledExpr>) -> Result<Box<CompiledExpr>, AllocError>
+    ensures { IfOk result (λ made. formula made.value ≡ Negation (formula e.value)) }
+{
+    Ok(Box::new(alloc, CompiledExpr::Not(e))?)
 }
 
 /// The tests that are in one of the two sets, or in both.
+#[inline(never)]
 fn disjunction(
     alloc: Global,
-    left: CompiledExpr,
-    right: CompiledExpr,
-) -> Result<CompiledExpr, AllocError>
-    ensures { IfOk result (λ made. formula made ≡ Disjunction (formula left) (formula right)) }
+    left: Box<CompiledExpr>,
+    right: Box<CompiledExpr>,
+) -> Result<Box<CompiledExpr>, AllocError>
+    ensures { IfOk result (λ made. formula made.value ≡ Disjunction (formula left.value) (formula right.value)) }
 {
-    let left = Box::new(alloc, left)?;
-    Ok(CompiledExpr::Union(left, Box::new(alloc, right)?))
+    Ok(Box::new(alloc, CompiledExpr::Union(left, right))?)
 }
 
 /// The tests that are in both sets.
+#[inline(never)]
 fn conjunction(
     alloc: Global,
-    left: CompiledExpr,
-    right: CompiledExpr,
-) -> Result<CompiledExpr, AllocError>
-    ensures { IfOk result (λ made. formula made ≡ Conjunction (formula left) (formula right)) }
+    left: Box<CompiledExpr>,
+    right: Box<CompiledExpr>,
+) -> Result<Box<CompiledExpr>, AllocError>
+    ensures { IfOk result (λ made. formula made.value ≡ Conjunction (formula left.value) (formula right.value)) }
 {
-    let left = Box::new(alloc, left)?;
-    Ok(CompiledExpr::Intersection(left, Box::new(alloc, right)?))
+    Ok(Box::new(alloc, CompiledExpr::Intersection(left, right))?)
 }
 
 /// The tests that are in the first set and not in the second.
 fn difference(
     alloc: Global,
-    left: CompiledExpr,
-    right: CompiledExpr,
-) -> Result<CompiledExpr, AllocError>
-    ensures { IfOk result (λ made. formula made ≡ Conjunction (formula left) (Negation (formula right))) }
+    left: Box<CompiledExpr>,
+    right: Box<CompiledExpr>,
+) -> Result<Box<CompiledExpr>, AllocError>
+    ensures { IfOk result (λ made.
+        formula made.value ≡ Conjunction (formula left.value) (Negation (formula right.value))) }
 {
     conjunction(alloc, left, negation(alloc, right)?)
 }

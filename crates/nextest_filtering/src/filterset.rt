@@ -1,22 +1,25 @@
 //! Filtersets: a text, its tree, and the compiled expression.
-ghost use Rattle.std.specs.Prelude.{◌≡◌, ◌≢◌, ◌↔◌, false, List, IfOk, IfErr, IsTrue, codes, string_bytes};
+ghost use Rattle.std.specs.Prelude.{◌≡◌, ◌≢◌, ◌↔◌, Bool, false, List, Some, None, IfOk, IfErr, IsTrue, codes, string_bytes};
 ghost use Rattle.std.specs.Str.Iter.{HasSubslice};
 ghost use Rattle.filterset_faults.specs.declared.kind.FiltersetKind.TheVariants as kinds;
 ghost use Rattle.filterset_graph.specs.declared.package.PackageMetadata.{PackageMetadata};
 ghost use Rattle.filterset_faults.specs.declared.span.SourceSpan.{SourceSpan};
-ghost use Rattle.nextest_filtering.specs.Compiling.{packages_of, IsFiltersetOf, SaysTheSame};
+ghost use Rattle.nextest_filtering.specs.Compiling.{packages_of, IsFiltersetOf};
 ghost use Rattle.nextest_filtering.specs.Compiling.{IsRefusalOf, IsRefusalOfBodies, IsRefusalOfTree, IsStopOf};
-ghost use Rattle.nextest_filtering.specs.Contexts.{default_of};
-ghost use Rattle.nextest_filtering.specs.Expression.{formula, has_leaf, is_default, is_group, no_groups, Holds};
+ghost use Rattle.filterset_expression.specs.Contexts.{default_of};
+ghost use Rattle.filterset_expression.specs.Expression.{formula, has_leaf, is_default, is_group, no_groups, Holds};
+ghost use Rattle.filterset_expression.specs.Expression.{IsDefinite, IsUndecided};
 ghost use Rattle.filterset_language.specs.Grammar.{Spells};
 ghost use Rattle.nextest_filtering.specs.Groups.{IsKnown};
-ghost use Rattle.nextest_filtering.specs.Meaning.{has_tree_leaf, is_default_predicate, is_group_predicate, IsCompiled, Meaning};
+ghost use Rattle.filterset_expression.specs.Meaning.{has_tree_leaf, is_default_predicate, is_group_predicate};
+ghost use Rattle.filterset_expression.specs.Meaning.{IsCompiled, Meaning, SaysTheSame};
+ghost use Rattle.filterset_expression.specs.BinaryMeaning.{IsDefiniteTree, IsUndecidedTree, TellsTheSame};
 ghost use Rattle.filterset_language.specs.Parsed.{Reads};
 ghost use Rattle.filterset_language.specs.Parsed.{IsRefusalOf as IsUnread};
 ghost use Rattle.filterset_language.specs.Tree.{Tree, tree_of};
 
 use crate::compile::{KnownGroups, ParseContext, compile};
-use crate::expression::{CompiledExpr, EvalContext, TestQuery};
+use filterset_expression::{BinaryQuery, CompiledExpr, EvalContext, GroupLookup, TestQuery};
 use filterset_faults::{FiltersetKind, FiltersetParseErrors};
 use filterset_language::{ParseStop, Parsed, ParsedExpr};
 use std::alloc::{AllocError, Global};
@@ -102,8 +105,11 @@ impl Filterset {
             known_groups.now (tree_of made.parsed)) }
         ensures compiled { IfOk result (λ made. IsCompiled (packages_of cx.now) (tree_of made.parsed) made.compiled) }
 
-        // So the compiled expression says of each test what the tree says, and holds the same leaves.
+        // So the compiled expression says of each test and of each binary what the tree says, and holds the same
+        // leaves.
         ensures meaning { IfOk result (λ made. SaysTheSame (packages_of cx.now) (tree_of made.parsed) made.compiled) }
+        ensures binaries { IfOk result (λ made.
+            TellsTheSame (packages_of cx.now) (tree_of made.parsed) made.compiled) }
         ensures defaults { IfOk result (λ made.
             has_leaf is_default made.compiled ≡ has_tree_leaf is_default_predicate (tree_of made.parsed)) }
         ensures groups { IfOk result (λ made.
@@ -141,6 +147,30 @@ impl Filterset {
         }
     }
 
+    /// Whether the filterset holds of the tests of a binary, as far as the binary tells, as
+    /// [`CompiledExpr::matches_binary`] of `compiled` answers it. It is an error only for want of memory.
+    pub fn matches_binary(
+        &self,
+        alloc: Global,
+        query: &BinaryQuery<'_>,
+        cx: &EvalContext<'_>,
+    ) -> Result<Option<bool>, AllocError>
+        ensures definite { IfOk result (λ answer. (b : Bool)
+            → (answer ≡ Some b) ↔ IsDefinite self.now.compiled query.now (default_of cx.now) b) }
+        ensures undecided { IfOk result (λ answer.
+            (answer ≡ None) ↔ IsUndecided self.now.compiled query.now (default_of cx.now)) }
+
+        // Where the tree is compiled to the expression, the answer is what the tree tells of the binary.
+        ensures meaning { let e = tree_of self.now.parsed in
+            IfOk result (λ answer. (packages : List PackageMetadata) → IsCompiled packages e self.now.compiled
+            → (b : Bool) → (answer ≡ Some b) ↔ IsDefiniteTree e packages query.now (default_of cx.now) b) }
+        ensures unknown { let e = tree_of self.now.parsed in
+            IfOk result (λ answer. (packages : List PackageMetadata) → IsCompiled packages e self.now.compiled
+            → (answer ≡ None) ↔ IsUndecidedTree e packages query.now (default_of cx.now)) }
+    {
+        self.compiled.matches_binary(alloc, query, cx)
+    }
+
     /// Whether the filterset holds of the test, with the context's default filter in the place of each `default()`.
     ///
     /// The filterset holds no `group(..)`, which [`CompiledExpr::has_group_matchers`] of `compiled` tests. It is an
@@ -155,12 +185,44 @@ impl Filterset {
         ensures holds { IfOk result (λ answer.
             IsTrue answer ↔ Holds self.now.compiled query.now (default_of cx.now) no_groups) }
 
+        // What is definite of the test's binary is the answer.
+        ensures settled { IfOk result (λ answer. (b : Bool)
+            → IsDefinite self.now.compiled query.now.binary_query (default_of cx.now) b → answer ≡ b) }
+
         // Where the tree is compiled to the expression, the answer is the tree's meaning.
         ensures meaning { let e = tree_of self.now.parsed in
             IfOk result (λ answer. (packages : List PackageMetadata) → IsCompiled packages e self.now.compiled
             → IsTrue answer ↔ Meaning e packages query.now (default_of cx.now) no_groups) }
     {
         self.compiled.matches_test(alloc, query, cx)
+    }
+
+    /// Whether the filterset holds of the test, whose group the lookup tells, with the context's default filter in the
+    /// place of each `default()`. It is an error only for want of memory, the lookup's too.
+    pub fn matches_test_with_groups(
+        &self,
+        alloc: Global,
+        query: &TestQuery<'_>,
+        cx: &EvalContext<'_>,
+        groups: &dyn GroupLookup,
+    ) -> Result<bool, AllocError>
+        ensures holds { IfOk result (λ answer.
+            IsTrue answer ↔ Holds self.now.compiled query.now (default_of cx.now) (hits_group groups.now)) }
+
+        // What is definite of the test's binary is the answer, and where there is no `group(..)` every lookup gives the
+        // same.
+        ensures settled { IfOk result (λ answer. (b : Bool)
+            → IsDefinite self.now.compiled query.now.binary_query (default_of cx.now) b → answer ≡ b) }
+        ensures ungrouped { has_leaf is_group self.now.compiled ≡ false → IfOk result (λ answer.
+            IsTrue answer ↔ Holds self.now.compiled query.now (default_of cx.now) no_groups) }
+
+        // Where the tree is compiled to the expression, the answer is the tree's meaning.
+        ensures meaning { let e = tree_of self.now.parsed in
+            IfOk result (λ answer. (packages : List PackageMetadata) → IsCompiled packages e self.now.compiled
+            → IsTrue answer ↔ Meaning e packages query.now (default_of cx.now) (hits_group groups.now)) }
+    {
+        self.compiled
+            .matches_test_with_groups(alloc, query, cx, groups)
     }
 
     /// Whether `deps` stands in the text. Where it does not, no `deps(..)` and no `rdeps(..)` does.

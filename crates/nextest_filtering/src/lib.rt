@@ -1,13 +1,15 @@
-//! The public root: compiling filtersets, asking them of tests, and the public types of the crates below.
+//! The public root: reading and compiling filtersets, and the public types of the crates below.
 #![tactic(auto)]
 
 mod compile;
-mod expression;
 mod filterset;
 
 pub use compile::{KnownGroups, ParseContext};
-pub use expression::{BinaryQuery, CompiledExpr, EvalContext, FiltersetLeaf, TestQuery};
 pub use filterset::{Filterset, ParseRefusal};
+pub use filterset_expression::{
+    BinaryQuery, CompiledExpr, EvalContext, FiltersetLeaf, FlatExpr, FlatStep, GroupLookup, Logic,
+    TestQuery,
+};
 pub use filterset_faults as errors;
 pub use filterset_faults::{
     BannedPredicateReason, FiltersetKind, FiltersetParseErrors, GlobConstructError, Help, Label,

@@ -1,51 +1,81 @@
 //! The lines of a report.
 ghost use Rattle.std.specs.Prelude.{◌≡◌, ◌++◌, IfOk, OnOk, string_bytes};
-ghost use Rattle.filterset_language.specs.Tree.{tree_of};
-ghost use Rattle.filterset_cli.specs.Shape.{Text};
+ghost use Rattle.filterset_cli.specs.Asking.{ForItsTree, IsLookupOf};
+ghost use Rattle.filterset_cli.specs.Library.{Tells, TellsOfBinary};
+ghost use Rattle.filterset_cli.specs.Report.{BinaryLine, TestLine, fault_lines};
 ghost use Rattle.filterset_cli.specs.Rows.{binary_row, test_row};
-ghost use Rattle.filterset_cli.specs.Library.{IsAskable, IsPlain, Tells, known_packages};
-ghost use Rattle.filterset_cli.specs.Report.{TestLine, fault_lines};
+ghost use Rattle.filterset_cli.specs.Shape.{Text};
 
+use crate::lookup::RecordLookup;
 use crate::record::{BinaryEntry, TestEntry};
-use crate::report::setting::{Setting, query_of};
-use nextest_filtering::{Filterset, ParseSingleError};
+use crate::report::setting::{binary_query_of, query_of};
+use nextest_filtering::{FlatExpr, ParseSingleError};
 use std::alloc::{AllocError, Global};
 use std::fmt::Write;
 
-/// Whether the filterset holds the test of the binary.
-fn holds_test(
+/// What the expression tells of the binary: that it holds of all of its tests, or of none, or that this depends on the
+/// test.
+fn told_of_binary(
     alloc: Global,
-    setting: &Setting<'_>,
-    filterset: &Filterset,
+    flat: &FlatExpr<'_>,
+    binary: &BinaryEntry,
+) -> Result<Option<bool>, AllocError>
+    ensures { IfOk result (λ answer. ForItsTree flat.now (λ background tree.
+        TellsOfBinary background tree (binary_row binary.now) answer)) }
+{
+    let query = binary_query_of(binary);
+    flat.matches_binary(alloc, &query)
+}
+
+/// Adds the line of a binary: what the expression tells of it.
+pub fn push_binary_line(
+    lines: &mut String,
+    alloc: Global,
+    flat: &FlatExpr<'_>,
+    binary: &BinaryEntry,
+) -> Result<(), AllocError>
+    ensures { OnOk result ((line : Text) × (string_bytes lines.new ≡ string_bytes lines.old ++ line)
+        × ForItsTree flat.now (λ background tree. BinaryLine background tree (binary_row binary.now) line)) }
+{
+    let answer = match told_of_binary(alloc, flat, binary)? {
+        Some(true) => "yes",
+        Some(false) => "no",
+        None => "unknown",
+    };
+    let id = binary.id.as_str();
+    writeln!(lines, "  binary {id}: {answer}")
+}
+
+/// Whether the expression holds of the test of the binary.
+fn holds_of_test(
+    alloc: Global,
+    flat: &FlatExpr<'_>,
+    lookup: &RecordLookup<'_>,
     binary: &BinaryEntry,
     test: &TestEntry,
 ) -> Result<bool, AllocError>
-    requires plain { IsPlain setting.now }
-    requires askable { IsAskable (known_packages setting.now) filterset.now }
-    ensures { IfOk result (Tells (known_packages setting.now) (tree_of filterset.now.parsed) (binary_row binary.now)
-        (test_row test.now)) }
+    ensures { IfOk result (λ answer. ForItsTree flat.now (λ background tree.
+        IsLookupOf background.binaries lookup.now
+        → Tells background tree (binary_row binary.now) (test_row test.now) answer)) }
 {
     let query = query_of(binary, test);
-    filterset.matches_test(alloc, &query, &setting.eval_context)
+    flat.matches_test_with_groups(alloc, &query, lookup)
 }
 
-/// Adds the line of a test: whether the filterset holds it.
-pub fn push_test(
+/// Adds the line of a test: whether the expression holds of it.
+pub fn push_test_line(
     lines: &mut String,
     alloc: Global,
-    setting: &Setting<'_>,
-    filterset: &Filterset,
+    flat: &FlatExpr<'_>,
+    lookup: &RecordLookup<'_>,
     binary: &BinaryEntry,
     test: &TestEntry,
 ) -> Result<(), AllocError>
-    requires plain { IsPlain setting.now }
-    requires askable { IsAskable (known_packages setting.now) filterset.now }
-    ensures { OnOk result ((line : Text)
-        × TestLine (known_packages setting.now) (tree_of filterset.now.parsed) (binary_row binary.now)
-        (test_row test.now) line
-        × (string_bytes lines.new ≡ string_bytes lines.old ++ line)) }
+    ensures { OnOk result ((line : Text) × (string_bytes lines.new ≡ string_bytes lines.old ++ line)
+        × ForItsTree flat.now (λ background tree. IsLookupOf background.binaries lookup.now
+        → TestLine background tree (binary_row binary.now) (test_row test.now) line)) }
 {
-    let holds = holds_test(alloc, setting, filterset, binary, test)?;
+    let holds = holds_of_test(alloc, flat, lookup, binary, test)?;
     let id = binary.id.as_str();
     let name = test.name.as_str();
     let answer = if holds { "yes" } else { "no" };

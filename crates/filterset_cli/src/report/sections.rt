@@ -1,62 +1,59 @@
 //! What a report says of each filterset.
-ghost use Rattle.std.specs.Prelude.{◌≡◌, ◌++◌, IfOk, OnOk, length, map, string_bytes};
-ghost use Rattle.std.specs.List.{flat_map};
+ghost use Rattle.std.specs.Prelude.{◌≡◌, ◌++◌, IfOk, OnOk, map, string_bytes};
 ghost use Rattle.filterset_language.specs.Tree.{tree_of};
-ghost use Rattle.nextest_filtering.specs.Expression.{has_leaf, is_group};
-ghost use Rattle.nextest_filtering.specs.Meaning.{has_tree_leaf, is_group_predicate, IsCompiled};
+ghost use Rattle.nextest_filtering.specs.Groups.{IsKnown};
+ghost use Rattle.filterset_expression.specs.Meaning.{IsCompiled};
+ghost use Rattle.filterset_cli.specs.Asking.{ForItsTree, IsLookupOf};
+ghost use Rattle.filterset_cli.specs.Library.{background_of};
+ghost use Rattle.filterset_cli.specs.Report.{AnswerLines, BinaryLines, Section, Sections, accepted_line, faults_text, refused_text};
+ghost use Rattle.filterset_cli.specs.Rows.{binary_row, filterset_row};
 ghost use Rattle.filterset_cli.specs.Shape.{Text};
-ghost use Rattle.filterset_cli.specs.Rows.{binary_row};
-ghost use Rattle.filterset_cli.specs.Library.{IsAskable, IsPlain, known_packages};
-ghost use Rattle.filterset_cli.specs.Report.{AnswerLines, BinaryLines, Pieces, Section, Sections, accepted_line, fault_lines, refused_line};
 
-use crate::record::BinaryEntry;
-use crate::report::lines::{push_fault, push_test};
+use crate::lookup::RecordLookup;
+use crate::record::{BinaryEntry, FiltersetEntry};
+use crate::report::lines::{push_binary_line, push_fault, push_test_line};
 use crate::report::setting::Setting;
-use nextest_filtering::{Filterset, FiltersetKind, ParseRefusal, ParseSingleError};
+use nextest_filtering::{Filterset, FlatExpr, ParseRefusal, ParseSingleError};
 use std::alloc::{AllocError, Global};
 use std::fmt::Write;
 
-/// Adds the lines of a binary: one for each of its tests.
+/// Adds the lines of a binary: its own, and one for each of its tests.
 fn push_binary(
     lines: &mut String,
     alloc: Global,
-    setting: &Setting<'_>,
-    filterset: &Filterset,
+    flat: &FlatExpr<'_>,
+    lookup: &RecordLookup<'_>,
     binary: &BinaryEntry,
 ) -> Result<(), AllocError>
-    requires plain { IsPlain setting.now }
-    requires askable { IsAskable (known_packages setting.now) filterset.now }
-    ensures { OnOk result ((text : Text)
-        × BinaryLines (known_packages setting.now) (tree_of filterset.now.parsed) (binary_row binary.now) text
-        × (string_bytes lines.new ≡ string_bytes lines.old ++ text)) }
+    ensures { OnOk result ((text : Text) × (string_bytes lines.new ≡ string_bytes lines.old ++ text)
+        × ForItsTree flat.now (λ background tree. IsLookupOf background.binaries lookup.now
+        → BinaryLines background tree (binary_row binary.now) text)) }
 {
+    push_binary_line(lines, alloc, flat, binary)?;
     for test in &binary.tests {
-        push_test(lines, alloc, setting, filterset, binary, test)?;
+        push_test_line(lines, alloc, flat, lookup, binary, test)?;
     }
     Ok(())
 }
 
-/// Adds the lines of the binaries.
-fn push_binaries(
+/// Adds the lines of all binaries.
+fn push_answers(
     lines: &mut String,
     alloc: Global,
-    setting: &Setting<'_>,
-    filterset: &Filterset,
+    flat: &FlatExpr<'_>,
+    lookup: &RecordLookup<'_>,
 ) -> Result<(), AllocError>
-    requires plain { IsPlain setting.now }
-    requires askable { IsAskable (known_packages setting.now) filterset.now }
-    ensures { OnOk result ((text : Text)
-        × Pieces (BinaryLines (known_packages setting.now) (tree_of filterset.now.parsed))
-        (map binary_row setting.now.binaries.now) text
-        × (string_bytes lines.new ≡ string_bytes lines.old ++ text)) }
+    ensures { OnOk result ((text : Text) × (string_bytes lines.new ≡ string_bytes lines.old ++ text)
+        × ForItsTree flat.now (λ background tree. IsLookupOf background.binaries lookup.now
+        → AnswerLines background tree text)) }
 {
-    for binary in setting.binaries {
-        push_binary(lines, alloc, setting, filterset, binary)?;
+    for binary in lookup.binaries {
+        push_binary(lines, alloc, flat, lookup, binary)?;
     }
     Ok(())
 }
 
-/// Adds what is said of an accepted filterset. Of one with a `group` predicate nothing is said of the tests.
+/// Adds what is said of an accepted filterset. It is made ready once for all questions.
 fn push_accepted(
     lines: &mut String,
     alloc: Global,
@@ -64,22 +61,28 @@ fn push_accepted(
     index: usize,
     filterset: &Filterset,
 ) -> Result<(), AllocError>
-    requires plain { IsPlain setting.now }
-    requires compiled { IsCompiled (known_packages setting.now) (tree_of filterset.now.parsed) filterset.now.compiled }
-    requires groups { has_leaf is_group filterset.now.compiled
-        ≡ has_tree_leaf is_group_predicate (tree_of filterset.now.parsed) }
-    ensures { OnOk result ((text : Text)
-        × AnswerLines (known_packages setting.now) (tree_of filterset.now.parsed)
-        (map binary_row setting.now.binaries.now) text
-        × (string_bytes lines.new
-        ≡ string_bytes lines.old ++ (accepted_line index (tree_of filterset.now.parsed) ++ text))) }
+    requires { let background = background_of setting.now in
+        IsCompiled background.packages (tree_of filterset.now.parsed) filterset.now.compiled }
+    ensures { let tree = tree_of filterset.now.parsed in
+        OnOk result ((text : Text) × AnswerLines (background_of setting.now) tree text
+        × (string_bytes lines.new ≡ string_bytes lines.old ++ (accepted_line index tree ++ text))) }
 {
     let printed = &filterset.parsed;
     writeln!(lines, "filterset {index} accepted: {printed}")?;
-    if filterset.compiled.has_group_matchers() {
-        return Ok(());
+    let flat = FlatExpr::new(alloc, &filterset.compiled, &setting.eval_context)?;
+    push_answers(lines, alloc, &flat, &setting.lookup)
+}
+
+/// Adds how many faults there are, and their lines.
+pub fn push_faults(lines: &mut String, faults: &[ParseSingleError]) -> Result<(), AllocError>
+    ensures { OnOk result (string_bytes lines.new ≡ string_bytes lines.old ++ faults_text faults.now) }
+{
+    let count = faults.len();
+    writeln!(lines, "{count}")?;
+    for fault in faults {
+        push_fault(lines, fault)?;
     }
-    push_binaries(lines, alloc, setting, filterset)
+    Ok(())
 }
 
 /// Adds what is said of a refused filterset.
@@ -88,15 +91,10 @@ fn push_refused(
     index: usize,
     faults: &[ParseSingleError],
 ) -> Result<(), AllocError>
-    ensures { OnOk result (string_bytes lines.new ≡ string_bytes lines.old
-        ++ (refused_line index (length faults.now) ++ flat_map fault_lines faults.now)) }
+    ensures { OnOk result (string_bytes lines.new ≡ string_bytes lines.old ++ refused_text index faults.now) }
 {
-    let count = faults.len();
-    writeln!(lines, "filterset {index} refused: {count}")?;
-    for fault in faults {
-        push_fault(lines, fault)?;
-    }
-    Ok(())
+    write!(lines, "filterset {index} refused: ")?;
+    push_faults(lines, faults)
 }
 
 /// Adds what is said of a filterset, and tells whether it is accepted.
@@ -105,22 +103,16 @@ fn push_section(
     alloc: Global,
     setting: &Setting<'_>,
     index: usize,
-    text: String,
+    filterset: FiltersetEntry,
 ) -> Result<bool, AllocError>
-    requires { IsPlain setting.now }
+    requires { IsKnown setting.now.known_groups }
     ensures { IfOk result (λ accepted. (section : Text)
-        × Section (known_packages setting.now) (map binary_row setting.now.binaries.now) index (string_bytes text)
-        accepted section
+        × Section (background_of setting.now) index (filterset_row filterset) accepted section
         × (string_bytes lines.new ≡ string_bytes lines.old ++ section)) }
 {
+    let FiltersetEntry { text, kind } = filterset;
     let known_groups = &setting.known_groups;
-    match Filterset::parse(
-        alloc,
-        text,
-        &setting.parse_context,
-        FiltersetKind::Test,
-        known_groups,
-    ) {
+    match Filterset::parse(alloc, text, &setting.parse_context, kind, known_groups) {
         Ok(filterset) => {
             push_accepted(lines, alloc, setting, index, &filterset)?;
             Ok(true)
@@ -138,17 +130,16 @@ pub fn push_sections(
     lines: &mut String,
     alloc: Global,
     setting: &Setting<'_>,
-    filtersets: Vec<String>,
+    filtersets: Vec<FiltersetEntry>,
 ) -> Result<bool, AllocError>
-    requires { IsPlain setting.now }
+    requires { IsKnown setting.now.known_groups }
     ensures { IfOk result (λ all. (text : Text)
-        × Sections (known_packages setting.now) (map binary_row setting.now.binaries.now) 0
-        (map (λ t. string_bytes t) filtersets.items) all text
+        × Sections (background_of setting.now) 0 (map filterset_row filtersets.items) all text
         × (string_bytes lines.new ≡ string_bytes lines.old ++ text)) }
 {
     let mut all_accepted = true;
-    for (index, text) in filtersets.into_iter().enumerate() {
-        all_accepted &= push_section(lines, alloc, setting, index, text)?;
+    for (index, filterset) in filtersets.into_iter().enumerate() {
+        all_accepted &= push_section(lines, alloc, setting, index, filterset)?;
     }
     Ok(all_accepted)
 }

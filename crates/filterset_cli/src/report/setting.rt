@@ -1,7 +1,8 @@
 //! What the filtersets of a record are read and asked with.
 ghost use Rattle.filterset_cli.specs.Rows.{binary_row, test_row};
-ghost use Rattle.filterset_cli.specs.Library.{IsAbout};
+ghost use Rattle.filterset_cli.specs.Library.{IsAbout, IsAboutBinary};
 
+use crate::lookup::RecordLookup;
 use crate::record::{BinaryEntry, TestEntry};
 use nextest_filtering::{BinaryQuery, EvalContext, KnownGroups, ParseContext, TestQuery};
 
@@ -11,7 +12,20 @@ pub struct Setting<'a> {
     pub parse_context: ParseContext<'a>,
     pub known_groups: KnownGroups,
     pub eval_context: EvalContext<'a>,
-    pub binaries: &'a [BinaryEntry],
+    pub lookup: RecordLookup<'a>,
+}
+
+/// The question about a binary.
+pub fn binary_query_of(binary: &BinaryEntry) -> BinaryQuery<'_>
+    ensures { IsAboutBinary (binary_row binary.now) result }
+{
+    BinaryQuery {
+        package_id: &binary.package_id,
+        binary_id: &binary.id,
+        binary_name: binary.name.as_str(),
+        kind: &binary.kind,
+        platform: binary.platform,
+    }
 }
 
 /// The question about a test of a binary.
@@ -19,13 +33,7 @@ pub fn query_of<'a>(binary: &'a BinaryEntry, test: &'a TestEntry) -> TestQuery<'
     ensures { IsAbout (binary_row binary.now) (test_row test.now) result }
 {
     TestQuery {
-        binary_query: BinaryQuery {
-            package_id: &binary.package_id,
-            binary_id: &binary.id,
-            binary_name: binary.name.as_str(),
-            kind: &binary.kind,
-            platform: binary.platform,
-        },
+        binary_query: binary_query_of(binary),
         test_name: &test.name,
     }
 }

@@ -1,7 +1,7 @@
 //! The sets of packages that predicates of packages stand for.
 ghost use Rattle.std.specs.Prelude.{◌≡◌, ◌↔◌, ℕ, Contains, IfOk, List, length, vec_len};
 ghost use Rattle.filterset_matchers.specs.Matchers.{matcher_of};
-ghost use Rattle.nextest_filtering.specs.Meaning.{IsDependency, IsDependent, IsPackage};
+ghost use Rattle.filterset_expression.specs.Meaning.{IsDependency, IsDependent, IsPackage};
 ghost use Rattle.nextest_filtering.specs.PackageMarks.{IsMarkedMember, MarksNamed};
 ghost use Rattle.nextest_filtering.specs.Compiling.{packages_of};
 

@@ -1,7 +1,7 @@
 use Rattle.std.proofs.Common.{rules, arith, ◌≡◌, ◌+◌, ◌<◌, ◌++◌, ◌∷◌, [], length, get_or, take, ◌∙◌, ap}
 use Rattle.std.proofs.lemmas.List.{take_more}
 use Rattle.filterset_language.specs.Tree.{tree_of}
-use Rattle.nextest_filtering.specs.Contexts.{default_of}
+use Rattle.filterset_expression.specs.Contexts.{default_of}
 use Rattle.calling.specs.Selecting.{Tells}
 use Rattle.calling.proofs.AnswersOfTests.{AllZip-more}
 use Rattle.calling.proofs.selecting.answers_of.Goals as goal

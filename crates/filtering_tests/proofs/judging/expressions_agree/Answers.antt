@@ -1,9 +1,9 @@
 use Rattle.std.specs.Prelude.{◌≡◌}
 use Rattle.std.specs.Bool.{Decides}
 use Rattle.std.proofs.Common.{subst, sym}
-use Rattle.nextest_filtering.specs.Equality.{compared_formula}
-use Rattle.nextest_filtering.specs.EqualityLaws.{same_formula_Decides}
-use Rattle.nextest_filtering.specs.Expression.{formula}
+use Rattle.filterset_expression.specs.Equality.{compared_formula}
+use Rattle.filterset_expression.specs.EqualityLaws.{same_formula_Decides}
+use Rattle.filterset_expression.specs.Expression.{formula}
 use Rattle.filtering_tests.proofs.judging.expressions_agree.Goals as goal
 
 pub returns-clause-compared : goal.returns-clause-compared

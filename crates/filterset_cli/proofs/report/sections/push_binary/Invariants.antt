@@ -1,6 +1,5 @@
 use Rattle.std.proofs.Common.{◌≡◌, ◌++◌, map, string_bytes, take}
-use Rattle.filterset_language.specs.Tree.{tree_of}
-use Rattle.filterset_cli.specs.Library.{known_packages}
+use Rattle.filterset_cli.specs.Asking.{ForItsTree, IsLookupOf}
 use Rattle.filterset_cli.specs.Shape.{Text}
 use Rattle.filterset_cli.specs.Report.{Pieces, TestLine}
 use Rattle.filterset_cli.specs.Rows.{binary_row, test_row}
@@ -9,5 +8,6 @@ use Rattle.filterset_cli.proofs.report.sections.push_binary.Given as goal
 -- the lines of the tests so far were added
 abbrev pub invariant-loop-test : goal.invariant-loop-test
 invariant-loop-test l =
-    (text : Text) × Pieces (TestLine (known_packages l.setting) (tree_of l.filterset.parsed) (binary_row l.binary)) (map test_row (take l.test-index l.binary.tests.items)) text
-    × (string_bytes l.lines ≡ string_bytes l.initial.lines ++ text)
+    (text : Text) × (string_bytes l.lines ≡ string_bytes l.initial.lines ++ text)
+    × ForItsTree l.flat (λ background tree. IsLookupOf background.binaries l.lookup
+    → Pieces (TestLine background tree (binary_row l.binary)) (map test_row (take l.test-index l.binary.tests.items)) text)

@@ -1,12 +1,12 @@
 use Rattle.std.proofs.Common.{◌≡◌, ◌++◌, map, string_bytes}
-use Rattle.filterset_cli.specs.Library.{known_packages}
+use Rattle.filterset_cli.specs.Library.{background_of}
 use Rattle.filterset_cli.specs.Shape.{Text}
 use Rattle.filterset_cli.specs.Report.{Sections}
-use Rattle.filterset_cli.specs.Rows.{binary_row}
+use Rattle.filterset_cli.specs.Rows.{filterset_row}
 use Rattle.filterset_cli.proofs.report.sections.push_sections.Given as goal
 
 -- the sections of the filtersets so far were added
 abbrev pub invariant-loop-index : goal.invariant-loop-index
 invariant-loop-index l =
-    (text : Text) × Sections (known_packages l.setting) (map binary_row l.setting.binaries.now) 0 (map (λ p. string_bytes p.1) l.yielded) l.all_accepted text
+    (text : Text) × Sections (background_of l.setting) 0 (map (λ p. filterset_row p.1) l.yielded) l.all_accepted text
     × (string_bytes l.lines ≡ string_bytes l.initial.lines ++ text)

@@ -6,7 +6,7 @@ use Rattle.filterset_language.specs.Tree.{Matching}
 use Rattle.filterset_language.specs.declared.tree.predicate.Predicate.TheVariants.{Package, Deps, Rdeps, Binary, BinaryId, Group}
 use Rattle.filterset_matchers.specs.Matchers.{matcher_of}
 use Rattle.nextest_filtering.specs.Compiling.{packages_of}
-use Rattle.nextest_filtering.specs.Meaning.{IsNamed}
+use Rattle.filterset_expression.specs.Meaning.{IsNamed}
 use Rattle.nextest_filtering.proofs.PackageSets.{some_named, some_dependency, some_dependent}
 use Rattle.nextest_filtering.proofs.Unmatched.{adds_one, kept_away}
 use Rattle.nextest_filtering.proofs.compile.leaves.compile_leaf.Goals as goal

@@ -5,7 +5,7 @@ use Rattle.filterset_graph.specs.Packages.{AllDiffer, ids}
 use Rattle.filterset_graph.specs.declared.package.PackageMetadata.{PackageMetadata}
 use Rattle.filterset_matchers.specs.Matchers.{matcher_of}
 use Rattle.nextest_filtering.specs.Compiling.{packages_of}
-use Rattle.nextest_filtering.specs.Meaning.{IsDependency}
+use Rattle.filterset_expression.specs.Meaning.{IsDependency}
 use Rattle.nextest_filtering.specs.PackageMarks.{IsMarkedMember, MarksNamed}
 use Rattle.nextest_filtering.proofs.PackageSets as sets
 use Rattle.nextest_filtering.proofs.compile.packages.dependencies.Goals as goal

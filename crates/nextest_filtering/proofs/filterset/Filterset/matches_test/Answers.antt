@@ -1,11 +1,11 @@
 use Rattle.std.proofs.Common.{◌↔◌, List, IsTrue}
 use Rattle.std.proofs.lemmas.Result.{IfOk-weaker}
 use Rattle.filterset_graph.specs.declared.package.PackageMetadata.{PackageMetadata}
-use Rattle.nextest_filtering.specs.Contexts.{default_of}
-use Rattle.nextest_filtering.specs.Expression.{no_groups}
-use Rattle.nextest_filtering.specs.Meaning.{IsCompiled, Meaning}
+use Rattle.filterset_expression.specs.Contexts.{default_of}
+use Rattle.filterset_expression.specs.Expression.{no_groups}
+use Rattle.filterset_expression.specs.Meaning.{IsCompiled, Meaning}
 use Rattle.filterset_language.specs.Tree.{tree_of}
-use Rattle.nextest_filtering.proofs.Meanings.{compiled_means}
+use Rattle.filterset_expression.proofs.Meanings.{compiled_means}
 use Rattle.nextest_filtering.proofs.filterset.Filterset.matches_test.Goals as goal
 
 pub returns-clause-meaning : goal.returns-clause-meaning
@@ -15,4 +15,4 @@ returns-clause-meaning c =
     let default = default_of c.args.cx.now in
     IfOk-weaker c.matches_test.result _
     (λ answer. (packages : List PackageMetadata) → IsCompiled packages tree compiled → IsTrue answer ↔ Meaning tree packages c.args.query.now default no_groups)
-    (λ answer h packages is. let e = compiled_means packages c.args.query.now default no_groups tree compiled is in (λ yes. e.0 (h.0 yes), λ means. h.1 (e.1 means))) c.matches_test.ensures
+    (λ answer h packages is. let e = compiled_means packages c.args.query.now default no_groups tree compiled is in (λ yes. e.0 (h.0 yes), λ means. h.1 (e.1 means))) c.matches_test.ensures.holds

@@ -4,12 +4,16 @@ use Rattle.filterset_language.specs.Tree.{tree_of}
 use Rattle.nextest_filtering.specs.Bans.{IsAllowed}
 use Rattle.nextest_filtering.specs.Compiling.{packages_of, IsRefusedWith}
 use Rattle.nextest_filtering.proofs.Banned.{no_default, no_group}
-use Rattle.nextest_filtering.proofs.Meanings.{says_the_same, same_defaults, same_groups}
+use Rattle.filterset_expression.proofs.BinaryMeanings.{tells_the_same}
+use Rattle.filterset_expression.proofs.Meanings.{says_the_same, same_defaults, same_groups}
 use Rattle.nextest_filtering.proofs.Refusals.{of_tree, of_filterset}
 use Rattle.nextest_filtering.proofs.filterset.Filterset.parse.Goals as goal
 
 pub returns-in-Ok-clause-meaning : goal.returns-in-Ok-clause-meaning
 returns-in-Ok-clause-meaning c = says_the_same (packages_of c.args.cx.now) (tree_of c.in-Ok.parsed) c.in-Ok.compiled c.in-Ok.ensures.compiled
+
+pub returns-in-Ok-clause-binaries : goal.returns-in-Ok-clause-binaries
+returns-in-Ok-clause-binaries c = tells_the_same (packages_of c.args.cx.now) (tree_of c.in-Ok.parsed) c.in-Ok.compiled c.in-Ok.ensures.compiled
 
 pub returns-in-Ok-clause-defaults : goal.returns-in-Ok-clause-defaults
 returns-in-Ok-clause-defaults c = same_defaults (packages_of c.args.cx.now) (tree_of c.in-Ok.parsed) c.in-Ok.compiled c.in-Ok.ensures.compiled

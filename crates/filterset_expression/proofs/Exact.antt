@@ -1,0 +1,174 @@
+-- A fold by the Kleene connectives is definite exactly where every list of answers agrees, and then it is the answer for
+-- every test.
+use Rattle.std.proofs.Common.{◌≡◌, ◌↔◌, ℕ, ◌+◌, Bool, true, false, ◌&&◌, ◌||◌, inl, inr, refl, ap, subst, arith, Option, Some, None, List, [], ◌∷◌, ◌++◌, length, take, drop, replicate, length-append, length-take, length-drop}
+use Rattle.std.proofs.lemmas.List.{length-replicate}
+use Rattle.std.proofs.Math.Seq.{take-append_seam, drop-append_seam}
+use Rattle.std.specs.Bool.{IsTrue, MatchBool, one_answer}
+use Rattle.std.specs.Prelude.{IsSomeAnd}
+use Rattle.filterset_expression.specs.Folds.{Folds, Settles}
+use Rattle.filterset_expression.specs.Formula.{Formula, Leaf, Negation, Disjunction, Conjunction, TrueWhere}
+use Rattle.filterset_expression.specs.Logics.{kleene_not, kleene_or, kleene_and}
+use Rattle.filterset_expression.specs.Values.{occurrences, TrueUnder, CanBe, IsAlways, IsOpen}
+use Rattle.filterset_expression.proofs.Folding.{decides_not, decides_or, decides_and}
+use Rattle.filterset_expression.proofs.Shapes.{both_or}
+
+module _ {A : Type 0} (is_asked : A → Bool) (holds : A → Type 0) where
+  -- what a value of three says of the values that the formula takes
+  abbrev Says : Formula A → Option Bool → Type 0
+  Says f (Some b) = (answers : List Bool) → length answers ≡ occurrences is_asked f → (IsTrue b ↔ (TrueUnder is_asked holds f answers))
+  Says f None = IsOpen is_asked holds f
+
+  -- some list of answers has the right length
+  some_answers : (f : Formula A) → (answers : List Bool) × (length answers ≡ occurrences is_asked f)
+  some_answers f = (replicate (occurrences is_asked f) true, length-replicate _ _)
+
+  can_be : (f : Formula A) (b : Bool) → Says f (Some b) → CanBe is_asked holds f b
+  can_be f b says = let some = some_answers f in (some.0, some.1, says some.0 some.1)
+
+  -- answers to two formulas, one after another
+  both_lengths : (f g : Formula A) (xs ys : List Bool) → length xs ≡ occurrences is_asked f → length ys ≡ occurrences is_asked g → length (xs ++ ys) ≡ occurrences is_asked f + occurrences is_asked g
+  both_lengths f g xs ys h k = omega (arith, length-append xs ys)
+
+  cut_front : (n : ℕ) (xs ys : List Bool) → length xs ≡ n → take n (xs ++ ys) ≡ xs
+  cut_front n xs ys h = subst (λ k. take k (xs ++ ys) ≡ xs) h (take-append_seam xs ys)
+
+  cut_back : (n : ℕ) (xs ys : List Bool) → length xs ≡ n → drop n (xs ++ ys) ≡ ys
+  cut_back n xs ys h = subst (λ k. drop k (xs ++ ys) ≡ ys) h (drop-append_seam xs ys)
+
+  or_can_be : (f g : Formula A) (a b : Bool) → CanBe is_asked holds f a → CanBe is_asked holds g b → CanBe is_asked holds (Disjunction f g) (a || b)
+  or_can_be f g a b p q =
+      (p.0 ++ q.0, both_lengths f g p.0 q.0 p.1 q.1, rw (cut_front _ p.0 q.0 p.1, cut_back _ p.0 q.0 p.1) (decides_or a b _ _ p.2 q.2))
+
+  and_can_be : (f g : Formula A) (a b : Bool) → CanBe is_asked holds f a → CanBe is_asked holds g b → CanBe is_asked holds (Conjunction f g) (a && b)
+  and_can_be f g a b p q =
+      (p.0 ++ q.0, both_lengths f g p.0 q.0 p.1 q.1, rw (cut_front _ p.0 q.0 p.1, cut_back _ p.0 q.0 p.1) (decides_and a b _ _ p.2 q.2))
+
+  -- the answers to the two sides
+  front_length : (f g : Formula A) (answers : List Bool) → length answers ≡ occurrences is_asked f + occurrences is_asked g → length (take (occurrences is_asked f) answers) ≡ occurrences is_asked f
+  front_length f g answers h = omega (arith, length-take (occurrences is_asked f) answers)
+
+  back_length : (f g : Formula A) (answers : List Bool) → length answers ≡ occurrences is_asked f + occurrences is_asked g → length (drop (occurrences is_asked f) answers) ≡ occurrences is_asked g
+  back_length f g answers h = omega (arith, length-drop (occurrences is_asked f) answers)
+
+  not_says : (f : Formula A) (x : Option Bool) → Says f x → Says (Negation f) (kleene_not x)
+  not_says f (Some b) says = λ answers h. decides_not b _ (says answers h)
+  not_says f None says =
+      let yes = says.0 in
+      let no = says.1 in
+      ((no.0, no.1, decides_not false _ no.2), (yes.0, yes.1, decides_not true _ yes.2))
+
+  or_true_left : (f g : Formula A) → Says f (Some true) → Says (Disjunction f g) (Some true)
+  or_true_left f g says = λ answers h. (λ e. inl ((says _ (front_length f g answers h)).0 refl), λ t. refl)
+
+  or_true_right : (f g : Formula A) → Says g (Some true) → Says (Disjunction f g) (Some true)
+  or_true_right f g says = λ answers h. (λ e. inr ((says _ (back_length f g answers h)).0 refl), λ t. refl)
+
+  or_says : (f g : Formula A) (x y : Option Bool) → Says f x → Says g y → Says (Disjunction f g) (kleene_or x y)
+  or_says f g (Some true) y p q = or_true_left f g p
+  or_says f g (Some false) (Some b) p q =
+      λ answers h. decides_or false b _ _ (p _ (front_length f g answers h)) (q _ (back_length f g answers h))
+  or_says f g (Some false) None p q =
+      (or_can_be f g false true (can_be f false p) q.0, or_can_be f g false false (can_be f false p) q.1)
+  or_says f g None (Some true) p q = or_true_right f g q
+  or_says f g None (Some false) p q =
+      (or_can_be f g true false p.0 (can_be g false q), or_can_be f g false false p.1 (can_be g false q))
+  or_says f g None None p q = (or_can_be f g true true p.0 q.0, or_can_be f g false false p.1 q.1)
+
+  and_false_left : (f g : Formula A) → Says f (Some false) → Says (Conjunction f g) (Some false)
+  and_false_left f g says =
+      λ answers h. (λ e. absurd (let clash : false ≡ true = e in cc), λ t. (says _ (front_length f g answers h)).1 t.0)
+
+  and_false_right : (f g : Formula A) → Says g (Some false) → Says (Conjunction f g) (Some false)
+  and_false_right f g says =
+      λ answers h. (λ e. absurd (let clash : false ≡ true = e in cc), λ t. (says _ (back_length f g answers h)).1 t.1)
+
+  and_says : (f g : Formula A) (x y : Option Bool) → Says f x → Says g y → Says (Conjunction f g) (kleene_and x y)
+  and_says f g (Some false) y p q = and_false_left f g p
+  and_says f g (Some true) (Some b) p q =
+      λ answers h. decides_and true b _ _ (p _ (front_length f g answers h)) (q _ (back_length f g answers h))
+  and_says f g (Some true) None p q =
+      (and_can_be f g true true (can_be f true p) q.0, and_can_be f g true false (can_be f true p) q.1)
+  and_says f g None (Some false) p q = and_false_right f g q
+  and_says f g None (Some true) p q =
+      (and_can_be f g true true p.0 (can_be g true q), and_can_be f g false true p.1 (can_be g true q))
+  and_says f g None None p q = (and_can_be f g true true p.0 q.0, and_can_be f g false false p.1 q.1)
+
+  leaf_says : (leaf : A) (asked : Bool) (x : Option Bool) → is_asked leaf ≡ asked → MatchBool asked (x ≡ None) (IsSomeAnd x (λ b. (IsTrue b ↔ (holds leaf)))) → Says (Leaf leaf) x
+  leaf_says leaf true None e h =
+      ((true ∷ [], rw e refl, rw e (λ t. refl, λ t. t)), (false ∷ [], rw e refl, rw e (λ t. t, λ t. t)))
+  leaf_says leaf true (Some b) e h = absurd (let clash : Some b ≡ None = h in cc)
+  leaf_says leaf false None e h = absurd h
+  leaf_says leaf false (Some b) e h = λ answers k. rw e h
+
+  fold_says : (f : Formula A) (x : Option Bool) → Folds kleene_not kleene_or kleene_and (Settles is_asked holds) f x → Says f x
+  fold_says (Leaf leaf) x h = leaf_says leaf (is_asked leaf) x refl h
+  fold_says (Negation f) x h = rw h.2 (not_says f h.0 (fold_says f h.0 h.1))
+  fold_says (Disjunction f g) x h = rw h.4 (or_says f g h.0 h.1 (fold_says f h.0 h.2) (fold_says g h.1 h.3))
+  fold_says (Conjunction f g) x h = rw h.4 (and_says f g h.0 h.1 (fold_says f h.0 h.2) (fold_says g h.1 h.3))
+
+  -- definite exactly where the formula takes one value alone
+  always_from_says : (f : Formula A) (b : Bool) → Says f (Some b) → IsAlways is_asked holds f b
+  always_from_says f b says other =
+      (λ can. one_answer other b can.2 (says can.0 can.1), λ e. rw e (can_be f b says))
+
+  says_definite : (f : Formula A) (x : Option Bool) → Says f x → (b : Bool) → (x ≡ Some b) ↔ IsAlways is_asked holds f b
+  says_definite f (Some c) says b = (
+    λ e. let same : c ≡ b = cc in subst (λ v. IsAlways is_asked holds f v) same (always_from_says f c says),
+    λ always. ap Some ((always c).0 (can_be f c says)),
+  )
+  says_definite f None says b = (
+    λ e. absurd (let clash : None ≡ Some b = e in cc),
+    λ always. absurd (let yes : true ≡ b = (always true).0 says.0 in let no : false ≡ b = (always false).0 says.1 in let clash : true ≡ false = cc in cc),
+  )
+
+  says_open : (f : Formula A) (x : Option Bool) → Says f x → (x ≡ None) ↔ IsOpen is_asked holds f
+  says_open f (Some true) says = (
+    λ e. absurd (let clash : Some true ≡ None = e in cc),
+    λ both. absurd (let clash : false ≡ true = ((always_from_says f true says) false).0 both.1 in cc),
+  )
+  says_open f (Some false) says = (
+    λ e. absurd (let clash : Some false ≡ None = e in cc),
+    λ both. absurd (let clash : true ≡ false = ((always_from_says f false says) true).0 both.0 in cc),
+  )
+  says_open f None says = (λ e. says, λ both. refl)
+
+  -- a fold by the Kleene connectives is definite exactly where the formula takes one value alone
+  pub fold_definite : (f : Formula A) (x : Option Bool) → Folds kleene_not kleene_or kleene_and (Settles is_asked holds) f x → (b : Bool) → (x ≡ Some b) ↔ IsAlways is_asked holds f b
+  fold_definite f x h = says_definite f x (fold_says f x h)
+
+  -- and unknown exactly where it takes both
+  pub fold_open : (f : Formula A) (x : Option Bool) → Folds kleene_not kleene_or kleene_and (Settles is_asked holds) f x → (x ≡ None) ↔ IsOpen is_asked holds f
+  fold_open f x h = says_open f x (fold_says f x h)
+
+-- values that cannot differ are the same
+same_unless : (a b : Bool) → ¬ (¬ (a ≡ b)) → a ≡ b
+same_unless true true h = refl
+same_unless false false h = refl
+same_unless true false h = absurd (h (λ e. let clash : true ≡ false = e in cc))
+same_unless false true h = absurd (h (λ e. let clash : false ≡ true = e in cc))
+
+-- of_test says what `holds` says, where a leaf is not asked
+module _ {A : Type 0} (is_asked : A → Bool) (holds of_test : A → Type 0) (agree : (leaf : A) → is_asked leaf ≡ false → holds leaf ↔ of_test leaf) where
+  -- answers under which the formula is true exactly where it is true of the test
+  abbrev Answered : Formula A → Type 0
+  Answered f = (answers : List Bool) × (length answers ≡ occurrences is_asked f) × (TrueUnder is_asked holds f answers ↔ TrueWhere of_test f)
+
+  leaf_answered : (leaf : A) (asked : Bool) → is_asked leaf ≡ asked → ¬ (¬ Answered (Leaf leaf))
+  leaf_answered leaf true e none =
+      let hits : ¬ of_test leaf = λ t. none (true ∷ [], rw e refl, rw e (λ s. t, λ s. refl)) in
+      none (false ∷ [], rw e refl, rw e (λ s. absurd (let clash : false ≡ true = s in cc), λ t. absurd (hits t)))
+  leaf_answered leaf false e none = none ([], rw e refl, rw e (agree leaf e))
+
+  -- it cannot be that there are none
+  answered : (f : Formula A) → ¬ (¬ Answered f)
+  answered (Leaf leaf) none = leaf_answered leaf (is_asked leaf) refl none
+  answered (Negation f) none = answered f (λ a. none (a.0, a.1, (λ n t. n (a.2.1 t), λ n t. n (a.2.0 t))))
+  answered (Disjunction f g) none =
+      answered f (λ a. answered g (λ b. none (a.0 ++ b.0, both_lengths is_asked holds f g a.0 b.0 a.1 b.1, rw (cut_front is_asked holds _ a.0 b.0 a.1, cut_back is_asked holds _ a.0 b.0 a.1) (both_or _ _ _ _ a.2 b.2))))
+  answered (Conjunction f g) none =
+      answered f (λ a. answered g (λ b. none (a.0 ++ b.0, both_lengths is_asked holds f g a.0 b.0 a.1 b.1, rw (cut_front is_asked holds _ a.0 b.0 a.1, cut_back is_asked holds _ a.0 b.0 a.1) (λ t. (a.2.0 t.0, b.2.0 t.1), λ t. (a.2.1 t.0, b.2.1 t.1)))))
+
+  -- where the formula takes one value alone, that is the answer
+  pub definite_answer : (f : Formula A) (value answer : Bool) → IsAlways is_asked holds f value → (IsTrue answer ↔ TrueWhere of_test f) → answer ≡ value
+  definite_answer f value answer always is =
+      same_unless answer value (λ apart. answered f (λ a. apart ((always answer).0 (a.0, a.1, (λ t. a.2.1 (is.0 t), λ t. is.1 (a.2.0 t))))))

@@ -1,0 +1,7 @@
+-- What the contexts hold.
+use Rattle.filterset_expression.specs.declared.expression.CompiledExpr.{CompiledExpr}
+use Rattle.filterset_expression.specs.declared.context.EvalContext.{EvalContext}
+
+-- the default filter
+abbrev pub default_of : EvalContext → CompiledExpr
+default_of cx = cx.default_filter.now

@@ -1,0 +1,32 @@
+-- What a flat expression stands for.
+use Rattle.std.specs.Prelude.{◌≡◌, Bool, false, List}
+use Rattle.std.specs.List.{list_any}
+use Rattle.filterset_faults.specs.declared.span.SourceSpan.{SourceSpan}
+use Rattle.filterset_graph.specs.declared.package.PackageMetadata.{PackageMetadata}
+use Rattle.filterset_language.specs.Tree.{Tree}
+use Rattle.filterset_expression.specs.Expression.{CompiledLeaf, with_default}
+use Rattle.filterset_expression.specs.Meaning.{IsCompiled}
+use Rattle.filterset_expression.specs.FlatSteps.{Step, Push, step_of, steps_of, postfix}
+use Rattle.filterset_expression.specs.declared.expression.CompiledExpr.{CompiledExpr}
+use Rattle.filterset_expression.specs.declared.flat.FlatExpr.{FlatExpr}
+
+abbrev pub flat_steps : FlatExpr → List (Step CompiledLeaf)
+flat_steps flat = steps_of flat.steps.items
+
+-- the steps are those of the expression, with those of the default filter in the place of each `default` leaf
+abbrev pub IsFlat : FlatExpr → CompiledExpr → CompiledExpr → Type 0
+IsFlat flat expr default = flat_steps flat ≡ postfix (with_default default expr)
+
+-- the steps are those of what the tree is compiled to, with those of the default filter in the place of each `default`
+abbrev pub IsFlatOfTree : FlatExpr → List PackageMetadata → Tree SourceSpan → CompiledExpr → Type 0
+IsFlatOfTree flat packages e default =
+    (compiled : CompiledExpr) × IsCompiled packages e compiled × IsFlat flat compiled default
+
+-- whether the step is a leaf that passes the test
+abbrev pub leaf_passes : (CompiledLeaf → Bool) → Step CompiledLeaf → Bool
+leaf_passes test (Push leaf) = test leaf
+leaf_passes test _ = false
+
+-- whether a leaf among the steps passes the test
+abbrev pub has_step : (CompiledLeaf → Bool) → FlatExpr → Bool
+has_step test flat = list_any (λ s. leaf_passes test (step_of s)) flat.steps.items

@@ -1,0 +1,14 @@
+pub mod Formula
+pub mod Values
+pub mod Expression
+pub mod Equality
+pub mod EqualityLaws
+pub mod Meaning
+pub mod BinaryMeaning
+pub mod Contexts
+pub mod Logics
+pub mod LogicLaws
+pub mod Folds
+pub mod FlatSteps
+pub mod Running
+pub mod FlatExpressions

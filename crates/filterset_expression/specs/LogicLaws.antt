@@ -1,0 +1,88 @@
+-- The connectives of two values and those of three keep the laws of a logic.
+use Rattle.std.specs.Prelude.{◌≡◌, Bool, true, false, not, ◌&&◌, ◌||◌, Option, Some, None, refl}
+use Rattle.filterset_expression.specs.Logics.{IsLogic, kleene_and, kleene_or, kleene_not}
+
+pub bool_is_logic : IsLogic true false ◌&&◌ ◌||◌ not
+bool_is_logic = record {
+  and_unit = elim [ true ↦ refl | false ↦ refl ];
+  or_unit = elim [ true ↦ refl | false ↦ refl ];
+  and_commutative = elim [ true ↦ elim [ true ↦ refl | false ↦ refl ] | false ↦ elim [ true ↦ refl | false ↦ refl ] ];
+  or_commutative = elim [ true ↦ elim [ true ↦ refl | false ↦ refl ] | false ↦ elim [ true ↦ refl | false ↦ refl ] ];
+  and_associative = elim [ true ↦ λ y z. refl | false ↦ λ y z. refl ];
+  or_associative = elim [ true ↦ λ y z. refl | false ↦ λ y z. refl ];
+  not_and = elim [ true ↦ λ y. refl | false ↦ λ y. refl ];
+  not_or = elim [ true ↦ λ y. refl | false ↦ λ y. refl ];
+  not_not = elim [ true ↦ refl | false ↦ refl ];
+}
+
+and_commutative : (x y : Option Bool) → kleene_and x y ≡ kleene_and y x
+and_commutative None None = refl
+and_commutative None (Some true) = refl
+and_commutative None (Some false) = refl
+and_commutative (Some true) None = refl
+and_commutative (Some true) (Some true) = refl
+and_commutative (Some true) (Some false) = refl
+and_commutative (Some false) None = refl
+and_commutative (Some false) (Some true) = refl
+and_commutative (Some false) (Some false) = refl
+
+or_commutative : (x y : Option Bool) → kleene_or x y ≡ kleene_or y x
+or_commutative None None = refl
+or_commutative None (Some true) = refl
+or_commutative None (Some false) = refl
+or_commutative (Some true) None = refl
+or_commutative (Some true) (Some true) = refl
+or_commutative (Some true) (Some false) = refl
+or_commutative (Some false) None = refl
+or_commutative (Some false) (Some true) = refl
+or_commutative (Some false) (Some false) = refl
+
+and_associative : (x y z : Option Bool) → kleene_and (kleene_and x y) z ≡ kleene_and x (kleene_and y z)
+and_associative (Some true) y z = refl
+and_associative (Some false) y z = refl
+and_associative None (Some true) z = refl
+and_associative None (Some false) z = refl
+and_associative None None None = refl
+and_associative None None (Some true) = refl
+and_associative None None (Some false) = refl
+
+or_associative : (x y z : Option Bool) → kleene_or (kleene_or x y) z ≡ kleene_or x (kleene_or y z)
+or_associative (Some true) y z = refl
+or_associative (Some false) y z = refl
+or_associative None (Some true) z = refl
+or_associative None (Some false) z = refl
+or_associative None None None = refl
+or_associative None None (Some true) = refl
+or_associative None None (Some false) = refl
+
+not_and : (x y : Option Bool) → kleene_not (kleene_and x y) ≡ kleene_or (kleene_not x) (kleene_not y)
+not_and (Some true) y = refl
+not_and (Some false) y = refl
+not_and None None = refl
+not_and None (Some true) = refl
+not_and None (Some false) = refl
+
+not_or : (x y : Option Bool) → kleene_not (kleene_or x y) ≡ kleene_and (kleene_not x) (kleene_not y)
+not_or (Some true) y = refl
+not_or (Some false) y = refl
+not_or None None = refl
+not_or None (Some true) = refl
+not_or None (Some false) = refl
+
+not_not : (x : Option Bool) → kleene_not (kleene_not x) ≡ x
+not_not None = refl
+not_not (Some true) = refl
+not_not (Some false) = refl
+
+pub kleene_is_logic : IsLogic (Some true) (Some false) kleene_and kleene_or kleene_not
+kleene_is_logic = record {
+  and_unit = λ x. refl;
+  or_unit = λ x. refl;
+  and_commutative = and_commutative;
+  or_commutative = or_commutative;
+  and_associative = and_associative;
+  or_associative = or_associative;
+  not_and = not_and;
+  not_or = not_or;
+  not_not = not_not;
+}

@@ -1,0 +1,238 @@
+//! Compiled expressions as lists of steps, and what they say of binaries and tests.
+ghost use Rattle.std.specs.Prelude.{◌≡◌, ◌↔◌, ◌++◌, ◌∷◌, [], ◌<◌, Bool, true, false, List, Ok, Some, None, IfOk, IfSome, IsTrue, vec_len, vec_capacity};
+ghost use Rattle.filterset_faults.specs.declared.span.SourceSpan.{SourceSpan};
+ghost use Rattle.filterset_graph.specs.declared.package.PackageMetadata.{PackageMetadata};
+ghost use Rattle.filterset_language.specs.Tree.{Tree};
+ghost use Rattle.filterset_expression.specs.BinaryMeaning.{IsDefiniteTree, IsUndecidedTree};
+ghost use Rattle.filterset_expression.specs.Expression.{compiled_leaf, is_default, is_group, no_groups, HoldsOfTest};
+ghost use Rattle.filterset_expression.specs.Expression.{Holds, IsDefinite, IsUndecided};
+ghost use Rattle.filterset_expression.specs.Meaning.{Meaning};
+ghost use Rattle.filterset_expression.specs.Running.{leaves_one, greatest_height, Runs};
+ghost use Rattle.filterset_expression.specs.FlatSteps.{steps_of, Push};
+ghost use Rattle.filterset_expression.specs.declared.expression.CompiledExpr.{CompiledExpr};
+ghost use Rattle.filterset_expression.specs.declared.flat.asked.AskedLeaf.{AskedLeaf};
+
+use crate::{BinaryQuery, CompiledExpr, EvalContext, FiltersetLeaf, GroupLookup, Logic, TestQuery};
+use asked::AskedLeaf;
+use kept::{KeptMatcher, kept_matchers};
+use std::alloc::{AllocError, Global};
+use steps::{push_steps, reserved_height};
+
+mod asked;
+mod kept;
+mod steps;
+
+pub use steps::FlatStep;
+
+/// An expression as a list of steps, with those of the default filter in the place of each `default` leaf.
+///
+/// It is made for a caller that asks an expression of many binaries or tests.
+#[derive(Debug, Drop)]
+pub struct FlatExpr<'a> {
+    steps: Vec<FlatStep<'a>>,
+    /// What searches for the pattern of a leaf, in the leaf's place; none where no leaf has a pattern.
+    kept: Vec<KeptMatcher<'a>>,
+    /// The greatest number of values that stand on the stack while the steps run.
+    height: usize,
+    ghost one_value: { leaves_one (steps_of steps.items) 0 ≡ true },
+    ghost fits: { height ≡ greatest_height (steps_of steps.items) 0 },
+}
+
+/// Takes the value on top of the stack.
+fn take_top<L>(stack: &mut Vec<L>) -> L
+    requires { 0 < vec_len stack.old }
+    ensures items { stack.old.items ≡ stack.new.items ++ result ∷ [] }
+    ensures capacity { vec_capacity stack.new ≡ vec_capacity stack.old }
+{
+    match stack.pop() {
+        Some(value) => value,
+        None => unreachable!(),
+    }
+}
+
+impl<'a> FlatExpr<'a> {
+    ghost use Rattle.filterset_expression.specs.Contexts.{default_of};
+    ghost use Rattle.filterset_expression.specs.FlatExpressions.{flat_steps, has_step, IsFlat, IsFlatOfTree};
+
+    /// The steps of the expression, with those of the context's default filter in the place of each `default` leaf. It
+    /// is an error only for want of memory.
+    pub fn new(
+        alloc: Global,
+        expr: &'a CompiledExpr,
+        cx: &EvalContext<'a>,
+    ) -> Result<FlatExpr<'a>, AllocError>
+        ensures flat { IfOk result (λ flat. IsFlat flat expr.now (default_of cx.now)) }
+        ensures no_default { IfOk result (λ flat. has_step is_default flat ≡ false) }
+    {
+        let mut default_steps = Vec::new(alloc);
+        push_steps(&mut default_steps, cx.default_filter(), &[])?;
+        let mut steps = Vec::new(alloc);
+        push_steps(&mut steps, expr, &default_steps)?;
+        let kept = kept_matchers(alloc, &steps)?;
+        let height = reserved_height(&steps);
+        Ok(FlatExpr {
+            steps,
+            kept,
+            height,
+        })
+    }
+
+    /// The steps: the leaves from left to right, and each operator after its operands.
+    pub fn steps(&self) -> &[FlatStep<'a>]
+        ensures { steps_of result.now ≡ flat_steps self.now }
+    {
+        &self.steps
+    }
+
+    /// Whether a `group` leaf is among the steps.
+    pub fn has_group_matchers(&self) -> bool
+        ensures { result ≡ has_step is_group self.now }
+    {
+        self.steps.iter().any(|step| matches!(step, FlatStep::Leaf(FiltersetLeaf::Group(..))))
+    }
+
+    /// What the expression says of a binary, as [`CompiledExpr::matches_binary`] says it.
+    pub fn matches_binary(
+        &self,
+        alloc: Global,
+        query: &BinaryQuery<'_>,
+    ) -> Result<Option<bool>, AllocError>
+        ensures definite { IfOk result (λ answer. (expr default : CompiledExpr) → IsFlat self.now expr default
+            → (b : Bool) → (answer ≡ Some b) ↔ IsDefinite expr query.now default b) }
+        ensures undecided { IfOk result (λ answer. (expr default : CompiledExpr) → IsFlat self.now expr default
+            → (answer ≡ None) ↔ IsUndecided expr query.now default) }
+
+        // Where it is made of what a tree is compiled to, the answer is what the tree tells of the binary.
+        ensures meaning { IfOk result (λ answer. (packages : List PackageMetadata) (e : Tree SourceSpan)
+            (default : CompiledExpr) → IsFlatOfTree self.now packages e default
+            → (b : Bool) → (answer ≡ Some b) ↔ IsDefiniteTree e packages query.now default b) }
+        ensures unknown { IfOk result (λ answer. (packages : List PackageMetadata) (e : Tree SourceSpan)
+            (default : CompiledExpr) → IsFlatOfTree self.now packages e default
+            → (answer ≡ None) ↔ IsUndecidedTree e packages query.now default) }
+    {
+        self.run(
+            alloc,
+            &|asked: AskedLeaf<'_, '_>| asked.matches_binary(alloc, query),
+        )
+    }
+
+    /// Whether the expression holds of the test.
+    ///
+    /// It holds no `group` leaf, which [`FlatExpr::has_group_matchers`] tests. It is an error only for want of memory.
+    pub fn matches_test(&self, alloc: Global, query: &TestQuery<'_>) -> Result<bool, AllocError>
+        requires { has_step is_group self.now ≡ false }
+        ensures holds { IfOk result (λ answer. (expr default : CompiledExpr) → IsFlat self.now expr default
+            → IsTrue answer ↔ Holds expr query.now default no_groups) }
+        ensures settled { IfOk result (λ answer. (expr default : CompiledExpr) → IsFlat self.now expr default
+            → (b : Bool) → IsDefinite expr query.now.binary_query default b → answer ≡ b) }
+
+        // Where it is made of what a tree is compiled to, the answer is the tree's meaning.
+        ensures meaning { IfOk result (λ answer. (packages : List PackageMetadata) (e : Tree SourceSpan)
+            (default : CompiledExpr) → IsFlatOfTree self.now packages e default
+            → IsTrue answer ↔ Meaning e packages query.now default no_groups) }
+    {
+        self.run(
+            alloc,
+            &|asked: AskedLeaf<'_, '_>| asked.matches_test(alloc, query),
+        )
+    }
+
+    /// Whether the expression holds of the test, whose group the lookup tells. It is an error only for want of memory,
+    /// the lookup's too.
+    pub fn matches_test_with_groups(
+        &self,
+        alloc: Global,
+        query: &TestQuery<'_>,
+        groups: &dyn GroupLookup,
+    ) -> Result<bool, AllocError>
+        ensures holds { IfOk result (λ answer. (expr default : CompiledExpr) → IsFlat self.now expr default
+            → IsTrue answer ↔ Holds expr query.now default (hits_group groups.now)) }
+        ensures settled { IfOk result (λ answer. (expr default : CompiledExpr) → IsFlat self.now expr default
+            → (b : Bool) → IsDefinite expr query.now.binary_query default b → answer ≡ b) }
+        ensures ungrouped { has_step is_group self.now ≡ false
+            → IfOk result (λ answer. (expr default : CompiledExpr) → IsFlat self.now expr default
+            → IsTrue answer ↔ Holds expr query.now default no_groups) }
+
+        // Where it is made of what a tree is compiled to, the answer is the tree's meaning.
+        ensures meaning { IfOk result (λ answer. (packages : List PackageMetadata) (e : Tree SourceSpan)
+            (default : CompiledExpr) → IsFlatOfTree self.now packages e default
+            → IsTrue answer ↔ Meaning e packages query.now default (hits_group groups.now)) }
+    {
+        self.run(
+            alloc,
+            &|asked: AskedLeaf<'_, '_>| -> Result<bool, AllocError>
+                ensures { IfOk result (λ value. IsTrue value ↔
+                    HoldsOfTest query.entry.now (hits_group groups.entry.now) (compiled_leaf asked.entry.leaf.now)) }
+            { asked.matches_test_with_groups(alloc, query, groups) },
+        )
+    }
+
+    /// The value that the steps leave, where `of_leaf` gives the value of each leaf. A single leaf needs no stack.
+    fn run<L: Logic, F: Fn(AskedLeaf<'_, 'a>) -> Result<L, AllocError>>(
+        &self,
+        alloc: Global,
+        of_leaf: &F,
+    ) -> Result<L, AllocError>
+        requires callable { F.IsAlwaysCallable of_leaf.now }
+        ensures { IfOk result (λ value. Runs L.not_of L.or_of L.and_of
+            (λ leaf x. (asked : AskedLeaf) × (compiled_leaf asked.leaf.now ≡ leaf) × F.post of_leaf.now asked (Ok x))
+            (flat_steps self.now) [] value) }
+    {
+        if let Some(leaf) = self.only_leaf() {
+            let kept = self.kept.first();
+            return of_leaf(AskedLeaf { leaf, kept });
+        }
+        self.run_on_stack(alloc, of_leaf)
+    }
+
+    /// The leaf that is the only step.
+    fn only_leaf(&self) -> Option<&'a FiltersetLeaf>
+        ensures { IfSome result (λ leaf. flat_steps self.now ≡ Push (compiled_leaf leaf.now) ∷ []) }
+    {
+        if self.steps.len() == 1 {
+            if let FlatStep::Leaf(leaf) = self.steps[0] {
+                return Some(leaf);
+            }
+        }
+        None
+    }
+
+    /// The same on a stack, which is reserved at its greatest height.
+    fn run_on_stack<L: Logic, F: Fn(AskedLeaf<'_, 'a>) -> Result<L, AllocError>>(
+        &self,
+        alloc: Global,
+        of_leaf: &F,
+    ) -> Result<L, AllocError>
+        requires callable { F.IsAlwaysCallable of_leaf.now }
+        ensures { IfOk result (λ value. Runs L.not_of L.or_of L.and_of
+            (λ leaf x. (asked : AskedLeaf) × (compiled_leaf asked.leaf.now ≡ leaf) × F.post of_leaf.now asked (Ok x))
+            (flat_steps self.now) [] value) }
+    {
+        let mut stack = Vec::with_capacity(alloc, self.height)?;
+        let mut all_kept = self.kept.iter();
+        for step in &self.steps {
+            let kept = all_kept.next();
+            match step {
+                FlatStep::Leaf(leaf) => {
+                    let value = of_leaf(AskedLeaf { leaf, kept })?;
+                    stack.push_reserved(value);
+                }
+                FlatStep::Not => {
+                    let value = take_top(&mut stack);
+                    stack.push_reserved(value.logic_not());
+                }
+                FlatStep::And => {
+                    let right = take_top(&mut stack);
+                    let left = take_top(&mut stack);
+                    stack.push_reserved(left.logic_and(right));
+                }
+                FlatStep::Or => {
+                    let right = take_top(&mut stack);
+                    let left = take_top(&mut stack);
+                    stack.push_reserved(left.logic_or(right));
+                }
+            }
+        }
+        Ok(take_top(&mut stack))
+    }
+}

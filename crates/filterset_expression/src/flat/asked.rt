@@ -1,0 +1,88 @@
+//! What a leaf says of binaries and tests.
+ghost use Rattle.std.specs.Prelude.{◌≡◌, ◌↔◌, IfOk, IsTrue};
+ghost use Rattle.filterset_matchers.specs.Matcher.{Hits};
+ghost use Rattle.filterset_matchers.specs.Matchers.{matcher_of};
+ghost use Rattle.filterset_expression.specs.Expression.{compiled_leaf, is_of_test, no_groups, HoldsOfBinary, HoldsOfTest};
+ghost use Rattle.filterset_expression.specs.Folds.{Settles};
+
+use crate::flat::kept::KeptMatcher;
+use crate::{BinaryQuery, FiltersetLeaf, GroupLookup, TestQuery};
+use filterset_matchers::NameMatcher;
+use std::alloc::{AllocError, Global};
+
+/// A leaf that is asked, and what searches for its pattern where that is kept. A `default` leaf is the caller's: here it
+/// holds of nothing.
+#[derive(Clone, Copy, Debug)]
+pub struct AskedLeaf<'s, 'a> {
+    pub leaf: &'a FiltersetLeaf,
+    pub kept: Option<&'s KeptMatcher<'a>>,
+}
+
+impl<'s, 'a> AskedLeaf<'s, 'a> {
+    /// Whether the leaf's matcher hits the name.
+    fn hits(&self, alloc: Global, matcher: &'a NameMatcher, name: &str) -> Result<bool, AllocError>
+        ensures { IfOk result (λ hit. IsTrue hit ↔ Hits (matcher_of matcher.now) name.now) }
+    {
+        match (matcher, self.kept) {
+            (NameMatcher::Regex(pattern), Some(kept)) => kept.is_match(alloc, pattern, name),
+            _ => matcher.is_match(alloc, name),
+        }
+    }
+
+    /// What the leaf says of a binary: nothing where it speaks of the test's name or group.
+    pub fn matches_binary(
+        &self,
+        alloc: Global,
+        query: &BinaryQuery<'_>,
+    ) -> Result<Option<bool>, AllocError>
+        ensures { IfOk result (λ value.
+            Settles is_of_test (HoldsOfBinary query.now) (compiled_leaf self.now.leaf.now) value) }
+    {
+        Ok(match self.leaf {
+            FiltersetLeaf::Packages(ids) => Some(ids.contains(query.package_id)),
+            FiltersetLeaf::Kind(matcher, _) => {
+                Some(self.hits(alloc, matcher, query.kind.as_str())?)
+            }
+            FiltersetLeaf::Platform(platform, _) => Some(query.platform == *platform),
+            FiltersetLeaf::Binary(matcher, _) => {
+                Some(self.hits(alloc, matcher, query.binary_name)?)
+            }
+            FiltersetLeaf::BinaryId(matcher, _) => {
+                Some(self.hits(alloc, matcher, query.binary_id.as_str())?)
+            }
+            FiltersetLeaf::Test(..) | FiltersetLeaf::Group(..) => None,
+            FiltersetLeaf::All => Some(true),
+            FiltersetLeaf::Default | FiltersetLeaf::None => Some(false),
+        })
+    }
+
+    /// Whether the leaf holds of a test that is in no group.
+    pub fn matches_test(&self, alloc: Global, query: &TestQuery<'_>) -> Result<bool, AllocError>
+        ensures { IfOk result (λ answer.
+            IsTrue answer ↔ HoldsOfTest query.now no_groups (compiled_leaf self.now.leaf.now)) }
+    {
+        match self.leaf {
+            FiltersetLeaf::Test(matcher, _) => self.hits(alloc, matcher, query.test_name.as_str()),
+            _ => Ok(
+                self.matches_binary(alloc, &query.binary_query)?
+                    .unwrap_or(false),
+            ),
+        }
+    }
+
+    /// Whether the leaf holds of a test, whose group the lookup tells.
+    pub fn matches_test_with_groups(
+        &self,
+        alloc: Global,
+        query: &TestQuery<'_>,
+        groups: &dyn GroupLookup,
+    ) -> Result<bool, AllocError>
+        ensures { IfOk result (λ answer.
+            IsTrue answer ↔ HoldsOfTest query.now (hits_group groups.now) (compiled_leaf self.now.leaf.now)) }
+    {
+        match self.leaf {
+            FiltersetLeaf::Group(matcher, _) => groups.is_member_test(alloc, query, matcher),
+            _ => self.matches_test(alloc, query),
+        }
+    }
+}

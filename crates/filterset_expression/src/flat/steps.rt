@@ -1,0 +1,69 @@
+//! The steps of flat expressions.
+ghost use Rattle.std.specs.Prelude.{◌≡◌, ◌++◌, true, OnOk};
+ghost use Rattle.filterset_expression.specs.Expression.{formula};
+ghost use Rattle.filterset_expression.specs.Running.{leaf_or, leaves_one, greatest_height};
+ghost use Rattle.filterset_expression.specs.FlatSteps.{steps_by, steps_of};
+
+use crate::{CompiledExpr, FiltersetLeaf};
+use std::alloc::AllocError;
+
+/// A step of a flat expression.
+#[derive(Clone, Copy, Debug)]
+pub enum FlatStep<'a> {
+    /// What the leaf says.
+    Leaf(&'a FiltersetLeaf),
+    /// The negation of the last value.
+    Not,
+    /// Whether the last two values both hold.
+    And,
+    /// Whether one of the last two values holds.
+    Or,
+}
+
+/// Appends the steps of an expression, with these in the place of each `default` leaf.
+pub(super) fn push_steps<'a>(
+    steps: &mut Vec<FlatStep<'a>>,
+    expr: &'a CompiledExpr,
+    default_steps: &[FlatStep<'a>],
+) -> Result<(), AllocError>
+    ensures { OnOk result (steps_of steps.new.items ≡
+        steps_of steps.old.items ++ steps_by (leaf_or (steps_of default_steps.now)) (formula expr.now)) }
+{
+    match expr {
+        CompiledExpr::Not(e) => {
+            push_steps(steps, e, default_steps)?;
+            steps.push(FlatStep::Not)?;
+        }
+        CompiledExpr::Union(a, b) => {
+            push_steps(steps, a, default_steps)?;
+            push_steps(steps, b, default_steps)?;
+            steps.push(FlatStep::Or)?;
+        }
+        CompiledExpr::Intersection(a, b) => {
+            push_steps(steps, a, default_steps)?;
+            push_steps(steps, b, default_steps)?;
+            steps.push(FlatStep::And)?;
+        }
+        CompiledExpr::Set(FiltersetLeaf::Default) => steps.extend_from_slice(default_steps)?,
+        CompiledExpr::Set(leaf) => steps.push(FlatStep::Leaf(leaf))?,
+    }
+    Ok(())
+}
+
+/// The greatest number of values that stand on the stack while the steps run.
+pub(super) fn reserved_height(steps: &[FlatStep<'_>]) -> usize
+    requires { leaves_one (steps_of steps.now) 0 ≡ true }
+    ensures { result ≡ greatest_height (steps_of steps.now) 0 }
+{
+    let mut height = 0usize;
+    let mut greatest = 0usize;
+    for step in steps {
+        match step {
+            FlatStep::Leaf(_) => height += 1,
+            FlatStep::Not => {}
+            FlatStep::And | FlatStep::Or => height -= 1,
+        }
+        greatest = greatest.max(height);
+    }
+    greatest
+}

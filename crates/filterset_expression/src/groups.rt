@@ -1,0 +1,26 @@
+//! Lookups of the groups of tests.
+ghost use Rattle.std.specs.Prelude.{◌↔◌, IfOk, IsTrue};
+ghost use Rattle.filterset_matchers.specs.Matchers.{matcher_of};
+
+use crate::TestQuery;
+use filterset_matchers::NameMatcher;
+use std::alloc::{AllocError, Global};
+use std::fmt::Debug;
+
+/// Tells which tests are in which groups.
+pub trait GroupLookup: Debug {
+    ghost use Rattle.filterset_expression.specs.Expression.{Lookup};
+
+    /// What the lookup says: of which tests a matcher hits the group.
+    ghost hits_group: { Self → Lookup };
+
+    /// Whether the matcher hits the group of the test. It is an error only for want of memory.
+    fn is_member_test(
+        &self,
+        alloc: Global,
+        test: &TestQuery<'_>,
+        matcher: &NameMatcher,
+    ) -> Result<bool, AllocError>
+        ensures { IfOk result (λ answer.
+            IsTrue answer ↔ hits_group self.now test.now (matcher_of matcher.now)) };
+}

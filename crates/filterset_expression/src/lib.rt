@@ -1,0 +1,19 @@
+//! Compiled expressions: their leaves, what they are asked, and what they answer of binaries and tests.
+#![tactic(auto)]
+
+mod context;
+mod equality;
+mod expression;
+mod flat;
+mod groups;
+mod leaves;
+mod logic;
+mod query;
+
+pub use context::EvalContext;
+pub use expression::CompiledExpr;
+pub use flat::{FlatExpr, FlatStep};
+pub use groups::GroupLookup;
+pub use leaves::FiltersetLeaf;
+pub use logic::Logic;
+pub use query::{BinaryQuery, TestQuery};

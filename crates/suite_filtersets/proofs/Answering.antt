@@ -1,0 +1,50 @@
+-- Answers that are compared with a wanted one.
+use Rattle.std.proofs.Common.{◌≡◌, ◌↔◌, ℕ, List, Bool, true, false, IsTrue, Option, Some, None, refl, subst}
+use Rattle.std.specs.Option.{option_eq}
+use Rattle.std.specs.Prelude.{string_bytes}
+use Rattle.std.proofs.Math.Bool.{beq}
+use Rattle.std.proofs.lemmas.Bool.{false≢true}
+use Rattle.filterset_matchers.specs.Matcher.{Hits}
+use Rattle.filterset_expression.specs.Expression.{Holds, IsDefinite, IsUndecided}
+use Rattle.filterset_expression.specs.declared.expression.CompiledExpr.{CompiledExpr}
+use Rattle.filterset_expression.specs.declared.query.BinaryQuery.{BinaryQuery}
+use Rattle.filterset_expression.specs.declared.query.TestQuery.{TestQuery}
+use Rattle.suite_filtersets.specs.Asking.{group_of, Tells}
+use Rattle.suite_rows.specs.declared.asked.TestRow.{TestRow}
+
+-- a right answer is the wanted one exactly where the wanted one is right
+pub is_wanted : (answer wanted : Bool) (P : Type 0) → IsTrue answer ↔ P → IsTrue (beq answer wanted) ↔ (IsTrue wanted ↔ P)
+is_wanted true true P e = (λ same. e, λ right. refl)
+is_wanted true false P e = (λ same. absurd (false≢true same), λ right. absurd (false≢true (right.1 (e.0 refl))))
+is_wanted false true P e = (λ same. absurd (false≢true same), λ right. absurd (false≢true (e.1 (right.0 refl))))
+is_wanted false false P e = (λ same. e, λ right. refl)
+
+-- two answers that are right of one thing
+pub both_right : (answer other : Bool) (P Q : Type 0) → IsTrue answer ↔ P → IsTrue answer ↔ Q → IsTrue other ↔ Q → IsTrue other ↔ P
+both_right answer other P Q p q r = (λ yes. p.0 (q.1 (r.0 yes)), λ held. r.1 (q.0 (p.1 held)))
+
+-- what is known of the test's name and group is what its row says
+pub in_known_group : (answer : Bool) (e default : CompiledExpr) (query : TestQuery) (test : TestRow) (name group : List ℕ) → name ≡ test.name → group ≡ string_bytes test.group
+    → IsTrue answer ↔ Holds e query default (λ q matcher. (q.test_name.now ≡ name) × Hits matcher group)
+    → IsTrue answer ↔ Holds e query default (group_of test)
+in_known_group answer e default query test name group n g h =
+    subst (λ (x : List ℕ). IsTrue answer ↔ Holds e query default (λ q matcher. (q.test_name.now ≡ x) × Hits matcher (string_bytes test.group))) n
+    (subst (λ (x : List ℕ). IsTrue answer ↔ Holds e query default (λ q matcher. (q.test_name.now ≡ name) × Hits matcher x)) g h)
+
+same_answer : (a b : Option Bool) → IsTrue (option_eq beq a b) ↔ (a ≡ b)
+same_answer None None = (λ same. refl, λ same. refl)
+same_answer None (Some y) = (λ same. absurd (false≢true same), λ same. absurd (cc))
+same_answer (Some x) None = (λ same. absurd (false≢true same), λ same. absurd (cc))
+same_answer (Some true) (Some true) = (λ same. refl, λ same. refl)
+same_answer (Some false) (Some false) = (λ same. refl, λ same. refl)
+same_answer (Some true) (Some false) = (λ same. absurd (false≢true same), λ same. absurd (cc))
+same_answer (Some false) (Some true) = (λ same. absurd (false≢true same), λ same. absurd (cc))
+
+-- an answer that is told of the binary is the wanted one exactly where the wanted one is told
+pub is_told : (answer wanted : Option Bool) (e default : CompiledExpr) (query : BinaryQuery)
+    → ((b : Bool) → (answer ≡ Some b) ↔ IsDefinite e query default b) → (answer ≡ None) ↔ IsUndecided e query default
+    → IsTrue (option_eq beq answer wanted) ↔ Tells e query default wanted
+is_told answer (Some b) e default query definite undecided =
+    let same = same_answer answer (Some b) in let own = definite b in (λ yes. own.0 (same.0 yes), λ told. same.1 (own.1 told))
+is_told answer None e default query definite undecided =
+    let same = same_answer answer None in (λ yes. undecided.0 (same.0 yes), λ told. same.1 (undecided.1 told))

@@ -1,0 +1,130 @@
+//! Asking a filterset of binaries and tests, by its own calls and by those of its steps.
+ghost use Rattle.std.specs.Prelude.{◌≡◌, ◌↔◌, IfOk, IsTrue};
+ghost use Rattle.filterset_expression.specs.Contexts.{default_of};
+ghost use Rattle.filterset_expression.specs.Expression.{Holds};
+ghost use Rattle.filterset_expression.specs.declared.query.BinaryQuery.{BinaryQuery};
+ghost use Rattle.filterset_expression.specs.declared.query.TestQuery.{TestQuery};
+ghost use Rattle.suite_filtersets.specs.Asking.{group_of, IsAbout, IsAboutBinary, Tells};
+
+use crate::lookup::KnownTest;
+use crate::queries::{binary_query, test_query};
+use nextest_filtering::{EvalContext, Filterset, FlatExpr, FlatStep, TestQuery};
+use std::alloc::{AllocError, Global};
+use suite_rows::{BinaryRow, TestRow};
+
+/// A filterset, the list of its steps, and the default filter under which it is asked.
+#[derive(Drop)]
+pub struct Asked<'a> {
+    filterset: &'a Filterset,
+    flat: FlatExpr<'a>,
+    cx: EvalContext<'a>,
+}
+
+impl<'a> Asked<'a> {
+    ghost use Rattle.suite_filtersets.specs.Kept.{HasItsSteps};
+
+    /// The filterset under the default filter of the context.
+    ///
+    /// Errors: want of memory alone.
+    pub fn new(
+        alloc: Global,
+        filterset: &'a Filterset,
+        cx: EvalContext<'a>,
+    ) -> Result<Asked<'a>, AllocError>
+        ensures kept { IfOk result HasItsSteps }
+        ensures filterset { IfOk result (λ asked. asked.filterset.now ≡ filterset.now) }
+        ensures default { IfOk result (λ asked. default_of asked.cx ≡ default_of cx.entry) }
+    {
+        let flat = FlatExpr::new(alloc, &filterset.compiled, &cx)?;
+        Ok(Asked {
+            filterset,
+            flat,
+            cx,
+        })
+    }
+
+    /// The text of the filterset.
+    pub fn text(&self) -> &str {
+        self.filterset.input.as_str()
+    }
+
+    /// The steps.
+    pub fn steps(&self) -> &[FlatStep<'a>] {
+        self.flat.steps()
+    }
+
+    /// Whether the wanted answer is what the filterset tells of the binary, and both calls give it.
+    ///
+    /// Errors: want of memory alone.
+    pub fn is_told(
+        &self,
+        alloc: Global,
+        binary: &BinaryRow,
+        wanted: Option<bool>,
+    ) -> Result<bool, AllocError>
+        requires { HasItsSteps self.now }
+        ensures { IfOk result (λ yes. (query : BinaryQuery) × IsAboutBinary query binary.now
+            × (IsTrue yes ↔ Tells self.now.filterset.now.compiled query (default_of self.now.cx) wanted)) }
+    {
+        let query = binary_query(binary);
+        let own = self.filterset.matches_binary(alloc, &query, &self.cx)?;
+        let kept = self.flat.matches_binary(alloc, &query)?;
+        Ok(own == wanted && kept == wanted)
+    }
+
+    /// Whether the wanted answer is right of the test in its group, and all calls give it.
+    ///
+    /// Errors: want of memory alone.
+    pub fn is_held(&self, alloc: Global, test: &TestRow, wanted: bool) -> Result<bool, AllocError>
+        requires { HasItsSteps self.now }
+        ensures { IfOk result (λ yes. (query : TestQuery) × IsAbout query test.now × (IsTrue yes ↔ (IsTrue wanted
+            ↔ Holds self.now.filterset.now.compiled query (default_of self.now.cx) (group_of test.now)))) }
+    {
+        let query = test_query(test);
+        let own = self.own_calls_give(alloc, &query, test, wanted)?;
+        let kept = self.kept_calls_give(alloc, &query, test, wanted)?;
+        Ok(own && kept)
+    }
+
+    /// The same of the filterset's own calls: the one that takes no lookup is asked where it may be.
+    fn own_calls_give(
+        &self,
+        alloc: Global,
+        query: &TestQuery<'_>,
+        test: &TestRow,
+        wanted: bool,
+    ) -> Result<bool, AllocError>
+        ensures { IfOk result (λ yes. IsTrue yes ↔ (IsTrue wanted
+            ↔ Holds self.now.filterset.now.compiled query.now (default_of self.now.cx) (group_of test.now))) }
+    {
+        let known = KnownTest::new(test);
+        let filterset = self.filterset;
+        let answer = filterset.matches_test_with_groups(alloc, query, &self.cx, &known)?;
+        if filterset.compiled.has_group_matchers() {
+            return Ok(answer == wanted);
+        }
+        let ungrouped = filterset.matches_test(alloc, query, &self.cx)?;
+        Ok(answer == wanted && ungrouped == wanted)
+    }
+
+    /// The same of the calls of its steps.
+    fn kept_calls_give(
+        &self,
+        alloc: Global,
+        query: &TestQuery<'_>,
+        test: &TestRow,
+        wanted: bool,
+    ) -> Result<bool, AllocError>
+        requires { HasItsSteps self.now }
+        ensures { IfOk result (λ yes. IsTrue yes ↔ (IsTrue wanted
+            ↔ Holds self.now.filterset.now.compiled query.now (default_of self.now.cx) (group_of test.now))) }
+    {
+        let known = KnownTest::new(test);
+        let answer = self.flat.matches_test_with_groups(alloc, query, &known)?;
+        if self.flat.has_group_matchers() {
+            return Ok(answer == wanted);
+        }
+        let ungrouped = self.flat.matches_test(alloc, query)?;
+        Ok(answer == wanted && ungrouped == wanted)
+    }
+}

@@ -1,0 +1,44 @@
+//! What is known of the groups of tests.
+ghost use Rattle.std.specs.Prelude.{◌≡◌, string_bytes};
+ghost use Rattle.filterset_matchers.specs.Matcher.{Hits};
+
+use nextest_filtering::{GroupLookup, NameMatcher, TestCaseName, TestQuery};
+use std::alloc::{AllocError, Global};
+use suite_rows::TestRow;
+
+/// Knows the group of the tests that have one name, and of no others.
+#[derive(Clone, Copy, Debug)]
+pub struct KnownTest<'a> {
+    name: &'a TestCaseName,
+    group: &'a str,
+}
+
+impl<'a> KnownTest<'a> {
+    /// The test of the row, and its group.
+    pub fn new(test: &'a TestRow) -> KnownTest<'a>
+        ensures name { result.name.now ≡ test.now.name }
+        ensures group { result.group.now ≡ string_bytes test.now.group }
+    {
+        KnownTest {
+            name: &test.name,
+            group: test.group.as_str(),
+        }
+    }
+}
+
+impl GroupLookup for KnownTest<'_> {
+    ghost hits_group = { λ known query matcher.
+        (query.test_name.now ≡ known.name.now) × Hits matcher known.group.now };
+
+    fn is_member_test(
+        &self,
+        alloc: Global,
+        test: &TestQuery<'_>,
+        matcher: &NameMatcher,
+    ) -> Result<bool, AllocError> {
+        if test.test_name != self.name {
+            return Ok(false);
+        }
+        matcher.is_match(alloc, self.group)
+    }
+}
