@@ -11,7 +11,7 @@ use Rattle.filterset_language.specs.Parsing.Words.{not_at, name_at, joiner_at, o
 use Rattle.filterset_language.specs.Tree.{Joiner, Not, Union, Join, Parens, tree_leaves}
 use Rattle.filterset_language.specs.Patterns.{PatternsAreRead}
 use Rattle.filterset_language.specs.Parsed.{LiesOnBody}
-use Rattle.filterset_language.specs.Parsing.Descent.{Placed, Reader, operand_at, or_level_by, level_by, join, unite}
+use Rattle.filterset_language.specs.Parsing.Descent.{Placed, Reader, Next, Make, operand_at, or_level_by, level_by, join, unite}
 use Rattle.filterset_language.specs.Parsing.Recovery.{Recovers, Checked, joined, NoOperand}
 use Rattle.filterset_language.specs.Parsing.Outcome.{Faults, GivesTree, fails, Going}
 use Rattle.filterset_language.proofs.ReadingSteps.{less, negation_step, parens_step, nothing_step}
@@ -42,6 +42,10 @@ nothing_gives text n p s q f g v nothing lt = fails lt (sym (nothing_step n p s 
 -- the same of a text that is equal
 pub tree_along : (t u : List ℕ) (f g : Faults) (v : Option Placed) (q : Place) (r : Option (Placed × Place)) → t ≡ u → GivesTree t f g v q r → GivesTree u f g v q r
 tree_along t u f g v q r same a = subst (λ (x : List ℕ). GivesTree x f g v q r) same a
+
+pub going_along : {O : Type 0} (next : Next O) (make : Make O) (read : Reader) (t u : List ℕ) (f g : Faults) (left : Option Placed) (p : Place) (total : Option (Placed × Place)) → t ≡ u
+    → Going next make PatternsAreRead (LiesOnBody t) f g left p read total → Going next make PatternsAreRead (LiesOnBody u) f g left p read total
+going_along next make read t u f g left p total same a = subst (λ (x : List ℕ). Going next make PatternsAreRead (LiesOnBody x) f g left p read total) same a
 
 -- ---- the loops over the operators of the two levels
 

@@ -1,18 +1,19 @@
 -- What a reader says whose patterns may be refused: the reading takes each pattern as it is spelled, whatever `regex`
 -- says of it, and the reader gives no value where one of them was refused.
-use Rattle.std.specs.Prelude.{◌≡◌, ℕ, ◌+◌, ◌<◌, ◌≤◌, List, ◌++◌, length, All, Option, None, Some, Box, Result, IfOk}
+use Rattle.std.specs.Prelude.{◌≡◌, ℕ, suc, ◌+◌, ◌<◌, ◌≤◌, List, ◌++◌, length, All, Option, None, Some, Box, Result, IfOk, codes}
 use Rattle.std.specs.Option.{option_map}
 use Rattle.filterset_language.specs.Text.{Body}
-use Rattle.filterset_language.specs.Parsing.Place.{Place, place_of}
+use Rattle.filterset_language.specs.Parsing.Place.{Place, place_of, after, skip}
 use Rattle.filterset_matchers.specs.Matcher.{Matcher, Regex}
-use Rattle.filterset_language.specs.Tree.{Leaf, Set, leaf_of}
+use Rattle.filterset_language.specs.Tree.{Leaf, Set, Not, Parens, leaf_of}
 use Rattle.filterset_language.specs.Patterns.{MatcherIsRead, LeafIsRead, PatternsAreRead}
 use Rattle.filterset_language.specs.Faults.{piece}
 use Rattle.filterset_language.specs.Parsed.{LiesOnBody}
-use Rattle.filterset_language.specs.Parsing.Descent.{Placed, Reader, Next, Make, more, boxed_tree}
-use Rattle.filterset_language.specs.Parsing.Recovery.{FaultList}
+use Rattle.filterset_language.specs.Parsing.Descent.{Placed, Reader, Next, Make, more, boxed_tree, operand_at, or_level_by}
+use Rattle.filterset_language.specs.Parsing.Recovery.{FaultList, Recovers}
 use Rattle.filterset_language.specs.declared.parsing.input.Input.{Input}
 use Rattle.filterset_language.specs.declared.parsing.input.Read.{Read}
+use Rattle.filterset_language.specs.declared.tree.NotOperator.{NotOperator}
 use Rattle.filterset_language.specs.declared.tree.ParsedExpr.{ParsedExpr}
 use Rattle.filterset_language.specs.declared.tree.ParsedLeaf.{ParsedLeaf}
 use Rattle.filterset_matchers.specs.Matchers.{matcher_of}
@@ -102,3 +103,31 @@ abbrev pub ReadsSet : {A E : Type 0}
 ReadsSet input old new result read =
     IfOk result (λ r. GivesTree input.text.now old.items new.items
     (option_map boxed_tree r.value) (place_of r.end) (read (place_of input)))
+
+-- The negation of what reading gives of an operand.
+abbrev pub ReadsNegation : {A E : Type 0}
+    → NotOperator → Input → FaultList → FaultList → Result (Read (Box (ParsedExpr SourceSpan) A)) E → Type 0
+ReadsNegation op input old new result =
+    IfOk result (λ r. (v : Option Placed) × (option_map boxed_tree r.value ≡ option_map (λ t. Not op t) v)
+    × ((n : ℕ) → length input.rest.now ≤ n
+    → GivesTree input.text.now old.items new.items v (place_of r.end) (operand_at (suc n) (place_of input))))
+
+-- What reading gives of an expression, in parentheses, of which the closing one was read behind it.
+abbrev pub ReadsParens : {A E : Type 0}
+    → Input → FaultList → FaultList → Result (Read (Box (ParsedExpr SourceSpan) A)) E → Type 0
+ReadsParens input old new result =
+    IfOk result (λ r. (v : Option Placed) × (q : Place) × (between : Faults)
+    × (option_map boxed_tree r.value ≡ option_map (λ t. Parens t) v)
+    × ((n : ℕ) → length input.rest.now ≤ n
+    → GivesTree input.text.now old.items between v q (or_level_by (operand_at (suc n)) (place_of input)))
+    × Recovers between new.items (Some (place_of r.end)) (after (codes ")") (skip q)))
+
+-- Behind the first operand of a level: what comes is what reading gives from the first one on.
+abbrev pub ReadsOn : {O A E : Type 0}
+    → Next O → Make O → (ℕ → Reader) → Read (Box (ParsedExpr SourceSpan) A) → FaultList → FaultList
+    → Result (Read (Box (ParsedExpr SourceSpan) A)) E → Type 0
+ReadsOn next make read first old new result =
+    IfOk result (λ r. (n : ℕ) (before : Faults) (total : Option (Placed × Place)) → length first.end.rest.now ≤ n
+    → Going next make PatternsAreRead (LiesOnBody first.end.text.now) before old.items
+    (option_map boxed_tree first.value) (place_of first.end) (read n) total
+    → GivesTree first.end.text.now before new.items (option_map boxed_tree r.value) (place_of r.end) total)

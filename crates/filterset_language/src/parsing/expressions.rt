@@ -6,7 +6,7 @@ ghost use Rattle.filterset_language.specs.Parsing.Place.{place_of, IsBehind, IsA
 ghost use Rattle.filterset_language.specs.Parsing.Words.{joiner_at, or_at};
 ghost use Rattle.filterset_language.specs.Parsing.Descent.{boxed_tree, operand_at, and_level_by, or_level_by, join, unite, set_at};
 ghost use Rattle.filterset_language.specs.Parsing.Recovery.{StillStand, GoesOn, EndsBehind, joined, Checked, AtOperand, AtName, NoOperand};
-ghost use Rattle.filterset_language.specs.Parsing.Outcome.{ReadsTree, ReadsSet};
+ghost use Rattle.filterset_language.specs.Parsing.Outcome.{ReadsTree, ReadsSet, ReadsNegation, ReadsParens, ReadsOn};
 
 use crate::parsing::input::{Input, Read};
 use crate::parsing::misplaced::{find_misplaced, find_misplaced_not};
@@ -18,6 +18,9 @@ use filterset_faults::ParseSingleError;
 use std::alloc::{AllocError, Global};
 
 /// A leaf, a negation or parentheses.
+///
+/// The readers of expressions call each other, so each keeps what it holds apart from the others: an expression that
+/// nests takes the room of their frames at each level.
 #[cycle(parser)]
 fn read_operand<'a>(
     alloc: Global,
@@ -34,20 +37,70 @@ fn read_operand<'a>(
         return read_set(alloc, faults, name, start, rest);
     }
     if let Some((operator, rest)) = read_not(start) {
-        let operand = read_operand(alloc, faults, rest)?;
-        return Ok(Read {
-            value: negate(alloc, operator, operand.value)?,
-            end: operand.end,
-        });
+        return read_negation(alloc, faults, operator, rest);
     }
     if let Some(rest) = start.after("(") {
-        let inner = read_or_level(alloc, faults, rest)?;
-        let rest = read_close(faults, inner.end)?;
-        return Ok(Read {
-            value: enclose(alloc, inner.value)?,
-            end: rest,
-        });
+        return read_parens(alloc, faults, rest);
     }
+    read_nothing(faults, input, start)
+}
+
+/// The negation of the operand behind the operator.
+#[cycle(parser)]
+#[inline(never)]
+fn read_negation<'a>(
+    alloc: Global,
+    faults: &mut Vec<ParseSingleError>,
+    operator: NotOperator,
+    input: Input<'a>,
+) -> Result<Read<'a, Box<ParsedExpr>>, AllocError>
+    requires { AtOperand input }
+    ensures value { ReadsNegation operator input.entry faults.old faults.new result }
+    ensures stand { StillStand input.entry faults.old faults.new result }
+    ensures behind { EndsBehind input.entry result }
+{
+    let operand = read_operand(alloc, faults, input)?;
+    Ok(Read {
+        value: negate(alloc, operator, operand.value)?,
+        end: operand.end,
+    })
+}
+
+/// An expression behind an opening parenthesis, and the closing one.
+#[cycle(parser)]
+#[inline(never)]
+fn read_parens<'a>(
+    alloc: Global,
+    faults: &mut Vec<ParseSingleError>,
+    input: Input<'a>,
+) -> Result<Read<'a, Box<ParsedExpr>>, AllocError>
+    requires { AtOperand input }
+    ensures value { ReadsParens input.entry faults.old faults.new result }
+    ensures stand { StillStand input.entry faults.old faults.new result }
+    ensures behind { EndsBehind input.entry result }
+{
+    let inner = read_or_level(alloc, faults, input)?;
+    let end = read_close(faults, inner.end)?;
+    Ok(Read {
+        value: enclose(alloc, inner.value)?,
+        end,
+    })
+}
+
+/// No operand: what stands in its place is reported.
+#[inline(never)]
+fn read_nothing<'a>(
+    faults: &mut Vec<ParseSingleError>,
+    input: Input<'a>,
+    start: Input<'a>,
+) -> Result<Read<'a, Box<ParsedExpr>>, AllocError>
+    requires at { AtOperand input }
+    requires nothing { NoOperand (place_of input) (place_of start) }
+    requires start { IsAtOrBehind input start }
+    ensures more { IfOk result (λ r. length faults.old.items < length faults.new.items) }
+    ensures stand { StillStand input.entry faults.old faults.new result }
+    ensures behind { EndsBehind input.entry result }
+{
     Ok(Read {
         value: None,
         end: report_no_operand(faults, input, start)?,
@@ -100,7 +153,23 @@ fn read_and_level<'a>(
     ensures stand { StillStand input.entry faults.old faults.new result }
     ensures behind { EndsBehind input.entry result }
 {
-    let mut level = read_operand(alloc, faults, input)?;
+    let first = read_operand(alloc, faults, input)?;
+    read_and_rest(alloc, faults, first)
+}
+
+/// Operands of the level of `and` behind the first one.
+#[cycle(parser)]
+#[inline(never)]
+fn read_and_rest<'a>(
+    alloc: Global,
+    faults: &mut Vec<ParseSingleError>,
+    first: Read<'a, Box<ParsedExpr>>,
+) -> Result<Read<'a, Box<ParsedExpr>>, AllocError>
+    ensures value { ReadsOn joiner_at join (λ n. operand_at (suc n)) first.entry faults.old faults.new result }
+    ensures stand { StillStand first.entry.end faults.old faults.new result }
+    ensures behind { EndsBehind first.entry.end result }
+{
+    let mut level = first;
     loop {
         let start = level.end.skip_blanks();
         let Some((joiner, rest)) = read_joiner(start) else {
@@ -130,7 +199,23 @@ pub fn read_or_level<'a>(
     ensures stand { StillStand input.entry faults.old faults.new result }
     ensures behind { EndsBehind input.entry result }
 {
-    let mut level = read_and_level(alloc, faults, input)?;
+    let first = read_and_level(alloc, faults, input)?;
+    read_or_rest(alloc, faults, first)
+}
+
+/// Operands of the level of `or` behind the first one.
+#[cycle(parser)]
+#[inline(never)]
+fn read_or_rest<'a>(
+    alloc: Global,
+    faults: &mut Vec<ParseSingleError>,
+    first: Read<'a, Box<ParsedExpr>>,
+) -> Result<Read<'a, Box<ParsedExpr>>, AllocError>
+    ensures value { ReadsOn or_at unite (λ n. and_level_by (operand_at (suc n))) first.entry faults.old faults.new result }
+    ensures stand { StillStand first.entry.end faults.old faults.new result }
+    ensures behind { EndsBehind first.entry.end result }
+{
+    let mut level = first;
     loop {
         let start = level.end.skip_blanks();
         let Some((operator, rest)) = read_or(start) else {
