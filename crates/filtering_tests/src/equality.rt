@@ -7,7 +7,7 @@ use nextest_filtering::{
     BinaryQuery, BuildPlatform, CompiledExpr, Filterset, FiltersetLeaf, GenericGlob, NameMatcher,
     PackageId, PatternRegex, RustBinaryId, RustTestBinaryKind, SourceSpan, TestCaseName, TestQuery,
 };
-use std::alloc::Global;
+use std::alloc::{AllocError, Global};
 use std::collections::BTreeSet;
 use std::process::Abort;
 use std::rc::Rc;
@@ -241,7 +241,7 @@ fn filtersets_are_equal_in_all_they_hold(rt: HostRuntime) -> Result<(), Fail> {
 
 /// What a question is made of.
 #[derive(Drop)]
-struct Parts {
+pub struct Parts {
     package: PackageId,
     id: RustBinaryId,
     binary: String,
@@ -252,7 +252,11 @@ struct Parts {
 
 impl Parts {
     /// The texts, in the order of the fields, and the platform.
-    fn new(alloc: Global, texts: [&str; 5], platform: BuildPlatform) -> Result<Parts, Fail> {
+    pub fn new(
+        alloc: Global,
+        texts: [&str; 5],
+        platform: BuildPlatform,
+    ) -> Result<Parts, AllocError> {
         let [package, id, binary, kind, test] = texts;
         Ok(Parts {
             package: PackageId::new(String::from_str(alloc, package)?),
@@ -264,7 +268,7 @@ impl Parts {
         })
     }
 
-    fn query(&self) -> TestQuery<'_> {
+    pub fn query(&self) -> TestQuery<'_> {
         TestQuery {
             binary_query: BinaryQuery {
                 package_id: &self.package,

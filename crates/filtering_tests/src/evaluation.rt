@@ -62,9 +62,9 @@ fn three_values_answer_by_their_tables(rt: HostRuntime) {
 
 /// Knows one group, and one test that is in it.
 #[derive(Debug, Drop)]
-struct OneMember {
-    test: &'static str,
-    group: &'static str,
+pub struct OneMember {
+    pub test: &'static str,
+    pub group: &'static str,
 }
 
 impl GroupLookup for OneMember {
@@ -86,7 +86,7 @@ impl GroupLookup for OneMember {
 
 /// Has no memory for an answer.
 #[derive(Debug, Drop)]
-struct Refusing;
+pub struct Refusing;
 
 impl GroupLookup for Refusing {
     ghost hits_group = { λ known. no_groups };

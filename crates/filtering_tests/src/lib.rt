@@ -17,4 +17,6 @@ mod judging;
 #[cfg(test)]
 mod matchers;
 #[cfg(test)]
+mod memory;
+#[cfg(test)]
 mod support;

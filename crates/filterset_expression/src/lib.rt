@@ -6,6 +6,7 @@ mod equality;
 mod expression;
 mod flat;
 mod groups;
+pub mod laws;
 mod leaves;
 mod logic;
 mod query;

@@ -92,7 +92,7 @@ pub enum ParseSingleError {
     /// An argument of `platform` that is neither `host` nor `target`.
     #[error("invalid argument for platform")]
     InvalidPlatformArgument(SourceSpan),
-    /// A predicate that is read but not compiled yet.
+    /// A predicate that cannot be compiled. It is never made, since every predicate is compiled.
     #[error("unsupported expression")]
     UnsupportedExpression(SourceSpan),
     /// Never made.

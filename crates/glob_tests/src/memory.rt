@@ -4,7 +4,8 @@ use filterset_glob::{GenericGlob, GlobConstructError, GlobRefusal};
 use std::alloc::{AllocError, Global};
 use std::process::Abort;
 
-/// Whether a copy of the glob gives this many copies of the piece the wanted answer.
+/// Whether a copy of the glob gives this many copies of the piece the wanted answer. Both are what they were then,
+/// whatever came of the question.
 fn is_right(
     alloc: Global,
     pattern: &str,
@@ -19,7 +20,9 @@ fn is_right(
     match GenericGlob::new(alloc, String::from_str(alloc, pattern)?) {
         Ok(glob) => {
             let copy = glob.try_clone(alloc)?;
-            is_answer(alloc, &copy, text.as_str(), wanted)
+            let said = is_answer(alloc, &copy, text.as_str(), wanted);
+            let is_kept = copy == glob && copy.as_str() == pattern && glob.as_str() == pattern;
+            if is_kept { said } else { Ok(false) }
         }
         Err(GlobRefusal::Fault(_)) => Ok(false),
         Err(GlobRefusal::OutOfMemory(e)) => Err(e),
@@ -89,4 +92,20 @@ fn groups_or_wants_memory(rt: HostRuntime) {
     answers_or_wants(&rt, "{*ab,{a*,}b}{a,ab}*", "ab", 20, true);
     answers_or_wants(&rt, "{*ab,{a*,}b}{a,ab}*", "ab", 100, true);
     answers_or_wants(&rt, "{*ab,{a*,}b}c", "ab", 20, false);
+}
+
+/// Twelve times `{*a,*a}`.
+const TWELVE: &str =
+    "{*a,*a}{*a,*a}{*a,*a}{*a,*a}{*a,*a}{*a,*a}{*a,*a}{*a,*a}{*a,*a}{*a,*a}{*a,*a}{*a,*a}";
+
+#[test]
+fn twelve_groups_or_wants_memory(rt: HostRuntime) {
+    answers_or_wants(
+        &rt,
+        TWELVE,
+        "aaaaaaaaaaaaaaaaaaaaaaaaaaaaaaaaaaaaaaab",
+        1,
+        false,
+    );
+    answers_or_wants(&rt, TWELVE, "a", 70, true);
 }

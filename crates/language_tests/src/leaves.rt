@@ -60,19 +60,53 @@ fn predicates_match_by_a_text_of_their_own(rt: HostRuntime) {
     }
 }
 
+/// The tree of a text without faults, or none where memory is wanting.
+fn tree_of(rt: &(impl AllocGlobal + Abort), text: &str) -> Option<ParsedExpr> {
+    match ParsedExpr::parse_with_faults(rt.alloc(), text) {
+        Ok(parsed) => {
+            assert!(rt; parsed.faults.is_empty() && parsed.tree.is_some(), "{text}");
+            parsed.tree
+        }
+        Err(AllocError) => None,
+    }
+}
+
+/// Whether the calls answered that read a tree and list the predicates of it that only a test decides. The tree is then
+/// what it was.
+fn lists_runtime_only_leaves(rt: &(impl AllocGlobal + Abort)) -> bool {
+    let text = "default() and group(x) and package(nope)";
+    let (Some(tree), Some(again)) = (tree_of(rt, text), tree_of(rt, text)) else {
+        return false;
+    };
+    let whole = match tree.runtime_only_leaves(rt.alloc()) {
+        Ok(leaves) => {
+            assert!(rt; leaves.len() == 2);
+            assert!(rt;
+                leaves
+                    .first()
+                    .is_some_and(|leaf| matches!(leaf, ParsedLeaf::Default(_)))
+            );
+            assert!(rt;
+                leaves
+                    .last()
+                    .is_some_and(|leaf| matches!(leaf, ParsedLeaf::Group(..)))
+            );
+            true
+        }
+        Err(AllocError) => false,
+    };
+    assert!(rt; tree == again);
+    whole
+}
+
 #[test]
 fn runtime_only_leaves_or_wants_memory(rt: HostRuntime) {
-    let alloc = rt.alloc();
-    let text = "test(a) or not group(b) - default()";
-    if let Ok(parsed) = ParsedExpr::parse_with_faults(alloc, text) {
-        assert!(rt; parsed.faults.is_empty());
-        assert!(rt; parsed.tree.is_some());
-        if let Some(tree) = &parsed.tree {
-            if let Ok(leaves) = tree.runtime_only_leaves(alloc) {
-                assert!(rt; leaves.len() == 3);
-            }
-        }
-    }
+    let _ = lists_runtime_only_leaves(&rt);
+}
+
+#[test]
+fn runtime_only_leaves_are_listed(rt: HostRuntime) {
+    assert!(rt; lists_runtime_only_leaves(&rt));
 }
 
 /// What the reference text holds of a predicate.

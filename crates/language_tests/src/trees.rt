@@ -1,5 +1,7 @@
 //! Want of memory where texts are read: each call gives its tree or its faults, or says that memory is wanting.
-use nextest_filtering::ParsedExpr;
+use nextest_filtering::{ParseSingleError, ParseStop, ParsedExpr, SourceSpan};
+use std::alloc::AllocError;
+use std::process::Abort;
 
 /// A text with each predicate, each matcher and each operator.
 const WHOLE: &str =
@@ -27,4 +29,38 @@ fn fault_list_or_wants_memory(rt: HostRuntime) {
         assert!(rt; parsed.tree.is_none());
         assert!(rt; parsed.faults.len() == 8);
     }
+}
+
+/// Whether both calls that read a text answered: that it has these two faults and no tree.
+fn has_no_tree(rt: &(impl AllocGlobal + Abort)) -> bool {
+    let text = "all) + package(/not) - deps(expr none)";
+    let wanted = [
+        ParseSingleError::ExpectedOpenParenthesis(SourceSpan::new(3, 0)),
+        ParseSingleError::ExpectedCloseRegex(SourceSpan::new(19, 0)),
+    ];
+    let lenient = match ParsedExpr::parse(rt.alloc(), text) {
+        Ok(_) => panic!(rt; "there is a tree"),
+        Err(ParseStop::Faults(found)) => {
+            assert!(rt; found.as_slice() == wanted.as_slice());
+            true
+        }
+        Err(ParseStop::OutOfMemory(AllocError)) => false,
+    };
+    match ParsedExpr::parse_with_faults(rt.alloc(), text) {
+        Ok(parsed) => {
+            assert!(rt; parsed.tree.is_none() && parsed.faults.as_slice() == wanted.as_slice());
+            lenient
+        }
+        Err(AllocError) => false,
+    }
+}
+
+#[test]
+fn text_without_tree_or_wants_memory(rt: HostRuntime) {
+    let _ = has_no_tree(&rt);
+}
+
+#[test]
+fn text_without_tree_has_its_faults(rt: HostRuntime) {
+    assert!(rt; has_no_tree(&rt));
 }

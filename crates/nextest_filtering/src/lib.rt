@@ -3,6 +3,7 @@
 
 mod compile;
 mod filterset;
+pub mod laws;
 
 pub use compile::{KnownGroups, ParseContext};
 pub use filterset::{Filterset, ParseRefusal};
@@ -22,6 +23,6 @@ pub use filterset_graph::{
 };
 pub use filterset_language::{
     AndOperator, DifferenceOperator, FILTERSET_REFERENCE_MD, NotOperator, OrOperator, ParseStop,
-    Parsed, ParsedExpr, ParsedLeaf, laws,
+    Parsed, ParsedExpr, ParsedLeaf,
 };
 pub use filterset_matchers::{NameMatcher, PatternMatcher, PatternRefusal, PatternRegex};

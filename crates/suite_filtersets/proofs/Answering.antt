@@ -1,6 +1,5 @@
 -- Answers that are compared with a wanted one.
 use Rattle.std.proofs.Common.{◌≡◌, ◌↔◌, ℕ, List, Bool, true, false, IsTrue, Option, Some, None, refl, subst}
-use Rattle.std.specs.Option.{option_eq}
 use Rattle.std.specs.Prelude.{string_bytes}
 use Rattle.std.proofs.Math.Bool.{beq}
 use Rattle.std.proofs.lemmas.Bool.{false≢true}
@@ -31,20 +30,9 @@ in_known_group answer e default query test name group n g h =
     subst (λ (x : List ℕ). IsTrue answer ↔ Holds e query default (λ q matcher. (q.test_name.now ≡ x) × Hits matcher (string_bytes test.group))) n
     (subst (λ (x : List ℕ). IsTrue answer ↔ Holds e query default (λ q matcher. (q.test_name.now ≡ name) × Hits matcher x)) g h)
 
-same_answer : (a b : Option Bool) → IsTrue (option_eq beq a b) ↔ (a ≡ b)
-same_answer None None = (λ same. refl, λ same. refl)
-same_answer None (Some y) = (λ same. absurd (false≢true same), λ same. absurd (cc))
-same_answer (Some x) None = (λ same. absurd (false≢true same), λ same. absurd (cc))
-same_answer (Some true) (Some true) = (λ same. refl, λ same. refl)
-same_answer (Some false) (Some false) = (λ same. refl, λ same. refl)
-same_answer (Some true) (Some false) = (λ same. absurd (false≢true same), λ same. absurd (cc))
-same_answer (Some false) (Some true) = (λ same. absurd (false≢true same), λ same. absurd (cc))
-
 -- an answer that is told of the binary is the wanted one exactly where the wanted one is told
 pub is_told : (answer wanted : Option Bool) (e default : CompiledExpr) (query : BinaryQuery)
     → ((b : Bool) → (answer ≡ Some b) ↔ IsDefinite e query default b) → (answer ≡ None) ↔ IsUndecided e query default
-    → IsTrue (option_eq beq answer wanted) ↔ Tells e query default wanted
-is_told answer (Some b) e default query definite undecided =
-    let same = same_answer answer (Some b) in let own = definite b in (λ yes. own.0 (same.0 yes), λ told. same.1 (own.1 told))
-is_told answer None e default query definite undecided =
-    let same = same_answer answer None in (λ yes. undecided.0 (same.0 yes), λ told. same.1 (undecided.1 told))
+    → (answer ≡ wanted) ↔ Tells e query default wanted
+is_told answer (Some b) e default query definite undecided = definite b
+is_told answer None e default query definite undecided = undecided

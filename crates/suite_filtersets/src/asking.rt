@@ -69,7 +69,7 @@ impl<'a> Asked<'a> {
         let query = binary_query(binary);
         let own = self.filterset.matches_binary(alloc, &query, &self.cx)?;
         let kept = self.flat.matches_binary(alloc, &query)?;
-        Ok(own == wanted && kept == wanted)
+        Ok(both_are(own, kept, wanted))
     }
 
     /// Whether the wanted answer is right of the test in its group, and all calls give it.
@@ -127,4 +127,11 @@ impl<'a> Asked<'a> {
         let ungrouped = self.flat.matches_test(alloc, query)?;
         Ok(answer == wanted && ungrouped == wanted)
     }
+}
+
+/// Whether both answers are the wanted one.
+fn both_are(own: Option<bool>, kept: Option<bool>, wanted: Option<bool>) -> bool
+    ensures { IsTrue result ↔ (own ≡ wanted) × (kept ≡ wanted) }
+{
+    own == wanted && kept == wanted
 }

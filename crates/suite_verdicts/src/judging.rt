@@ -67,6 +67,7 @@ pub fn is_fault(found: &ParseSingleError, row: &FaultRow) -> bool
 }
 
 /// Whether these are the faults of the rows, in their order, and no others.
+#[tactic(auto, using(crate::proofs::AsMany::as_many))]
 pub fn are_faults(found: &[ParseSingleError], rows: &[FaultRow]) -> bool
     ensures { IsTrue result ↔ AreFaultsOf found.now rows.now }
 {

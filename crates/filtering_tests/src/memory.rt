@@ -1,0 +1,457 @@
+//! Want of memory over workspaces: each call gives the answer that it gives where there is memory, or says in its own
+//! form that memory is wanting, and what it was lent is what it was.
+//!
+//! Calls stand in two tests: one passes where a call wants memory, and one does not.
+use crate::equality::Parts;
+use crate::evaluation::{OneMember, Refusing};
+use crate::support::{FOUR, Failure, Row, id, packages};
+use nextest_filtering::{
+    BuildPlatform, BuildTarget, BuildTargetId, CompiledExpr, DependsRefusal, EvalContext,
+    Filterset, FiltersetKind, FiltersetLeaf, FiltersetParseErrors, FlatExpr, FlatStep,
+    GraphRefusal, KnownGroups, NameMatcher, PackageGraph, PackageMetadata, ParseContext,
+    ParseRefusal, ParseSingleError, ParsedLeaf, SourceSpan,
+};
+use std::alloc::{AllocError, Global};
+use std::collections::HashSet;
+use std::fmt::Debug;
+use std::process::Abort;
+use std::test::Fail;
+
+/// Whether the call answered. Its answer is then the wanted one.
+fn answers<T: PartialEq + Debug + Drop>(
+    rt: &impl Abort,
+    said: Result<T, AllocError>,
+    wanted: &T,
+) -> bool {
+    match said {
+        Ok(said) => {
+            assert!(rt; said == *wanted, "{said:?}");
+            true
+        }
+        Err(AllocError) => false,
+    }
+}
+
+/// A workspace in which each package has a library of its name.
+const CRATES: [Row<'static>; 7] = [
+    ("crate_a", true, &[]),
+    ("crate_b", true, &[]),
+    ("crate_c", true, &["crate_a"]),
+    ("crate_d", true, &["crate_b", "crate_c"]),
+    ("crate_e", true, &["crate_d"]),
+    ("crate_f", true, &["crate_d"]),
+    ("crate_g", true, &["crate_e"]),
+];
+
+/// The graph of these packages, with a library of its name in each.
+fn with_libraries(alloc: Global, rows: &[Row<'_>]) -> Result<PackageGraph, Failure> {
+    let mut all = packages(alloc, rows)?;
+    for package in &mut all {
+        let name = String::from_str(alloc, package.name.as_str())?;
+        package.build_targets.push(BuildTarget {
+            id: BuildTargetId::Library,
+            name,
+        })?;
+    }
+    Ok(PackageGraph::new(alloc, all)?)
+}
+
+/// Whether a package is still the one of its row.
+fn is_of_row(package: &PackageMetadata, row: &Row<'_>) -> bool {
+    let (name, in_workspace, links) = *row;
+    let is_named = package.name() == name && package.id().repr() == name;
+    is_named
+        && package.in_workspace == in_workspace
+        && package.links.len() == links.len()
+        && (package.links.iter().zip(links)).all(|(link, name)| link.repr() == *name)
+        && (package.build_targets.iter()).all(|target| target.name.as_str() == name)
+}
+
+/// Whether a graph is still the one of these rows.
+fn is_of_rows(graph: &PackageGraph, rows: &[Row<'_>]) -> bool {
+    let found = graph.packages();
+    found.len() == rows.len() && (found.iter().zip(rows)).all(|(it, row)| is_of_row(it, row))
+}
+
+/// The graph of these rows, or none where memory is wanting.
+fn graph_of(rt: &(impl AllocGlobal + Abort), rows: &[Row<'_>]) -> Option<PackageGraph> {
+    match with_libraries(rt.alloc(), rows) {
+        Ok(graph) => {
+            assert!(rt; is_of_rows(&graph, rows));
+            Some(graph)
+        }
+        Err(Failure::Memory(AllocError))
+        | Err(Failure::Graph(GraphRefusal::OutOfMemory(AllocError))) => None,
+        Err(failure) => panic!(rt; "{failure:?}"),
+    }
+}
+
+/// What is read of a text: a filterset where no fault is wanted, and else a refusal for these. None where memory is
+/// wanting. The text comes back in each case.
+fn read(
+    rt: &(impl AllocGlobal + Abort),
+    cx: &ParseContext<'_>,
+    text: &str,
+    faults: &[ParseSingleError],
+) -> Option<Result<Filterset, FiltersetParseErrors>> {
+    let alloc = rt.alloc();
+    let known_groups = KnownGroups::Known {
+        custom_groups: HashSet::new(alloc),
+    };
+    let Ok(input) = String::from_str(alloc, text) else {
+        return None;
+    };
+    match Filterset::parse(alloc, input, cx, FiltersetKind::Test, &known_groups) {
+        Ok(filterset) => {
+            assert!(rt;
+                faults.is_empty() && filterset.input.as_str() == text,
+                "{text}"
+            );
+            Some(Ok(filterset))
+        }
+        Err(ParseRefusal::Faults(found)) => {
+            assert!(rt;
+                !faults.is_empty() && found.errors.as_slice() == faults,
+                "{text}"
+            );
+            assert!(rt; found.input.as_str() == text, "{text}");
+            Some(Err(found))
+        }
+        Err(ParseRefusal::OutOfMemory { input }) => {
+            assert!(rt; input.as_str() == text, "{text}");
+            None
+        }
+    }
+}
+
+/// Whether the graph told from one package whether it depends on another.
+fn depends(
+    rt: &(impl AllocGlobal + Abort),
+    graph: &PackageGraph,
+    from: &str,
+    to: &str,
+    wanted: Option<bool>,
+) -> bool {
+    let alloc = rt.alloc();
+    let (Ok(one), Ok(other)) = (id(alloc, from), id(alloc, to)) else {
+        return false;
+    };
+    match graph.depends_on(alloc, &one, &other) {
+        Ok(said) => assert!(rt; wanted == Some(said), "{from} and {to}"),
+        Err(DependsRefusal::UnknownPackage) => assert!(rt; wanted.is_none(), "{from} and {to}"),
+        Err(DependsRefusal::OutOfMemory(AllocError)) => return false,
+    }
+    assert!(rt; one.repr() == from && other.repr() == to);
+    true
+}
+
+/// Whether each call over the graph of four packages answered.
+fn asks_four_packages(rt: &(impl AllocGlobal + Abort)) -> bool {
+    let Some(graph) = graph_of(rt, &FOUR) else {
+        return false;
+    };
+    let mut whole = depends(rt, &graph, "a", "x", Some(false));
+    whole &= depends(rt, &graph, "c", "b", Some(true));
+    whole &= depends(rt, &graph, "a", "zz", None);
+    match ParseContext::new(rt.alloc(), &graph) {
+        Ok(cx) => {
+            assert!(rt; is_of_rows(cx.graph(), &FOUR));
+            let outside = [ParseSingleError::NoPackageMatch(SourceSpan::new(8, 1))];
+            whole &= read(rt, &cx, "deps(a)", &[]).is_some();
+            whole &= read(rt, &cx, "package(x)", &outside).is_some();
+        }
+        Err(AllocError) => whole = false,
+    }
+    assert!(rt; is_of_rows(&graph, &FOUR));
+    whole
+}
+
+#[test]
+fn four_packages_or_wants_memory(rt: HostRuntime) {
+    let _ = asks_four_packages(&rt);
+}
+
+#[test]
+fn four_packages_are_told(rt: HostRuntime) {
+    assert!(rt; asks_four_packages(&rt));
+}
+
+/// Whether each call that matches answered of this test: those of the filterset, of its expression, and of its
+/// steps.
+fn matches(
+    rt: &(impl AllocGlobal + Abort),
+    filterset: &Filterset,
+    asked: &Parts,
+    of_binary: Option<bool>,
+    of_test: bool,
+) -> bool {
+    let (alloc, all) = (rt.alloc(), CompiledExpr::ALL);
+    let (cx, query) = (EvalContext::new(&all), asked.query());
+    let groups = OneMember {
+        test: "x",
+        group: "@global",
+    };
+    let compiled = &filterset.compiled;
+    let said = filterset.matches_binary(alloc, &query.binary_query, &cx);
+    let mut whole = answers(rt, said, &of_binary);
+    let said = filterset.matches_test_with_groups(alloc, &query, &cx, &groups);
+    whole &= answers(rt, said, &of_test);
+    if !compiled.has_group_matchers() {
+        whole &= answers(rt, compiled.matches_test(alloc, &query, &cx), &of_test);
+    }
+    let Ok(flat) = FlatExpr::new(alloc, compiled, &cx) else {
+        return false;
+    };
+    let said = flat.matches_binary(alloc, &query.binary_query);
+    whole &= answers(rt, said, &of_binary);
+    let said = flat.matches_test_with_groups(alloc, &query, &groups);
+    whole &= answers(rt, said, &of_test);
+    if !flat.has_group_matchers() {
+        whole &= answers(rt, flat.matches_test(alloc, &query), &of_test);
+    }
+    whole
+}
+
+/// Filtersets over the workspace, and of some tests what is known of the binary that holds the test, and whether the
+/// filterset holds of the test.
+const MIXED: &str =
+    "binary(crate_a) + !platform(target) + kind(bench) + (package(~_a) & (!test(/foo/) | kind(bin)))";
+
+const GROUPED: &str = "group(@global)";
+
+type Told = ([&'static str; 5], BuildPlatform, Option<bool>, bool);
+
+const OF_MIXED: [Told; 7] = [
+    (
+        ["crate_a", "crate_a", "crate_a", "lib", "foo"],
+        BuildPlatform::Target,
+        Some(true),
+        true,
+    ),
+    (
+        ["crate_b", "crate_b", "bar", "lib", "foo"],
+        BuildPlatform::Host,
+        Some(true),
+        true,
+    ),
+    (
+        ["crate_a", "crate_a::bin/x", "x", "bin", "foo"],
+        BuildPlatform::Target,
+        Some(true),
+        true,
+    ),
+    (
+        ["crate_a", "crate_a", "x", "lib", "foo"],
+        BuildPlatform::Target,
+        None,
+        false,
+    ),
+    (
+        ["crate_a", "crate_a", "x", "lib", "bar"],
+        BuildPlatform::Target,
+        None,
+        true,
+    ),
+    (
+        ["crate_b", "crate_b", "bar", "lib", "bar"],
+        BuildPlatform::Target,
+        Some(false),
+        false,
+    ),
+    (
+        ["crate_b", "crate_b::bench/baz", "baz", "bench", "foo"],
+        BuildPlatform::Target,
+        Some(true),
+        true,
+    ),
+];
+
+const OF_GROUPED: [Told; 2] = [
+    (
+        ["crate_a", "crate_a", "crate_a", "lib", "x"],
+        BuildPlatform::Host,
+        None,
+        true,
+    ),
+    (
+        ["crate_a", "crate_a", "crate_a", "lib", "y"],
+        BuildPlatform::Host,
+        None,
+        false,
+    ),
+];
+
+/// Whether each call answered that reads this filterset over the workspace and asks it of these tests.
+fn asks_filterset(rt: &(impl AllocGlobal + Abort), text: &str, rows: &[Told]) -> bool {
+    let Some(graph) = graph_of(rt, &CRATES) else {
+        return false;
+    };
+    let Ok(cx) = ParseContext::new(rt.alloc(), &graph) else {
+        return false;
+    };
+    let (Some(Ok(one)), Some(Ok(other))) = (read(rt, &cx, text, &[]), read(rt, &cx, text, &[]))
+    else {
+        return false;
+    };
+    let mut whole = true;
+    for (texts, platform, of_binary, of_test) in rows {
+        match Parts::new(rt.alloc(), *texts, *platform) {
+            Ok(asked) => whole &= matches(rt, &one, &asked, *of_binary, *of_test),
+            Err(AllocError) => whole = false,
+        }
+    }
+    assert!(rt; one == other && is_of_rows(&graph, &CRATES));
+    whole
+}
+
+#[test]
+fn mixed_filterset_or_wants_memory(rt: HostRuntime) {
+    let _ = asks_filterset(&rt, MIXED, &OF_MIXED);
+}
+
+#[test]
+fn grouped_filterset_or_wants_memory(rt: HostRuntime) {
+    let _ = asks_filterset(&rt, GROUPED, &OF_GROUPED);
+}
+
+#[test]
+fn filtersets_are_asked(rt: HostRuntime) {
+    assert!(rt; asks_filterset(&rt, MIXED, &OF_MIXED));
+    assert!(rt; asks_filterset(&rt, GROUPED, &OF_GROUPED));
+}
+
+/// Whether each copy of a matcher, and of its glob, was made.
+fn copies_matcher(rt: &(impl AllocGlobal + Abort), matcher: &NameMatcher) -> bool {
+    let alloc = rt.alloc();
+    let whole = answers(rt, matcher.try_clone(alloc), matcher);
+    match matcher {
+        NameMatcher::Glob { glob, .. } => answers(rt, glob.try_clone(alloc), glob) && whole,
+        _ => whole,
+    }
+}
+
+/// Whether each copy of a leaf of a tree, and of what it holds, was made.
+fn copies_leaf(rt: &(impl AllocGlobal + Abort), leaf: &ParsedLeaf) -> bool {
+    let whole = answers(rt, leaf.try_clone(rt.alloc()), leaf);
+    match leaf {
+        ParsedLeaf::Package(matcher, _)
+        | ParsedLeaf::Kind(matcher, _)
+        | ParsedLeaf::Binary(matcher, _)
+        | ParsedLeaf::Test(matcher, _) => copies_matcher(rt, matcher) && whole,
+        _ => whole,
+    }
+}
+
+/// Whether each copy of a step's leaf, and of the ids that it holds, was made.
+fn copies_step(rt: &(impl AllocGlobal + Abort), step: &FlatStep<'_>) -> bool {
+    let FlatStep::Leaf(leaf) = step else {
+        return true;
+    };
+    let mut whole = answers(rt, leaf.try_clone(rt.alloc()), leaf);
+    if let FiltersetLeaf::Packages(ids) = leaf {
+        for id in ids {
+            whole &= answers(rt, id.try_clone(rt.alloc()), id);
+        }
+    }
+    whole
+}
+
+/// Whether each copy of what a filterset holds was made.
+fn copies_filterset(rt: &(impl AllocGlobal + Abort), filterset: &Filterset) -> bool {
+    let (alloc, all) = (rt.alloc(), CompiledExpr::ALL);
+    let (tree, expr) = (&filterset.parsed, &filterset.compiled);
+    let mut whole = answers(rt, filterset.try_clone(alloc), filterset);
+    whole &= answers(rt, tree.try_clone(alloc), tree);
+    whole &= answers(rt, expr.try_clone(alloc), expr);
+    let Ok(leaves) = tree.leaves_where(alloc, |_| true) else {
+        return false;
+    };
+    whole &= (leaves.iter()).all(|leaf| copies_leaf(rt, leaf));
+    let Ok(flat) = FlatExpr::new(alloc, expr, &EvalContext::new(&all)) else {
+        return false;
+    };
+    assert!(rt; leaves.len() == 6 && flat.steps().len() == 13);
+    whole && (flat.steps().iter()).all(|step| copies_step(rt, step))
+}
+
+/// Whether each copy of a refusal, and of its faults, was made.
+fn copies_refusal(rt: &(impl AllocGlobal + Abort), refusal: &FiltersetParseErrors) -> bool {
+    let alloc = rt.alloc();
+    let mut whole = true;
+    for fault in &refusal.errors {
+        whole &= answers(rt, fault.try_clone(alloc), fault);
+    }
+    match refusal.try_clone(alloc) {
+        Ok(copy) => {
+            assert!(rt; copy.input == refusal.input && copy.errors == refusal.errors);
+            whole
+        }
+        Err(AllocError) => false,
+    }
+}
+
+/// Texts that are refused, and their faults.
+const ESCAPED: &str = r"package(foobar\$\#\@baz)";
+
+const UNCLOSED: &str = "all) + package(/not) - deps(expr none)";
+
+/// Whether each call answered that reads texts over the workspace, and copies what was read.
+fn copies(rt: &(impl AllocGlobal + Abort)) -> bool {
+    let Some(graph) = graph_of(rt, &CRATES) else {
+        return false;
+    };
+    let Ok(cx) = ParseContext::new(rt.alloc(), &graph) else {
+        return false;
+    };
+    let escapes = [14, 16, 18].map(|offset| ParseSingleError::InvalidEscapeCharacter(
+        SourceSpan::new(offset, 2),
+    ));
+    let unclosed = [
+        ParseSingleError::ExpectedOpenParenthesis(SourceSpan::new(3, 0)),
+        ParseSingleError::ExpectedCloseRegex(SourceSpan::new(19, 0)),
+    ];
+    let mut whole = true;
+    for (text, faults) in [
+        (MIXED, [].as_slice()),
+        (ESCAPED, escapes.as_slice()),
+        (UNCLOSED, unclosed.as_slice()),
+    ] {
+        whole &= match read(rt, &cx, text, faults) {
+            Some(Ok(filterset)) => copies_filterset(rt, &filterset),
+            Some(Err(refusal)) => copies_refusal(rt, &refusal),
+            None => false,
+        };
+    }
+    whole
+}
+
+#[test]
+fn copies_or_wants_memory(rt: HostRuntime) {
+    let _ = copies(&rt);
+}
+
+#[test]
+fn copies_are_made(rt: HostRuntime) {
+    assert!(rt; copies(&rt));
+}
+
+#[test]
+fn want_of_memory_of_a_lookup_is_the_answer_of_a_filterset(rt: HostRuntime) -> Result<(), Fail> {
+    let alloc = rt.alloc();
+    let all = CompiledExpr::ALL;
+    let cx = EvalContext::new(&all);
+    let graph = with_libraries(alloc, &CRATES).ok().ok_or("no graph")?;
+    let mut custom_groups = HashSet::new(alloc);
+    custom_groups.insert(String::from_str(alloc, "a")?)?;
+    let known = KnownGroups::Known { custom_groups };
+    let asked = Parts::new(alloc, ["p", "p", "p", "lib", "x"], BuildPlatform::Host)?;
+    for (text, wanted) in [("group(a)", Err(AllocError)), ("all()", Ok(true))] {
+        let input = String::from_str(alloc, text)?;
+        let context = ParseContext::new(alloc, &graph)?;
+        let read = Filterset::parse(alloc, input, &context, FiltersetKind::Test, &known);
+        let filterset = read.ok().ok_or("refused")?;
+        let said = filterset.matches_test_with_groups(alloc, &asked.query(), &cx, &Refusing);
+        assert!(rt; said == wanted, "{text}: {said:?}");
+    }
+    Ok(())
+}

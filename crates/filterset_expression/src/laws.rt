@@ -1,0 +1,40 @@
+//! Laws of what filtersets mean: each stands in the contract of a function that gives nothing and takes no memory.
+ghost use Rattle.std.specs.Prelude.{◌↔◌, Bool, IsTrue, List};
+ghost use Rattle.filterset_faults.specs.declared.span.SourceSpan.{SourceSpan};
+ghost use Rattle.filterset_graph.specs.declared.package.PackageMetadata.{PackageMetadata};
+ghost use Rattle.filterset_language.specs.Tree.{Tree, Join, Not, Parens};
+ghost use Rattle.filterset_language.specs.declared.tree.AndOperator.{AndOperator};
+ghost use Rattle.filterset_language.specs.declared.tree.DifferenceOperator.{DifferenceOperator};
+ghost use Rattle.filterset_language.specs.declared.tree.Joiner.TheVariants.{Both, Without};
+ghost use Rattle.filterset_language.specs.declared.tree.NotOperator.{NotOperator};
+ghost use Rattle.filterset_matchers.specs.Matcher.{Matcher};
+ghost use Rattle.filterset_expression.specs.BinaryMeaning.{PossibleOfTree};
+ghost use Rattle.filterset_expression.specs.Meaning.{Meaning};
+ghost use Rattle.filterset_expression.specs.declared.expression.CompiledExpr.{CompiledExpr};
+ghost use Rattle.filterset_expression.specs.declared.query.BinaryQuery.{BinaryQuery};
+ghost use Rattle.filterset_expression.specs.declared.query.TestQuery.{TestQuery};
+
+/// `a - b` says of each test, and may say of each binary, what `a and not b` does, whatever the operators are spelled as.
+pub fn difference_is_and_not()
+    ensures tests { (packages : List PackageMetadata) (test : TestQuery) (default : CompiledExpr)
+        (lookup : TestQuery → Matcher → Bool) (minus : DifferenceOperator) (and : AndOperator) (not : NotOperator)
+        (a b : Tree SourceSpan)
+        → Meaning (Join (Without minus) a b) packages test default (λ t m. IsTrue (lookup t m))
+        ↔ Meaning (Join (Both and) a (Not not b)) packages test default (λ t m. IsTrue (lookup t m)) }
+    ensures binaries { (packages : List PackageMetadata) (binary : BinaryQuery) (default : CompiledExpr)
+        (minus : DifferenceOperator) (and : AndOperator) (not : NotOperator) (a b : Tree SourceSpan) (value : Bool)
+        → PossibleOfTree (Join (Without minus) a b) packages binary default value
+        ↔ PossibleOfTree (Join (Both and) a (Not not b)) packages binary default value }
+{}
+
+/// Parentheses change nothing of what is said of a test, or may be said of a binary.
+pub fn parens_change_nothing()
+    ensures tests { (packages : List PackageMetadata) (test : TestQuery) (default : CompiledExpr)
+        (lookup : TestQuery → Matcher → Bool) (e : Tree SourceSpan)
+        → Meaning (Parens e) packages test default (λ t m. IsTrue (lookup t m))
+        ↔ Meaning e packages test default (λ t m. IsTrue (lookup t m)) }
+    ensures binaries { (packages : List PackageMetadata) (binary : BinaryQuery) (default : CompiledExpr)
+        (e : Tree SourceSpan) (value : Bool)
+        → PossibleOfTree (Parens e) packages binary default value
+        ↔ PossibleOfTree e packages binary default value }
+{}
