@@ -159,6 +159,7 @@ fn joined(alloc: Global, word: &str, exprs: &mut Vec<CompiledExpr>) -> Result<Co
     Ok(match word {
         "or" => CompiledExpr::Union(left, right),
         "and" => CompiledExpr::Intersection(left, right),
+        "xor" => CompiledExpr::SymmetricDifference(left, right),
         _ => return Err("no such connective")?,
     })
 }
@@ -170,7 +171,7 @@ fn operand(alloc: Global, exprs: &mut Vec<CompiledExpr>) -> Result<Box<CompiledE
 }
 
 /// Expressions of which no two are equal.
-const EXPRESSIONS: [&str; 13] = [
+const EXPRESSIONS: [&str; 17] = [
     "all",
     "none",
     "all not",
@@ -183,6 +184,10 @@ const EXPRESSIONS: [&str; 13] = [
     "all none and",
     "none none and",
     "all all and",
+    "all none xor",
+    "none none xor",
+    "none all xor",
+    "all all xor",
     "all none or not",
 ];
 

@@ -12,9 +12,9 @@ use std::alloc::{AllocError, Global};
 use std::process::Abort;
 use std::test::Fail;
 
-/// What a logic makes of two values: both, either, and the negation of the first.
-fn connectives<L: Logic>(a: L, b: L) -> (L, L, L) {
-    (a.logic_and(b), a.logic_or(b), a.logic_not())
+/// What a logic makes of two values: both, either, the negation of the first, and exactly one.
+fn connectives<L: Logic>(a: L, b: L) -> (L, L, L, L) {
+    (a.logic_and(b), a.logic_or(b), a.logic_not(), a.logic_xor(b))
 }
 
 /// True and false of a logic.
@@ -25,14 +25,14 @@ fn constants<L: Logic>() -> (L, L) {
 #[test]
 fn two_values_answer_by_their_tables(rt: HostRuntime) {
     assert!(rt; constants::<bool>() == (true, false));
-    for (a, b, both, either, negation) in [
-        (true, true, true, true, false),
-        (true, false, false, true, false),
-        (false, true, false, true, true),
-        (false, false, false, false, true),
+    for (a, b, both, either, negation, one) in [
+        (true, true, true, true, false, false),
+        (true, false, false, true, false, true),
+        (false, true, false, true, true, true),
+        (false, false, false, false, true, false),
     ] {
         assert!(rt;
-            connectives(a, b) == (both, either, negation),
+            connectives(a, b) == (both, either, negation, one),
             "{a} and {b}"
         );
     }
@@ -42,19 +42,19 @@ fn two_values_answer_by_their_tables(rt: HostRuntime) {
 fn three_values_answer_by_their_tables(rt: HostRuntime) {
     let (yes, no, unknown) = (Some(true), Some(false), None);
     assert!(rt; constants::<Option<bool>>() == (yes, no));
-    for (a, b, both, either, negation) in [
-        (yes, yes, yes, yes, no),
-        (yes, unknown, unknown, yes, no),
-        (yes, no, no, yes, no),
-        (unknown, yes, unknown, yes, unknown),
-        (unknown, unknown, unknown, unknown, unknown),
-        (unknown, no, no, unknown, unknown),
-        (no, yes, no, yes, yes),
-        (no, unknown, no, unknown, yes),
-        (no, no, no, no, yes),
+    for (a, b, both, either, negation, one) in [
+        (yes, yes, yes, yes, no, no),
+        (yes, unknown, unknown, yes, no, unknown),
+        (yes, no, no, yes, no, yes),
+        (unknown, yes, unknown, yes, unknown, unknown),
+        (unknown, unknown, unknown, unknown, unknown, unknown),
+        (unknown, no, no, unknown, unknown, unknown),
+        (no, yes, no, yes, yes, yes),
+        (no, unknown, no, unknown, yes, unknown),
+        (no, no, no, no, yes, no),
     ] {
         assert!(rt;
-            connectives(a, b) == (both, either, negation),
+            connectives(a, b) == (both, either, negation, one),
             "{a:?} and {b:?}"
         );
     }
@@ -159,6 +159,53 @@ fn want_of_memory_of_a_lookup_is_the_answer(rt: HostRuntime) -> Result<(), Fail>
     assert!(rt; of_group == [Err(AllocError), Err(AllocError)]);
     let of_all = answers(alloc, &CompiledExpr::ALL, "x", &Refusing)?;
     assert!(rt; of_all == [Ok(true), Ok(true)]);
+    Ok(())
+}
+
+/// A side of a symmetric difference: all tests, none, those that are in a group, and those of them that are in none.
+fn side(alloc: Global, name: &str) -> Result<Box<CompiledExpr>, AllocError> {
+    let none = CompiledExpr::Set(FiltersetLeaf::None);
+    let expr = match name {
+        "all" => CompiledExpr::ALL,
+        "none" => none,
+        "group" => group(alloc, "serial")?,
+        _ => {
+            let member = Box::new(alloc, group(alloc, "serial")?)?;
+            CompiledExpr::Intersection(member, Box::new(alloc, none)?)
+        }
+    };
+    Ok(Box::new(alloc, expr)?)
+}
+
+/// What a binary tells of an expression, by its own call and by its steps.
+fn told(alloc: Global, expr: &CompiledExpr) -> Result<[Option<bool>; 2], AllocError> {
+    let all = CompiledExpr::ALL;
+    let cx = EvalContext::new(&all);
+    let asked = Asked::new(alloc, "x")?;
+    let query = asked.query();
+    let flat = FlatExpr::new(alloc, expr, &cx)?;
+    let own = expr.matches_binary(alloc, &query.binary_query, &cx)?;
+    Ok([own, flat.matches_binary(alloc, &query.binary_query)?])
+}
+
+#[test]
+fn symmetric_differences_are_known_where_both_sides_are(rt: HostRuntime) -> Result<(), Fail> {
+    let alloc = rt.alloc();
+    for (left, right, answer) in [
+        ("all", "none", Some(true)),
+        ("none", "none", Some(false)),
+        ("all", "all", Some(false)),
+        ("group", "all", None),
+        ("none", "group", None),
+        ("group", "group", None),
+        ("settled", "all", Some(true)),
+        ("none", "settled", Some(false)),
+        ("settled", "group", None),
+    ] {
+        let left_side = side(alloc, left)?;
+        let expr = CompiledExpr::SymmetricDifference(left_side, side(alloc, right)?);
+        assert!(rt; told(alloc, &expr)? == [answer, answer], "{left} ^ {right}");
+    }
     Ok(())
 }
 

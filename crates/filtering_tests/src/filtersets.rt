@@ -253,6 +253,11 @@ fn both(alloc: Global, a: bool, b: bool) -> Result<CompiledExpr, Fail> {
     Ok(CompiledExpr::Intersection(left, Box::new(alloc, constant(b))?))
 }
 
+fn exactly_one(alloc: Global, a: bool, b: bool) -> Result<CompiledExpr, Fail> {
+    let left = Box::new(alloc, constant(a))?;
+    Ok(CompiledExpr::SymmetricDifference(left, Box::new(alloc, constant(b))?))
+}
+
 #[test]
 fn connectives_answer_by_their_tables(rt: HostRuntime) -> Result<(), Fail> {
     let alloc = rt.alloc();
@@ -262,6 +267,8 @@ fn connectives_answer_by_their_tables(rt: HostRuntime) -> Result<(), Fail> {
         assert!(rt; said == (a || b), "{a} or {b}");
         let said = holds(&rt, alloc, &both(alloc, a, b)?, "x", &all)?;
         assert!(rt; said == (a && b), "{a} and {b}");
+        let said = holds(&rt, alloc, &exactly_one(alloc, a, b)?, "x", &all)?;
+        assert!(rt; said == (a != b), "{a} or {b}, and not both");
         let expr = both(alloc, a, b)?;
         let copy = expr.try_clone(alloc)?;
         assert!(rt; copy == expr, "{a} and {b}");

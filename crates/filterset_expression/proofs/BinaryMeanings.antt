@@ -10,13 +10,13 @@ use Rattle.filterset_matchers.specs.Matcher.{Hits}
 use Rattle.filterset_expression.specs.BinaryMeaning.{EitherLeaf, OfTree, OfDefault, tree_leaf_with_default, tree_with_default, is_of_test_predicate, is_either_of_test, MeansOfBinary, EitherOfBinary, PossibleOfTree, IsDefiniteTree, IsUndecidedTree, TellsTheSame}
 use Rattle.filterset_expression.specs.Expression as compiled
 use Rattle.filterset_expression.specs.Expression.{CompiledLeaf, formula, is_of_test, leaf_with_default, with_default, HoldsOfBinary, Possible, IsDefinite, IsUndecided}
-use Rattle.filterset_expression.specs.Formula.{Formula, Leaf, Negation, Disjunction, Conjunction, replaced, SameShape}
+use Rattle.filterset_expression.specs.Formula.{Formula, Leaf, Negation, Disjunction, Conjunction, ExclusiveDisjunction, replaced, SameShape}
 use Rattle.filterset_expression.specs.Meaning.{tree_formula, IsCompiledLeaf, IsCompiled}
 use Rattle.filterset_expression.specs.Values.{occurrences, TrueUnder, CanBe}
 use Rattle.filterset_expression.specs.declared.expression.CompiledExpr.{CompiledExpr}
 use Rattle.filterset_expression.specs.declared.query.BinaryQuery.{BinaryQuery}
 use Rattle.filterset_expression.proofs.Meanings.{alike, alike_at}
-use Rattle.filterset_expression.proofs.Shapes.{both_or}
+use Rattle.filterset_expression.proofs.Shapes.{both_or, both_xor}
 
 match_alike : (b : Bool) (X P Q : Type 0) → P ↔ Q → MatchBool b X P ↔ MatchBool b X Q
 match_alike true X P Q e = alike X
@@ -30,6 +30,8 @@ module _ {A B : Type 0} (R : A → B → Type 0) (is_asked : A → Bool) (is_ask
   same_occurrences (Disjunction f f') (Disjunction g g') s =
       let e = same_occurrences f g s.0 in let k = same_occurrences f' g' s.1 in cc
   same_occurrences (Conjunction f f') (Conjunction g g') s =
+      let e = same_occurrences f g s.0 in let k = same_occurrences f' g' s.1 in cc
+  same_occurrences (ExclusiveDisjunction f f') (ExclusiveDisjunction g g') s =
       let e = same_occurrences f g s.0 in let k = same_occurrences f' g' s.1 in cc
   same_occurrences _ _ s = absurd s
 
@@ -48,6 +50,8 @@ module _ {A B : Type 0} (R : A → B → Type 0) (is_asked : A → Bool) (is_ask
       let e = same_under f g s.0 (take (occurrences is_asked' g) answers) in
       let k = same_under f' g' s.1 (drop (occurrences is_asked' g) answers) in
       rw (counts f g s.0) (λ p. (e.0 p.0, k.0 p.1), λ q. (e.1 q.0, k.1 q.1))
+  same_under (ExclusiveDisjunction f f') (ExclusiveDisjunction g g') s answers =
+      rw (counts f g s.0) (both_xor _ _ _ _ (same_under f g s.0 (take (occurrences is_asked' g) answers)) (same_under f' g' s.1 (drop (occurrences is_asked' g) answers)))
   same_under _ _ s answers = absurd s
 
   -- so they take the same values
@@ -65,6 +69,8 @@ same_replaced R S at at' each (Disjunction f f') (Disjunction g g') s =
     (same_replaced R S at at' each f g s.0, same_replaced R S at at' each f' g' s.1)
 same_replaced R S at at' each (Conjunction f f') (Conjunction g g') s =
     (same_replaced R S at at' each f g s.0, same_replaced R S at at' each f' g' s.1)
+same_replaced R S at at' each (ExclusiveDisjunction f f') (ExclusiveDisjunction g g') s =
+    (same_replaced R S at at' each f g s.0, same_replaced R S at at' each f' g' s.1)
 same_replaced R S at at' each _ _ s = absurd s
 
 module _ (packages : List PackageMetadata) where
@@ -78,6 +84,7 @@ module _ (packages : List PackageMetadata) where
   same_default (Negation f) = same_default f
   same_default (Disjunction f g) = (same_default f, same_default g)
   same_default (Conjunction f g) = (same_default f, same_default g)
+  same_default (ExclusiveDisjunction f g) = (same_default f, same_default g)
 
   same_leaf : (default : CompiledExpr) (l : tree.Leaf SourceSpan) (c : CompiledLeaf) → IsCompiledLeaf packages l c → SameShape Same (tree_leaf_with_default default l) (leaf_with_default default c)
   same_leaf default (Matching Package m s) (compiled.Packages ids) are = are

@@ -6,11 +6,11 @@ use Rattle.std.proofs.Math.Seq.{take-append_seam, drop-append_seam}
 use Rattle.std.specs.Bool.{IsTrue, MatchBool, one_answer}
 use Rattle.std.specs.Prelude.{IsSomeAnd}
 use Rattle.filterset_expression.specs.Folds.{Folds, Settles}
-use Rattle.filterset_expression.specs.Formula.{Formula, Leaf, Negation, Disjunction, Conjunction, TrueWhere}
-use Rattle.filterset_expression.specs.Logics.{kleene_not, kleene_or, kleene_and}
+use Rattle.filterset_expression.specs.Formula.{Formula, Leaf, Negation, Disjunction, Conjunction, ExclusiveDisjunction, TrueWhere}
+use Rattle.filterset_expression.specs.Logics.{exclusive_or, kleene_not, kleene_or, kleene_and, kleene_xor}
 use Rattle.filterset_expression.specs.Values.{occurrences, TrueUnder, CanBe, IsAlways, IsOpen}
-use Rattle.filterset_expression.proofs.Folding.{decides_not, decides_or, decides_and}
-use Rattle.filterset_expression.proofs.Shapes.{both_or}
+use Rattle.filterset_expression.proofs.Folding.{decides_not, decides_or, decides_and, decides_xor}
+use Rattle.filterset_expression.proofs.Shapes.{both_or, both_xor, turned}
 
 module _ {A : Type 0} (is_asked : A → Bool) (holds : A → Type 0) where
   -- what a value of three says of the values that the formula takes
@@ -43,12 +43,25 @@ module _ {A : Type 0} (is_asked : A → Bool) (holds : A → Type 0) where
   and_can_be f g a b p q =
       (p.0 ++ q.0, both_lengths f g p.0 q.0 p.1 q.1, rw (cut_front _ p.0 q.0 p.1, cut_back _ p.0 q.0 p.1) (decides_and a b _ _ p.2 q.2))
 
+  xor_can_be : (f g : Formula A) (a b : Bool) → CanBe is_asked holds f a → CanBe is_asked holds g b → CanBe is_asked holds (ExclusiveDisjunction f g) (exclusive_or a b)
+  xor_can_be f g a b p q =
+      (p.0 ++ q.0, both_lengths f g p.0 q.0 p.1 q.1, rw (cut_front _ p.0 q.0 p.1, cut_back _ p.0 q.0 p.1) (decides_xor a b _ _ p.2 q.2))
+
   -- the answers to the two sides
   front_length : (f g : Formula A) (answers : List Bool) → length answers ≡ occurrences is_asked f + occurrences is_asked g → length (take (occurrences is_asked f) answers) ≡ occurrences is_asked f
   front_length f g answers h = omega (arith, length-take (occurrences is_asked f) answers)
 
   back_length : (f g : Formula A) (answers : List Bool) → length answers ≡ occurrences is_asked f + occurrences is_asked g → length (drop (occurrences is_asked f) answers) ≡ occurrences is_asked g
   back_length f g answers h = omega (arith, length-drop (occurrences is_asked f) answers)
+
+  -- the sides of an exclusive disjunction may change places, and the answers to them with them
+  pub xor_turned : (f g : Formula A) (value : Bool) → CanBe is_asked holds (ExclusiveDisjunction f g) value → CanBe is_asked holds (ExclusiveDisjunction g f) value
+  xor_turned f g value can =
+      let front = take (occurrences is_asked f) can.0 in
+      let back = drop (occurrences is_asked f) can.0 in
+      let ours = front_length f g can.0 can.1 in
+      let theirs = back_length f g can.0 can.1 in
+      (back ++ front, both_lengths g f back front theirs ours, rw (cut_front _ back front theirs, cut_back _ back front theirs) (λ yes. turned _ _ (can.2.0 yes), λ t. can.2.1 (turned _ _ t)))
 
   not_says : (f : Formula A) (x : Option Bool) → Says f x → Says (Negation f) (kleene_not x)
   not_says f (Some b) says = λ answers h. decides_not b _ (says answers h)
@@ -93,6 +106,20 @@ module _ {A : Type 0} (is_asked : A → Bool) (holds : A → Type 0) where
       (and_can_be f g true true p.0 (can_be g true q), and_can_be f g false true p.1 (can_be g true q))
   and_says f g None None p q = (and_can_be f g true true p.0 q.0, and_can_be f g false false p.1 q.1)
 
+  -- a side that is open makes the whole open, whatever the other one says
+  xor_says : (f g : Formula A) (x y : Option Bool) → Says f x → Says g y → Says (ExclusiveDisjunction f g) (kleene_xor x y)
+  xor_says f g (Some a) (Some b) p q =
+      λ answers h. decides_xor a b _ _ (p _ (front_length f g answers h)) (q _ (back_length f g answers h))
+  xor_says f g (Some true) None p q =
+      (xor_can_be f g true false (can_be f true p) q.1, xor_can_be f g true true (can_be f true p) q.0)
+  xor_says f g (Some false) None p q =
+      (xor_can_be f g false true (can_be f false p) q.0, xor_can_be f g false false (can_be f false p) q.1)
+  xor_says f g None (Some true) p q =
+      (xor_can_be f g false true p.1 (can_be g true q), xor_can_be f g true true p.0 (can_be g true q))
+  xor_says f g None (Some false) p q =
+      (xor_can_be f g true false p.0 (can_be g false q), xor_can_be f g false false p.1 (can_be g false q))
+  xor_says f g None None p q = (xor_can_be f g true false p.0 q.1, xor_can_be f g true true p.0 q.0)
+
   leaf_says : (leaf : A) (asked : Bool) (x : Option Bool) → is_asked leaf ≡ asked → MatchBool asked (x ≡ None) (IsSomeAnd x (λ b. (IsTrue b ↔ (holds leaf)))) → Says (Leaf leaf) x
   leaf_says leaf true None e h =
       ((true ∷ [], rw e refl, rw e (λ t. refl, λ t. t)), (false ∷ [], rw e refl, rw e (λ t. t, λ t. t)))
@@ -100,11 +127,12 @@ module _ {A : Type 0} (is_asked : A → Bool) (holds : A → Type 0) where
   leaf_says leaf false None e h = absurd h
   leaf_says leaf false (Some b) e h = λ answers k. rw e h
 
-  fold_says : (f : Formula A) (x : Option Bool) → Folds kleene_not kleene_or kleene_and (Settles is_asked holds) f x → Says f x
+  fold_says : (f : Formula A) (x : Option Bool) → Folds kleene_not kleene_or kleene_and kleene_xor (Settles is_asked holds) f x → Says f x
   fold_says (Leaf leaf) x h = leaf_says leaf (is_asked leaf) x refl h
   fold_says (Negation f) x h = rw h.2 (not_says f h.0 (fold_says f h.0 h.1))
   fold_says (Disjunction f g) x h = rw h.4 (or_says f g h.0 h.1 (fold_says f h.0 h.2) (fold_says g h.1 h.3))
   fold_says (Conjunction f g) x h = rw h.4 (and_says f g h.0 h.1 (fold_says f h.0 h.2) (fold_says g h.1 h.3))
+  fold_says (ExclusiveDisjunction f g) x h = rw h.4 (xor_says f g h.0 h.1 (fold_says f h.0 h.2) (fold_says g h.1 h.3))
 
   -- definite exactly where the formula takes one value alone
   always_from_says : (f : Formula A) (b : Bool) → Says f (Some b) → IsAlways is_asked holds f b
@@ -133,11 +161,11 @@ module _ {A : Type 0} (is_asked : A → Bool) (holds : A → Type 0) where
   says_open f None says = (λ e. says, λ both. refl)
 
   -- a fold by the Kleene connectives is definite exactly where the formula takes one value alone
-  pub fold_definite : (f : Formula A) (x : Option Bool) → Folds kleene_not kleene_or kleene_and (Settles is_asked holds) f x → (b : Bool) → (x ≡ Some b) ↔ IsAlways is_asked holds f b
+  pub fold_definite : (f : Formula A) (x : Option Bool) → Folds kleene_not kleene_or kleene_and kleene_xor (Settles is_asked holds) f x → (b : Bool) → (x ≡ Some b) ↔ IsAlways is_asked holds f b
   fold_definite f x h = says_definite f x (fold_says f x h)
 
   -- and unknown exactly where it takes both
-  pub fold_open : (f : Formula A) (x : Option Bool) → Folds kleene_not kleene_or kleene_and (Settles is_asked holds) f x → (x ≡ None) ↔ IsOpen is_asked holds f
+  pub fold_open : (f : Formula A) (x : Option Bool) → Folds kleene_not kleene_or kleene_and kleene_xor (Settles is_asked holds) f x → (x ≡ None) ↔ IsOpen is_asked holds f
   fold_open f x h = says_open f x (fold_says f x h)
 
 -- values that cannot differ are the same
@@ -167,6 +195,8 @@ module _ {A : Type 0} (is_asked : A → Bool) (holds of_test : A → Type 0) (ag
       answered f (λ a. answered g (λ b. none (a.0 ++ b.0, both_lengths is_asked holds f g a.0 b.0 a.1 b.1, rw (cut_front is_asked holds _ a.0 b.0 a.1, cut_back is_asked holds _ a.0 b.0 a.1) (both_or _ _ _ _ a.2 b.2))))
   answered (Conjunction f g) none =
       answered f (λ a. answered g (λ b. none (a.0 ++ b.0, both_lengths is_asked holds f g a.0 b.0 a.1 b.1, rw (cut_front is_asked holds _ a.0 b.0 a.1, cut_back is_asked holds _ a.0 b.0 a.1) (λ t. (a.2.0 t.0, b.2.0 t.1), λ t. (a.2.1 t.0, b.2.1 t.1)))))
+  answered (ExclusiveDisjunction f g) none =
+      answered f (λ a. answered g (λ b. none (a.0 ++ b.0, both_lengths is_asked holds f g a.0 b.0 a.1 b.1, rw (cut_front is_asked holds _ a.0 b.0 a.1, cut_back is_asked holds _ a.0 b.0 a.1) (both_xor _ _ _ _ a.2 b.2))))
 
   -- where the formula takes one value alone, that is the answer
   pub definite_answer : (f : Formula A) (value answer : Bool) → IsAlways is_asked holds f value → (IsTrue answer ↔ TrueWhere of_test f) → answer ≡ value

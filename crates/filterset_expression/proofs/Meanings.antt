@@ -12,7 +12,7 @@ use Rattle.filterset_expression.specs.Meaning.{tree_formula, has_tree_leaf, Mean
 use Rattle.filterset_language.specs.Tree as tree
 use Rattle.filterset_language.specs.Tree.{Leaf, Tree, Matching, Platform, Default, Not, Union, Join, Parens, Set, tree_leaves}
 use Rattle.filterset_language.specs.declared.tree.predicate.Predicate.TheVariants.{Package, Deps, Rdeps, Kind, Binary, BinaryId, Test, Group}
-use Rattle.filterset_language.specs.declared.tree.Joiner.TheVariants.{Both, Without}
+use Rattle.filterset_language.specs.declared.tree.Joiner.TheVariants.{Both, Without, ExactlyOne}
 use Rattle.filterset_expression.specs.declared.expression.CompiledExpr.{CompiledExpr}
 use Rattle.filterset_expression.specs.declared.query.TestQuery.{TestQuery}
 use Rattle.filterset_expression.proofs.Shapes.{same_truth, same_test, truth-replaced}
@@ -58,6 +58,7 @@ leaves-formula (Not op e) = leaves-formula e
 leaves-formula (Union op a b) = rw (leaves-formula a, leaves-formula b) refl
 leaves-formula (Join (Both op) a b) = rw (leaves-formula a, leaves-formula b) refl
 leaves-formula (Join (Without op) a b) = rw (leaves-formula a, leaves-formula b) refl
+leaves-formula (Join (ExactlyOne op) a b) = rw (leaves-formula a, leaves-formula b) refl
 leaves-formula (Parens e) = leaves-formula e
 leaves-formula (Set leaf) = refl
 

@@ -6,7 +6,7 @@ use Rattle.std.specs.Str.{bytes_eq}
 use Rattle.filterset_language.specs.Equality.{compared_matcher, same_platform, same_span}
 use Rattle.filterset_matchers.specs.Equality.{compared, same_compared}
 use Rattle.filterset_expression.specs.Expression.{CompiledLeaf, Packages, Kind, Platform, Binary, BinaryId, Test, Group, Default, All, None}
-use Rattle.filterset_expression.specs.Formula.{Formula, Leaf, Negation, Disjunction, Conjunction}
+use Rattle.filterset_expression.specs.Formula.{Formula, Leaf, Negation, Disjunction, Conjunction, ExclusiveDisjunction}
 use Rattle.filterset_expression.specs.declared.query.BinaryQuery.{BinaryQuery}
 use Rattle.filterset_expression.specs.declared.query.TestQuery.{TestQuery}
 
@@ -30,6 +30,8 @@ same_formula same (Leaf a) (Leaf b) = same a b
 same_formula same (Negation f) (Negation g) = same_formula same f g
 same_formula same (Disjunction f f') (Disjunction g g') = same_formula same f g && same_formula same f' g'
 same_formula same (Conjunction f f') (Conjunction g g') = same_formula same f g && same_formula same f' g'
+same_formula same (ExclusiveDisjunction f f') (ExclusiveDisjunction g g') =
+    same_formula same f g && same_formula same f' g'
 same_formula same _ _ = false
 
 -- what is compared of a leaf: every glob gets the same text and sign, and so its tokens alone tell it from others
@@ -47,6 +49,7 @@ compared_formula (Leaf leaf) = Leaf (compared_compiled leaf)
 compared_formula (Negation f) = Negation (compared_formula f)
 compared_formula (Disjunction f g) = Disjunction (compared_formula f) (compared_formula g)
 compared_formula (Conjunction f g) = Conjunction (compared_formula f) (compared_formula g)
+compared_formula (ExclusiveDisjunction f g) = ExclusiveDisjunction (compared_formula f) (compared_formula g)
 
 -- whether questions about binaries are equal
 abbrev pub same_binary_query : BinaryQuery → BinaryQuery → Bool

@@ -13,7 +13,7 @@ use Rattle.filterset_matchers.specs.Equality.{same_compared}
 use Rattle.filterset_matchers.specs.Matcher.{Matcher}
 use Rattle.filterset_expression.specs.Equality.{same_compiled_leaf, same_formula, compared_compiled, compared_formula}
 use Rattle.filterset_expression.specs.Expression.{CompiledLeaf, Packages, Kind, Platform, Binary, BinaryId, Test, Group, Default, All, None}
-use Rattle.filterset_expression.specs.Formula.{Formula, Leaf, Negation, Disjunction, Conjunction}
+use Rattle.filterset_expression.specs.Formula.{Formula, Leaf, Negation, Disjunction, Conjunction, ExclusiveDisjunction}
 
 -- a test that says whether the same is compared of two is an equivalence
 by_compared : {K J : Type 0} (f : K → J) (test : K → K → Bool)
@@ -103,6 +103,9 @@ formula_is (Disjunction f f') (Disjunction g g') h =
 formula_is (Conjunction f f') (Conjunction g g') h =
     let parts = and_parts (same f g) (same f' g') h in
     λ i. Conjunction (formula_is f g parts.0 i) (formula_is f' g' parts.1 i)
+formula_is (ExclusiveDisjunction f f') (ExclusiveDisjunction g g') h =
+    let parts = and_parts (same f g) (same f' g') h in
+    λ i. ExclusiveDisjunction (formula_is f g parts.0 i) (formula_is f' g' parts.1 i)
 formula_is _ _ h = absurd (false≢true h)
 
 formula_self : (f : Formula CompiledLeaf) → same f f ≡ true
@@ -110,12 +113,14 @@ formula_self (Leaf a) = leaf_self a
 formula_self (Negation f) = formula_self f
 formula_self (Disjunction f g) = λ i. formula_self f i && formula_self g i
 formula_self (Conjunction f g) = λ i. formula_self f i && formula_self g i
+formula_self (ExclusiveDisjunction f g) = λ i. formula_self f i && formula_self g i
 
 formula_kept : (f g : Formula CompiledLeaf) → same (compared_formula f) (compared_formula g) ≡ same f g
 formula_kept (Leaf a) (Leaf b) = leaf_kept a b
 formula_kept (Negation f) (Negation g) = formula_kept f g
 formula_kept (Disjunction f f') (Disjunction g g') = λ i. formula_kept f g i && formula_kept f' g' i
 formula_kept (Conjunction f f') (Conjunction g g') = λ i. formula_kept f g i && formula_kept f' g' i
+formula_kept (ExclusiveDisjunction f f') (ExclusiveDisjunction g g') = λ i. formula_kept f g i && formula_kept f' g' i
 formula_kept _ _ = refl
 
 pub same_formula_Decides : (f g : Formula CompiledLeaf)

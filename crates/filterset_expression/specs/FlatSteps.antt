@@ -1,7 +1,7 @@
 -- Formulas as lists of steps: the operands first, and then what is made of them.
 use Rattle.std.specs.Prelude.{List, [], ◌∷◌, ◌++◌, map}
 use Rattle.filterset_expression.specs.Expression.{CompiledLeaf, compiled_leaf}
-use Rattle.filterset_expression.specs.Formula.{Formula, Leaf, Negation, Disjunction, Conjunction}
+use Rattle.filterset_expression.specs.Formula.{Formula, Leaf, Negation, Disjunction, Conjunction, ExclusiveDisjunction}
 use Rattle.filterset_expression.specs.declared.flat.steps.FlatStep.{FlatStep}
 use Rattle.filterset_expression.specs.declared.flat.steps.FlatStep.TheVariants as step
 
@@ -10,6 +10,7 @@ pub data Step (A : Type 0) : Type 0 where
   Negate : Step A
   Conjoin : Step A
   Disjoin : Step A
+  DisjoinExclusively : Step A
 
 -- the formula's steps, with the steps `at` in the place of each leaf
 abbrev pub steps_by : {A B : Type 0} → (A → List (Step B)) → Formula A → List (Step B)
@@ -17,6 +18,7 @@ steps_by at (Leaf leaf) = at leaf
 steps_by at (Negation f) = steps_by at f ++ Negate ∷ []
 steps_by at (Disjunction f g) = steps_by at f ++ (steps_by at g ++ Disjoin ∷ [])
 steps_by at (Conjunction f g) = steps_by at f ++ (steps_by at g ++ Conjoin ∷ [])
+steps_by at (ExclusiveDisjunction f g) = steps_by at f ++ (steps_by at g ++ DisjoinExclusively ∷ [])
 
 abbrev pub push_leaf : {A : Type 0} → A → List (Step A)
 push_leaf leaf = Push leaf ∷ []
@@ -31,6 +33,7 @@ step_of (step.Leaf leaf) = Push (compiled_leaf leaf.now)
 step_of step.Not = Negate
 step_of step.And = Conjoin
 step_of step.Or = Disjoin
+step_of step.Xor = DisjoinExclusively
 
 abbrev pub steps_of : List FlatStep → List (Step CompiledLeaf)
 steps_of steps = map step_of steps

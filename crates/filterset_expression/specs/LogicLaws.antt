@@ -1,6 +1,6 @@
 -- The connectives of two values and those of three keep the laws of a logic.
 use Rattle.std.specs.Prelude.{◌≡◌, Bool, true, false, not, ◌&&◌, ◌||◌, Option, Some, None, refl}
-use Rattle.filterset_expression.specs.Logics.{IsLogic, kleene_and, kleene_or, kleene_not}
+use Rattle.filterset_expression.specs.Logics.{IsLogic, IsExclusiveOr, exclusive_or, kleene_and, kleene_or, kleene_not, kleene_xor}
 
 pub bool_is_logic : IsLogic true false ◌&&◌ ◌||◌ not
 bool_is_logic = record {
@@ -85,4 +85,58 @@ kleene_is_logic = record {
   not_and = not_and;
   not_or = not_or;
   not_not = not_not;
+}
+
+either_commutative : (x y : Bool) → exclusive_or x y ≡ exclusive_or y x
+either_commutative true true = refl
+either_commutative true false = refl
+either_commutative false true = refl
+either_commutative false false = refl
+
+either_associative : (x y z : Bool) → exclusive_or (exclusive_or x y) z ≡ exclusive_or x (exclusive_or y z)
+either_associative true true true = refl
+either_associative true true false = refl
+either_associative true false true = refl
+either_associative true false false = refl
+either_associative false true true = refl
+either_associative false true false = refl
+either_associative false false true = refl
+either_associative false false false = refl
+
+pub bool_has_exclusive_or : IsExclusiveOr true false exclusive_or not
+bool_has_exclusive_or = record {
+  xor_unit = elim [ true ↦ refl | false ↦ refl ];
+  xor_top = elim [ true ↦ refl | false ↦ refl ];
+  xor_commutative = either_commutative;
+  xor_associative = either_associative;
+}
+
+xor_unit : (x : Option Bool) → kleene_xor (Some false) x ≡ x
+xor_unit None = refl
+xor_unit (Some true) = refl
+xor_unit (Some false) = refl
+
+xor_top : (x : Option Bool) → kleene_xor (Some true) x ≡ kleene_not x
+xor_top None = refl
+xor_top (Some true) = refl
+xor_top (Some false) = refl
+
+xor_commutative : (x y : Option Bool) → kleene_xor x y ≡ kleene_xor y x
+xor_commutative None None = refl
+xor_commutative None (Some y) = refl
+xor_commutative (Some x) None = refl
+xor_commutative (Some x) (Some y) = λ i. Some (either_commutative x y i)
+
+xor_associative : (x y z : Option Bool) → kleene_xor (kleene_xor x y) z ≡ kleene_xor x (kleene_xor y z)
+xor_associative None y z = refl
+xor_associative (Some x) None z = refl
+xor_associative (Some x) (Some y) None = refl
+xor_associative (Some x) (Some y) (Some z) = λ i. Some (either_associative x y z i)
+
+pub kleene_has_exclusive_or : IsExclusiveOr (Some true) (Some false) kleene_xor kleene_not
+kleene_has_exclusive_or = record {
+  xor_unit = xor_unit;
+  xor_top = xor_top;
+  xor_commutative = xor_commutative;
+  xor_associative = xor_associative;
 }

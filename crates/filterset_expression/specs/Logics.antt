@@ -1,5 +1,6 @@
 -- The laws of a logic, and the connectives of three values.
 use Rattle.std.specs.Prelude.{◌≡◌, Bool, true, false, not, Option, Some, None}
+use Rattle.std.specs.Bool.{beq}
 
 -- The laws of a logic: `top` and `bottom` are units, `and` and `or` are commutative and associative, and `not` turns
 -- each into the other and undoes itself.
@@ -13,6 +14,17 @@ pub record IsLogic {L : Type 0} (top bottom : L) (and_of or_of : L → L → L) 
   pub not_and : (x y : L) → not_of (and_of x y) ≡ or_of (not_of x) (not_of y)
   pub not_or : (x y : L) → not_of (or_of x y) ≡ and_of (not_of x) (not_of y)
   pub not_not : (x : L) → not_of (not_of x) ≡ x
+
+-- The laws of an exclusive or: it is commutative and associative, `bottom` is its unit, and with `top` it is `not`.
+pub record IsExclusiveOr {L : Type 0} (top bottom : L) (xor_of : L → L → L) (not_of : L → L) : Type 0 where
+  pub xor_unit : (x : L) → xor_of bottom x ≡ x
+  pub xor_top : (x : L) → xor_of top x ≡ not_of x
+  pub xor_commutative : (x y : L) → xor_of x y ≡ xor_of y x
+  pub xor_associative : (x y z : L) → xor_of (xor_of x y) z ≡ xor_of x (xor_of y z)
+
+-- whether exactly one of the two is true
+abbrev pub exclusive_or : Bool → Bool → Bool
+exclusive_or x y = not (beq x y)
 
 -- what is unknown stays unknown
 abbrev pub kleene_not : Option Bool → Option Bool
@@ -34,3 +46,9 @@ kleene_or (Some false) y = y
 kleene_or None (Some true) = Some true
 kleene_or None (Some false) = None
 kleene_or None None = None
+
+-- unknown where either side is, and else whether exactly one is true
+abbrev pub kleene_xor : Option Bool → Option Bool → Option Bool
+kleene_xor None y = None
+kleene_xor (Some x) None = None
+kleene_xor (Some x) (Some y) = Some (exclusive_or x y)

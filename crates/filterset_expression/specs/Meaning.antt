@@ -7,11 +7,11 @@ use Rattle.filterset_graph.specs.declared.package.PackageMetadata.{PackageMetada
 use Rattle.filterset_expression.specs.Expression as compiled
 use Rattle.filterset_expression.specs.Expression.{CompiledLeaf, Lookup, Holds, HoldsOfTest, formula}
 use Rattle.filterset_expression.specs.Formula as formulas
-use Rattle.filterset_expression.specs.Formula.{Formula, Negation, Disjunction, Conjunction, TrueWhere, SameShape}
+use Rattle.filterset_expression.specs.Formula.{Formula, Negation, Disjunction, Conjunction, ExclusiveDisjunction, TrueWhere, SameShape}
 use Rattle.filterset_matchers.specs.Matcher.{Matcher, Hits}
 use Rattle.filterset_language.specs.Tree.{Leaf, Tree, Matching, Platform, Default, All, None, Not, Union, Join, Parens, Set, tree_leaves}
 use Rattle.filterset_language.specs.declared.tree.predicate.Predicate.TheVariants.{Package, Deps, Rdeps, Kind, Binary, BinaryId, Test, Group}
-use Rattle.filterset_language.specs.declared.tree.Joiner.TheVariants.{Both, Without}
+use Rattle.filterset_language.specs.declared.tree.Joiner.TheVariants.{Both, Without, ExactlyOne}
 use Rattle.filterset_expression.specs.declared.expression.CompiledExpr.{CompiledExpr}
 use Rattle.filterset_expression.specs.declared.query.TestQuery.{TestQuery}
 
@@ -21,6 +21,7 @@ tree_formula (Not op e) = Negation (tree_formula e)
 tree_formula (Union op a b) = Disjunction (tree_formula a) (tree_formula b)
 tree_formula (Join (Both op) a b) = Conjunction (tree_formula a) (tree_formula b)
 tree_formula (Join (Without op) a b) = Conjunction (tree_formula a) (Negation (tree_formula b))
+tree_formula (Join (ExactlyOne op) a b) = ExclusiveDisjunction (tree_formula a) (tree_formula b)
 tree_formula (Parens e) = tree_formula e
 tree_formula (Set leaf) = formulas.Leaf leaf
 

@@ -1,6 +1,6 @@
 -- The values that a formula can take where some of its leaves are left to be answered.
 use Rattle.std.specs.Prelude.{◌≡◌, ◌↔◌, ◌⊎◌, ◌+◌, ℕ, Bool, true, false, List, [], ◌∷◌, length, take, drop, cond, IsTrue, MatchBool}
-use Rattle.filterset_expression.specs.Formula.{Formula, Leaf, Negation, Disjunction, Conjunction}
+use Rattle.filterset_expression.specs.Formula.{Formula, Leaf, Negation, Disjunction, Conjunction, ExclusiveDisjunction, ExactlyOneHolds}
 
 -- how many of the leaves are asked; two equal leaves are two
 abbrev pub occurrences : {A : Type 0} → (A → Bool) → Formula A → ℕ
@@ -8,6 +8,7 @@ occurrences is_asked (Leaf leaf) = cond (is_asked leaf) 1 0
 occurrences is_asked (Negation f) = occurrences is_asked f
 occurrences is_asked (Disjunction f g) = occurrences is_asked f + occurrences is_asked g
 occurrences is_asked (Conjunction f g) = occurrences is_asked f + occurrences is_asked g
+occurrences is_asked (ExclusiveDisjunction f g) = occurrences is_asked f + occurrences is_asked g
 
 -- the first answer, and false where there is none
 abbrev pub first_answer : List Bool → Bool
@@ -26,6 +27,10 @@ TrueUnder is_asked holds (Disjunction f g) answers =
 TrueUnder is_asked holds (Conjunction f g) answers =
     TrueUnder is_asked holds f (take (occurrences is_asked f) answers)
     × TrueUnder is_asked holds g (drop (occurrences is_asked f) answers)
+TrueUnder is_asked holds (ExclusiveDisjunction f g) answers =
+    ExactlyOneHolds
+    (TrueUnder is_asked holds f (take (occurrences is_asked f) answers))
+    (TrueUnder is_asked holds g (drop (occurrences is_asked f) answers))
 
 -- the formula takes this value under some list of answers, one for each leaf that is asked
 abbrev pub CanBe : {A : Type 0} → (A → Bool) → (A → Type 0) → Formula A → Bool → Type 0

@@ -60,6 +60,10 @@ impl PartialEq for CompiledExpr {
             | (
                 CompiledExpr::Intersection(left, right),
                 CompiledExpr::Intersection(other_left, other_right),
+            )
+            | (
+                CompiledExpr::SymmetricDifference(left, right),
+                CompiledExpr::SymmetricDifference(other_left, other_right),
             ) => left == other_left && right == other_right,
             (CompiledExpr::Set(leaf), CompiledExpr::Set(other_leaf)) => leaf == other_leaf,
             _ => false,

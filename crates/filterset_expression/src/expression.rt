@@ -15,6 +15,8 @@ pub enum CompiledExpr {
     Union(Box<CompiledExpr>, Box<CompiledExpr>),
     /// The tests that are in both sets.
     Intersection(Box<CompiledExpr>, Box<CompiledExpr>),
+    /// The tests that are in exactly one of the two sets.
+    SymmetricDifference(Box<CompiledExpr>, Box<CompiledExpr>),
     Set(FiltersetLeaf),
 }
 
@@ -30,7 +32,9 @@ impl CompiledExpr {
     {
         match self {
             CompiledExpr::Not(e) => e.has_default_leaf(),
-            CompiledExpr::Union(a, b) | CompiledExpr::Intersection(a, b) => {
+            CompiledExpr::Union(a, b)
+            | CompiledExpr::Intersection(a, b)
+            | CompiledExpr::SymmetricDifference(a, b) => {
                 a.has_default_leaf() || b.has_default_leaf()
             }
             CompiledExpr::Set(leaf) => matches!(leaf, FiltersetLeaf::Default),
@@ -43,7 +47,9 @@ impl CompiledExpr {
     {
         match self {
             CompiledExpr::Not(e) => e.has_group_matchers(),
-            CompiledExpr::Union(a, b) | CompiledExpr::Intersection(a, b) => {
+            CompiledExpr::Union(a, b)
+            | CompiledExpr::Intersection(a, b)
+            | CompiledExpr::SymmetricDifference(a, b) => {
                 a.has_group_matchers() || b.has_group_matchers()
             }
             CompiledExpr::Set(leaf) => matches!(leaf, FiltersetLeaf::Group(..)),
@@ -128,6 +134,10 @@ impl CompiledExpr {
             CompiledExpr::Intersection(a, b) => {
                 let left = Box::new(alloc, a.try_clone(alloc)?)?;
                 CompiledExpr::Intersection(left, Box::new(alloc, b.try_clone(alloc)?)?)
+            }
+            CompiledExpr::SymmetricDifference(a, b) => {
+                let left = Box::new(alloc, a.try_clone(alloc)?)?;
+                CompiledExpr::SymmetricDifference(left, Box::new(alloc, b.try_clone(alloc)?)?)
             }
             CompiledExpr::Set(leaf) => CompiledExpr::Set(leaf.try_clone(alloc)?),
         })

@@ -174,7 +174,7 @@ impl<'a> FlatExpr<'a> {
         of_leaf: &F,
     ) -> Result<L, AllocError>
         requires callable { F.IsAlwaysCallable of_leaf.now }
-        ensures { IfOk result (λ value. Runs L.not_of L.or_of L.and_of
+        ensures { IfOk result (λ value. Runs L.not_of L.or_of L.and_of L.xor_of
             (λ leaf x. (asked : AskedLeaf) × (compiled_leaf asked.leaf.now ≡ leaf) × F.post of_leaf.now asked (Ok x))
             (flat_steps self.now) [] value) }
     {
@@ -204,7 +204,7 @@ impl<'a> FlatExpr<'a> {
         of_leaf: &F,
     ) -> Result<L, AllocError>
         requires callable { F.IsAlwaysCallable of_leaf.now }
-        ensures { IfOk result (λ value. Runs L.not_of L.or_of L.and_of
+        ensures { IfOk result (λ value. Runs L.not_of L.or_of L.and_of L.xor_of
             (λ leaf x. (asked : AskedLeaf) × (compiled_leaf asked.leaf.now ≡ leaf) × F.post of_leaf.now asked (Ok x))
             (flat_steps self.now) [] value) }
     {
@@ -230,6 +230,11 @@ impl<'a> FlatExpr<'a> {
                     let right = take_top(&mut stack);
                     let left = take_top(&mut stack);
                     stack.push_reserved(left.logic_or(right));
+                }
+                FlatStep::Xor => {
+                    let right = take_top(&mut stack);
+                    let left = take_top(&mut stack);
+                    stack.push_reserved(left.logic_xor(right));
                 }
             }
         }

@@ -2,11 +2,13 @@
 ghost use Rattle.std.specs.Prelude.{◌↔◌, Bool, IsTrue, List};
 ghost use Rattle.filterset_faults.specs.declared.span.SourceSpan.{SourceSpan};
 ghost use Rattle.filterset_graph.specs.declared.package.PackageMetadata.{PackageMetadata};
-ghost use Rattle.filterset_language.specs.Tree.{Tree, Join, Not, Parens};
+ghost use Rattle.filterset_language.specs.Tree.{Tree, Join, Not, Parens, Union};
 ghost use Rattle.filterset_language.specs.declared.tree.AndOperator.{AndOperator};
 ghost use Rattle.filterset_language.specs.declared.tree.DifferenceOperator.{DifferenceOperator};
-ghost use Rattle.filterset_language.specs.declared.tree.Joiner.TheVariants.{Both, Without};
+ghost use Rattle.filterset_language.specs.declared.tree.Joiner.TheVariants.{Both, Without, ExactlyOne};
 ghost use Rattle.filterset_language.specs.declared.tree.NotOperator.{NotOperator};
+ghost use Rattle.filterset_language.specs.declared.tree.OrOperator.{OrOperator};
+ghost use Rattle.filterset_language.specs.declared.tree.SymmetricDifferenceOperator.{SymmetricDifferenceOperator};
 ghost use Rattle.filterset_matchers.specs.Matcher.{Matcher};
 ghost use Rattle.filterset_expression.specs.BinaryMeaning.{PossibleOfTree};
 ghost use Rattle.filterset_expression.specs.Meaning.{Meaning};
@@ -25,6 +27,28 @@ pub fn difference_is_and_not()
         (minus : DifferenceOperator) (and : AndOperator) (not : NotOperator) (a b : Tree SourceSpan) (value : Bool)
         → PossibleOfTree (Join (Without minus) a b) packages binary default value
         ↔ PossibleOfTree (Join (Both and) a (Not not b)) packages binary default value }
+{}
+
+/// `a ^ b` says of each test what `(a - b) or (b - a)` does.
+pub fn symmetric_difference_is_two_differences()
+    ensures { (packages : List PackageMetadata) (test : TestQuery) (default : CompiledExpr)
+        (lookup : TestQuery → Matcher → Bool) (caret : SymmetricDifferenceOperator) (or : OrOperator)
+        (minus : DifferenceOperator) (a b : Tree SourceSpan)
+        → Meaning (Join (ExactlyOne caret) a b) packages test default (λ t m. IsTrue (lookup t m))
+        ↔ Meaning (Union or (Join (Without minus) a b) (Join (Without minus) b a)) packages test default
+        (λ t m. IsTrue (lookup t m)) }
+{}
+
+/// `a ^ b` says of each test, and may say of each binary, what `b ^ a` does.
+pub fn symmetric_difference_is_commutative()
+    ensures tests { (packages : List PackageMetadata) (test : TestQuery) (default : CompiledExpr)
+        (lookup : TestQuery → Matcher → Bool) (caret : SymmetricDifferenceOperator) (a b : Tree SourceSpan)
+        → Meaning (Join (ExactlyOne caret) a b) packages test default (λ t m. IsTrue (lookup t m))
+        ↔ Meaning (Join (ExactlyOne caret) b a) packages test default (λ t m. IsTrue (lookup t m)) }
+    ensures binaries { (packages : List PackageMetadata) (binary : BinaryQuery) (default : CompiledExpr)
+        (caret : SymmetricDifferenceOperator) (a b : Tree SourceSpan) (value : Bool)
+        → PossibleOfTree (Join (ExactlyOne caret) a b) packages binary default value
+        ↔ PossibleOfTree (Join (ExactlyOne caret) b a) packages binary default value }
 {}
 
 /// Parentheses change nothing of what is said of a test, or may be said of a binary.

@@ -1,12 +1,15 @@
 //! Logics: two truth values, or three with an unknown one.
 ghost use Rattle.std.specs.Prelude.{◌≡◌, ◌&&◌, ◌||◌, true, false, not, Some};
-ghost use Rattle.filterset_expression.specs.Logics.{IsLogic, kleene_and, kleene_or, kleene_not};
+ghost use Rattle.filterset_expression.specs.Logics.{IsLogic, IsExclusiveOr, exclusive_or};
+ghost use Rattle.filterset_expression.specs.Logics.{kleene_and, kleene_or, kleene_not, kleene_xor};
 ghost use Rattle.filterset_expression.specs.LogicLaws.{bool_is_logic, kleene_is_logic};
+ghost use Rattle.filterset_expression.specs.LogicLaws.{bool_has_exclusive_or, kleene_has_exclusive_or};
 
 /// Truth values, and what is made of them.
 ///
 /// True is the unit of `logic_and`, and false that of `logic_or`. Both are commutative and associative, `logic_not`
-/// turns each into the other, and twice `logic_not` is the value itself.
+/// turns each into the other, and twice `logic_not` is the value itself. `logic_xor` is commutative and associative,
+/// false is its unit, and with true it is `logic_not`.
 pub trait Logic: Copy {
     ghost top_value: { Self };
 
@@ -17,6 +20,8 @@ pub trait Logic: Copy {
     ghost or_of: { Self → Self → Self };
 
     ghost not_of: { Self → Self };
+
+    ghost xor_of: { Self → Self → Self };
 
     /// True.
     fn top() -> Self
@@ -38,7 +43,13 @@ pub trait Logic: Copy {
     fn logic_not(self) -> Self
         ensures { result ≡ not_of self };
 
+    /// Whether exactly one is true.
+    fn logic_xor(self, other: Self) -> Self
+        ensures { result ≡ xor_of self other };
+
     ghost laws: { IsLogic top_value bottom_value and_of or_of not_of };
+
+    ghost xor_laws: { IsExclusiveOr top_value bottom_value xor_of not_of };
 }
 
 impl Logic for bool {
@@ -52,7 +63,11 @@ impl Logic for bool {
 
     ghost not_of = { not };
 
+    ghost xor_of = { exclusive_or };
+
     ghost laws = { bool_is_logic };
+
+    ghost xor_laws = { bool_has_exclusive_or };
 
     fn top() -> bool {
         true
@@ -73,9 +88,14 @@ impl Logic for bool {
     fn logic_not(self) -> bool {
         !self
     }
+
+    fn logic_xor(self, other: bool) -> bool {
+        self ^ other
+    }
 }
 
-/// `None` is unknown. What is made of it is known where the other side alone decides it.
+/// `None` is unknown. What is made of it is known where the other side alone decides it, which it never does of
+/// `logic_xor`.
 impl Logic for Option<bool> {
     ghost top_value = { Some true };
 
@@ -87,7 +107,11 @@ impl Logic for Option<bool> {
 
     ghost not_of = { kleene_not };
 
+    ghost xor_of = { kleene_xor };
+
     ghost laws = { kleene_is_logic };
+
+    ghost xor_laws = { kleene_has_exclusive_or };
 
     fn top() -> Option<bool> {
         Some(true)
@@ -115,5 +139,12 @@ impl Logic for Option<bool> {
 
     fn logic_not(self) -> Option<bool> {
         self.map(|value| !value)
+    }
+
+    fn logic_xor(self, other: Option<bool>) -> Option<bool> {
+        match (self, other) {
+            (Some(left), Some(right)) => Some(left ^ right),
+            _ => None,
+        }
     }
 }

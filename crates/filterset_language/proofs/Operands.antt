@@ -1,5 +1,5 @@
 -- What a reader of operands gives, with what it was given by the readers of their parts.
-use Rattle.std.proofs.Common.{◌≡◌, ℕ, suc, ◌<◌, ◌≤◌, List, length, Option, Some, None, refl, sym, subst}
+use Rattle.std.proofs.Common.{◌≡◌, ℕ, suc, ◌<◌, ◌≤◌, List, length, Option, Some, None, refl, sym, ◌∙◌, subst}
 use Rattle.std.specs.Prelude.{codes}
 use Rattle.std.specs.Option.{option_map}
 use Rattle.std.proofs.lemmas.List.Elements.{Contains-append_left, Contains-append_right}
@@ -13,7 +13,8 @@ use Rattle.filterset_language.specs.Patterns.{PatternsAreRead}
 use Rattle.filterset_language.specs.Parsed.{LiesOnBody}
 use Rattle.filterset_language.specs.Parsing.Descent.{Placed, Reader, Next, Make, operand_at, or_level_by, level_by, join, unite}
 use Rattle.filterset_language.specs.Parsing.Recovery.{Recovers, Checked, joined, NoOperand}
-use Rattle.filterset_language.specs.Parsing.Outcome.{Faults, GivesTree, fails, Going}
+use Rattle.filterset_language.specs.Parsing.Outcome.{Faults, GivesTree, reads, fails, Going}
+use Rattle.filterset_language.proofs.Recovering.{bind_none}
 use Rattle.filterset_language.proofs.ReadingSteps.{less, negation_step, parens_step, nothing_step}
 use Rattle.filterset_language.proofs.Outcomes.{gives_map, gives_pair, gives_as, going_start, going_by, going_end, lies_in}
 
@@ -68,6 +69,11 @@ module _ (text : List ℕ) (read : Reader) where
 
   abbrev OrGoing : Faults → Faults → Option Placed → Place → Option (Placed × Place) → Type 0
   OrGoing f g left p total = Going or_at unite PatternsAreRead (LiesOnBody text) f g left p read total
+
+  -- without a first operand there is no level
+  pub and_misses : (f g : Faults) (left : Option Placed) (p q : Place) → read p ≡ None → GivesTree text f g left q (read p) → GivesTree text f g left q (level_by joiner_at join read p)
+  and_misses f g left p q none (reads e c is) = absurd (let n : None ≡ Some (e, q) = sym none ∙ is in cc)
+  and_misses f g left p q none (fails lt is) = fails lt (bind_none (read p) _ is)
 
   pub and_starts : (f g : Faults) (left : Option Placed) (p q : Place) → GivesTree text f g left q (read p) → AndGoing f g left q (level_by joiner_at join read p)
   and_starts f g left p q a = going_start joiner_at join read PatternsAreRead (LiesOnBody text) (λ o l r x y. (x, y)) (join_left text) (join_right text) f g left p q a

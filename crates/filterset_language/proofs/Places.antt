@@ -9,7 +9,7 @@ use Rattle.filterset_language.specs.Parsing.Front.{blank_len}
 use Rattle.filterset_language.specs.Parsing.Seam.{IsSeam}
 use Rattle.filterset_language.specs.declared.parsing.input.Input.{Input}
 use Rattle.filterset_language.specs.Text.{Blanks, no_blank, space, newline, return_newline}
-use Rattle.filterset_language.specs.Parsing.Place.{place, behind, skip_from, IsBehind, IsAtOrBehind}
+use Rattle.filterset_language.specs.Parsing.Place.{place, place_of, behind, skip_from, IsBehind, IsAtOrBehind}
 
 -- an input some bytes further
 pub seam_on : (i : Input) (n : ℕ) (rest : List ℕ) → n ≤ length i.rest.now → drop n i.rest.now ≡ rest → IsUtf8 rest → IsSeam i.text.now rest (i.offset + n)
@@ -25,6 +25,12 @@ seam_on i n rest le is utf8 =
 -- the whole text
 pub seam_start : (t : List ℕ) → IsUtf8 t → IsSeam t t 0
 seam_start t utf8 = record { within = omega arith; onward = refl; utf8 = is_utf8-from_IsUtf8 t utf8 }
+
+-- two inputs in one text and at one offset
+pub same_place : (i j : Input) → j.text.now ≡ i.text.now → j.offset ≡ i.offset → place_of j ≡ place_of i
+same_place i j text at =
+    let rest : j.rest.now ≡ i.rest.now = sym j.seam.onward ∙ (λ k. drop (at k) (text k)) ∙ i.seam.onward in
+    λ k. place (at k) (rest k)
 
 pub behind_same : (w t : List ℕ) → behind w (w ++ t) ≡ Some t
 behind_same [] t = refl

@@ -6,7 +6,7 @@ use Rattle.std.proofs.lemmas.List.{append-nil, take_at, nil_from_length}
 use Rattle.filterset_language.specs.Text.{Blanks, no_blank, ends_word}
 use Rattle.filterset_language.specs.Parsing.Place.{Place, place, skip, after}
 use Rattle.filterset_language.specs.Parsing.Words.{not_at, joiner_at, or_at, name_at}
-use Rattle.filterset_language.specs.Tree.{Joiner, Both, Without, Not, Parens, Set}
+use Rattle.filterset_language.specs.Tree.{Joiner, Both, Without, ExactlyOne, Not, Parens, Set}
 use Rattle.filterset_language.specs.Grammar.{LeafText, not_text, or_text, join_text, not_ends, or_ends, join_ends, Basic, AndLevel, OrLevel, Spells}
 use Rattle.filterset_language.specs.Grammar as grammar
 use Rattle.filterset_language.specs.declared.tree.NotOperator.{NotOperator}
@@ -15,6 +15,7 @@ use Rattle.filterset_language.specs.declared.tree.OrOperator.{OrOperator}
 use Rattle.filterset_language.specs.declared.tree.OrOperator.TheVariants.{LiteralOr, Pipe, Plus}
 use Rattle.filterset_language.specs.declared.tree.AndOperator.TheVariants.{LiteralAnd, Ampersand}
 use Rattle.filterset_language.specs.declared.tree.DifferenceOperator.TheVariants.{Minus}
+use Rattle.filterset_language.specs.declared.tree.SymmetricDifferenceOperator.TheVariants.{Caret}
 use Rattle.filterset_language.specs.declared.parsing.names.PredicateName.{PredicateName}
 use Rattle.filterset_language.specs.Parsing.Descent.{Placed, ◌>>=◌, Reader, Next, Make, more, level_by, join, and_level_by, unite, or_level_by, leaf_at, set_at, operand_by, operand_at, nothing_behind, whole_by}
 use Rattle.filterset_language.proofs.Sizes.{basic_some, and_some}
@@ -88,6 +89,7 @@ join_ends_front : (op : Joiner) (own u : List ℕ) → 0 < length own → join_e
 join_ends_front (Both LiteralAnd) own u lt h = front_ends own u lt h
 join_ends_front (Both Ampersand) own u lt h = tt
 join_ends_front (Without Minus) own u lt h = tt
+join_ends_front (ExactlyOne Caret) own u lt h = tt
 
 and_takes : (read : Reader) → IsSound Basic read → IsSound AndLevel (and_level_by read)
 and_takes read sound =

@@ -1,13 +1,14 @@
 -- One step of reading an expression.
-use Rattle.std.proofs.Common.{◌≡◌, ℕ, zero, suc, ◌<◌, ◌≤◌, length, Option, Some, None, refl, sym, ◌∙◌, arith}
-use Rattle.std.specs.Prelude.{codes}
+use Rattle.std.proofs.Common.{◌≡◌, ℕ, zero, suc, ◌<◌, ◌≤◌, List, length, Option, Some, None, true, refl, sym, ◌∙◌, subst, arith}
+use Rattle.std.specs.Prelude.{codes, is_some}
 use Rattle.filterset_language.specs.declared.tree.NotOperator.{NotOperator}
 use Rattle.filterset_language.specs.declared.parsing.names.PredicateName.{PredicateName}
 use Rattle.filterset_language.specs.Parsing.Recovery.{NoOperand}
-use Rattle.filterset_language.specs.Parsing.Place.{Place, skip, after}
+use Rattle.filterset_language.specs.Parsing.Place.{Place, place, skip, after}
 use Rattle.filterset_language.specs.Parsing.Words.{not_at, name_at}
 use Rattle.filterset_language.specs.Tree.{Not, Parens}
 use Rattle.filterset_language.specs.Parsing.Descent.{Placed, ◌>>=◌, Reader, Next, Make, operand_at, set_at, or_level_by, more}
+use Rattle.filterset_language.proofs.Takes.{after_takes}
 
 -- the bound for what is nested
 pub record Less (n below : ℕ) : Type 0 where
@@ -33,6 +34,24 @@ parens_step n p s q skipped no_name no_not stands = rw (← skipped, ← no_name
 pub nothing_step : (n : ℕ) (p s : Place) → NoOperand p s → None ≡ operand_at (suc n) p
 unfolding operand_at
 nothing_step n p s h = rw (← h.skipped, ← h.no_name, ← h.no_not, ← h.no_open) refl
+
+-- where `^` stands no operand is read
+pub caret_step : (n : ℕ) (p : Place) → is_some (after (codes "^") (skip p)) ≡ true → operand_at (suc n) p ≡ None
+caret_step n p stands = from (after (codes "^") (skip p)) refl stands
+  where
+    from : (o : Option Place) → after (codes "^") (skip p) ≡ o → is_some o ≡ true → operand_at (suc n) p ≡ None
+    from None e some = absurd cc
+    from (Some q) e some =
+        let rest = sym (after_takes (codes "^") (skip p) q e).parts in
+        let at = (skip p).at in
+        sym
+        (nothing_step n p (skip p)
+        (record {
+          skipped = refl;
+          no_name = subst (λ (t : List ℕ). None ≡ name_at (place at t)) rest refl;
+          no_not = subst (λ (t : List ℕ). None ≡ not_at (place at t)) rest refl;
+          no_open = subst (λ (t : List ℕ). None ≡ after (codes "(") (place at t)) rest refl;
+        }))
 
 pub name_step : (n : ℕ) (p s q : Place) (name : PredicateName) → s ≡ skip p → Some (name, q) ≡ name_at s → set_at name s.at q ≡ operand_at (suc n) p
 unfolding operand_at

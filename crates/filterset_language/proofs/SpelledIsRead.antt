@@ -8,7 +8,7 @@ use Rattle.filterset_language.specs.Parsing.Front.{blank_len}
 use Rattle.filterset_language.specs.Parsing.Place.{Place, place, skip, skip_from, behind}
 use Rattle.filterset_language.specs.Parsing.Words.{choose, not_at, joiner_at, or_at, name_at}
 use Rattle.filterset_language.specs.Tree as tree
-use Rattle.filterset_language.specs.Tree.{Leaf, Predicate, Joiner, Both, Without, Union, Join, Set}
+use Rattle.filterset_language.specs.Tree.{Leaf, Predicate, Joiner, Both, Without, ExactlyOne, Union, Join, Set}
 use Rattle.filterset_language.specs.Grammar as grammar
 use Rattle.filterset_language.specs.Grammar.{Name, LeafText, not_text, or_text, join_text, not_ends, or_ends, join_ends, Basic, AndLevel, OrLevel, Spells}
 use Rattle.filterset_language.specs.Parsing.Descent.{Placed, ◌>>=◌, Reader, Next, Make, leaf_at, set_at, join, unite, more, level_by, and_level_by, or_level_by, operand_by, operand_at, whole_by}
@@ -18,6 +18,7 @@ use Rattle.filterset_language.specs.declared.tree.OrOperator.{OrOperator}
 use Rattle.filterset_language.specs.declared.tree.OrOperator.TheVariants.{LiteralOr, Pipe, Plus}
 use Rattle.filterset_language.specs.declared.tree.AndOperator.TheVariants.{LiteralAnd, Ampersand}
 use Rattle.filterset_language.specs.declared.tree.DifferenceOperator.TheVariants.{Minus}
+use Rattle.filterset_language.specs.declared.tree.SymmetricDifferenceOperator.TheVariants.{Caret}
 use Rattle.filterset_language.specs.declared.parsing.names.PredicateName.{PredicateName}
 use Rattle.filterset_language.proofs.Places.{skip_again}
 use Rattle.filterset_language.proofs.Takes.{is_some}
@@ -47,11 +48,13 @@ join_stop : (op : Joiner) (u : List ℕ) → blank_len (join_text op ++ u) ≡ 0
 join_stop (Both LiteralAnd) u = refl
 join_stop (Both Ampersand) u = byte_stop 38 u refl refl
 join_stop (Without Minus) u = byte_stop 45 u refl refl
+join_stop (ExactlyOne Caret) u = byte_stop 94 u refl refl
 
 join_again : (op : Joiner) (at : ℕ) (own u : List ℕ) → 0 < length own → behind (codes "&") (own ++ u) ≡ None → join_ends op own → joiner_at (place at (join_text op ++ (own ++ u))) ≡ Some (Some op, place (at + length (join_text op)) (own ++ u))
 join_again (Both LiteralAnd) at own u lt no_amp ends = let e = ends_more own u lt ends in rw e refl
 join_again (Both Ampersand) at own u lt no_amp ends = rw no_amp refl
 join_again (Without Minus) at own u lt no_amp ends = refl
+join_again (ExactlyOne Caret) at own u lt no_amp ends = refl
 
 or_stop : (op : OrOperator) (u : List ℕ) → blank_len (or_text op ++ u) ≡ 0
 or_stop LiteralOr u = refl

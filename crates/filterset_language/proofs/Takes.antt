@@ -10,13 +10,14 @@ use Rattle.filterset_language.specs.Parsing.Words.{choose, not_at, joiner_at, or
 use Rattle.filterset_language.specs.Faults.{InvalidAnd, ampersands, capital_and, InvalidOr, pipes, capital_or}
 use Rattle.filterset_language.specs.Text.{Blanks, no_blank, space, newline, return_newline}
 use Rattle.filterset_language.specs.Grammar.{not_text, join_text, or_text, not_ends, join_ends, or_ends}
-use Rattle.filterset_language.specs.Tree.{Joiner, Both, Without}
+use Rattle.filterset_language.specs.Tree.{Joiner, Both, Without, ExactlyOne}
 use Rattle.filterset_language.specs.declared.tree.NotOperator.{NotOperator}
 use Rattle.filterset_language.specs.declared.tree.NotOperator.TheVariants.{LiteralNot, Exclamation}
 use Rattle.filterset_language.specs.declared.tree.OrOperator.{OrOperator}
 use Rattle.filterset_language.specs.declared.tree.OrOperator.TheVariants.{LiteralOr, Pipe, Plus}
 use Rattle.filterset_language.specs.declared.tree.AndOperator.TheVariants.{LiteralAnd, Ampersand}
 use Rattle.filterset_language.specs.declared.tree.DifferenceOperator.TheVariants.{Minus}
+use Rattle.filterset_language.specs.declared.tree.SymmetricDifferenceOperator.TheVariants.{Caret}
 use Rattle.filterset_language.specs.declared.tree.predicate.Predicate.TheVariants as matching
 use Rattle.filterset_language.specs.declared.parsing.names.PredicateName.{PredicateName}
 use Rattle.filterset_language.specs.declared.parsing.names.PredicateName.TheVariants as names
@@ -156,7 +157,10 @@ joiner_takes p x e =
     (λ a. subst P (is_some (Some (Both Ampersand), a.0) x a.2) (after_takes (codes "&") p a.0 a.1, tt))
     (λ f. ⊎_elim
     (λ a. subst P (is_some (Some (Without Minus), a.0) x a.2) (after_takes (codes "-") p a.0 a.1, tt))
-    (λ g. absurd (let n : None ≡ Some x = g.1 in cc))
+    (λ g. ⊎_elim
+    (λ a. subst P (is_some (Some (ExactlyOne Caret), a.0) x a.2) (after_takes (codes "^") p a.0 a.1, tt))
+    (λ h. absurd (let n : None ≡ Some x = h.1 in cc))
+    (choose_is _ _ _ x g.1))
     (choose_is _ _ _ x f.1))
     (choose_is _ _ _ x d.1))
     (choose_is _ _ _ x c.1))

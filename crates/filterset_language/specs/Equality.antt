@@ -7,13 +7,14 @@ use Rattle.filterset_graph.specs.declared.package.BuildPlatform.{BuildPlatform}
 use Rattle.filterset_graph.specs.declared.package.BuildPlatform.TheVariants.{Target, Host}
 use Rattle.filterset_matchers.specs.Matcher.{Matcher, Glob}
 use Rattle.filterset_matchers.specs.Equality.{compared, same_compared}
-use Rattle.filterset_language.specs.Tree.{Predicate, Package, Deps, Rdeps, Kind, Binary, BinaryId, Test, Group, Leaf, Matching, Platform, Default, All, None, Joiner, Both, Without, Tree, Not, Union, Join, Parens, Set}
+use Rattle.filterset_language.specs.Tree.{Predicate, Package, Deps, Rdeps, Kind, Binary, BinaryId, Test, Group, Leaf, Matching, Platform, Default, All, None, Joiner, Both, Without, ExactlyOne, Tree, Not, Union, Join, Parens, Set}
 use Rattle.filterset_language.specs.declared.tree.NotOperator.{NotOperator}
 use Rattle.filterset_language.specs.declared.tree.NotOperator.TheVariants.{LiteralNot, Exclamation}
 use Rattle.filterset_language.specs.declared.tree.OrOperator.{OrOperator}
 use Rattle.filterset_language.specs.declared.tree.OrOperator.TheVariants.{LiteralOr, Pipe, Plus}
 use Rattle.filterset_language.specs.declared.tree.AndOperator.TheVariants.{LiteralAnd, Ampersand}
 use Rattle.filterset_language.specs.declared.tree.DifferenceOperator.TheVariants.{Minus}
+use Rattle.filterset_language.specs.declared.tree.SymmetricDifferenceOperator.TheVariants.{Caret}
 
 abbrev pub same_span : SourceSpan → SourceSpan → Bool
 same_span a b = (offset_of a == offset_of b) && (length_of a == length_of b)
@@ -59,6 +60,7 @@ abbrev pub same_joiner : Joiner → Joiner → Bool
 same_joiner (Both LiteralAnd) (Both LiteralAnd) = true
 same_joiner (Both Ampersand) (Both Ampersand) = true
 same_joiner (Without Minus) (Without Minus) = true
+same_joiner (ExactlyOne Caret) (ExactlyOne Caret) = true
 same_joiner _ _ = false
 
 -- whether trees are equal, by this test of their spans

@@ -13,13 +13,14 @@ use Rattle.filterset_matchers.specs.Matcher.{Matcher}
 use Rattle.filterset_matchers.specs.Equality as matchers
 use Rattle.filterset_matchers.specs.Equality.{Compared, compared, same_compared, same_compared_Decides}
 use Rattle.filterset_language.specs.Equality.{same_span, same_platform, same_predicate, same_leaf, same_not, same_or, same_joiner, same_tree, compared_matcher, compared_leaf, compared_tree}
-use Rattle.filterset_language.specs.Tree.{Predicate, Package, Deps, Rdeps, Kind, Binary, BinaryId, Test, Group, Leaf, Matching, Platform, Default, All, None, Joiner, Both, Without, Tree, Not, Union, Join, Parens, Set}
+use Rattle.filterset_language.specs.Tree.{Predicate, Package, Deps, Rdeps, Kind, Binary, BinaryId, Test, Group, Leaf, Matching, Platform, Default, All, None, Joiner, Both, Without, ExactlyOne, Tree, Not, Union, Join, Parens, Set}
 use Rattle.filterset_language.specs.declared.tree.NotOperator.{NotOperator}
 use Rattle.filterset_language.specs.declared.tree.NotOperator.TheVariants.{LiteralNot, Exclamation}
 use Rattle.filterset_language.specs.declared.tree.OrOperator.{OrOperator}
 use Rattle.filterset_language.specs.declared.tree.OrOperator.TheVariants.{LiteralOr, Pipe, Plus}
 use Rattle.filterset_language.specs.declared.tree.AndOperator.TheVariants.{LiteralAnd, Ampersand}
 use Rattle.filterset_language.specs.declared.tree.DifferenceOperator.TheVariants.{Minus}
+use Rattle.filterset_language.specs.declared.tree.SymmetricDifferenceOperator.TheVariants.{Caret}
 
 -- a test that holds of the same alone, and of each with itself, says whether two are the same
 decides : {K : Type 0} (test : K → K → Bool) → ((a b : K) → test a b ≡ true → a ≡ b) → ((a : K) → test a a ≡ true)
@@ -97,12 +98,14 @@ joiner_is : (a b : Joiner) → same_joiner a b ≡ true → a ≡ b
 joiner_is (Both LiteralAnd) (Both LiteralAnd) e = refl
 joiner_is (Both Ampersand) (Both Ampersand) e = refl
 joiner_is (Without Minus) (Without Minus) e = refl
+joiner_is (ExactlyOne Caret) (ExactlyOne Caret) e = refl
 joiner_is _ _ e = absurd (false≢true e)
 
 joiner_self : (a : Joiner) → same_joiner a a ≡ true
 joiner_self (Both LiteralAnd) = refl
 joiner_self (Both Ampersand) = refl
 joiner_self (Without Minus) = refl
+joiner_self (ExactlyOne Caret) = refl
 
 pub same_span_equiv : IsEquivalence same_span
 same_span_equiv = decided same_span same_span_Decides

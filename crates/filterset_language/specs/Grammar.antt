@@ -6,7 +6,7 @@ use Rattle.filterset_language.specs.Text.{Blanks, ends_word, WhiteSpace, Spelled
 use Rattle.filterset_matchers.specs.Matcher.{Matcher, Equal, Contains, Glob, Regex}
 use Rattle.filterset_language.specs.Platforms.{Names}
 use Rattle.filterset_language.specs.Tree as tree
-use Rattle.filterset_language.specs.Tree.{Predicate, Leaf, Joiner, Tree, Package, Deps, Rdeps, Kind, Binary, BinaryId, Test, Group, Matching, Platform, Default, Both, Without, Not, Union, Join, Parens, Set}
+use Rattle.filterset_language.specs.Tree.{Predicate, Leaf, Joiner, Tree, Package, Deps, Rdeps, Kind, Binary, BinaryId, Test, Group, Matching, Platform, Default, Both, Without, ExactlyOne, Not, Union, Join, Parens, Set}
 use Rattle.filterset_glob.specs.Grammar.{GlobText}
 use Rattle.filterset_glob.specs.Tokens.{Tokens}
 use Rattle.filterset_faults.specs.Span.{span}
@@ -20,6 +20,7 @@ use Rattle.filterset_language.specs.declared.tree.OrOperator.{OrOperator}
 use Rattle.filterset_language.specs.declared.tree.OrOperator.TheVariants.{LiteralOr, Pipe, Plus}
 use Rattle.filterset_language.specs.declared.tree.AndOperator.TheVariants.{LiteralAnd, Ampersand}
 use Rattle.filterset_language.specs.declared.tree.DifferenceOperator.TheVariants.{Minus}
+use Rattle.filterset_language.specs.declared.tree.SymmetricDifferenceOperator.TheVariants.{Caret}
 
 -- the name of a predicate that takes a matcher
 abbrev pub Name : Predicate → List ℕ
@@ -48,6 +49,7 @@ abbrev pub join_text : Joiner → List ℕ
 join_text (Both LiteralAnd) = codes "and"
 join_text (Both Ampersand) = codes "&"
 join_text (Without Minus) = codes "-"
+join_text (ExactlyOne Caret) = codes "^"
 
 -- what may stand behind a negation: behind the word nothing that goes on with it
 abbrev pub not_ends : NotOperator → List ℕ → Type 0
@@ -65,6 +67,7 @@ abbrev pub join_ends : Joiner → List ℕ → Type 0
 join_ends (Both LiteralAnd) rest = IsTrue (ends_word rest)
 join_ends (Both Ampersand) rest = Unit {0}
 join_ends (Without Minus) rest = Unit {0}
+join_ends (ExactlyOne Caret) rest = Unit {0}
 
 -- how a predicate matches by a text that no sign stands before
 abbrev pub own_matching : Predicate → TextMatching

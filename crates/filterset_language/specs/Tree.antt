@@ -9,7 +9,7 @@ use Rattle.filterset_graph.specs.declared.package.BuildPlatform.{BuildPlatform}
 use Rattle.filterset_language.specs.declared.tree.NotOperator.{NotOperator}
 use Rattle.filterset_language.specs.declared.tree.OrOperator.{OrOperator}
 pub use Rattle.filterset_language.specs.declared.tree.Joiner.{Joiner}
-pub use Rattle.filterset_language.specs.declared.tree.Joiner.TheVariants.{Both, Without}
+pub use Rattle.filterset_language.specs.declared.tree.Joiner.TheVariants.{Both, Without, ExactlyOne}
 pub use Rattle.filterset_language.specs.declared.tree.predicate.Predicate.{Predicate}
 pub use Rattle.filterset_language.specs.declared.tree.predicate.Predicate.TheVariants.{Package, Deps, Rdeps, Kind, Binary, BinaryId, Test, Group}
 use Rattle.filterset_language.specs.declared.tree.ParsedLeaf.{ParsedLeaf}
@@ -54,6 +54,7 @@ tree_of (exprs.Not' op p e) = Not op (tree_of e)
 tree_of (exprs.Union' op p l q r) = Union op (tree_of l) (tree_of r)
 tree_of (exprs.Intersection' op p l q r) = Join (Both op) (tree_of l) (tree_of r)
 tree_of (exprs.Difference' op p l q r) = Join (Without op) (tree_of l) (tree_of r)
+tree_of (exprs.SymmetricDifference' op p l q r) = Join (ExactlyOne op) (tree_of l) (tree_of r)
 tree_of (exprs.Parens' p e) = Parens (tree_of e)
 tree_of (exprs.Set l) = Set (leaf_of l)
 

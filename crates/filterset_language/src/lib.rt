@@ -12,4 +12,5 @@ pub use reference::FILTERSET_REFERENCE_MD;
 pub use tree::predicate::{Predicate, TextMatching};
 pub use tree::{
     AndOperator, DifferenceOperator, Joiner, NotOperator, OrOperator, ParsedExpr, ParsedLeaf,
+    SymmetricDifferenceOperator,
 };

@@ -1,11 +1,12 @@
 //! What trees and their parts print.
 ghost use Rattle.std.specs.Prelude.{Some};
-ghost use Rattle.filterset_language.specs.Tree.{leaf_of, tree_of, Both, Without};
+ghost use Rattle.filterset_language.specs.Tree.{leaf_of, tree_of, Both, Without, ExactlyOne};
 ghost use Rattle.filterset_language.specs.Grammar.{not_text, or_text, join_text};
 ghost use Rattle.filterset_language.specs.Printing.{printed, printed_leaf};
 
 use crate::tree::{
     AndOperator, DifferenceOperator, NotOperator, OrOperator, ParsedExpr, ParsedLeaf,
+    SymmetricDifferenceOperator,
 };
 use std::fmt;
 use std::fmt::Display;
@@ -58,6 +59,17 @@ impl fmt::Display for DifferenceOperator {
     }
 }
 
+/// `^`.
+impl fmt::Display for SymmetricDifferenceOperator {
+    ghost output = { λ o. Some (join_text (ExactlyOne o)) };
+
+    fn fmt<W: fmt::Write>(&self, f: &mut fmt::Formatter<W>) -> fmt::Result {
+        match self {
+            SymmetricDifferenceOperator::Caret => f.write_str("^"),
+        }
+    }
+}
+
 /// Operators with one blank on either side, a negation with one behind it, and parentheses as in the tree.
 impl<S> fmt::Display for ParsedExpr<S> {
     ghost output = { λ e. Some (printed (tree_of e)) };
@@ -79,6 +91,11 @@ impl<S> fmt::Display for ParsedExpr<S> {
                 (**r).fmt(f)
             }
             ParsedExpr::Difference(op, l, r) => {
+                (**l).fmt(f)?;
+                write!(f, " {op} ")?;
+                (**r).fmt(f)
+            }
+            ParsedExpr::SymmetricDifference(op, l, r) => {
                 (**l).fmt(f)?;
                 write!(f, " {op} ")?;
                 (**r).fmt(f)

@@ -27,7 +27,8 @@ Here `m` is a matcher.
 From the one that binds tightest:
 
 1. `not a`, `!a`: tests that `a` does not hold.
-2. `a and b`, `a & b`: tests that both hold. `a - b`: tests that `a` holds and `b` does not.
+2. `a and b`, `a & b`: tests that both hold. `a - b`: tests that `a` holds and `b` does not. `a ^ b`: tests that exactly
+   one of the two holds.
 3. `a or b`, `a | b`, `a + b`: tests that one of the two holds, or both.
 
 Operators of one level group to the left: `a - b & c` is `(a - b) & c`. Parentheses group otherwise.

@@ -39,11 +39,18 @@ pub enum DifferenceOperator {
     Minus,
 }
 
-/// An operator of the level of `and`: both operands, or the first without the second.
+/// How a symmetric difference is written: `^`.
+#[derive(Clone, Copy, Debug, PartialEq, Eq)]
+pub enum SymmetricDifferenceOperator {
+    Caret,
+}
+
+/// An operator of the level of `and`: both operands, the first without the second, or exactly one of the two.
 #[derive(Clone, Copy, Debug, PartialEq, Eq)]
 pub enum Joiner {
     Both(AndOperator),
     Without(DifferenceOperator),
+    ExactlyOne(SymmetricDifferenceOperator),
 }
 
 /// A predicate of a filterset. Its span is that of its argument without the blanks behind a pattern, and of `default()`
@@ -123,6 +130,7 @@ pub enum ParsedExpr<S = SourceSpan> {
     Union(OrOperator, Box<ParsedExpr<S>>, Box<ParsedExpr<S>>),
     Intersection(AndOperator, Box<ParsedExpr<S>>, Box<ParsedExpr<S>>),
     Difference(DifferenceOperator, Box<ParsedExpr<S>>, Box<ParsedExpr<S>>),
+    SymmetricDifference(SymmetricDifferenceOperator, Box<ParsedExpr<S>>, Box<ParsedExpr<S>>),
     /// An expression between parentheses.
     Parens(Box<ParsedExpr<S>>),
     /// A predicate.
@@ -152,6 +160,11 @@ impl<S: Copy> ParsedExpr<S> {
                 let left = Box::new(alloc, left.try_clone(alloc)?)?;
                 let right = Box::new(alloc, right.try_clone(alloc)?)?;
                 ParsedExpr::Difference(*operator, left, right)
+            }
+            ParsedExpr::SymmetricDifference(operator, left, right) => {
+                let left = Box::new(alloc, left.try_clone(alloc)?)?;
+                let right = Box::new(alloc, right.try_clone(alloc)?)?;
+                ParsedExpr::SymmetricDifference(*operator, left, right)
             }
             ParsedExpr::Parens(inner) => {
                 ParsedExpr::Parens(Box::new(alloc, inner.try_clone(alloc)?)?)

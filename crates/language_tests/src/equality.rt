@@ -202,7 +202,7 @@ fn negations_and_parentheses_are_compared(rt: HostRuntime) -> Result<(), Fail> {
 }
 
 /// The operators between two sets.
-const OPERATORS: [&str; 6] = ["or", "|", "+", "and", "&", "-"];
+const OPERATORS: [&str; 7] = ["or", "|", "+", "and", "&", "-", "^"];
 
 #[test]
 fn operators_are_compared(rt: HostRuntime) -> Result<(), Fail> {

@@ -79,10 +79,11 @@ fn parses_or_wants_memory(rt: HostRuntime) {
 }
 
 /// Trees with each operator and each predicate, by their lines.
-const COPIED: [&str; 16] = [
+const COPIED: [&str; 17] = [
     "all none and not",
     "all none & !",
     "all none - ()",
+    "all none ^ !",
     "all none or",
     "all none |",
     "default host +",

@@ -71,6 +71,7 @@ fn operators_come_back(rt: HostRuntime) -> Result<(), Fail> {
             ("all none and", "all() and none()"),
             ("all none &", "all() & none()"),
             ("all none -", "all() - none()"),
+            ("all none ^", "all() ^ none()"),
             ("all none or", "all() or none()"),
             ("all none |", "all() | none()"),
             ("all none +", "all() + none()"),
@@ -93,6 +94,8 @@ fn levels_come_back_with_their_own_parentheses_alone(rt: HostRuntime) -> Result<
             ("all none or () all and", "(all() or none()) and all()"),
             ("all all none - () -", "all() - (all() - none())"),
             ("all none - all -", "all() - none() - all()"),
+            ("all none - all ^", "all() - none() ^ all()"),
+            ("all all none ^ () ^", "all() ^ (all() ^ none())"),
             (
                 "all none & all - none and",
                 "all() & none() - all() and none()",
@@ -147,6 +150,12 @@ fn operands_of_another_level_are_read_otherwise(rt: HostRuntime) -> Result<(), F
                 "all() - none() - all()",
                 "",
                 "Difference(Minus, Difference(Minus, all, none), all)",
+            ),
+            (
+                "all none all ^ ^",
+                "all() ^ none() ^ all()",
+                "",
+                "SymmetricDifference(Caret, SymmetricDifference(Caret, all, none), all)",
             ),
             (
                 "all none all or |",

@@ -4,7 +4,7 @@ ghost use Rattle.nextest_filtering.specs.Bans.{IsAllowed};
 ghost use Rattle.nextest_filtering.specs.Checks.{AddsUnmatched, AllChecked};
 ghost use Rattle.nextest_filtering.specs.Compiling.{packages_of, IsRejectionOf};
 ghost use Rattle.filterset_expression.specs.Expression.{formula};
-ghost use Rattle.filterset_expression.specs.Formula.{Negation, Disjunction, Conjunction};
+ghost use Rattle.filterset_expression.specs.Formula.{Negation, Disjunction, Conjunction, ExclusiveDisjunction};
 ghost use Rattle.filterset_expression.specs.Meaning.{IsCompiled};
 ghost use Rattle.filterset_language.specs.Tree.{leaf_of, tree_of, tree_leaves, Set};
 
@@ -96,6 +96,14 @@ fn compile_expr(
                 compile_expr(alloc, cx, known_groups, b, faults)?,
             )
         }
+        ParsedExpr::SymmetricDifference(_, a, b) => {
+            let left = compile_expr(alloc, cx, known_groups, a, faults)?;
+            exclusive_disjunction(
+                alloc,
+                left,
+                compile_expr(alloc, cx, known_groups, b, faults)?,
+            )
+        }
         ParsedExpr::Parens(e) => compile_expr(alloc, cx, known_groups, e, faults),
         ParsedExpr::Set(leaf) => compile_set(alloc, cx, known_groups, leaf, faults),
     }
@@ -148,6 +156,19 @@ fn conjunction(
     ensures { IfOk result (λ made. formula made.value ≡ Conjunction (formula left.value) (formula right.value)) }
 {
     Ok(Box::new(alloc, CompiledExpr::Intersection(left, right))?)
+}
+
+/// The tests that are in exactly one of the two sets.
+#[inline(never)]
+fn exclusive_disjunction(
+    alloc: Global,
+    left: Box<CompiledExpr>,
+    right: Box<CompiledExpr>,
+) -> Result<Box<CompiledExpr>, AllocError>
+    ensures { IfOk result (λ made.
+        formula made.value ≡ ExclusiveDisjunction (formula left.value) (formula right.value)) }
+{
+    Ok(Box::new(alloc, CompiledExpr::SymmetricDifference(left, right))?)
 }
 
 /// The tests that are in the first set and not in the second.

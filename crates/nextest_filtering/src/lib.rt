@@ -23,6 +23,6 @@ pub use filterset_graph::{
 };
 pub use filterset_language::{
     AndOperator, DifferenceOperator, FILTERSET_REFERENCE_MD, NotOperator, OrOperator, ParseStop,
-    Parsed, ParsedExpr, ParsedLeaf,
+    Parsed, ParsedExpr, ParsedLeaf, SymmetricDifferenceOperator,
 };
 pub use filterset_matchers::{NameMatcher, PatternMatcher, PatternRefusal, PatternRegex};

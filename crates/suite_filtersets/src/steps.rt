@@ -22,6 +22,7 @@ fn write_step(text: &mut String, step: FlatStep<'_>) -> Result<(), AllocError> {
         FlatStep::Not => text.push_str("Not"),
         FlatStep::And => text.push_str("And"),
         FlatStep::Or => text.push_str("Or"),
+        FlatStep::Xor => text.push_str("Xor"),
     }
 }
 

@@ -18,6 +18,8 @@ pub enum FlatStep<'a> {
     And,
     /// Whether one of the last two values holds.
     Or,
+    /// Whether exactly one of the last two values holds.
+    Xor,
 }
 
 /// Appends the steps of an expression, with these in the place of each `default` leaf.
@@ -44,6 +46,11 @@ pub(super) fn push_steps<'a>(
             push_steps(steps, b, default_steps)?;
             steps.push(FlatStep::And)?;
         }
+        CompiledExpr::SymmetricDifference(a, b) => {
+            push_steps(steps, a, default_steps)?;
+            push_steps(steps, b, default_steps)?;
+            steps.push(FlatStep::Xor)?;
+        }
         CompiledExpr::Set(FiltersetLeaf::Default) => steps.extend_from_slice(default_steps)?,
         CompiledExpr::Set(leaf) => steps.push(FlatStep::Leaf(leaf))?,
     }
@@ -61,7 +68,7 @@ pub(super) fn reserved_height(steps: &[FlatStep<'_>]) -> usize
         match step {
             FlatStep::Leaf(_) => height += 1,
             FlatStep::Not => {}
-            FlatStep::And | FlatStep::Or => height -= 1,
+            FlatStep::And | FlatStep::Or | FlatStep::Xor => height -= 1,
         }
         greatest = greatest.max(height);
     }

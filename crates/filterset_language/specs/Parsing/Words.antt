@@ -2,7 +2,7 @@
 use Rattle.std.specs.Prelude.{ℕ, List, [], ◌∷◌, codes, Option, Some, None, if◌then◌else◌}
 use Rattle.filterset_glob.specs.Signs.{◌∈◌}
 use Rattle.filterset_language.specs.Parsing.Place.{Place, place_of, after, after_word}
-use Rattle.filterset_language.specs.Tree.{Joiner, Package, Deps, Rdeps, Kind, Binary, BinaryId, Test, Group, Both, Without}
+use Rattle.filterset_language.specs.Tree.{Joiner, Package, Deps, Rdeps, Kind, Binary, BinaryId, Test, Group, Both, Without, ExactlyOne}
 use Rattle.filterset_language.specs.Grammar.{Name}
 use Rattle.filterset_language.specs.declared.parsing.input.Input.{Input}
 use Rattle.filterset_language.specs.declared.tree.NotOperator.{NotOperator}
@@ -11,6 +11,7 @@ use Rattle.filterset_language.specs.declared.tree.OrOperator.{OrOperator}
 use Rattle.filterset_language.specs.declared.tree.OrOperator.TheVariants.{LiteralOr, Pipe, Plus}
 use Rattle.filterset_language.specs.declared.tree.AndOperator.TheVariants.{LiteralAnd, Ampersand}
 use Rattle.filterset_language.specs.declared.tree.DifferenceOperator.TheVariants.{Minus}
+use Rattle.filterset_language.specs.declared.tree.SymmetricDifferenceOperator.TheVariants.{Caret}
 use Rattle.filterset_language.specs.declared.parsing.names.PredicateName.{PredicateName}
 use Rattle.filterset_language.specs.declared.parsing.names.PredicateName.TheVariants as names
 
@@ -46,7 +47,8 @@ joiner_at p =
     (choose (after_word (codes "AND") p) (with None)
     (choose (after_word (codes "and") p) (with (Some (Both LiteralAnd)))
     (choose (after (codes "&") p) (with (Some (Both Ampersand)))
-    (choose (after (codes "-") p) (with (Some (Without Minus))) None))))
+    (choose (after (codes "-") p) (with (Some (Without Minus)))
+    (choose (after (codes "^") p) (with (Some (ExactlyOne Caret))) None)))))
 
 -- the operator of the level of `or` that stands here, without a value where it is an invalid one
 abbrev pub or_at : Place → Option (Option OrOperator × Place)

@@ -11,7 +11,7 @@ ghost use Rattle.filterset_language.specs.Parsing.Outcome.{ReadsTree, ReadsSet, 
 use crate::parsing::input::{Input, Read};
 use crate::parsing::misplaced::{find_misplaced, find_misplaced_not};
 use crate::parsing::names::{PredicateName, read_name};
-use crate::parsing::operators::{read_joiner, read_not, read_or};
+use crate::parsing::operators::{is_before_caret, read_joiner, read_not, read_or};
 use crate::parsing::predicates::{read_close, read_predicate};
 use crate::tree::{Joiner, NotOperator, OrOperator, ParsedExpr, ParsedLeaf};
 use filterset_faults::ParseSingleError;
@@ -141,7 +141,8 @@ fn report_no_operand<'a>(
     Ok(input)
 }
 
-/// Operands of the level of `and`.
+/// Operands of the level of `and`. Where nothing was read in the place of the first one, `^` is no operator, and the
+/// level ends there.
 #[cycle(parser)]
 fn read_and_level<'a>(
     alloc: Global,
@@ -154,6 +155,9 @@ fn read_and_level<'a>(
     ensures behind { EndsBehind input.entry result }
 {
     let first = read_operand(alloc, faults, input)?;
+    if first.end.offset == input.offset && is_before_caret(first.end) {
+        return Ok(first);
+    }
     read_and_rest(alloc, faults, first)
 }
 
@@ -359,6 +363,7 @@ fn join(
     let expr = match joiner {
         Joiner::Both(operator) => ParsedExpr::Intersection(operator, left, right),
         Joiner::Without(operator) => ParsedExpr::Difference(operator, left, right),
+        Joiner::ExactlyOne(operator) => ParsedExpr::SymmetricDifference(operator, left, right),
     };
     Ok(Some(Box::new(alloc, expr)?))
 }

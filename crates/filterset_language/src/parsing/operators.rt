@@ -1,11 +1,13 @@
 //! Reading operators.
-ghost use Rattle.std.specs.Prelude.{◌≡◌, IfSome};
+ghost use Rattle.std.specs.Prelude.{◌≡◌, ℕ, IfSome, None, codes, false, is_some};
 ghost use Rattle.std.specs.Option.{option_map};
-ghost use Rattle.filterset_language.specs.Parsing.Place.{place_of, IsBehind};
+ghost use Rattle.filterset_language.specs.Parsing.Place.{place, place_of, skip, after, IsBehind};
 ghost use Rattle.filterset_language.specs.Parsing.Words.{seen, not_at, joiner_at, or_at};
 
 use crate::parsing::input::Input;
-use crate::tree::{AndOperator, DifferenceOperator, Joiner, NotOperator, OrOperator};
+use crate::tree::{
+    AndOperator, DifferenceOperator, Joiner, NotOperator, OrOperator, SymmetricDifferenceOperator,
+};
 
 /// The negation that stands here.
 pub fn read_not(input: Input<'_>) -> Option<(NotOperator, Input<'_>)>
@@ -24,6 +26,9 @@ pub fn read_joiner(input: Input<'_>) -> Option<(Option<Joiner>, Input<'_>)>
     ensures value { option_map seen result ≡ joiner_at (place_of input.entry) }
     ensures behind { IfSome result (λ x. IsBehind input.entry x.1) }
 {
+    if !may_begin_joiner(input.rest.as_bytes()) {
+        return None;
+    }
     if let Some(rest) = input.after("&&") {
         return Some((None, rest));
     }
@@ -36,8 +41,29 @@ pub fn read_joiner(input: Input<'_>) -> Option<(Option<Joiner>, Input<'_>)>
     if let Some(rest) = input.after("&") {
         return Some((Some(Joiner::Both(AndOperator::Ampersand)), rest));
     }
-    let rest = input.after("-")?;
-    Some((Some(Joiner::Without(DifferenceOperator::Minus)), rest))
+    if let Some(rest) = input.after("-") {
+        return Some((Some(Joiner::Without(DifferenceOperator::Minus)), rest));
+    }
+    let rest = input.after("^")?;
+    Some((
+        Some(Joiner::ExactlyOne(SymmetricDifferenceOperator::Caret)),
+        rest,
+    ))
+}
+
+/// Whether the first byte is one that an operator of the level of `and` begins with. Most levels end where it is none.
+fn may_begin_joiner(text: &[u8]) -> bool
+    ensures { result ≡ false → (at : ℕ) → joiner_at (place at text.now) ≡ None }
+{
+    matches!(text, [b'&' | b'A' | b'a' | b'-' | b'^', ..])
+}
+
+/// Whether `^` stands behind the blanks here.
+#[inline(never)]
+pub fn is_before_caret(input: Input<'_>) -> bool
+    ensures { result ≡ is_some (after (codes "^") (skip (place_of input.entry))) }
+{
+    input.skip_blanks().after("^").is_some()
 }
 
 /// The operator of the level of `or` that stands here, without a value where it is `||` or `OR`.

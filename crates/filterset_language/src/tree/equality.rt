@@ -61,6 +61,10 @@ impl<S: PartialEq> PartialEq for ParsedExpr<S> {
                 ParsedExpr::Difference(operator, left, right),
                 ParsedExpr::Difference(other_operator, other_left, other_right),
             ) => operator == other_operator && left == other_left && right == other_right,
+            (
+                ParsedExpr::SymmetricDifference(operator, left, right),
+                ParsedExpr::SymmetricDifference(other_operator, other_left, other_right),
+            ) => operator == other_operator && left == other_left && right == other_right,
             (ParsedExpr::Parens(inner), ParsedExpr::Parens(other_inner)) => inner == other_inner,
             (ParsedExpr::Set(leaf), ParsedExpr::Set(other_leaf)) => leaf == other_leaf,
             _ => false,

@@ -47,7 +47,8 @@ fn add_leaves<'e, S, F: Fn(&ParsedLeaf<S>) -> bool>(
         ParsedExpr::Not(_, e) | ParsedExpr::Parens(e) => add_leaves(e, keep, found),
         ParsedExpr::Union(_, a, b)
         | ParsedExpr::Intersection(_, a, b)
-        | ParsedExpr::Difference(_, a, b) => {
+        | ParsedExpr::Difference(_, a, b)
+        | ParsedExpr::SymmetricDifference(_, a, b) => {
             add_leaves(a, keep, found)?;
             add_leaves(b, keep, found)
         }

@@ -2,7 +2,7 @@
 use nextest_filtering::errors::SourceSpan;
 use nextest_filtering::{
     AndOperator, BuildPlatform, DifferenceOperator, GenericGlob, NameMatcher, NotOperator,
-    OrOperator, ParsedExpr, ParsedLeaf, PatternRegex,
+    OrOperator, ParsedExpr, ParsedLeaf, PatternRegex, SymmetricDifferenceOperator,
 };
 use std::alloc::Global;
 use std::rc::Rc;
@@ -96,6 +96,7 @@ fn joined(alloc: Global, word: &str, trees: &mut Vec<ParsedExpr>) -> Result<Pars
         "and" => ParsedExpr::Intersection(AndOperator::LiteralAnd, left, right),
         "&" => ParsedExpr::Intersection(AndOperator::Ampersand, left, right),
         "-" => ParsedExpr::Difference(DifferenceOperator::Minus, left, right),
+        "^" => ParsedExpr::SymmetricDifference(SymmetricDifferenceOperator::Caret, left, right),
         "or" => ParsedExpr::Union(OrOperator::LiteralOr, left, right),
         "|" => ParsedExpr::Union(OrOperator::Pipe, left, right),
         "+" => ParsedExpr::Union(OrOperator::Plus, left, right),

@@ -57,6 +57,12 @@ fn write_tree(text: &mut String, tree: &ParsedExpr, spans: Spans) -> Result<(), 
             text.push_str(", ")?;
             write_tree(text, right, spans)?;
         }
+        ParsedExpr::SymmetricDifference(_, left, right) => {
+            text.push_str("SymmetricDifference(Caret, ")?;
+            write_tree(text, left, spans)?;
+            text.push_str(", ")?;
+            write_tree(text, right, spans)?;
+        }
         ParsedExpr::Parens(inner) => {
             text.push_str("Parens(")?;
             write_tree(text, inner, spans)?;

@@ -24,3 +24,10 @@ returns-in_ok-compile_expr-in-Difference-clause-unmatched t c =
     let right = tree_leaves (tree_of c.deref-in-Difference-2.result.now) in
     rw (c.in-Difference.is, ← c.deref-in-Difference.ensures, ← c.deref-in-Difference-2.ensures) (where_it_returns c.difference.result
     (added_twice (packages_of c.args.cx.now) c.args.known_groups.now left right c.args.faults.now.items _ c.compile_expr-in-Difference-2.new.faults.items c.in_ok-left-in-Difference.ensures.unmatched c.in_ok-compile_expr-in-Difference.ensures.unmatched))
+
+pub returns-in_ok-compile_expr-in-SymmetricDifference-clause-unmatched : goal.returns-in_ok-compile_expr-in-SymmetricDifference-clause-unmatched
+returns-in_ok-compile_expr-in-SymmetricDifference-clause-unmatched t c =
+    let left = tree_leaves (tree_of c.deref-in-SymmetricDifference.result.now) in
+    let right = tree_leaves (tree_of c.deref-in-SymmetricDifference-2.result.now) in
+    rw (c.in-SymmetricDifference.is, ← c.deref-in-SymmetricDifference.ensures, ← c.deref-in-SymmetricDifference-2.ensures) (where_it_returns c.exclusive_disjunction.result
+    (added_twice (packages_of c.args.cx.now) c.args.known_groups.now left right c.args.faults.now.items _ c.compile_expr-in-SymmetricDifference-2.new.faults.items c.in_ok-left-in-SymmetricDifference.ensures.unmatched c.in_ok-compile_expr-in-SymmetricDifference.ensures.unmatched))

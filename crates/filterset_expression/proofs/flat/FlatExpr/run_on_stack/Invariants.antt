@@ -12,5 +12,5 @@ invariant-loop-step g l =
       within : l.step-index ≤ length l.step-items;
       runs : leaves_one (steps_of (drop l.step-index l.step-items)) (length l.stack.items) ≡ true;
       fits : greatest_height (steps_of (drop l.step-index l.step-items)) (length l.stack.items) ≤ vec_capacity l.stack;
-      so_far : (value : g.row.L.Denot) → Runs g.L.Logic.not_of g.L.Logic.or_of g.L.Logic.and_of (λ leaf x. (asked : AskedLeaf) × (compiled_leaf asked.leaf.now ≡ leaf) × goal.F-post g l.of_leaf asked (Ok x)) (steps_of (drop l.step-index l.step-items)) (reverse l.stack.items) value → Runs g.L.Logic.not_of g.L.Logic.or_of g.L.Logic.and_of (λ leaf x. (asked : AskedLeaf) × (compiled_leaf asked.leaf.now ≡ leaf) × goal.F-post g l.of_leaf asked (Ok x)) (steps_of l.step-items) [] value;
+      so_far : (value : g.row.L.Denot) → Runs g.L.Logic.not_of g.L.Logic.or_of g.L.Logic.and_of g.L.Logic.xor_of (λ leaf x. (asked : AskedLeaf) × (compiled_leaf asked.leaf.now ≡ leaf) × goal.F-post g l.of_leaf asked (Ok x)) (steps_of (drop l.step-index l.step-items)) (reverse l.stack.items) value → Runs g.L.Logic.not_of g.L.Logic.or_of g.L.Logic.and_of g.L.Logic.xor_of (λ leaf x. (asked : AskedLeaf) × (compiled_leaf asked.leaf.now ≡ leaf) × goal.F-post g l.of_leaf asked (Ok x)) (steps_of l.step-items) [] value;
     }

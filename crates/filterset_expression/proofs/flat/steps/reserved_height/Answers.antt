@@ -16,7 +16,7 @@ loop-step-preserved c =
     let after : height_after (step_of s) height ≡ c.match-step.height = elim c.match-step.branch [
       | in-Leaf w ↦ rw w.in-Leaf.is (omega (arith, w.height-is))
       | in-Not w ↦ rw w.in-Not.is (omega (arith, w.height-is))
-      | in-And w ↦ ⊎_elim (λ e. rw e (one_less-is height ∙ sym w.height-is)) (λ e. rw e (one_less-is height ∙ sym w.height-is)) w.in-And.is
+      | in-And w ↦ ⊎_elim (λ e. rw e (one_less-is height ∙ sym w.height-is)) (⊎_elim (λ e. rw e (one_less-is height ∙ sym w.height-is)) (λ e. rw e (one_less-is height ∙ sym w.height-is))) w.in-And.is
     ] in
     let greatest = greatest_on (step_of s) rest height c.match-step.height after in
     let above = greatest_above rest c.match-step.height in
