@@ -7,6 +7,7 @@ use Rattle.filterset_cli.specs.Shape.{Text}
 use Rattle.filterset_cli.specs.Library.{Background}
 use Rattle.filterset_cli.specs.Report.{IsBackgroundOf, MakeGraph, Pieces, RecordReport, Section, Sections, outcome_of}
 use Rattle.filterset_cli.specs.Record.{FiltersetRow, RecordRow}
+use Rattle.filterset_cli.specs.declared.record.commands.Command.{Command}
 use Rattle.filterset_cli.specs.declared.ending.Outcome.{Outcome}
 use Rattle.std.proofs.Math.Bool.{and_assoc, and-true}
 use Rattle.std.proofs.Math.Seq.{take-length}
@@ -39,14 +40,14 @@ pub added_twice : (old mid new text piece : Text) → mid ≡ old ++ text → ne
 added_twice old mid new text piece first second = second ∙ ap (λ t. t ++ piece) first ∙ append_assoc old text piece
 
 -- the section of one more filterset
-pub Sections-push : (background : Background) (i : ℕ) (ts : List FiltersetRow) (t : FiltersetRow) (all accepted : Bool) (text section : Text) →
-    Sections background i ts all text → Section background (i + length ts) t accepted section →
-    Sections background i (ts ++ t ∷ []) (all && accepted) (text ++ section)
-Sections-push background i [] t all accepted text section (is_true, none) is =
+pub Sections-push : (command : Command) (background : Background) (i : ℕ) (ts : List FiltersetRow) (t : FiltersetRow) (all accepted : Bool) (text section : Text) →
+    Sections command background i ts all text → Section command background (i + length ts) t accepted section →
+    Sections command background i (ts ++ t ∷ []) (all && accepted) (text ++ section)
+Sections-push command background i [] t all accepted text section (is_true, none) is =
     (accepted, true, section, [], ap (λ b. b && accepted) is_true ∙ sym (and-true accepted), ap (λ x. x ++ section) none ∙ sym (append-nil section), rw add-zero at is, (refl, refl))
-Sections-push background i (u ∷ us) t all accepted text section (first, others, front, rest, both, whole, is_first, are) is =
+Sections-push command background i (u ∷ us) t all accepted text section (first, others, front, rest, both, whole, is_first, are) is =
     let shifted : i + length (u ∷ us) ≡ suc i + length us = omega arith in
-    let further : Section background (suc i + length us) t accepted section = rw shifted at is in (
+    let further : Section command background (suc i + length us) t accepted section = rw shifted at is in (
       first,
       others && accepted,
       front,
@@ -54,7 +55,7 @@ Sections-push background i (u ∷ us) t all accepted text section (first, others
       ap (λ b. b && accepted) both ∙ and_assoc first others accepted,
       ap (λ x. x ++ section) whole ∙ append_assoc front rest section,
       is_first,
-      Sections-push background (suc i) us t others accepted rest section are further,
+      Sections-push command background (suc i) us t others accepted rest section are further,
     )
 
 -- the texts of numbered texts
@@ -79,6 +80,6 @@ number_is_place xs n p lt at =
 
 -- a report of filtersets, with the outcome that says whether all of them are accepted
 pub reported : (row : RecordRow) (background : Background) (text : Text) (outcome : Outcome) (all : Bool) → MakeGraph row.packages → IsBackgroundOf row background →
-    Sections background 0 row.filtersets all text → outcome ≡ outcome_of all → RecordReport row text outcome
+    Sections row.command background 0 row.filtersets all text → outcome ≡ outcome_of all → RecordReport row text outcome
 reported row background text outcome true graph is sections says = subst (RecordReport row text) (sym says) (background, graph, is, sections)
 reported row background text outcome false graph is sections says = subst (RecordReport row text) (sym says) (background, graph, is, sections)

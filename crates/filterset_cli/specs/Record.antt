@@ -11,6 +11,8 @@ use Rattle.filterset_graph.specs.declared.package.BuildTargetId.{BuildTargetId}
 use Rattle.filterset_graph.specs.declared.package.BuildTargetId.TheVariants.{Library, Binary, Example, Test, Benchmark, BuildScript}
 use Rattle.filterset_graph.specs.declared.package.PackageMetadata.{PackageMetadata}
 use Rattle.filterset_cli.specs.Shape.{Text, IsText, IsBoolean, IsListOf, IsObjectWith, Required, Optional}
+use Rattle.filterset_cli.specs.declared.record.commands.Command.{Command}
+use Rattle.filterset_cli.specs.declared.record.commands.Command.TheVariants.{Report, Format}
 
 pub record TestRow : Type 0 where
   pub name : Text
@@ -34,6 +36,7 @@ pub record RecordRow : Type 0 where
   pub groups : List Text
   pub default_filter : Text
   pub binaries : List BinaryRow
+  pub command : Command
 
 -- the value is the platform's name
 abbrev pub IsPlatform : Data → BuildPlatform → Type 0
@@ -99,13 +102,24 @@ abbrev pub IsFilterset : Data → FiltersetRow → Type 0
 IsFilterset d filterset =
     (IsText d filterset.text × (filterset.kind ≡ kinds.Test)) ⊎ IsFiltersetObject d filterset
 
--- a record, whose default filter holds every test where nothing else is said
+-- what each command is called
+abbrev pub command_text : Command → Text
+command_text Report = codes "report"
+command_text Format = codes "format"
+
+-- the value is what the command is called
+abbrev pub IsCommand : Data → Command → Type 0
+IsCommand d command = IsText d (command_text command)
+
+-- a record, whose default filter holds every test, and which asks for a report, where nothing else is said
 abbrev pub IsRecord : Data → RecordRow → Type 0
 IsRecord d row =
     IsObjectWith
-    (codes "filtersets" ∷ codes "packages" ∷ codes "groups" ∷ codes "default" ∷ codes "binaries" ∷ []) d
+    (codes "filtersets" ∷ codes "packages" ∷ codes "groups" ∷ codes "default" ∷ codes "binaries"
+    ∷ codes "command" ∷ []) d
     × Required (codes "filtersets") (IsListOf IsFilterset) d row.filtersets
     × Optional (codes "packages") (IsListOf IsPackage) [] d row.packages
     × Optional (codes "groups") (IsListOf IsText) [] d row.groups
     × Optional (codes "default") IsText (codes "all()") d row.default_filter
     × Optional (codes "binaries") (IsListOf IsBinary) [] d row.binaries
+    × Optional (codes "command") IsCommand Report d row.command

@@ -16,8 +16,11 @@ use Rattle.filterset_faults.specs.declared.kind.FiltersetKind.TheVariants as kin
 use Rattle.filterset_cli.specs.Shape.{Text}
 use Rattle.filterset_cli.specs.Record.{BinaryRow, FiltersetRow, TestRow, RecordRow, IsRecord}
 use Rattle.nextest_filtering.specs.Compiling.{IsFiltersetOf, IsRefusedWith}
+use Rattle.nextest_filtering.specs.Formatting.{PrintsFilterset}
 use Rattle.nextest_filtering.specs.declared.compile.context.KnownGroups.{KnownGroups}
 use Rattle.filterset_cli.specs.Library.{AreGroups, Background, IsDefaultFilter, Tells, TellsOfBinary}
+use Rattle.filterset_cli.specs.declared.record.commands.Command.{Command}
+use Rattle.filterset_cli.specs.declared.record.commands.Command.TheVariants as commands
 use Rattle.filterset_cli.specs.declared.ending.Outcome.{Outcome}
 use Rattle.filterset_cli.specs.declared.ending.Outcome.TheVariants.{AllAccepted, SomeRefused, RecordRefused}
 
@@ -60,6 +63,21 @@ abbrev pub accepted_line : ℕ → Tree SourceSpan → Text
 accepted_line index tree =
     codes "filterset " ++ (decimal index ++ (codes " accepted: " ++ (printed tree ++ codes "\n")))
 
+-- the line of one that is formatted
+abbrev pub formatted_line : ℕ → Tree SourceSpan → Text
+formatted_line index tree =
+    codes "filterset " ++ (decimal index ++ (codes " formatted: " ++ (printed tree ++ codes "\n")))
+
+-- What is written of an accepted filterset with this tree. For a report it is that it is accepted, and what it says of
+-- the binaries and their tests. To format it, it is its text as the tree prints alone; and that text is a filterset of
+-- the same kind, by the same tree.
+abbrev pub Accepted : Command → Background → ℕ → FiltersetRow → Tree SourceSpan → Text → Type 0
+Accepted commands.Report background index filterset tree section =
+    (lines : Text) × (section ≡ accepted_line index tree ++ lines) × AnswerLines background tree lines
+Accepted commands.Format background index filterset tree section =
+    (section ≡ formatted_line index tree)
+    × PrintsFilterset filterset.kind background.packages background.groups tree
+
 -- ---- a refused filterset
 
 -- offset and length
@@ -91,23 +109,23 @@ refused_text index faults = codes "filterset " ++ (decimal index ++ (codes " ref
 -- ---- all filtersets
 
 -- what is written of the filterset at this place, and whether it is accepted
-abbrev pub Section : Background → ℕ → FiltersetRow → Bool → Text → Type 0
-Section background index filterset true section =
-    (tree : Tree SourceSpan) × (lines : Text)
+abbrev pub Section : Command → Background → ℕ → FiltersetRow → Bool → Text → Type 0
+Section command background index filterset true section =
+    (tree : Tree SourceSpan)
     × IsFiltersetOf filterset.text filterset.kind background.packages background.groups tree
-    × (section ≡ accepted_line index tree ++ lines) × AnswerLines background tree lines
-Section background index filterset false section =
+    × Accepted command background index filterset tree section
+Section command background index filterset false section =
     (faults : List ParseSingleError)
     × IsRefusedWith filterset.text filterset.kind background.packages background.groups faults
     × (section ≡ refused_text index faults)
 
 -- what is written of the filtersets from this place on, and whether all of them are accepted
-abbrev pub Sections : Background → ℕ → List FiltersetRow → Bool → Text → Type 0
-Sections background index [] all text = (all ≡ true) × (text ≡ [])
-Sections background index (t ∷ ts) all text =
+abbrev pub Sections : Command → Background → ℕ → List FiltersetRow → Bool → Text → Type 0
+Sections command background index [] all text = (all ≡ true) × (text ≡ [])
+Sections command background index (t ∷ ts) all text =
     (accepted : Bool) × (others : Bool) × (front : Text) × (rest : Text)
     × (all ≡ (accepted && others)) × (text ≡ front ++ rest)
-    × Section background index t accepted front × Sections background (suc index) ts others rest
+    × Section command background index t accepted front × Sections command background (suc index) ts others rest
 
 -- ---- the record
 
@@ -155,7 +173,7 @@ pub record IsBackgroundOf (row : RecordRow) (background : Background) : Type 0 w
 abbrev pub Account : RecordRow → Text → Bool → Type 0
 Account row output all =
     (background : Background) × MakeGraph row.packages × IsBackgroundOf row background
-    × Sections background 0 row.filtersets all output
+    × Sections row.command background 0 row.filtersets all output
 
 -- how a run ends whose filtersets were read
 abbrev pub outcome_of : Bool → Outcome

@@ -29,4 +29,5 @@ record_row r = record {
   groups = map (λ s. string_bytes s) r.groups.items;
   default_filter = string_bytes r.default_filter;
   binaries = map binary_row r.binaries.items;
+  command = r.command;
 }

@@ -1,7 +1,8 @@
 //! The record and its parts.
 
 use crate::entry::{
-    Entry, RecordRefusal, is_object_with, optional_list, optional_text, required, required_list,
+    Entry, RecordRefusal, is_object_with, optional, optional_list, optional_text, required,
+    required_list,
 };
 use nextest_filtering::{
     BuildPlatform, GLOBAL_TEST_GROUP, PackageId, PackageMetadata, RustBinaryId, RustTestBinaryKind,
@@ -10,9 +11,11 @@ use nextest_filtering::{
 use serde_json::Value;
 use std::alloc::Global;
 
+mod commands;
 mod filtersets;
 mod packages;
 
+pub use commands::Command;
 pub use filtersets::FiltersetEntry;
 
 /// A test of a binary.
@@ -86,6 +89,7 @@ pub struct Record {
     /// The text of the default filter.
     pub default_filter: String,
     pub binaries: Vec<BinaryEntry>,
+    pub command: Command,
 }
 
 impl Entry for Record {
@@ -97,7 +101,14 @@ impl Entry for Record {
     ghost has_shape = { λ d. (row : RecordRow) × IsRecord d row };
 
     fn read(alloc: Global, value: &Value) -> Result<Record, RecordRefusal> {
-        let names = ["filtersets", "packages", "groups", "default", "binaries"];
+        let names = [
+            "filtersets",
+            "packages",
+            "groups",
+            "default",
+            "binaries",
+            "command",
+        ];
         if !is_object_with(value, &names) {
             return Err(RecordRefusal::NotARecord);
         }
@@ -107,6 +118,7 @@ impl Entry for Record {
             groups: optional_list(alloc, value, "groups")?,
             default_filter: optional_text(alloc, value, "default", "all()")?,
             binaries: optional_list(alloc, value, "binaries")?,
+            command: optional(alloc, value, "command", Command::Report)?,
         })
     }
 }

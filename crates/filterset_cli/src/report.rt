@@ -11,7 +11,7 @@ ghost use Rattle.filterset_cli.specs.Rows.{binary_row, filterset_row, record_row
 use crate::ending::Outcome;
 use crate::entry::{Entry, RecordRefusal};
 use crate::lookup::RecordLookup;
-use crate::record::{BinaryEntry, FiltersetEntry, Record};
+use crate::record::{BinaryEntry, Command, FiltersetEntry, Record};
 use nextest_filtering::{
     EvalContext, Filterset, FiltersetKind, GraphRefusal, KnownGroups, PackageGraph, ParseContext,
     ParseRefusal, ParseSingleError,
@@ -58,6 +58,7 @@ fn report_record(alloc: Global, entries: Record) -> Result<(String, Outcome), Al
         groups,
         default_filter,
         binaries,
+        command,
     } = entries;
     let graph = match PackageGraph::new(alloc, packages) {
         Ok(graph) => graph,
@@ -71,6 +72,7 @@ fn report_record(alloc: Global, entries: Record) -> Result<(String, Outcome), Al
         default_filter,
         filtersets,
         &binaries,
+        command,
     )
 }
 
@@ -118,6 +120,7 @@ fn report_filtersets(
     default_filter: String,
     filtersets: Vec<FiltersetEntry>,
     binaries: &[BinaryEntry],
+    command: Command,
 ) -> Result<(String, Outcome), AllocError>
     requires graph { MakeGraph graph.now }
     requires known { IsKnown known_groups }
@@ -127,6 +130,7 @@ fn report_filtersets(
       groups = names;
       default_filter = string_bytes default_filter;
       binaries = map binary_row binaries.now;
+      command = command;
     }) (string_bytes made.0) made.1) }
 {
     let parse_context = ParseContext::new(alloc, graph)?;
@@ -134,6 +138,7 @@ fn report_filtersets(
     match Filterset::parse(alloc, default_filter, &parse_context, kind, &known_groups) {
         Ok(default_filter) => {
             let setting = Setting {
+                command,
                 parse_context,
                 known_groups,
                 eval_context: EvalContext::new(&default_filter.compiled),
@@ -157,7 +162,8 @@ fn report_sections(
 ) -> Result<(String, Outcome), AllocError>
     requires { IsKnown setting.now.known_groups }
     ensures { IfOk result (λ made. (all : Bool)
-        × Sections (background_of setting.now) 0 (map filterset_row filtersets.items) all (string_bytes made.0)
+        × Sections setting.now.command (background_of setting.now) 0 (map filterset_row filtersets.items) all
+        (string_bytes made.0)
         × (made.1 ≡ outcome_of all)) }
 {
     let mut lines = String::new(alloc);

@@ -8,6 +8,7 @@ use std::io::ErrorKind;
 use std::process::Abort;
 use std::test::Fail;
 
+mod formats;
 mod questions;
 
 /// Gives one byte a read, and fails at the read before which so many were good.
@@ -458,6 +459,11 @@ fn a_run_reports_or_wants_memory(rt: HostRuntime) {
             questions::GROUPED,
             questions::GROUPED_REPORT,
             Outcome::AllAccepted,
+        ),
+        (
+            formats::FORMATTED,
+            formats::FORMATTED_REPORT,
+            Outcome::SomeRefused,
         ),
         ("{}", NO_RECORD, Outcome::RecordRefused),
     ] {

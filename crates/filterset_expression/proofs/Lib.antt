@@ -1,6 +1,7 @@
 pub mod PackageIds
 pub mod Shapes
 pub mod Meanings
+pub mod AddedParens
 pub mod BinaryMeanings
 pub mod Folding
 pub mod Exact

@@ -1,7 +1,8 @@
 //! Laws of what filtersets mean: each stands in the contract of a function that gives nothing and takes no memory.
-ghost use Rattle.std.specs.Prelude.{◌↔◌, Bool, IsTrue, List};
+ghost use Rattle.std.specs.Prelude.{◌≡◌, ◌↔◌, Bool, IsTrue, List};
 ghost use Rattle.filterset_faults.specs.declared.span.SourceSpan.{SourceSpan};
 ghost use Rattle.filterset_graph.specs.declared.package.PackageMetadata.{PackageMetadata};
+ghost use Rattle.filterset_language.specs.AddedParens.{IsWithParens};
 ghost use Rattle.filterset_language.specs.Tree.{Tree, Join, Not, Parens, Union};
 ghost use Rattle.filterset_language.specs.declared.tree.AndOperator.{AndOperator};
 ghost use Rattle.filterset_language.specs.declared.tree.DifferenceOperator.{DifferenceOperator};
@@ -10,8 +11,9 @@ ghost use Rattle.filterset_language.specs.declared.tree.NotOperator.{NotOperator
 ghost use Rattle.filterset_language.specs.declared.tree.OrOperator.{OrOperator};
 ghost use Rattle.filterset_language.specs.declared.tree.SymmetricDifferenceOperator.{SymmetricDifferenceOperator};
 ghost use Rattle.filterset_matchers.specs.Matcher.{Matcher};
-ghost use Rattle.filterset_expression.specs.BinaryMeaning.{PossibleOfTree};
-ghost use Rattle.filterset_expression.specs.Meaning.{Meaning};
+ghost use Rattle.filterset_expression.specs.BinaryMeaning.{is_either_of_test, EitherOfBinary, tree_with_default, PossibleOfTree};
+ghost use Rattle.filterset_expression.specs.Meaning.{tree_formula, Meaning};
+ghost use Rattle.filterset_expression.specs.Values.{TrueUnder};
 ghost use Rattle.filterset_expression.specs.declared.expression.CompiledExpr.{CompiledExpr};
 ghost use Rattle.filterset_expression.specs.declared.query.BinaryQuery.{BinaryQuery};
 ghost use Rattle.filterset_expression.specs.declared.query.TestQuery.{TestQuery};
@@ -61,4 +63,21 @@ pub fn parens_change_nothing()
         (e : Tree SourceSpan) (value : Bool)
         → PossibleOfTree (Parens e) packages binary default value
         ↔ PossibleOfTree e packages binary default value }
+{}
+
+/// Parentheses added where operands ask for them change nothing of a tree's formula, and so nothing of what is said of a
+/// test, of what is true of a binary under a list of answers, or of what may be said of one.
+pub fn added_parens_change_nothing()
+    ensures formula { (e d : Tree SourceSpan) → IsWithParens e d → tree_formula d ≡ tree_formula e }
+    ensures tests { (packages : List PackageMetadata) (test : TestQuery) (default : CompiledExpr)
+        (lookup : TestQuery → Matcher → Bool) (e d : Tree SourceSpan) → IsWithParens e d
+        → Meaning d packages test default (λ t m. IsTrue (lookup t m))
+        ↔ Meaning e packages test default (λ t m. IsTrue (lookup t m)) }
+    ensures answers { (packages : List PackageMetadata) (binary : BinaryQuery) (default : CompiledExpr)
+        (answers : List Bool) (e d : Tree SourceSpan) → IsWithParens e d
+        → TrueUnder is_either_of_test (EitherOfBinary packages binary) (tree_with_default default d) answers
+        ↔ TrueUnder is_either_of_test (EitherOfBinary packages binary) (tree_with_default default e) answers }
+    ensures binaries { (packages : List PackageMetadata) (binary : BinaryQuery) (default : CompiledExpr)
+        (value : Bool) (e d : Tree SourceSpan) → IsWithParens e d
+        → PossibleOfTree d packages binary default value ↔ PossibleOfTree e packages binary default value }
 {}

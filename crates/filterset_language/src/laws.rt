@@ -3,12 +3,13 @@ ghost use Rattle.std.specs.Prelude.{◌≡◌, ◌↔◌, ℕ, List};
 ghost use Rattle.filterset_language.specs.Tree.{Tree, tree_of, SameTree};
 ghost use Rattle.filterset_language.specs.Grammar.{Spells};
 ghost use Rattle.filterset_language.specs.Printing.{printed, WellFormed};
+ghost use Rattle.filterset_language.specs.AddedParens.{IsWithParens};
 ghost use Rattle.filterset_faults.specs.declared.span.SourceSpan.{SourceSpan};
 
 use crate::tree::ParsedExpr;
 use held::tree_is_held;
 
-mod held;
+pub(crate) mod held;
 
 /// One text spells at most one tree, spans included.
 pub fn one_tree()
@@ -37,3 +38,8 @@ pub fn printed_apart<S, T>(one: &ParsedExpr<S>, other: &ParsedExpr<T>)
     tree_is_held(one);
     tree_is_held(other);
 }
+
+/// One tree alone is a tree with parentheses added where its operands ask for them, spans included.
+pub fn one_tree_with_parens()
+    ensures { (e d f : Tree SourceSpan) → IsWithParens e d → IsWithParens e f → d ≡ f }
+{}

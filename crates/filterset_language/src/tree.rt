@@ -9,6 +9,7 @@ use std::alloc::{AllocError, Global};
 
 mod equality;
 mod leaves;
+mod parens;
 pub mod predicate;
 
 /// How a negation is written: `not` or `!`.

@@ -1,5 +1,5 @@
 //! Lists of a tree's predicates, and the reference text, which names each predicate.
-use crate::support::compare;
+use crate::support::{compare, tree_of};
 use filterset_language::{Predicate, TextMatching};
 use nextest_filtering::{FILTERSET_REFERENCE_MD, ParsedExpr, ParsedLeaf};
 use std::alloc::{AllocError, Global};
@@ -57,17 +57,6 @@ fn predicates_match_by_a_text_of_their_own(rt: HostRuntime) {
         Predicate::Group,
     ] {
         assert!(rt; predicate.own_matching() == TextMatching::Glob);
-    }
-}
-
-/// The tree of a text without faults, or none where memory is wanting.
-fn tree_of(rt: &(impl AllocGlobal + Abort), text: &str) -> Option<ParsedExpr> {
-    match ParsedExpr::parse_with_faults(rt.alloc(), text) {
-        Ok(parsed) => {
-            assert!(rt; parsed.faults.is_empty() && parsed.tree.is_some(), "{text}");
-            parsed.tree
-        }
-        Err(AllocError) => None,
     }
 }
 

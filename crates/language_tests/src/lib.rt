@@ -12,6 +12,8 @@ mod language;
 #[cfg(test)]
 mod leaves;
 #[cfg(test)]
+mod parens;
+#[cfg(test)]
 mod printing;
 mod reading_back;
 #[cfg(test)]

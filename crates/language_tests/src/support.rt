@@ -1,5 +1,6 @@
 //! What the tests share: faults and trees written out, and held against the wanted texts.
 use crate::judging::agrees;
+use nextest_filtering::ParsedExpr;
 use nextest_filtering::errors::ParseSingleError;
 use std::alloc::{AllocError, Global};
 use std::fmt::Write;
@@ -28,4 +29,15 @@ pub fn described(alloc: Global, faults: &[ParseSingleError]) -> Result<String, A
         }
     }
     Ok(text)
+}
+
+/// The tree of a text without faults, or none where memory is wanting.
+pub fn tree_of(rt: &(impl AllocGlobal + Abort), text: &str) -> Option<ParsedExpr> {
+    match ParsedExpr::parse_with_faults(rt.alloc(), text) {
+        Ok(parsed) => {
+            assert!(rt; parsed.faults.is_empty() && parsed.tree.is_some(), "{text}");
+            parsed.tree
+        }
+        Err(AllocError) => None,
+    }
 }

@@ -6,3 +6,4 @@ pub mod Groups
 pub mod PackageSets
 pub mod Refusals
 pub mod Filtered
+pub mod SameTrees

@@ -6,3 +6,4 @@ pub mod PackageMarks
 pub mod Asking
 pub mod Checks
 pub mod Compiling
+pub mod Formatting

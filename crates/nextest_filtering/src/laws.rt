@@ -1,10 +1,29 @@
 //! Laws of the language, and of what filtersets mean: each stands in the contract of a function that gives nothing and
 //! takes no memory.
+ghost use Rattle.std.specs.Prelude.{ℕ, List};
+ghost use Rattle.filterset_faults.specs.declared.kind.FiltersetKind.{FiltersetKind};
+ghost use Rattle.filterset_graph.specs.declared.package.PackageMetadata.{PackageMetadata};
+ghost use Rattle.filterset_language.specs.Tree.{tree_of};
+ghost use Rattle.nextest_filtering.specs.Compiling.{IsFiltersetOf};
+ghost use Rattle.nextest_filtering.specs.Formatting.{PrintsFilterset};
+ghost use Rattle.nextest_filtering.specs.declared.compile.context.KnownGroups.{KnownGroups};
 
 pub use filterset_expression::laws::{
-    difference_is_and_not, parens_change_nothing, symmetric_difference_is_commutative,
-    symmetric_difference_is_two_differences,
+    added_parens_change_nothing, difference_is_and_not, parens_change_nothing,
+    symmetric_difference_is_commutative, symmetric_difference_is_two_differences,
 };
+use filterset_language::ParsedExpr;
 pub use filterset_language::laws::{
-    one_tree, printed_apart, printed_reads_back, spelled_is_well_formed,
+    one_tree, one_tree_with_parens, printed_apart, printed_reads_back, spelled_is_well_formed,
 };
+
+/// What the tree of a filterset prints is a filterset of the same kind, over the same packages and groups, by the same
+/// tree, spans aside. So [`Filterset::parse`](crate::Filterset::parse), which gives such a tree, takes what it prints.
+pub fn printed_is_a_filterset(expr: &ParsedExpr)
+    ensures { let e = tree_of expr.now in
+        (text : List ℕ) (kind : FiltersetKind) (packages : List PackageMetadata) (groups : KnownGroups)
+        → IsFiltersetOf text kind packages groups e → PrintsFilterset kind packages groups e }
+{
+    spelled_is_well_formed();
+    printed_reads_back(expr);
+}

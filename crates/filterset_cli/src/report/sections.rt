@@ -1,19 +1,25 @@
 //! What a report says of each filterset.
-ghost use Rattle.std.specs.Prelude.{◌≡◌, ◌++◌, IfOk, OnOk, map, string_bytes};
+ghost use Rattle.std.specs.Prelude.{◌≡◌, ◌++◌, IfOk, List, OnOk, map, string_bytes};
 ghost use Rattle.filterset_language.specs.Tree.{tree_of};
+ghost use Rattle.filterset_faults.specs.declared.kind.FiltersetKind.{FiltersetKind};
+ghost use Rattle.filterset_graph.specs.declared.package.PackageMetadata.{PackageMetadata};
+ghost use Rattle.nextest_filtering.specs.Compiling.{IsFiltersetOf};
+ghost use Rattle.nextest_filtering.specs.Formatting.{PrintsFilterset};
 ghost use Rattle.nextest_filtering.specs.Groups.{IsKnown};
+ghost use Rattle.nextest_filtering.specs.declared.compile.context.KnownGroups.{KnownGroups};
 ghost use Rattle.filterset_expression.specs.Meaning.{IsCompiled};
 ghost use Rattle.filterset_cli.specs.Asking.{ForItsTree, IsLookupOf};
 ghost use Rattle.filterset_cli.specs.Library.{background_of};
-ghost use Rattle.filterset_cli.specs.Report.{AnswerLines, BinaryLines, Section, Sections, accepted_line, faults_text, refused_text};
+ghost use Rattle.filterset_cli.specs.Record.{FiltersetRow};
+ghost use Rattle.filterset_cli.specs.Report.{Accepted, AnswerLines, BinaryLines, Section, Sections, accepted_line, faults_text, formatted_line, refused_text};
 ghost use Rattle.filterset_cli.specs.Rows.{binary_row, filterset_row};
 ghost use Rattle.filterset_cli.specs.Shape.{Text};
 
 use crate::lookup::RecordLookup;
-use crate::record::{BinaryEntry, FiltersetEntry};
+use crate::record::{BinaryEntry, Command, FiltersetEntry};
 use crate::report::lines::{push_binary_line, push_fault, push_test_line};
 use crate::report::setting::Setting;
-use nextest_filtering::{Filterset, FlatExpr, ParseRefusal, ParseSingleError};
+use nextest_filtering::{Filterset, FlatExpr, ParseRefusal, ParseSingleError, laws};
 use std::alloc::{AllocError, Global};
 use std::fmt::Write;
 
@@ -73,6 +79,41 @@ fn push_accepted(
     push_answers(lines, alloc, &flat, &setting.lookup)
 }
 
+/// Adds an accepted filterset as it prints. What it prints is a filterset of the same kind, by the same tree.
+fn push_formatted(lines: &mut String, index: usize, filterset: &Filterset) -> Result<(), AllocError>
+    ensures line { OnOk result (string_bytes lines.new
+        ≡ string_bytes lines.old ++ formatted_line index (tree_of filterset.now.parsed)) }
+    ensures again { (text : Text) (kind : FiltersetKind) (packages : List PackageMetadata) (groups : KnownGroups)
+        → IsFiltersetOf text kind packages groups (tree_of filterset.now.parsed)
+        → PrintsFilterset kind packages groups (tree_of filterset.now.parsed) }
+{
+    laws::printed_is_a_filterset(&filterset.parsed);
+    let formatted = &filterset.parsed;
+    writeln!(lines, "filterset {index} formatted: {formatted}")
+}
+
+/// Adds what is asked for of an accepted filterset.
+fn push_by_command(
+    lines: &mut String,
+    alloc: Global,
+    setting: &Setting<'_>,
+    index: usize,
+    filterset: &Filterset,
+) -> Result<(), AllocError>
+    requires { let background = background_of setting.now in
+        IsCompiled background.packages (tree_of filterset.now.parsed) filterset.now.compiled }
+    ensures { let background = background_of setting.now in
+        let tree = tree_of filterset.now.parsed in
+        OnOk result ((section : Text) × (string_bytes lines.new ≡ string_bytes lines.old ++ section)
+        × ((row : FiltersetRow) → IsFiltersetOf row.text row.kind background.packages background.groups tree
+        → Accepted setting.now.command background index row tree section)) }
+{
+    match setting.command {
+        Command::Report => push_accepted(lines, alloc, setting, index, filterset),
+        Command::Format => push_formatted(lines, index, filterset),
+    }
+}
+
 /// Adds how many faults there are, and their lines.
 pub fn push_faults(lines: &mut String, faults: &[ParseSingleError]) -> Result<(), AllocError>
     ensures { OnOk result (string_bytes lines.new ≡ string_bytes lines.old ++ faults_text faults.now) }
@@ -107,14 +148,14 @@ fn push_section(
 ) -> Result<bool, AllocError>
     requires { IsKnown setting.now.known_groups }
     ensures { IfOk result (λ accepted. (section : Text)
-        × Section (background_of setting.now) index (filterset_row filterset) accepted section
+        × Section setting.now.command (background_of setting.now) index (filterset_row filterset) accepted section
         × (string_bytes lines.new ≡ string_bytes lines.old ++ section)) }
 {
     let FiltersetEntry { text, kind } = filterset;
     let known_groups = &setting.known_groups;
     match Filterset::parse(alloc, text, &setting.parse_context, kind, known_groups) {
         Ok(filterset) => {
-            push_accepted(lines, alloc, setting, index, &filterset)?;
+            push_by_command(lines, alloc, setting, index, &filterset)?;
             Ok(true)
         }
         Err(ParseRefusal::Faults(refused)) => {
@@ -134,7 +175,7 @@ pub fn push_sections(
 ) -> Result<bool, AllocError>
     requires { IsKnown setting.now.known_groups }
     ensures { IfOk result (λ all. (text : Text)
-        × Sections (background_of setting.now) 0 (map filterset_row filtersets.items) all text
+        × Sections setting.now.command (background_of setting.now) 0 (map filterset_row filtersets.items) all text
         × (string_bytes lines.new ≡ string_bytes lines.old ++ text)) }
 {
     let mut all_accepted = true;

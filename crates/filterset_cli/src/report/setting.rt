@@ -3,12 +3,13 @@ ghost use Rattle.filterset_cli.specs.Rows.{binary_row, test_row};
 ghost use Rattle.filterset_cli.specs.Library.{IsAbout, IsAboutBinary};
 
 use crate::lookup::RecordLookup;
-use crate::record::{BinaryEntry, TestEntry};
+use crate::record::{BinaryEntry, Command, TestEntry};
 use nextest_filtering::{BinaryQuery, EvalContext, KnownGroups, ParseContext, TestQuery};
 
-/// What the filtersets of a record are read and asked with.
+/// What the filtersets of a record are read and asked with, and what is written of those that are accepted.
 #[derive(Debug, Drop)]
 pub struct Setting<'a> {
+    pub command: Command,
     pub parse_context: ParseContext<'a>,
     pub known_groups: KnownGroups,
     pub eval_context: EvalContext<'a>,

@@ -30,6 +30,7 @@ returns-in-Ok c =
       groups = names;
       default_filter = string_bytes c.args.default_filter;
       binaries = binaries;
+      command = c.args.command;
     } in
     reported row background (string_bytes made.0) made.1 all c.requires.graph (record {
       packages = c.in_ok-parse_context.ensures;

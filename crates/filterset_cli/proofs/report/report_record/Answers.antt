@@ -23,6 +23,7 @@ returns c =
       groups = names;
       default_filter = string_bytes entries.default_filter;
       binaries = map binary_row binaries;
+      command = entries.command;
     } in
     IfOk-weaker c.report_filtersets.result _ _ (λ made report.
     let given = report names c.in_ok-known_groups.ensures.groups in

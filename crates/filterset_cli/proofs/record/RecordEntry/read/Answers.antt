@@ -46,4 +46,5 @@ returns-clause-read c = (
   Optional-rows IsText string_bytes (get (codes "groups") (view c.args.value.now)) c.in_ok-optional_list-2.field-0.items c.in_ok-optional_list-2.ensures.read,
   c.in_ok-optional_text.ensures.read,
   Optional-rows IsBinary binary_row (get (codes "binaries") (view c.args.value.now)) c.in_ok-optional_list-3.field-0.items c.in_ok-optional_list-3.ensures.read,
+  c.in_ok-optional.ensures.read,
 )

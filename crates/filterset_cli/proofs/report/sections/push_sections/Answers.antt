@@ -28,5 +28,5 @@ loop-index-preserved c =
     let rows = map row_of c.loop-index.yielded in
     let place : c.in-Some.index ≡ length c.loop-index.yielded = number_is_place items (length c.loop-index.yielded) item turn.0 turn.1 in
     let index : c.in-Some.index ≡ 0 + length rows = place ∙ sym (length-map c.loop-index.yielded row_of) ∙ sym (zero-add (length rows)) in
-    let pushed = Sections-push (background_of c.args.setting.now) 0 rows (filterset_row c.in-Some.filterset) _ _ _ _ before.1 (rw index at section.1) in
+    let pushed = Sections-push c.args.setting.now.command (background_of c.args.setting.now) 0 rows (filterset_row c.in-Some.filterset) _ _ _ _ before.1 (rw index at section.1) in
     (before.0 ++ section.0, (rw (map-append row_of c.loop-index.yielded (item ∷ [])) pushed), added_twice _ _ _ _ _ before.2 section.2)

@@ -8,5 +8,5 @@ use Rattle.filterset_cli.proofs.report.sections.push_sections.Given as goal
 -- the sections of the filtersets so far were added
 abbrev pub invariant-loop-index : goal.invariant-loop-index
 invariant-loop-index l =
-    (text : Text) × Sections (background_of l.setting) 0 (map (λ p. filterset_row p.1) l.yielded) l.all_accepted text
+    (text : Text) × Sections l.setting.command (background_of l.setting) 0 (map (λ p. filterset_row p.1) l.yielded) l.all_accepted text
     × (string_bytes l.lines ≡ string_bytes l.initial.lines ++ text)
