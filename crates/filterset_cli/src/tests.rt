@@ -147,6 +147,11 @@ fn reports(rt: HostRuntime) -> Result<(), Fail> {
             "filterset 0 accepted: all()\n",
             Outcome::AllAccepted,
         ),
+        (
+            r#"{"filtersets":["all()^none()"]}"#,
+            "filterset 0 accepted: all() ^ none()\n",
+            Outcome::AllAccepted,
+        ),
         (r#"{"filtersets":[]}"#, "", Outcome::AllAccepted),
         (
             r#"{"packages":[],"filtersets":[]}"#,

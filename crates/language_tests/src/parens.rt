@@ -8,7 +8,7 @@ use std::test::Fail;
 
 /// A text that has parentheses exactly where its tree needs them, at each place where an operand may stand.
 const NEEDED: &str =
-    "not (test(a) or binary(#b*)) - (deps(=c) - default()) & !(kind(d) and all()) | (platform(host) + none() | (group(/e/) or rdeps(f)) and package(g))";
+    "not (test(a) or binary(#b*)) - (deps(=c) - default()) & !(kind(d) and all()) | (platform(host) + none() | (group(/e/) or rdeps(f)) and package(g) | (all() + none()) ^ (all() ^ none()))";
 
 /// A copy of the tree without its parentheses.
 fn bare(alloc: Global, tree: &ParsedExpr) -> Result<ParsedExpr, AllocError> {
@@ -79,6 +79,12 @@ fn operands_of_another_level_get_parentheses(rt: HostRuntime) -> Result<(), Fail
             ("all none all + |", "all() | (none() + all())"),
             ("all all none and ^", "all() ^ (all() and none())"),
             (
+                "all none | all none ^ ^",
+                "(all() | none()) ^ (all() ^ none())",
+            ),
+            ("all none ^ !", "! (all() ^ none())"),
+            ("all all none ^ -", "all() - (all() ^ none())"),
+            (
                 "all none or not all & host ! - not",
                 "not (not (all() or none()) & all() - ! platform(host))",
             ),
@@ -93,6 +99,8 @@ fn operands_of_their_level_stay(rt: HostRuntime) -> Result<(), Fail> {
         &[
             ("all none + all |", "all() + none() | all()"),
             ("all none - all &", "all() - none() & all()"),
+            ("all none & all ^ none -", "all() & none() ^ all() - none()"),
+            ("all none all ^ |", "all() | none() ^ all()"),
             (
                 "all none and all none - or",
                 "all() and none() or all() - none()",

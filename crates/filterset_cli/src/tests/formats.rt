@@ -44,6 +44,12 @@ fn filtersets_are_formatted(rt: HostRuntime) -> Result<(), Fail> {
             Outcome::AllAccepted,
         ),
         (WITH_BINARIES, WITH_BINARIES_REPORT, Outcome::SomeRefused),
+        // What hits nothing is refused as in a report.
+        (
+            r#"{"command":"format","filtersets":["all()^none()","package(a)"]}"#,
+            "filterset 0 formatted: all() ^ none()\nfilterset 1 refused: 1\n  fault 8 1 NoPackageMatch: no packages matched this\n",
+            Outcome::SomeRefused,
+        ),
         (
             r#"{"filtersets":[],"command":"format"}"#,
             "",
@@ -110,6 +116,8 @@ fn other_commands_are_refused(rt: HostRuntime) -> Result<(), Fail> {
         r#"{"command":{"format":[]},"filtersets":[]}"#,
         r#"{"command":"format","command":"formats","filtersets":[]}"#,
         r#"{"commands":"format","filtersets":[]}"#,
+        r#"{"Command":"format","filtersets":[]}"#,
+        r#"{"filtersets":[],"command":"report","command":1}"#,
     ] {
         refuses(&rt, record, NO_RECORD)?;
     }
