@@ -4,7 +4,7 @@ use Rattle.std.specs.Prelude.{All}
 use Rattle.std.proofs.lemmas.List.Elements.{All-nil, All-cons, All-head, All-tail}
 use Rattle.filterset_faults.specs.declared.span.SourceSpan.{SourceSpan}
 use Rattle.filterset_language.specs.Tree as tree
-use Rattle.filterset_language.specs.Tree.{Joiner, Tree, tree_leaves, SameTree}
+use Rattle.filterset_language.specs.Tree.{Joiner, Leaf, Tree, tree_leaves, SameTree}
 use Rattle.filterset_language.specs.declared.tree.NotOperator.{NotOperator}
 use Rattle.filterset_language.specs.declared.tree.OrOperator.{OrOperator}
 use Rattle.filterset_language.specs.Grammar.{Spells}
@@ -48,6 +48,9 @@ joined op left right = join left.added left.placed right.added right.placed
 
 pub surrounded : {S : Type 0} {e f : Tree S} → IsOperand (Unit {0}) e f → IsWithParens (tree.Parens e) (tree.Parens f)
 surrounded o = parens (anything o)
+
+pub leaf_alone : {S : Type 0} (l : Leaf S) → IsWithParens (tree.Set l) (tree.Set l)
+leaf_alone l = leaf
 
 -- ---- levels
 

@@ -9,8 +9,11 @@ use std::alloc::{AllocError, Global};
 
 mod equality;
 mod leaves;
+mod nodes;
 mod parens;
 pub mod predicate;
+
+use nodes::{copied_set, enclosed, joined, negation, union};
 
 /// How a negation is written: `not` or `!`.
 #[derive(Clone, Copy, Debug, PartialEq, Eq)]
@@ -143,34 +146,45 @@ impl<S: Copy> ParsedExpr<S> {
     pub fn try_clone(&self, alloc: Global) -> Result<ParsedExpr<S>, AllocError>
         ensures { IfOk result (λ copy. tree_of copy ≡ tree_of self.now) }
     {
-        Ok(match self {
-            ParsedExpr::Not(operator, operand) => {
-                ParsedExpr::Not(*operator, Box::new(alloc, operand.try_clone(alloc)?)?)
-            }
-            ParsedExpr::Union(operator, left, right) => {
-                let left = Box::new(alloc, left.try_clone(alloc)?)?;
-                let right = Box::new(alloc, right.try_clone(alloc)?)?;
-                ParsedExpr::Union(*operator, left, right)
-            }
-            ParsedExpr::Intersection(operator, left, right) => {
-                let left = Box::new(alloc, left.try_clone(alloc)?)?;
-                let right = Box::new(alloc, right.try_clone(alloc)?)?;
-                ParsedExpr::Intersection(*operator, left, right)
-            }
-            ParsedExpr::Difference(operator, left, right) => {
-                let left = Box::new(alloc, left.try_clone(alloc)?)?;
-                let right = Box::new(alloc, right.try_clone(alloc)?)?;
-                ParsedExpr::Difference(*operator, left, right)
-            }
-            ParsedExpr::SymmetricDifference(operator, left, right) => {
-                let left = Box::new(alloc, left.try_clone(alloc)?)?;
-                let right = Box::new(alloc, right.try_clone(alloc)?)?;
-                ParsedExpr::SymmetricDifference(*operator, left, right)
-            }
-            ParsedExpr::Parens(inner) => {
-                ParsedExpr::Parens(Box::new(alloc, inner.try_clone(alloc)?)?)
-            }
-            ParsedExpr::Set(leaf) => ParsedExpr::Set(leaf.try_clone(alloc)?),
-        })
+        Ok(Box::into_inner(copied(alloc, self)?))
+    }
+}
+
+/// A copy of the tree, in a box: see `nodes`.
+fn copied<S: Copy>(alloc: Global, expr: &ParsedExpr<S>) -> Result<Box<ParsedExpr<S>>, AllocError>
+    ensures { IfOk result (λ copy. tree_of copy.value ≡ tree_of expr.now) }
+{
+    match expr {
+        ParsedExpr::Not(operator, operand) => {
+            negation(alloc, *operator, copied(alloc, operand)?)
+        }
+        ParsedExpr::Union(operator, left, right) => {
+            let left = copied(alloc, left)?;
+            union(alloc, *operator, left, copied(alloc, right)?)
+        }
+        ParsedExpr::Intersection(operator, left, right) => {
+            let left = copied(alloc, left)?;
+            joined(alloc, Joiner::Both(*operator), left, copied(alloc, right)?)
+        }
+        ParsedExpr::Difference(operator, left, right) => {
+            let left = copied(alloc, left)?;
+            joined(
+                alloc,
+                Joiner::Without(*operator),
+                left,
+                copied(alloc, right)?,
+            )
+        }
+        ParsedExpr::SymmetricDifference(operator, left, right) => {
+            let left = copied(alloc, left)?;
+            joined(
+                alloc,
+                Joiner::ExactlyOne(*operator),
+                left,
+                copied(alloc, right)?,
+            )
+        }
+        ParsedExpr::Parens(inner) => enclosed(alloc, copied(alloc, inner)?),
+        ParsedExpr::Set(leaf) => copied_set(alloc, leaf),
     }
 }

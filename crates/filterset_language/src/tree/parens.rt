@@ -1,15 +1,15 @@
 //! Parentheses added to a tree where its operands ask for them.
 ghost use Rattle.std.specs.Prelude.{◌≡◌, ◌↔◌, IfOk, IsTrue};
 ghost use Rattle.filterset_faults.specs.declared.span.SourceSpan.{SourceSpan};
-ghost use Rattle.filterset_language.specs.Tree.{Tree, Set, leaf_of, tree_of, SameTree};
+ghost use Rattle.filterset_language.specs.Tree.{Tree, tree_of, SameTree};
 ghost use Rattle.filterset_language.specs.Grammar.{Spells};
 ghost use Rattle.filterset_language.specs.Printing.{printed, WellFormed};
-ghost use Rattle.filterset_language.specs.Held.{IsHeld};
 ghost use Rattle.filterset_language.specs.AddedParens.{IsWithParens, HasWellFormedLeaves};
 ghost use Rattle.filterset_language.specs.Levels.{IsOfLevel, IsOperand};
 
-use crate::laws::held::leaf_is_held;
-use crate::tree::{ParsedExpr, ParsedLeaf};
+use crate::laws::held::tree_is_held;
+use crate::tree::nodes::{copied_set, enclosed, joined, negation, union};
+use crate::tree::{Joiner, ParsedExpr};
 use std::alloc::{AllocError, Global};
 
 /// The level of the grammar that an operand has to be of.
@@ -35,66 +35,69 @@ impl<S: Copy> ParsedExpr<S> {
         ensures reads_back { HasWellFormedLeaves (tree_of self.now) → IfOk result (λ new.
             (d : Tree SourceSpan) × Spells (printed (tree_of new)) d × SameTree d (tree_of new)) }
     {
-        add_parens(alloc, self)
+        let new = Box::into_inner(placed(alloc, self, Level::Or)?);
+        tree_is_held(&new);
+        Ok(new)
     }
 }
 
-/// The tree with parentheses added.
-#[cycle(parens)]
-fn add_parens<S: Copy>(alloc: Global, expr: &ParsedExpr<S>) -> Result<ParsedExpr<S>, AllocError>
-    ensures tree { IfOk result (λ new. IsWithParens (tree_of expr.now) (tree_of new)) }
-    ensures held { IfOk result (λ new. IsHeld (tree_of new)) }
-{
-    match expr {
-        ParsedExpr::Not(operator, operand) => {
-            let operand = operand_of(alloc, operand, Level::Basic)?;
-            Ok(ParsedExpr::Not(*operator, operand))
-        }
-        ParsedExpr::Union(operator, left, right) => {
-            let left = operand_of(alloc, left, Level::Or)?;
-            let right = operand_of(alloc, right, Level::And)?;
-            Ok(ParsedExpr::Union(*operator, left, right))
-        }
-        ParsedExpr::Intersection(operator, left, right) => {
-            let left = operand_of(alloc, left, Level::And)?;
-            let right = operand_of(alloc, right, Level::Basic)?;
-            Ok(ParsedExpr::Intersection(*operator, left, right))
-        }
-        ParsedExpr::Difference(operator, left, right) => {
-            let left = operand_of(alloc, left, Level::And)?;
-            let right = operand_of(alloc, right, Level::Basic)?;
-            Ok(ParsedExpr::Difference(*operator, left, right))
-        }
-        ParsedExpr::SymmetricDifference(operator, left, right) => {
-            let left = operand_of(alloc, left, Level::And)?;
-            let right = operand_of(alloc, right, Level::Basic)?;
-            Ok(ParsedExpr::SymmetricDifference(*operator, left, right))
-        }
-        ParsedExpr::Parens(inner) => {
-            let inner = operand_of(alloc, inner, Level::Or)?;
-            Ok(ParsedExpr::Parens(inner))
-        }
-        ParsedExpr::Set(leaf) => copy_set(alloc, leaf),
-    }
-}
-
-/// The operand with parentheses added, and between one pair more where it is not of the level.
-#[cycle(parens)]
-#[inline(never)]
-fn operand_of<S: Copy>(
+/// A copy of the tree with parentheses added, and between one pair more where it is not of the level.
+///
+/// It is recursive, so what it makes stands in boxes: see `nodes`.
+#[tactic(auto, using(crate::proofs::AddingParens::negated, crate::proofs::AddingParens::united, crate::proofs::AddingParens::joined, crate::proofs::AddingParens::surrounded, crate::proofs::AddingParens::leaf_alone))]
+fn placed<S: Copy>(
     alloc: Global,
-    operand: &ParsedExpr<S>,
+    expr: &ParsedExpr<S>,
     level: Level,
 ) -> Result<Box<ParsedExpr<S>>, AllocError>
-    ensures tree { IfOk result (λ new. let e = tree_of operand.now in
-        IsOperand (IsOfLevel level e) e (tree_of new.value)) }
-    ensures held { IfOk result (λ new. IsHeld (tree_of new.value)) }
+    ensures tree { let e = tree_of expr.now in
+        IfOk result (λ new. IsOperand (IsOfLevel level e) e (tree_of new.value)) }
 {
-    let inner = Box::new(alloc, add_parens(alloc, operand)?)?;
-    if is_of_level(operand, level) {
-        return Ok(inner);
+    let copy = match expr {
+        ParsedExpr::Not(operator, operand) => {
+            negation(alloc, *operator, placed(alloc, operand, Level::Basic)?)?
+        }
+        ParsedExpr::Union(operator, left, right) => {
+            let left = placed(alloc, left, Level::Or)?;
+            union(alloc, *operator, left, placed(alloc, right, Level::And)?)?
+        }
+        ParsedExpr::Intersection(operator, left, right) => {
+            let left = placed(alloc, left, Level::And)?;
+            let right = placed(alloc, right, Level::Basic)?;
+            joined(alloc, Joiner::Both(*operator), left, right)?
+        }
+        ParsedExpr::Difference(operator, left, right) => {
+            let left = placed(alloc, left, Level::And)?;
+            let right = placed(alloc, right, Level::Basic)?;
+            joined(alloc, Joiner::Without(*operator), left, right)?
+        }
+        ParsedExpr::SymmetricDifference(operator, left, right) => {
+            let left = placed(alloc, left, Level::And)?;
+            let right = placed(alloc, right, Level::Basic)?;
+            joined(alloc, Joiner::ExactlyOne(*operator), left, right)?
+        }
+        ParsedExpr::Parens(inner) => enclosed(alloc, placed(alloc, inner, Level::Or)?)?,
+        ParsedExpr::Set(leaf) => copied_set(alloc, leaf)?,
+    };
+    fitted(alloc, expr, level, copy)
+}
+
+/// The copy of a tree with parentheses added, between one pair more where the tree is not of the level.
+#[inline(never)]
+fn fitted<S: Drop>(
+    alloc: Global,
+    expr: &ParsedExpr<S>,
+    level: Level,
+    copy: Box<ParsedExpr<S>>,
+) -> Result<Box<ParsedExpr<S>>, AllocError>
+    requires tree { IsWithParens (tree_of expr.now) (tree_of copy.value) }
+    ensures tree { let e = tree_of expr.now in
+        IfOk result (λ new. IsOperand (IsOfLevel level e) e (tree_of new.value)) }
+{
+    if is_of_level(expr, level) {
+        return Ok(copy);
     }
-    Ok(Box::new(alloc, ParsedExpr::Parens(inner))?)
+    enclosed(alloc, copy)
 }
 
 /// Whether the operand is of the level without parentheses of its own.
@@ -109,14 +112,4 @@ fn is_of_level<S>(operand: &ParsedExpr<S>, level: Level) -> bool
         Level::And => !matches!(operand, ParsedExpr::Union(_, _, _)),
         Level::Or => true,
     }
-}
-
-/// A predicate's copy as a tree.
-#[inline(never)]
-fn copy_set<S: Copy>(alloc: Global, leaf: &ParsedLeaf<S>) -> Result<ParsedExpr<S>, AllocError>
-    ensures tree { IfOk result (λ new. tree_of new ≡ Set (leaf_of leaf.now)) }
-    ensures held { IfOk result (λ new. IsHeld (tree_of new)) }
-{
-    leaf_is_held(leaf);
-    Ok(ParsedExpr::Set(leaf.try_clone(alloc)?))
 }

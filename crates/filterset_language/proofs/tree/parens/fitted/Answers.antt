@@ -1,0 +1,18 @@
+use Rattle.std.proofs.Common.{◌≡◌, sym, ◌∙◌}
+use Rattle.std.proofs.lemmas.Bool.{false≢true}
+use Rattle.std.proofs.lemmas.Result.{IfOk-weaker}
+use Rattle.filterset_language.specs.Tree.{Parens, tree_of}
+use Rattle.filterset_language.specs.Levels.{IsOfLevel, IsOperand}
+use Rattle.filterset_language.proofs.AddingParens.{stays, goes_in}
+use Rattle.filterset_language.proofs.tree.parens.fitted.Goals as goal
+
+pub returns-then-is_of_level : goal.returns-then-is_of_level
+returns-then-is_of_level g c =
+    record { tree = stays (IsOfLevel c.args.level (tree_of c.args.expr.now)) c.requires.tree (c.is_of_level.ensures.0 c.if-is_of_level.true) }
+
+pub returns : goal.returns
+returns g c =
+    let e = tree_of c.args.expr.now in
+    let may = IsOfLevel c.args.level e in
+    let isnt : may → ⊥ = λ h. false≢true (sym c.if-is_of_level.false ∙ c.is_of_level.ensures.1 h) in
+    record { tree = IfOk-weaker c.enclosed.result (λ new. tree_of new.value ≡ Parens (tree_of c.args.copy.value)) (λ new. IsOperand may e (tree_of new.value)) (λ new is. rw is (goes_in may c.requires.tree isnt)) c.enclosed.ensures }
