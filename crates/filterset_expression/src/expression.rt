@@ -4,7 +4,10 @@ ghost use Rattle.filterset_expression.specs.Expression.{formula, has_leaf, is_de
 ghost use Rattle.filterset_expression.specs.Expression.{Holds, IsDefinite, IsUndecided};
 
 use crate::{BinaryQuery, EvalContext, FiltersetLeaf, FlatExpr, GroupLookup, TestQuery};
+use copying::copied;
 use std::alloc::{AllocError, Global};
+
+mod copying;
 
 /// A compiled expression: sets of tests, and what is made of them.
 #[derive(Debug, Drop)]
@@ -125,21 +128,6 @@ impl CompiledExpr {
     pub fn try_clone(&self, alloc: Global) -> Result<CompiledExpr, AllocError>
         ensures { IfOk result (λ copy. formula copy ≡ formula self.now) }
     {
-        Ok(match self {
-            CompiledExpr::Not(e) => CompiledExpr::Not(Box::new(alloc, e.try_clone(alloc)?)?),
-            CompiledExpr::Union(a, b) => {
-                let left = Box::new(alloc, a.try_clone(alloc)?)?;
-                CompiledExpr::Union(left, Box::new(alloc, b.try_clone(alloc)?)?)
-            }
-            CompiledExpr::Intersection(a, b) => {
-                let left = Box::new(alloc, a.try_clone(alloc)?)?;
-                CompiledExpr::Intersection(left, Box::new(alloc, b.try_clone(alloc)?)?)
-            }
-            CompiledExpr::SymmetricDifference(a, b) => {
-                let left = Box::new(alloc, a.try_clone(alloc)?)?;
-                CompiledExpr::SymmetricDifference(left, Box::new(alloc, b.try_clone(alloc)?)?)
-            }
-            CompiledExpr::Set(leaf) => CompiledExpr::Set(leaf.try_clone(alloc)?),
-        })
+        Ok(Box::into_inner(copied(alloc, self)?))
     }
 }
