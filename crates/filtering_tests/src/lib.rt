@@ -6,6 +6,8 @@
 #![tactic(auto)]
 
 #[cfg(test)]
+mod depth;
+#[cfg(test)]
 mod equality;
 #[cfg(test)]
 mod evaluation;
