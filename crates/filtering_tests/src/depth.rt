@@ -87,7 +87,7 @@ fn deep_operands_stand(rt: HostRuntime) -> Result<(), Fail> {
     for (depth, opening, middle, closing, binary, test) in [
         (10_000, "not ", "none()", "", Some(false), false),
         (5_000, "(", "all()", ")", Some(true), true),
-        (5_000, "all() and (", "test(b)", ")", None, false),
+        (3_000, "all() and (", "test(b)", ")", None, false),
     ] {
         stands(
             &rt,
