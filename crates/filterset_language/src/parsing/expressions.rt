@@ -155,7 +155,7 @@ fn read_and_level<'a>(
     ensures behind { EndsBehind input.entry result }
 {
     let first = read_operand(alloc, faults, input)?;
-    if first.end.offset == input.offset && is_before_caret(first.end) {
+    if first.end.offset == input.offset && is_before_caret(&first.end) {
         return Ok(first);
     }
     read_and_rest(alloc, faults, first)

@@ -60,8 +60,8 @@ fn may_begin_joiner(text: &[u8]) -> bool
 
 /// Whether `^` stands behind the blanks here.
 #[inline(never)]
-pub fn is_before_caret(input: Input<'_>) -> bool
-    ensures { result ≡ is_some (after (codes "^") (skip (place_of input.entry))) }
+pub fn is_before_caret(input: &Input<'_>) -> bool
+    ensures { result ≡ is_some (after (codes "^") (skip (place_of input.now))) }
 {
     input.skip_blanks().after("^").is_some()
 }
