@@ -88,7 +88,8 @@ fn push_formatted(lines: &mut String, index: usize, filterset: &Filterset) -> Re
         → PrintsFilterset kind packages groups (tree_of filterset.now.parsed) }
 {
     laws::printed_is_a_filterset(&filterset.parsed);
-    let formatted = &filterset.parsed;
+    // `index` has a type of its own here: so this is another call than that of a report, which the compiler then inlines.
+    let (index, formatted) = (index as u64, &filterset.parsed);
     writeln!(lines, "filterset {index} formatted: {formatted}")
 }
 
