@@ -5,6 +5,8 @@
 #![tactic(auto)]
 
 #[cfg(test)]
+mod depth;
+#[cfg(test)]
 mod equality;
 mod judging;
 #[cfg(test)]
