@@ -86,7 +86,7 @@ fn deep_levels_stand(rt: HostRuntime) -> Result<(), Fail> {
 fn deep_operands_stand(rt: HostRuntime) -> Result<(), Fail> {
     for (depth, opening, middle, closing, binary, test) in [
         (10_000, "not ", "none()", "", Some(false), false),
-        (5_000, "(", "all()", ")", Some(true), true),
+        (4_000, "(", "all()", ")", Some(true), true),
         (3_000, "all() and (", "test(b)", ")", None, false),
     ] {
         stands(

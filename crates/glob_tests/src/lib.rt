@@ -6,6 +6,8 @@
 #![tactic(auto)]
 
 mod bounds;
+#[cfg(test)]
+mod depth;
 mod judging;
 #[cfg(test)]
 mod memory;

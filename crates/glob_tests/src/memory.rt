@@ -6,7 +6,7 @@ use std::process::Abort;
 
 /// Whether a copy of the glob gives this many copies of the piece the wanted answer. Both are what they were then,
 /// whatever came of the question.
-fn is_right(
+pub fn is_right(
     alloc: Global,
     pattern: &str,
     piece: &str,
