@@ -4,14 +4,15 @@
 use crate::filtersets::read;
 use crate::judging::{expressions_agree, filtersets_agree, leaves_agree, questions_agree};
 use nextest_filtering::{
-    BinaryQuery, BuildPlatform, CompiledExpr, Filterset, FiltersetLeaf, GenericGlob, NameMatcher,
-    PackageId, PatternRegex, RustBinaryId, RustTestBinaryKind, SourceSpan, TestCaseName, TestQuery,
+    BuildPlatform, CompiledExpr, Filterset, FiltersetLeaf, GenericGlob, NameMatcher, PackageId,
+    PatternRegex, SourceSpan,
 };
 use std::alloc::{AllocError, Global};
 use std::collections::BTreeSet;
 use std::process::Abort;
 use std::rc::Rc;
 use std::test::Fail;
+use test_parts::Parts;
 
 /// The matcher of a value, by its name.
 fn matcher(alloc: Global, how: &str, value: &str, implicit: bool) -> Result<NameMatcher, Fail> {
@@ -242,49 +243,6 @@ fn filtersets_are_equal_in_all_they_hold(rt: HostRuntime) -> Result<(), Fail> {
         assert!(rt; filtersets_agree(&one, &copy), "{i}");
     }
     Ok(())
-}
-
-/// What a question is made of.
-#[derive(Drop)]
-pub struct Parts {
-    package: PackageId,
-    id: RustBinaryId,
-    binary: String,
-    kind: RustTestBinaryKind,
-    platform: BuildPlatform,
-    test: TestCaseName,
-}
-
-impl Parts {
-    /// The texts, in the order of the fields, and the platform.
-    pub fn new(
-        alloc: Global,
-        texts: [&str; 5],
-        platform: BuildPlatform,
-    ) -> Result<Parts, AllocError> {
-        let [package, id, binary, kind, test] = texts;
-        Ok(Parts {
-            package: PackageId::new(String::from_str(alloc, package)?),
-            id: RustBinaryId::new(alloc, id)?,
-            binary: String::from_str(alloc, binary)?,
-            kind: RustTestBinaryKind::new(String::from_str(alloc, kind)?),
-            platform,
-            test: TestCaseName::new(alloc, test)?,
-        })
-    }
-
-    pub fn query(&self) -> TestQuery<'_> {
-        TestQuery {
-            binary_query: BinaryQuery {
-                package_id: &self.package,
-                binary_id: &self.id,
-                binary_name: self.binary.as_str(),
-                kind: &self.kind,
-                platform: self.platform,
-            },
-            test_name: &self.test,
-        }
-    }
 }
 
 /// Questions of which no two are equal.

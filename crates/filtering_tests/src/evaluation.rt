@@ -1,8 +1,4 @@
 //! Evaluation: logics by their tables, and lookups of the tests' own.
-ghost use Rattle.std.specs.Prelude.{◌≡◌};
-ghost use Rattle.filterset_matchers.specs.Matcher.{Hits};
-ghost use Rattle.filterset_expression.specs.Expression.{no_groups};
-
 use crate::filtersets::Asked;
 use nextest_filtering::{
     CompiledExpr, EvalContext, FiltersetLeaf, FlatExpr, GroupLookup, Logic, NameMatcher,
@@ -11,6 +7,7 @@ use nextest_filtering::{
 use std::alloc::{AllocError, Global};
 use std::process::Abort;
 use std::test::Fail;
+use test_parts::{OneMember, Refusing};
 
 /// What a logic makes of two values: both, either, the negation of the first, and exactly one.
 fn connectives<L: Logic>(a: L, b: L) -> (L, L, L, L) {
@@ -57,47 +54,6 @@ fn three_values_answer_by_their_tables(rt: HostRuntime) {
             connectives(a, b) == (both, either, negation, one),
             "{a:?} and {b:?}"
         );
-    }
-}
-
-/// Knows one group, and one test that is in it.
-#[derive(Debug, Drop)]
-pub struct OneMember {
-    pub test: &'static str,
-    pub group: &'static str,
-}
-
-impl GroupLookup for OneMember {
-    ghost hits_group = { λ known query matcher.
-        (query.test_name.now ≡ known.test.now) × Hits matcher known.group.now };
-
-    fn is_member_test(
-        &self,
-        alloc: Global,
-        test: &TestQuery<'_>,
-        matcher: &NameMatcher,
-    ) -> Result<bool, AllocError> {
-        if test.test_name.as_str() != self.test {
-            return Ok(false);
-        }
-        matcher.is_match(alloc, self.group)
-    }
-}
-
-/// Has no memory for an answer.
-#[derive(Debug, Drop)]
-pub struct Refusing;
-
-impl GroupLookup for Refusing {
-    ghost hits_group = { λ known. no_groups };
-
-    fn is_member_test(
-        &self,
-        _alloc: Global,
-        _test: &TestQuery<'_>,
-        _matcher: &NameMatcher,
-    ) -> Result<bool, AllocError> {
-        Err(AllocError)
     }
 }
 

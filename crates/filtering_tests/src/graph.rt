@@ -1,11 +1,11 @@
 //! Tests of `filterset_graph`.
-use crate::support::{FOUR, Failure, graph, id, package};
 use filterset_graph::{
     BuildPlatform, BuildTarget, BuildTargetId, DependsRefusal, GLOBAL_TEST_GROUP, GraphRefusal,
     PackageGraph, RustBinaryId, RustTestBinaryKind, TestCaseName,
 };
 use std::alloc::{AllocError, Global};
 use std::process::Abort;
+use test_parts::{FOUR, Failure, graph, id, package};
 
 #[test]
 fn keeps_the_list_of_packages(rt: HostRuntime) -> Result<(), Failure> {

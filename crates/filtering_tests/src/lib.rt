@@ -18,7 +18,3 @@ mod graph;
 mod judging;
 #[cfg(test)]
 mod matchers;
-#[cfg(test)]
-mod memory;
-#[cfg(test)]
-mod support;

@@ -1,4 +1,4 @@
-//! What the tests share: why one ends early, and values written out.
+//! Packages and graphs written out, and why a test ends early.
 use filterset_graph::{DependsRefusal, GraphRefusal, PackageGraph, PackageId, PackageMetadata};
 use std::alloc::{AllocError, AllocFailed, Global};
 

@@ -2,9 +2,6 @@
 //! form that memory is wanting, and what it was lent is what it was.
 //!
 //! Calls stand in two tests: one passes where a call wants memory, and one does not.
-use crate::equality::Parts;
-use crate::evaluation::{OneMember, Refusing};
-use crate::support::{FOUR, Failure, Row, id, packages};
 use nextest_filtering::{
     BuildPlatform, BuildTarget, BuildTargetId, CompiledExpr, DependsRefusal, EvalContext,
     Filterset, FiltersetKind, FiltersetLeaf, FiltersetParseErrors, FlatExpr, FlatStep,
@@ -16,6 +13,7 @@ use std::collections::HashSet;
 use std::fmt::Debug;
 use std::process::Abort;
 use std::test::Fail;
+use test_parts::{FOUR, Failure, OneMember, Parts, Refusing, Row, id, packages};
 
 /// Whether the call answered. Its answer is then the wanted one.
 fn answers<T: PartialEq + Debug + Drop>(
