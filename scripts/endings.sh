@@ -1,23 +1,23 @@
 #!/bin/bash
-# Ends the program that `rt ci` built in each way that it has, save want of memory (scripts/refusals.sh), and holds its
-# status and standard error against the wanted ones. The last line is 'N passed, M failed'.
+# Ends the programs that `rt ci` built in each way that they have, but for running out of memory (scripts/refusals.sh),
+# and compares their status and what they say on standard error. The last line is 'N passed, M failed'.
 set -uo pipefail
-cd "$(dirname "${BASH_SOURCE[0]}")/.." || exit 2
-made=crates/filterset_cli/out/filterset_cli
-room=$(mktemp -d) || exit 2
-trap 'rm -rf "$room"' EXIT
-passed=0 failed=0
+source "$(dirname "${BASH_SOURCE[0]}")/lib.sh"
+people=crates/filterset_command/out/filterset_command
+need "$program"
+need "$people"
 
-# Runs the program from one file to another, and looks at its status and at what it says on standard error.
+# Runs a program from one file to another, with the words that are left, and looks at its status and at what it says on
+# standard error.
 ends() {
     local what=$1 from=$2 to=$3 wanted=$4 line=$5 status
-    timeout 60 "$made" < "$from" > "$to" 2> "$room/said"
+    shift 5
+    timeout 60 "${@:-$program}" < "$from" > "$to" 2> "$room/said"
     status=$?
     if [ "$status" -eq "$wanted" ] && [ "$(cat "$room/said")" = "$line" ]; then
-        passed=$((passed + 1))
+        pass
     else
-        echo "endings: $what: FAILED with status $status and '$(cat "$room/said")'"
-        failed=$((failed + 1))
+        fail "$what" "it ended with status $status and '$(cat "$room/said")'"
     fi
 }
 
@@ -30,5 +30,28 @@ ends "no record" "$room/other" "$room/wrote" 2 ""
 ends "a read that fails" . "$room/wrote" 3 "read failed"
 ends "a write that fails" "$room/accepted" /dev/full 3 "write failed"
 
-echo "$passed passed, $failed failed"
-[ "$failed" -eq 0 ]
+printf 'all()\nnone()\n' > "$room/lines"
+printf '\377' > "$room/bytes"
+ends "checked" "$room/lines" "$room/wrote" 0 "" "$people" check -
+ends "checked, with faults" "$room/lines" "$room/wrote" 1 "" "$people" check 'all()' 'and(a, b)'
+ends "formatted" "$room/lines" "$room/wrote" 0 "" "$people" format -
+ends "formatted, with faults" "$room/lines" "$room/wrote" 1 "" "$people" format 'and(a, b)'
+ends "help" "$room/lines" "$room/wrote" 0 "" "$people" --help
+ends "version" "$room/lines" "$room/wrote" 0 "" "$people" --version
+ends "help that cannot be written" "$room/lines" /dev/full 3 "write failed" "$people" --help
+ends "another kind" "$room/lines" "$room/wrote" 2 "error: invalid value 'other' for '--kind <KIND>'
+  [possible values: test, default, override, archive]
+
+For more information, try '--help'." "$people" check --kind other 'all()'
+ends "no command" "$room/lines" "$room/wrote" 2 "error: 'filterset_command' requires a subcommand but one was not provided
+  [subcommands: check, format, help]
+
+Usage: filterset_command <COMMAND>
+
+For more information, try '--help'." "$people"
+ends "words that are no text" "$room/lines" "$room/wrote" 2 "error: the command line is not UTF-8" "$people" check $'\377'
+ends "no text" "$room/bytes" "$room/wrote" 2 "error: standard input is not UTF-8" "$people" check -
+ends "texts that cannot be read" . "$room/wrote" 3 "read failed" "$people" check -
+ends "faults that cannot be written" "$room/lines" /dev/full 3 "write failed" "$people" check 'and(a, b)'
+
+finish

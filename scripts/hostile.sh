@@ -3,17 +3,8 @@
 # one for each byte of a record. What is wanted is written out here by the rules of docs/PROGRAM.md and
 # docs/LANGUAGE.md, and none of it was taken from what the program says. The last line is 'N passed, M failed'.
 set -uo pipefail
-cd "$(dirname "${BASH_SOURCE[0]}")/.." || exit 2
-made=crates/filterset_cli/out/filterset_cli
-room=$(mktemp -d) || exit 2
-trap 'rm -rf "$room"' EXIT
-passed=0 failed=0
-
-if [ ! -x "$made" ]; then
-    echo "hostile: there is no $made: run rt ci first"
-    echo "0 passed, 1 failed"
-    exit 1
-fi
+source "$(dirname "${BASH_SOURCE[0]}")/lib.sh"
+need "$program"
 
 # The text so many times.
 times() { TEXT=$2 awk -v n="$1" 'BEGIN { for (i = 0; i < n; i++) printf "%s", ENVIRON["TEXT"] }'; }
@@ -21,17 +12,16 @@ times() { TEXT=$2 awk -v n="$1" 'BEGIN { for (i = 0; i < n; i++) printf "%s", EN
 # Whether the program ends with this status on the record, says nothing on standard error, and writes what is wanted.
 holds() {
     local wanted=$1 status
-    timeout 120 "$made" < "$room/record" > "$room/wrote" 2> "$room/said"
+    timeout 120 "$program" < "$room/record" > "$room/wrote" 2> "$room/said"
     status=$?
     if [ "$status" -ne "$wanted" ]; then echo "status $status in the place of $wanted" > "$room/why"; return 1; fi
     if [ -s "$room/said" ]; then echo "it said '$(head -c 200 "$room/said")'" > "$room/why"; return 1; fi
     cmp "$room/wrote" "$room/wanted" > "$room/why" 2>&1
 }
 
-well() { passed=$((passed + 1)); }
-ill() { echo "hostile: $1: FAILED: $(head -c 300 "$room/why")"; failed=$((failed + 1)); }
+differs() { fail "$1" "$(head -c 300 "$room/why")"; }
 # The record and the wanted report are there: one more case, with the status that is wanted.
-ends() { if holds "$2"; then well; else ill "$1"; fi; }
+ends() { if holds "$2"; then pass; else differs "$1"; fi; }
 refused() { printf 'record refused: %s\n' "$1" > "$room/wanted"; }
 
 # A binary with two tests, and the beginning of a record that asks of it.
@@ -65,11 +55,11 @@ fronts_and_bytes() {
     refused "not JSON"
     for ((at = 0; at < ${#stored}; at++)); do
         printf '%s' "${stored:0:at}" > "$room/record"
-        holds 2 || { ill "the first $at bytes of a record"; return; }
+        holds 2 || { differs "the first $at bytes of a record"; return; }
         printf '%s\377%s' "${stored:0:at}" "${stored:at + 1}" > "$room/record"
-        holds 2 || { ill "a record with the byte FF at $at"; return; }
+        holds 2 || { differs "a record with the byte FF at $at"; return; }
     done
-    well
+    pass
 }
 fronts_and_bytes
 
@@ -203,5 +193,4 @@ opened() {
 }
 opened
 
-echo "$passed passed, $failed failed"
-[ "$failed" -eq 0 ]
+finish

@@ -1,2 +1,1 @@
-pub mod FaultsLieWithin
 pub mod AnswersOfTests

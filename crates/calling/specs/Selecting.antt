@@ -7,7 +7,8 @@ use Rattle.std.specs.declared.string.String.{String}
 use Rattle.filterset_faults.specs.declared.kind.FiltersetKind.TheVariants.{Test}
 use Rattle.filterset_faults.specs.declared.span.SourceSpan.{SourceSpan}
 use Rattle.filterset_graph.specs.declared.package.PackageMetadata.{PackageMetadata}
-use Rattle.filterset_language.specs.Tree.{Tree, tree_of}
+use Rattle.filterset_grammar.specs.Tree.{Tree}
+use Rattle.filterset_language.specs.Views.{tree_of}
 use Rattle.nextest_filtering.specs.Compiling.{IsFiltersetOf, IsRefusedWith}
 use Rattle.filterset_expression.specs.Expression.{no_groups}
 use Rattle.filterset_expression.specs.Meaning.{Meaning, has_tree_leaf, is_group_predicate}

@@ -2,7 +2,7 @@
 ghost use Rattle.std.specs.Prelude.{◌≡◌, false, IfOk, List};
 ghost use Rattle.std.specs.List.{AllZip};
 ghost use Rattle.filterset_graph.specs.declared.package.PackageMetadata.{PackageMetadata};
-ghost use Rattle.filterset_language.specs.Tree.{tree_of};
+ghost use Rattle.filterset_language.specs.Views.{tree_of};
 ghost use Rattle.nextest_filtering.specs.Compiling.{packages_of};
 ghost use Rattle.filterset_expression.specs.Contexts.{default_of};
 ghost use Rattle.filterset_expression.specs.Expression.{has_leaf, is_group};
@@ -28,7 +28,7 @@ pub enum Selection {
 }
 
 /// Reads a filterset and asks it of each test, unless it holds a `group(..)`: then it is read, and comes back. No group
-/// is known but `@global`. It is an error only for want of memory, and then nothing is known of the text.
+/// is known but `@global`. The only error is out of memory, and then nothing is known of the text.
 pub fn select(
     alloc: Global,
     text: String,

@@ -13,7 +13,7 @@ use suite_verdicts::Outcome;
 /// Reads the rows to their end, and then writes their report. The report is made before the first byte of it is
 /// written.
 ///
-/// It answers whether all rows hold, or that memory was wanting or a read or a write failed.
+/// Returns whether all rows hold, or that the run is out of memory, or that a read or a write failed.
 pub fn run<R: Source, W: Sink>(
     alloc: Global,
     input: &mut R,

@@ -1,5 +1,5 @@
 //! Rows that are wrong, one in each thing that a row can say, and the whole report of them: no judge is lax. Rows that
-//! hold, values that are no rows, and want of memory.
+//! hold, values that are no rows, and refused memory.
 use crate::report::report;
 use std::alloc::AllocError;
 use std::process::Abort;

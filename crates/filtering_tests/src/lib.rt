@@ -2,7 +2,7 @@
 //! that none of these crates is proved twice.
 //!
 //! Expected values follow from the rules in docs/, none from what the program says. A test whose name ends in
-//! `_or_wants_memory` passes where a call answers want of memory too, since a script refuses each request in turn.
+//! `_or_wants_memory` passes where a call returns out of memory too, since a script refuses each request in turn.
 #![tactic(auto)]
 
 #[cfg(test)]

@@ -1,7 +1,6 @@
-use crate::ending::Outcome;
-use crate::run::run;
-use crate::status;
-use records::{FromReader, RunFault, Sink, Source, ToWriter};
+use crate::program::Filtersets;
+use filterset_report::Outcome;
+use records::{FromReader, RunFault, Sink, Source, ToWriter, run, status};
 use std::alloc::{AllocError, Global};
 use std::io;
 use std::io::ErrorKind;
@@ -128,7 +127,7 @@ fn answer(
     let mut written = Vec::with_capacity(alloc, 1024)?;
     let mut input = FromReader::new(record);
     let mut output = ToWriter::new(&mut written);
-    let ended = run(alloc, &mut input, &mut output);
+    let ended = run::<Filtersets, _, _>(alloc, &mut input, &mut output);
     drop(output);
     Ok((ended, written))
 }
@@ -417,7 +416,7 @@ fn failing_reads(rt: HostRuntime) -> Result<(), Fail> {
         let mut written = Vec::with_capacity(rt.alloc(), 1024)?;
         let mut input = Dropping::new(STORED.as_bytes(), good_reads);
         let mut output = ToWriter::new(&mut written);
-        let ended = run(rt.alloc(), &mut input, &mut output);
+        let ended = run::<Filtersets, _, _>(rt.alloc(), &mut input, &mut output);
         drop(output);
         if good_reads <= STORED.len() {
             assert_eq!(rt; ended, Err(RunFault::Read), "at {good_reads}");
@@ -442,7 +441,7 @@ fn failing_writes(rt: HostRuntime) -> Result<(), Fail> {
                 answers_none,
                 failed: false,
             };
-            let ended = run(rt.alloc(), &mut input, &mut output);
+            let ended = run::<Filtersets, _, _>(rt.alloc(), &mut input, &mut output);
             drop(output);
             assert_eq!(rt; ended, Err(RunFault::Write), "at {room}");
             assert!(rt; taken.as_slice() == &STORED_REPORT.as_bytes()[..room]);
@@ -487,12 +486,12 @@ fn a_run_reports_or_wants_memory(rt: HostRuntime) {
 
 #[test]
 fn statuses(rt: HostRuntime) {
-    assert_eq!(rt; status(Ok(Outcome::AllAccepted)), 0);
-    assert_eq!(rt; status(Ok(Outcome::SomeRefused)), 1);
-    assert_eq!(rt; status(Ok(Outcome::RecordRefused)), 2);
-    assert_eq!(rt; status(Err(RunFault::Memory(AllocError))), 3);
-    assert_eq!(rt; status(Err(RunFault::Read)), 3);
-    assert_eq!(rt; status(Err(RunFault::Write)), 3);
+    assert_eq!(rt; status::<Filtersets>(Ok(Outcome::AllAccepted)), 0);
+    assert_eq!(rt; status::<Filtersets>(Ok(Outcome::SomeRefused)), 1);
+    assert_eq!(rt; status::<Filtersets>(Ok(Outcome::RecordRefused)), 2);
+    assert_eq!(rt; status::<Filtersets>(Err(RunFault::Memory(AllocError))), 3);
+    assert_eq!(rt; status::<Filtersets>(Err(RunFault::Read)), 3);
+    assert_eq!(rt; status::<Filtersets>(Err(RunFault::Write)), 3);
 }
 
 /// The fault displays so.

@@ -3,20 +3,20 @@ use Rattle.std.proofs.Common.{◌≡◌, ◌↔◌, Bool, true, false, List, ref
 use Rattle.std.specs.Prelude.{cond, MatchBool}
 use Rattle.filterset_faults.specs.declared.span.SourceSpan.{SourceSpan}
 use Rattle.filterset_graph.specs.declared.package.PackageMetadata.{PackageMetadata}
-use Rattle.filterset_language.specs.Tree as tree
-use Rattle.filterset_language.specs.Tree.{Tree, Matching, Platform, Default}
-use Rattle.filterset_language.specs.declared.tree.predicate.Predicate.TheVariants.{Package, Deps, Rdeps, Kind, Binary, BinaryId, Test, Group}
+use Rattle.filterset_grammar.specs.Tree as tree
+use Rattle.filterset_grammar.specs.Tree.{Tree, Matching, Platform, Default}
+use Rattle.filterset_grammar.specs.declared.predicate.Predicate.TheVariants.{Package, Deps, Rdeps, Kind, Binary, BinaryId, Test, Group}
 use Rattle.filterset_matchers.specs.Matcher.{Hits}
-use Rattle.filterset_expression.specs.BinaryMeaning.{EitherLeaf, OfTree, OfDefault, tree_leaf_with_default, tree_with_default, is_of_test_predicate, is_either_of_test, MeansOfBinary, EitherOfBinary, PossibleOfTree, IsDefiniteTree, IsUndecidedTree, TellsTheSame}
+use Rattle.filterset_expression.specs.BinaryMeaning.{EitherLeaf, OfTree, OfDefault, tree_leaf_with_default, tree_with_default, is_of_test_predicate, is_either_of_test, EitherOfBinary, PossibleOfTree, IsDefiniteTree, IsUndecidedTree, TellsTheSame}
 use Rattle.filterset_expression.specs.Expression as compiled
 use Rattle.filterset_expression.specs.Expression.{CompiledLeaf, formula, is_of_test, leaf_with_default, with_default, HoldsOfBinary, Possible, IsDefinite, IsUndecided}
-use Rattle.filterset_expression.specs.Formula.{Formula, Leaf, Negation, Disjunction, Conjunction, ExclusiveDisjunction, replaced, SameShape}
-use Rattle.filterset_expression.specs.Meaning.{tree_formula, IsCompiledLeaf, IsCompiled}
+use Rattle.filterset_expression.specs.Formula.{Formula, Leaf, Negation, Compound, replaced, SameShape}
+use Rattle.filterset_expression.specs.Meaning.{tree_formula, MeansOfBinary, IsCompiledLeaf, IsCompiled}
 use Rattle.filterset_expression.specs.Values.{occurrences, TrueUnder, CanBe}
 use Rattle.filterset_expression.specs.declared.expression.CompiledExpr.{CompiledExpr}
 use Rattle.filterset_expression.specs.declared.query.BinaryQuery.{BinaryQuery}
+use Rattle.filterset_expression.proofs.Connectives.{connects_alike}
 use Rattle.filterset_expression.proofs.Meanings.{alike, alike_at}
-use Rattle.filterset_expression.proofs.Shapes.{both_or, both_xor}
 
 match_alike : (b : Bool) (X P Q : Type 0) → P ↔ Q → MatchBool b X P ↔ MatchBool b X Q
 match_alike true X P Q e = alike X
@@ -27,12 +27,8 @@ module _ {A B : Type 0} (R : A → B → Type 0) (is_asked : A → Bool) (is_ask
   pub same_occurrences : (f : Formula A) (g : Formula B) → SameShape R f g → occurrences is_asked f ≡ occurrences is_asked' g
   same_occurrences (Leaf a) (Leaf b) s = ap (λ c. cond c 1 0) (asked_alike a b s)
   same_occurrences (Negation f) (Negation g) s = same_occurrences f g s
-  same_occurrences (Disjunction f f') (Disjunction g g') s =
-      let e = same_occurrences f g s.0 in let k = same_occurrences f' g' s.1 in cc
-  same_occurrences (Conjunction f f') (Conjunction g g') s =
-      let e = same_occurrences f g s.0 in let k = same_occurrences f' g' s.1 in cc
-  same_occurrences (ExclusiveDisjunction f f') (ExclusiveDisjunction g g') s =
-      let e = same_occurrences f g s.0 in let k = same_occurrences f' g' s.1 in cc
+  same_occurrences (Compound c f f') (Compound d g g') s =
+      let e = same_occurrences f g s.1 in let k = same_occurrences f' g' s.2 in cc
   same_occurrences _ _ s = absurd s
 
 module _ {A B : Type 0} (R : A → B → Type 0) (is_asked : A → Bool) (is_asked' : B → Bool) (P : A → Type 0) (Q : B → Type 0) (asked_alike : (a : A) (b : B) → R a b → is_asked a ≡ is_asked' b) (leaves_agree : (a : A) (b : B) → R a b → P a ↔ Q b) where
@@ -44,14 +40,8 @@ module _ {A B : Type 0} (R : A → B → Type 0) (is_asked : A → Bool) (is_ask
   same_under (Leaf a) (Leaf b) s answers = rw (asked_alike a b s) (match_alike (is_asked' b) _ (P a) (Q b) (leaves_agree a b s))
   same_under (Negation f) (Negation g) s answers =
       let e = same_under f g s answers in (λ n q. n (e.1 q), λ n p. n (e.0 p))
-  same_under (Disjunction f f') (Disjunction g g') s answers =
-      rw (counts f g s.0) (both_or _ _ _ _ (same_under f g s.0 (take (occurrences is_asked' g) answers)) (same_under f' g' s.1 (drop (occurrences is_asked' g) answers)))
-  same_under (Conjunction f f') (Conjunction g g') s answers =
-      let e = same_under f g s.0 (take (occurrences is_asked' g) answers) in
-      let k = same_under f' g' s.1 (drop (occurrences is_asked' g) answers) in
-      rw (counts f g s.0) (λ p. (e.0 p.0, k.0 p.1), λ q. (e.1 q.0, k.1 q.1))
-  same_under (ExclusiveDisjunction f f') (ExclusiveDisjunction g g') s answers =
-      rw (counts f g s.0) (both_xor _ _ _ _ (same_under f g s.0 (take (occurrences is_asked' g) answers)) (same_under f' g' s.1 (drop (occurrences is_asked' g) answers)))
+  same_under (Compound c f f') (Compound d g g') s answers =
+      rw (s.0, counts f g s.1) (connects_alike d _ _ _ _ (same_under f g s.1 (take (occurrences is_asked' g) answers)) (same_under f' g' s.2 (drop (occurrences is_asked' g) answers)))
   same_under _ _ s answers = absurd s
 
   -- so they take the same values
@@ -65,12 +55,8 @@ module _ {A B : Type 0} (R : A → B → Type 0) (is_asked : A → Bool) (is_ask
 same_replaced : {A B C D : Type 0} (R : A → B → Type 0) (S : C → D → Type 0) (at : A → Formula C) (at' : B → Formula D) → ((a : A) (b : B) → R a b → SameShape S (at a) (at' b)) → (f : Formula A) (g : Formula B) → SameShape R f g → SameShape S (replaced at f) (replaced at' g)
 same_replaced R S at at' each (Leaf a) (Leaf b) s = each a b s
 same_replaced R S at at' each (Negation f) (Negation g) s = same_replaced R S at at' each f g s
-same_replaced R S at at' each (Disjunction f f') (Disjunction g g') s =
-    (same_replaced R S at at' each f g s.0, same_replaced R S at at' each f' g' s.1)
-same_replaced R S at at' each (Conjunction f f') (Conjunction g g') s =
-    (same_replaced R S at at' each f g s.0, same_replaced R S at at' each f' g' s.1)
-same_replaced R S at at' each (ExclusiveDisjunction f f') (ExclusiveDisjunction g g') s =
-    (same_replaced R S at at' each f g s.0, same_replaced R S at at' each f' g' s.1)
+same_replaced R S at at' each (Compound c f f') (Compound d g g') s =
+    (s.0, same_replaced R S at at' each f g s.1, same_replaced R S at at' each f' g' s.2)
 same_replaced R S at at' each _ _ s = absurd s
 
 module _ (packages : List PackageMetadata) where
@@ -82,9 +68,7 @@ module _ (packages : List PackageMetadata) where
   same_default : (f : Formula CompiledLeaf) → SameShape Same (replaced (λ l. Leaf (OfDefault l)) f) f
   same_default (Leaf l) = refl
   same_default (Negation f) = same_default f
-  same_default (Disjunction f g) = (same_default f, same_default g)
-  same_default (Conjunction f g) = (same_default f, same_default g)
-  same_default (ExclusiveDisjunction f g) = (same_default f, same_default g)
+  same_default (Compound c f g) = (refl, same_default f, same_default g)
 
   same_leaf : (default : CompiledExpr) (l : tree.Leaf SourceSpan) (c : CompiledLeaf) → IsCompiledLeaf packages l c → SameShape Same (tree_leaf_with_default default l) (leaf_with_default default c)
   same_leaf default (Matching Package m s) (compiled.Packages ids) are = are

@@ -1,16 +1,16 @@
 -- A fold by the Kleene connectives is definite exactly where every list of answers agrees, and then it is the answer for
 -- every test.
-use Rattle.std.proofs.Common.{◌≡◌, ◌↔◌, ℕ, ◌+◌, Bool, true, false, ◌&&◌, ◌||◌, inl, inr, refl, ap, subst, arith, Option, Some, None, List, [], ◌∷◌, ◌++◌, length, take, drop, replicate, length-append, length-take, length-drop}
+use Rattle.std.proofs.Common.{◌≡◌, ◌↔◌, ℕ, ◌+◌, Bool, true, false, refl, ap, subst, arith, Option, Some, None, List, [], ◌∷◌, ◌++◌, length, take, drop, replicate, length-append, length-take, length-drop}
 use Rattle.std.proofs.lemmas.List.{length-replicate}
 use Rattle.std.proofs.Math.Seq.{take-append_seam, drop-append_seam}
 use Rattle.std.specs.Bool.{IsTrue, MatchBool, one_answer}
 use Rattle.std.specs.Prelude.{IsSomeAnd}
+use Rattle.filterset_expression.specs.Connectives.{Connective, Connects, connected, kleene, kleene_not}
 use Rattle.filterset_expression.specs.Folds.{Folds, Settles}
-use Rattle.filterset_expression.specs.Formula.{Formula, Leaf, Negation, Disjunction, Conjunction, ExclusiveDisjunction, TrueWhere}
-use Rattle.filterset_expression.specs.Logics.{exclusive_or, kleene_not, kleene_or, kleene_and, kleene_xor}
+use Rattle.filterset_expression.specs.Formula.{Formula, Leaf, Negation, Compound, TrueWhere}
 use Rattle.filterset_expression.specs.Values.{occurrences, TrueUnder, CanBe, IsAlways, IsOpen}
-use Rattle.filterset_expression.proofs.Folding.{decides_not, decides_or, decides_and, decides_xor}
-use Rattle.filterset_expression.proofs.Shapes.{both_or, both_xor, turned}
+use Rattle.filterset_expression.proofs.Connectives.{connects_alike, connected_decides, Knows, Allows, Reaches, IsExact, kleene_exact}
+use Rattle.filterset_expression.proofs.Folding.{decides_not}
 
 module _ {A : Type 0} (is_asked : A → Bool) (holds : A → Type 0) where
   -- what a value of three says of the values that the formula takes
@@ -35,17 +35,10 @@ module _ {A : Type 0} (is_asked : A → Bool) (holds : A → Type 0) where
   cut_back : (n : ℕ) (xs ys : List Bool) → length xs ≡ n → drop n (xs ++ ys) ≡ ys
   cut_back n xs ys h = subst (λ k. drop k (xs ++ ys) ≡ ys) h (drop-append_seam xs ys)
 
-  or_can_be : (f g : Formula A) (a b : Bool) → CanBe is_asked holds f a → CanBe is_asked holds g b → CanBe is_asked holds (Disjunction f g) (a || b)
-  or_can_be f g a b p q =
-      (p.0 ++ q.0, both_lengths f g p.0 q.0 p.1 q.1, rw (cut_front _ p.0 q.0 p.1, cut_back _ p.0 q.0 p.1) (decides_or a b _ _ p.2 q.2))
-
-  and_can_be : (f g : Formula A) (a b : Bool) → CanBe is_asked holds f a → CanBe is_asked holds g b → CanBe is_asked holds (Conjunction f g) (a && b)
-  and_can_be f g a b p q =
-      (p.0 ++ q.0, both_lengths f g p.0 q.0 p.1 q.1, rw (cut_front _ p.0 q.0 p.1, cut_back _ p.0 q.0 p.1) (decides_and a b _ _ p.2 q.2))
-
-  xor_can_be : (f g : Formula A) (a b : Bool) → CanBe is_asked holds f a → CanBe is_asked holds g b → CanBe is_asked holds (ExclusiveDisjunction f g) (exclusive_or a b)
-  xor_can_be f g a b p q =
-      (p.0 ++ q.0, both_lengths f g p.0 q.0 p.1 q.1, rw (cut_front _ p.0 q.0 p.1, cut_back _ p.0 q.0 p.1) (decides_xor a b _ _ p.2 q.2))
+  -- a compound formula takes what its connective makes of values that its operands take
+  compound_can_be : (c : Connective) (f g : Formula A) (a b : Bool) → CanBe is_asked holds f a → CanBe is_asked holds g b → CanBe is_asked holds (Compound c f g) (connected c a b)
+  compound_can_be c f g a b p q =
+      (p.0 ++ q.0, both_lengths f g p.0 q.0 p.1 q.1, rw (cut_front _ p.0 q.0 p.1, cut_back _ p.0 q.0 p.1) (connected_decides c a b _ _ p.2 q.2))
 
   -- the answers to the two sides
   front_length : (f g : Formula A) (answers : List Bool) → length answers ≡ occurrences is_asked f + occurrences is_asked g → length (take (occurrences is_asked f) answers) ≡ occurrences is_asked f
@@ -54,14 +47,14 @@ module _ {A : Type 0} (is_asked : A → Bool) (holds : A → Type 0) where
   back_length : (f g : Formula A) (answers : List Bool) → length answers ≡ occurrences is_asked f + occurrences is_asked g → length (drop (occurrences is_asked f) answers) ≡ occurrences is_asked g
   back_length f g answers h = omega (arith, length-drop (occurrences is_asked f) answers)
 
-  -- the sides of an exclusive disjunction may change places, and the answers to them with them
-  pub xor_turned : (f g : Formula A) (value : Bool) → CanBe is_asked holds (ExclusiveDisjunction f g) value → CanBe is_asked holds (ExclusiveDisjunction g f) value
-  xor_turned f g value can =
+  -- where the operands of a connective may change places, the answers to them change places with them
+  pub turned_can_be : (c : Connective) → ((P Q : Type 0) → Connects c P Q → Connects c Q P) → (f g : Formula A) (value : Bool) → CanBe is_asked holds (Compound c f g) value → CanBe is_asked holds (Compound c g f) value
+  turned_can_be c turn f g value can =
       let front = take (occurrences is_asked f) can.0 in
       let back = drop (occurrences is_asked f) can.0 in
       let ours = front_length f g can.0 can.1 in
       let theirs = back_length f g can.0 can.1 in
-      (back ++ front, both_lengths g f back front theirs ours, rw (cut_front _ back front theirs, cut_back _ back front theirs) (λ yes. turned _ _ (can.2.0 yes), λ t. can.2.1 (turned _ _ t)))
+      (back ++ front, both_lengths g f back front theirs ours, rw (cut_front _ back front theirs, cut_back _ back front theirs) (λ yes. turn _ _ (can.2.0 yes), λ t. can.2.1 (turn _ _ t)))
 
   not_says : (f : Formula A) (x : Option Bool) → Says f x → Says (Negation f) (kleene_not x)
   not_says f (Some b) says = λ answers h. decides_not b _ (says answers h)
@@ -70,55 +63,26 @@ module _ {A : Type 0} (is_asked : A → Bool) (holds : A → Type 0) where
       let no = says.1 in
       ((no.0, no.1, decides_not false _ no.2), (yes.0, yes.1, decides_not true _ yes.2))
 
-  or_true_left : (f g : Formula A) → Says f (Some true) → Says (Disjunction f g) (Some true)
-  or_true_left f g says = λ answers h. (λ e. inl ((says _ (front_length f g answers h)).0 refl), λ t. refl)
+  -- what a value says of the truth under one list of answers
+  knows : (f : Formula A) (x : Option Bool) → Says f x → (answers : List Bool) → length answers ≡ occurrences is_asked f → Knows x (TrueUnder is_asked holds f answers)
+  knows f (Some b) says answers h = says answers h
+  knows f None says answers h = tt
 
-  or_true_right : (f g : Formula A) → Says g (Some true) → Says (Disjunction f g) (Some true)
-  or_true_right f g says = λ answers h. (λ e. inr ((says _ (back_length f g answers h)).0 refl), λ t. refl)
+  -- the formula takes each value that is left open
+  takes : (f : Formula A) (x : Option Bool) (a : Bool) → Says f x → Allows x a → CanBe is_asked holds f a
+  takes f (Some b) a says e = subst (λ v. CanBe is_asked holds f v) e (can_be f b says)
+  takes f None true says e = says.0
+  takes f None false says e = says.1
 
-  or_says : (f g : Formula A) (x y : Option Bool) → Says f x → Says g y → Says (Disjunction f g) (kleene_or x y)
-  or_says f g (Some true) y p q = or_true_left f g p
-  or_says f g (Some false) (Some b) p q =
-      λ answers h. decides_or false b _ _ (p _ (front_length f g answers h)) (q _ (back_length f g answers h))
-  or_says f g (Some false) None p q =
-      (or_can_be f g false true (can_be f false p) q.0, or_can_be f g false false (can_be f false p) q.1)
-  or_says f g None (Some true) p q = or_true_right f g q
-  or_says f g None (Some false) p q =
-      (or_can_be f g true false p.0 (can_be g false q), or_can_be f g false false p.1 (can_be g false q))
-  or_says f g None None p q = (or_can_be f g true true p.0 q.0, or_can_be f g false false p.1 q.1)
+  reached : (c : Connective) (f g : Formula A) (x y : Option Bool) (value : Bool) → Says f x → Says g y → Reaches c x y value → CanBe is_asked holds (Compound c f g) value
+  reached c f g x y value p q r =
+      subst (λ v. CanBe is_asked holds (Compound c f g) v) r.4 (compound_can_be c f g r.0 r.1 (takes f x r.0 p r.2) (takes g y r.1 q r.3))
 
-  and_false_left : (f g : Formula A) → Says f (Some false) → Says (Conjunction f g) (Some false)
-  and_false_left f g says =
-      λ answers h. (λ e. absurd (let clash : false ≡ true = e in cc), λ t. (says _ (front_length f g answers h)).1 t.0)
-
-  and_false_right : (f g : Formula A) → Says g (Some false) → Says (Conjunction f g) (Some false)
-  and_false_right f g says =
-      λ answers h. (λ e. absurd (let clash : false ≡ true = e in cc), λ t. (says _ (back_length f g answers h)).1 t.1)
-
-  and_says : (f g : Formula A) (x y : Option Bool) → Says f x → Says g y → Says (Conjunction f g) (kleene_and x y)
-  and_says f g (Some false) y p q = and_false_left f g p
-  and_says f g (Some true) (Some b) p q =
-      λ answers h. decides_and true b _ _ (p _ (front_length f g answers h)) (q _ (back_length f g answers h))
-  and_says f g (Some true) None p q =
-      (and_can_be f g true true (can_be f true p) q.0, and_can_be f g true false (can_be f true p) q.1)
-  and_says f g None (Some false) p q = and_false_right f g q
-  and_says f g None (Some true) p q =
-      (and_can_be f g true true p.0 (can_be g true q), and_can_be f g false true p.1 (can_be g true q))
-  and_says f g None None p q = (and_can_be f g true true p.0 q.0, and_can_be f g false false p.1 q.1)
-
-  -- a side that is open makes the whole open, whatever the other one says
-  xor_says : (f g : Formula A) (x y : Option Bool) → Says f x → Says g y → Says (ExclusiveDisjunction f g) (kleene_xor x y)
-  xor_says f g (Some a) (Some b) p q =
-      λ answers h. decides_xor a b _ _ (p _ (front_length f g answers h)) (q _ (back_length f g answers h))
-  xor_says f g (Some true) None p q =
-      (xor_can_be f g true false (can_be f true p) q.1, xor_can_be f g true true (can_be f true p) q.0)
-  xor_says f g (Some false) None p q =
-      (xor_can_be f g false true (can_be f false p) q.0, xor_can_be f g false false (can_be f false p) q.1)
-  xor_says f g None (Some true) p q =
-      (xor_can_be f g false true p.1 (can_be g true q), xor_can_be f g true true p.0 (can_be g true q))
-  xor_says f g None (Some false) p q =
-      (xor_can_be f g true false p.0 (can_be g false q), xor_can_be f g false false p.1 (can_be g false q))
-  xor_says f g None None p q = (xor_can_be f g true false p.0 q.1, xor_can_be f g true true p.0 q.0)
+  exact_says : (c : Connective) (f g : Formula A) (x y z : Option Bool) → ((P Q : Type 0) → IsExact c x y P Q z) → Says f x → Says g y → Says (Compound c f g) z
+  exact_says c f g x y (Some value) exact p q =
+      λ answers h. exact _ _ (knows f x p _ (front_length f g answers h)) (knows g y q _ (back_length f g answers h))
+  exact_says c f g x y None exact p q =
+      let both = exact ⊥ ⊥ in (reached c f g x y true p q both.0, reached c f g x y false p q both.1)
 
   leaf_says : (leaf : A) (asked : Bool) (x : Option Bool) → is_asked leaf ≡ asked → MatchBool asked (x ≡ None) (IsSomeAnd x (λ b. (IsTrue b ↔ (holds leaf)))) → Says (Leaf leaf) x
   leaf_says leaf true None e h =
@@ -127,12 +91,11 @@ module _ {A : Type 0} (is_asked : A → Bool) (holds : A → Type 0) where
   leaf_says leaf false None e h = absurd h
   leaf_says leaf false (Some b) e h = λ answers k. rw e h
 
-  fold_says : (f : Formula A) (x : Option Bool) → Folds kleene_not kleene_or kleene_and kleene_xor (Settles is_asked holds) f x → Says f x
+  fold_says : (f : Formula A) (x : Option Bool) → Folds kleene_not kleene (Settles is_asked holds) f x → Says f x
   fold_says (Leaf leaf) x h = leaf_says leaf (is_asked leaf) x refl h
   fold_says (Negation f) x h = rw h.2 (not_says f h.0 (fold_says f h.0 h.1))
-  fold_says (Disjunction f g) x h = rw h.4 (or_says f g h.0 h.1 (fold_says f h.0 h.2) (fold_says g h.1 h.3))
-  fold_says (Conjunction f g) x h = rw h.4 (and_says f g h.0 h.1 (fold_says f h.0 h.2) (fold_says g h.1 h.3))
-  fold_says (ExclusiveDisjunction f g) x h = rw h.4 (xor_says f g h.0 h.1 (fold_says f h.0 h.2) (fold_says g h.1 h.3))
+  fold_says (Compound c f g) x h =
+      rw h.4 (exact_says c f g h.0 h.1 (kleene c h.0 h.1) (kleene_exact c h.0 h.1) (fold_says f h.0 h.2) (fold_says g h.1 h.3))
 
   -- definite exactly where the formula takes one value alone
   always_from_says : (f : Formula A) (b : Bool) → Says f (Some b) → IsAlways is_asked holds f b
@@ -161,11 +124,11 @@ module _ {A : Type 0} (is_asked : A → Bool) (holds : A → Type 0) where
   says_open f None says = (λ e. says, λ both. refl)
 
   -- a fold by the Kleene connectives is definite exactly where the formula takes one value alone
-  pub fold_definite : (f : Formula A) (x : Option Bool) → Folds kleene_not kleene_or kleene_and kleene_xor (Settles is_asked holds) f x → (b : Bool) → (x ≡ Some b) ↔ IsAlways is_asked holds f b
+  pub fold_definite : (f : Formula A) (x : Option Bool) → Folds kleene_not kleene (Settles is_asked holds) f x → (b : Bool) → (x ≡ Some b) ↔ IsAlways is_asked holds f b
   fold_definite f x h = says_definite f x (fold_says f x h)
 
   -- and unknown exactly where it takes both
-  pub fold_open : (f : Formula A) (x : Option Bool) → Folds kleene_not kleene_or kleene_and kleene_xor (Settles is_asked holds) f x → (x ≡ None) ↔ IsOpen is_asked holds f
+  pub fold_open : (f : Formula A) (x : Option Bool) → Folds kleene_not kleene (Settles is_asked holds) f x → (x ≡ None) ↔ IsOpen is_asked holds f
   fold_open f x h = says_open f x (fold_says f x h)
 
 -- values that cannot differ are the same
@@ -191,12 +154,8 @@ module _ {A : Type 0} (is_asked : A → Bool) (holds of_test : A → Type 0) (ag
   answered : (f : Formula A) → ¬ (¬ Answered f)
   answered (Leaf leaf) none = leaf_answered leaf (is_asked leaf) refl none
   answered (Negation f) none = answered f (λ a. none (a.0, a.1, (λ n t. n (a.2.1 t), λ n t. n (a.2.0 t))))
-  answered (Disjunction f g) none =
-      answered f (λ a. answered g (λ b. none (a.0 ++ b.0, both_lengths is_asked holds f g a.0 b.0 a.1 b.1, rw (cut_front is_asked holds _ a.0 b.0 a.1, cut_back is_asked holds _ a.0 b.0 a.1) (both_or _ _ _ _ a.2 b.2))))
-  answered (Conjunction f g) none =
-      answered f (λ a. answered g (λ b. none (a.0 ++ b.0, both_lengths is_asked holds f g a.0 b.0 a.1 b.1, rw (cut_front is_asked holds _ a.0 b.0 a.1, cut_back is_asked holds _ a.0 b.0 a.1) (λ t. (a.2.0 t.0, b.2.0 t.1), λ t. (a.2.1 t.0, b.2.1 t.1)))))
-  answered (ExclusiveDisjunction f g) none =
-      answered f (λ a. answered g (λ b. none (a.0 ++ b.0, both_lengths is_asked holds f g a.0 b.0 a.1 b.1, rw (cut_front is_asked holds _ a.0 b.0 a.1, cut_back is_asked holds _ a.0 b.0 a.1) (both_xor _ _ _ _ a.2 b.2))))
+  answered (Compound c f g) none =
+      answered f (λ a. answered g (λ b. none (a.0 ++ b.0, both_lengths is_asked holds f g a.0 b.0 a.1 b.1, rw (cut_front is_asked holds _ a.0 b.0 a.1, cut_back is_asked holds _ a.0 b.0 a.1) (connects_alike c _ _ _ _ a.2 b.2))))
 
   -- where the formula takes one value alone, that is the answer
   pub definite_answer : (f : Formula A) (value answer : Bool) → IsAlways is_asked holds f value → (IsTrue answer ↔ TrueWhere of_test f) → answer ≡ value

@@ -1,16 +1,17 @@
 -- Lists of steps, and how they run.
-use Rattle.std.proofs.Common.{◌≡◌, ℕ, zero, suc, ◌+◌, ◌-◌, ◌<◌, ◌≤◌, max, Bool, true, false, ◌&&◌, ◌||◌, refl, sym, ap, ◌∙◌, subst, List, [], ◌∷◌, ◌++◌, length, drop, get_or, reverse, append_assoc, length-append, arith}
+use Rattle.std.proofs.Common.{◌≡◌, ℕ, zero, suc, ◌+◌, ◌-◌, ◌<◌, ◌≤◌, max, Bool, true, false, ◌&&◌, ◌||◌, refl, sym, ap, ◌∙◌, subst, List, [], ◌∷◌, ◌++◌, length, drop, get_or, append_assoc, arith}
 use Rattle.std.specs.List.{list_any}
-use Rattle.std.proofs.lemmas.List.{append-nil, drop_more, reverse-append}
+use Rattle.std.proofs.lemmas.List.{append-nil, drop_more}
 use Rattle.std.proofs.lemmas.List.Folds.{list_any-append}
 use Rattle.std.proofs.Math.Bool.{or-false}
+use Rattle.filterset_expression.specs.Connectives.{Connective}
 use Rattle.filterset_expression.specs.Expression as compiled
 use Rattle.filterset_expression.specs.Expression.{CompiledLeaf, compiled_leaf, formula, is_default, is_group, leaf_with_default, with_default, has_leaf}
 use Rattle.filterset_expression.specs.FlatExpressions.{leaf_passes}
 use Rattle.filterset_expression.specs.Folds.{Folds}
-use Rattle.filterset_expression.specs.Formula.{Formula, Leaf, Negation, Disjunction, Conjunction, ExclusiveDisjunction, leaves, replaced}
+use Rattle.filterset_expression.specs.Formula.{Formula, Leaf, Negation, Compound, leaves, replaced}
 use Rattle.filterset_expression.specs.Running.{leaf_or, one_less, height_after, finds_operands, leaves_one, greatest_height, Runs}
-use Rattle.filterset_expression.specs.FlatSteps.{Step, Push, Negate, Conjoin, Disjoin, DisjoinExclusively, steps_by, push_leaf, postfix, step_of, steps_of}
+use Rattle.filterset_expression.specs.FlatSteps.{Step, Push, Negate, Combine, steps_by, push_leaf, postfix, step_of, steps_of}
 use Rattle.filterset_expression.specs.declared.expression.CompiledExpr.{CompiledExpr}
 use Rattle.filterset_expression.specs.declared.flat.steps.FlatStep.{FlatStep}
 use Rattle.filterset_expression.specs.declared.leaves.FiltersetLeaf.{FiltersetLeaf}
@@ -20,34 +21,26 @@ pub one_less-is : (n : ℕ) → one_less n ≡ n - 1
 one_less-is zero = omega arith
 one_less-is (suc n) = omega arith
 
-module _ {A L : Type 0} (not_of : L → L) (or_of and_of xor_of : L → L → L) (gives : A → L → Type 0) where
-  regroup : (front mid back : List (Step A)) (stack : List L) (value : L) → Runs not_of or_of and_of xor_of gives ((front ++ mid) ++ back) stack value → Runs not_of or_of and_of xor_of gives (front ++ (mid ++ back)) stack value
+module _ {A L : Type 0} (not_of : L → L) (connect : Connective → L → L → L) (gives : A → L → Type 0) where
+  regroup : (front mid back : List (Step A)) (stack : List L) (value : L) → Runs not_of connect gives ((front ++ mid) ++ back) stack value → Runs not_of connect gives (front ++ (mid ++ back)) stack value
   regroup front mid back stack value run =
-      subst (λ s. Runs not_of or_of and_of xor_of gives s stack value) (append_assoc front mid back) run
+      subst (λ s. Runs not_of connect gives s stack value) (append_assoc front mid back) run
 
   -- the steps of a formula put a fold of it on the stack
-  pub postfix_folds : (f : Formula A) (rest : List (Step A)) (stack : List L) (value : L) → Runs not_of or_of and_of xor_of gives (postfix f ++ rest) stack value → (x : L) × Folds not_of or_of and_of xor_of gives f x × Runs not_of or_of and_of xor_of gives rest (x ∷ stack) value
+  pub postfix_folds : (f : Formula A) (rest : List (Step A)) (stack : List L) (value : L) → Runs not_of connect gives (postfix f ++ rest) stack value → (x : L) × Folds not_of connect gives f x × Runs not_of connect gives rest (x ∷ stack) value
   postfix_folds (Leaf leaf) rest stack value run = (run.0, run.1, run.2)
   postfix_folds (Negation f) rest stack value run =
       let one = postfix_folds f (Negate ∷ rest) stack value (regroup (postfix f) (Negate ∷ []) rest stack value run) in
       (not_of one.0, (one.0, one.1, refl), one.2)
-  postfix_folds (Disjunction f g) rest stack value run =
-      let left = postfix_folds f ((postfix g ++ Disjoin ∷ []) ++ rest) stack value (regroup (postfix f) (postfix g ++ Disjoin ∷ []) rest stack value run) in
-      let right = postfix_folds g (Disjoin ∷ rest) (left.0 ∷ stack) value (regroup (postfix g) (Disjoin ∷ []) rest (left.0 ∷ stack) value left.2) in
-      (or_of left.0 right.0, (left.0, right.0, left.1, right.1, refl), right.2)
-  postfix_folds (Conjunction f g) rest stack value run =
-      let left = postfix_folds f ((postfix g ++ Conjoin ∷ []) ++ rest) stack value (regroup (postfix f) (postfix g ++ Conjoin ∷ []) rest stack value run) in
-      let right = postfix_folds g (Conjoin ∷ rest) (left.0 ∷ stack) value (regroup (postfix g) (Conjoin ∷ []) rest (left.0 ∷ stack) value left.2) in
-      (and_of left.0 right.0, (left.0, right.0, left.1, right.1, refl), right.2)
-  postfix_folds (ExclusiveDisjunction f g) rest stack value run =
-      let left = postfix_folds f ((postfix g ++ DisjoinExclusively ∷ []) ++ rest) stack value (regroup (postfix f) (postfix g ++ DisjoinExclusively ∷ []) rest stack value run) in
-      let right = postfix_folds g (DisjoinExclusively ∷ rest) (left.0 ∷ stack) value (regroup (postfix g) (DisjoinExclusively ∷ []) rest (left.0 ∷ stack) value left.2) in
-      (xor_of left.0 right.0, (left.0, right.0, left.1, right.1, refl), right.2)
+  postfix_folds (Compound c f g) rest stack value run =
+      let left = postfix_folds f ((postfix g ++ Combine c ∷ []) ++ rest) stack value (regroup (postfix f) (postfix g ++ Combine c ∷ []) rest stack value run) in
+      let right = postfix_folds g (Combine c ∷ rest) (left.0 ∷ stack) value (regroup (postfix g) (Combine c ∷ []) rest (left.0 ∷ stack) value left.2) in
+      (connect c left.0 right.0, (left.0, right.0, left.1, right.1, refl), right.2)
 
   -- the value that is left is a fold
-  pub run_folds : (f : Formula A) (value : L) → Runs not_of or_of and_of xor_of gives (postfix f) [] value → Folds not_of or_of and_of xor_of gives f value
+  pub run_folds : (f : Formula A) (value : L) → Runs not_of connect gives (postfix f) [] value → Folds not_of connect gives f value
   run_folds f value run =
-      let one = postfix_folds f [] [] value (subst (λ s. Runs not_of or_of and_of xor_of gives s [] value) (sym (append-nil (postfix f))) run) in
+      let one = postfix_folds f [] [] value (subst (λ s. Runs not_of connect gives s [] value) (sym (append-nil (postfix f))) run) in
       let same : one.0 ≡ value = cc in
       rw (← same) one.1
 
@@ -55,32 +48,20 @@ module _ {A L : Type 0} (not_of : L → L) (or_of and_of xor_of : L → L → L)
 pub postfix_leaves_one : {A : Type 0} (f : Formula A) (rest : List (Step A)) (height : ℕ) → leaves_one (postfix f ++ rest) height ≡ leaves_one rest (suc height)
 postfix_leaves_one (Leaf leaf) rest height = refl
 postfix_leaves_one (Negation f) rest height = rw append_assoc (postfix_leaves_one f (Negate ∷ rest) height)
-postfix_leaves_one (Disjunction f g) rest height =
-    rw append_assoc (postfix_leaves_one f ((postfix g ++ Disjoin ∷ []) ++ rest) height ∙ rw append_assoc (postfix_leaves_one g (Disjoin ∷ rest) (suc height)))
-postfix_leaves_one (Conjunction f g) rest height =
-    rw append_assoc (postfix_leaves_one f ((postfix g ++ Conjoin ∷ []) ++ rest) height ∙ rw append_assoc (postfix_leaves_one g (Conjoin ∷ rest) (suc height)))
-postfix_leaves_one (ExclusiveDisjunction f g) rest height =
-    rw append_assoc (postfix_leaves_one f ((postfix g ++ DisjoinExclusively ∷ []) ++ rest) height ∙ rw append_assoc (postfix_leaves_one g (DisjoinExclusively ∷ rest) (suc height)))
+postfix_leaves_one (Compound c f g) rest height =
+    rw append_assoc (postfix_leaves_one f ((postfix g ++ Combine c ∷ []) ++ rest) height ∙ rw append_assoc (postfix_leaves_one g (Combine c ∷ rest) (suc height)))
 
 -- the steps of a formula with others in the place of its leaves
 pub steps_by_same : {A B : Type 0} (p q : A → List (Step B)) → ((leaf : A) → p leaf ≡ q leaf) → (f : Formula A) → steps_by p f ≡ steps_by q f
 steps_by_same p q same (Leaf leaf) = same leaf
 steps_by_same p q same (Negation f) = ap (λ s. s ++ Negate ∷ []) (steps_by_same p q same f)
-steps_by_same p q same (Disjunction f g) =
-    let left = steps_by_same p q same f in let right = steps_by_same p q same g in cc
-steps_by_same p q same (Conjunction f g) =
-    let left = steps_by_same p q same f in let right = steps_by_same p q same g in cc
-steps_by_same p q same (ExclusiveDisjunction f g) =
+steps_by_same p q same (Compound c f g) =
     let left = steps_by_same p q same f in let right = steps_by_same p q same g in cc
 
 pub postfix_replaced : {A B : Type 0} (at : A → Formula B) (f : Formula A) → postfix (replaced at f) ≡ steps_by (λ leaf. postfix (at leaf)) f
 postfix_replaced at (Leaf leaf) = refl
 postfix_replaced at (Negation f) = ap (λ s. s ++ Negate ∷ []) (postfix_replaced at f)
-postfix_replaced at (Disjunction f g) =
-    let left = postfix_replaced at f in let right = postfix_replaced at g in cc
-postfix_replaced at (Conjunction f g) =
-    let left = postfix_replaced at f in let right = postfix_replaced at g in cc
-postfix_replaced at (ExclusiveDisjunction f g) =
+postfix_replaced at (Compound c f g) =
     let left = postfix_replaced at f in let right = postfix_replaced at g in cc
 
 leaf_or-postfix : (default : CompiledExpr) (l : CompiledLeaf) → leaf_or (postfix (formula default)) l ≡ postfix (leaf_with_default default l)
@@ -108,17 +89,7 @@ or_false_right false b e = e
 steps_without_default : (others : List (Step CompiledLeaf)) (f : Formula CompiledLeaf) → list_any is_default (leaves f) ≡ false → steps_by (leaf_or others) f ≡ postfix f
 steps_without_default others (Leaf l) e = leaf_or-plain others l (or_false_left (is_default l) false e)
 steps_without_default others (Negation f) e = ap (λ s. s ++ Negate ∷ []) (steps_without_default others f e)
-steps_without_default others (Disjunction f g) e =
-    let both : (list_any is_default (leaves f) || list_any is_default (leaves g)) ≡ false = sym (list_any-append is_default (leaves f) (leaves g)) ∙ e in
-    let left = steps_without_default others f (or_false_left (list_any is_default (leaves f)) (list_any is_default (leaves g)) both) in
-    let right = steps_without_default others g (or_false_right (list_any is_default (leaves f)) (list_any is_default (leaves g)) both) in
-    cc
-steps_without_default others (Conjunction f g) e =
-    let both : (list_any is_default (leaves f) || list_any is_default (leaves g)) ≡ false = sym (list_any-append is_default (leaves f) (leaves g)) ∙ e in
-    let left = steps_without_default others f (or_false_left (list_any is_default (leaves f)) (list_any is_default (leaves g)) both) in
-    let right = steps_without_default others g (or_false_right (list_any is_default (leaves f)) (list_any is_default (leaves g)) both) in
-    cc
-steps_without_default others (ExclusiveDisjunction f g) e =
+steps_without_default others (Compound c f g) e =
     let both : (list_any is_default (leaves f) || list_any is_default (leaves g)) ≡ false = sym (list_any-append is_default (leaves f) (leaves g)) ∙ e in
     let left = steps_without_default others f (or_false_left (list_any is_default (leaves f)) (list_any is_default (leaves g)) both) in
     let right = steps_without_default others g (or_false_right (list_any is_default (leaves f)) (list_any is_default (leaves g)) both) in
@@ -152,36 +123,19 @@ greatest_above (s ∷ steps) height = omega arith
 pub steps_from : (steps : List FlatStep) (at : ℕ) (s : FlatStep) → at < length steps → s ≡ get_or steps at s → steps_of (drop at steps) ≡ step_of s ∷ steps_of (drop (at + 1) steps)
 steps_from steps at s within e = rw (drop_more steps at s within, ← e) refl
 
--- one step on a stack whose top comes last
-module _ {A L : Type 0} (not_of : L → L) (or_of and_of xor_of : L → L → L) (gives : A → L → Type 0) (rest : List (Step A)) (value : L) where
-  top : (stack front : List L) (x : L) → stack ≡ front ++ (x ∷ []) → reverse stack ≡ x ∷ reverse front
-  top stack front x e = rw e (reverse-append front (x ∷ []))
+-- one step on a stack
+module _ {A L : Type 0} (not_of : L → L) (connect : Connective → L → L → L) (gives : A → L → Type 0) (rest : List (Step A)) (value : L) where
+  pub push_run : (leaf : A) (stack after : List L) (x : L) → gives leaf x → after ≡ x ∷ stack → Runs not_of connect gives rest after value → Runs not_of connect gives (Push leaf ∷ rest) stack value
+  push_run leaf stack after x given e run = (x, given, subst (λ s. Runs not_of connect gives rest s value) e run)
 
-  pub push_run : (leaf : A) (stack after : List L) (x : L) → gives leaf x → after ≡ stack ++ (x ∷ []) → Runs not_of or_of and_of xor_of gives rest (reverse after) value → Runs not_of or_of and_of xor_of gives (Push leaf ∷ rest) (reverse stack) value
-  push_run leaf stack after x given e run = (x, given, subst (λ s. Runs not_of or_of and_of xor_of gives rest s value) (top after stack x e) run)
-
-  pub negate_run : (stack front after : List L) (x y : L) → stack ≡ front ++ (x ∷ []) → y ≡ not_of x → after ≡ front ++ (y ∷ []) → Runs not_of or_of and_of xor_of gives rest (reverse after) value → Runs not_of or_of and_of xor_of gives (Negate ∷ rest) (reverse stack) value
+  pub negate_run : (stack front after : List L) (x y : L) → stack ≡ x ∷ front → y ≡ not_of x → after ≡ y ∷ front → Runs not_of connect gives rest after value → Runs not_of connect gives (Negate ∷ rest) stack value
   negate_run stack front after x y e d k run =
-      rw (top stack front x e) (subst (λ s. Runs not_of or_of and_of xor_of gives rest s value) (top after front y k ∙ ap (λ t. t ∷ reverse front) d) run)
+      rw e (subst (λ s. Runs not_of connect gives rest s value) (k ∙ ap (λ t. t ∷ front) d) run)
 
-  top_two : (stack mid front : List L) (x y : L) → stack ≡ mid ++ (y ∷ []) → mid ≡ front ++ (x ∷ []) → reverse stack ≡ y ∷ x ∷ reverse front
-  top_two stack mid front x y e d = top stack mid y e ∙ ap (λ s. y ∷ s) (top mid front x d)
-
-  pub conjoin_run : (stack mid front after : List L) (x y z : L) → stack ≡ mid ++ (y ∷ []) → mid ≡ front ++ (x ∷ []) → z ≡ and_of x y → after ≡ front ++ (z ∷ []) → Runs not_of or_of and_of xor_of gives rest (reverse after) value → Runs not_of or_of and_of xor_of gives (Conjoin ∷ rest) (reverse stack) value
-  conjoin_run stack mid front after x y z e d m k run =
-      rw (top_two stack mid front x y e d) (subst (λ s. Runs not_of or_of and_of xor_of gives rest s value) (top after front z k ∙ ap (λ t. t ∷ reverse front) m) run)
-
-  pub disjoin_run : (stack mid front after : List L) (x y z : L) → stack ≡ mid ++ (y ∷ []) → mid ≡ front ++ (x ∷ []) → z ≡ or_of x y → after ≡ front ++ (z ∷ []) → Runs not_of or_of and_of xor_of gives rest (reverse after) value → Runs not_of or_of and_of xor_of gives (Disjoin ∷ rest) (reverse stack) value
-  disjoin_run stack mid front after x y z e d m k run =
-      rw (top_two stack mid front x y e d) (subst (λ s. Runs not_of or_of and_of xor_of gives rest s value) (top after front z k ∙ ap (λ t. t ∷ reverse front) m) run)
-
-  pub disjoin_exclusively_run : (stack mid front after : List L) (x y z : L) → stack ≡ mid ++ (y ∷ []) → mid ≡ front ++ (x ∷ []) → z ≡ xor_of x y → after ≡ front ++ (z ∷ []) → Runs not_of or_of and_of xor_of gives rest (reverse after) value → Runs not_of or_of and_of xor_of gives (DisjoinExclusively ∷ rest) (reverse stack) value
-  disjoin_exclusively_run stack mid front after x y z e d m k run =
-      rw (top_two stack mid front x y e d) (subst (λ s. Runs not_of or_of and_of xor_of gives rest s value) (top after front z k ∙ ap (λ t. t ∷ reverse front) m) run)
-
-pub two_less : {L : Type 0} (front : List L) (x y z : L) → one_less (length ((front ++ (x ∷ [])) ++ (y ∷ []))) ≡ length (front ++ (z ∷ []))
-two_less front x y z =
-    one_less-is (length ((front ++ (x ∷ [])) ++ (y ∷ []))) ∙ omega (arith, length-append (front ++ (x ∷ [])) (y ∷ []), length-append front (x ∷ []), length-append front (z ∷ []))
+  pub combine_run : (c : Connective) (stack mid front after : List L) (x y z : L) → stack ≡ y ∷ mid → mid ≡ x ∷ front → z ≡ connect c x y → after ≡ z ∷ front → Runs not_of connect gives rest after value → Runs not_of connect gives (Combine c ∷ rest) stack value
+  combine_run c stack mid front after x y z e d m k run =
+      let two : stack ≡ y ∷ x ∷ front = e ∙ ap (λ s. y ∷ s) d in
+      rw two (subst (λ s. Runs not_of connect gives rest s value) (k ∙ ap (λ t. t ∷ front) m) run)
 
 -- the steps of an expression, made with those of the default filter
 pub made_steps : (default e : CompiledExpr) (inner outer : List FlatStep) → has_leaf is_default default ≡ false → steps_of inner ≡ steps_by (leaf_or []) (formula default) → steps_of outer ≡ steps_by (leaf_or (steps_of inner)) (formula e) → steps_of outer ≡ postfix (with_default default e)
@@ -193,9 +147,9 @@ pub postfix_runs : {A : Type 0} (f : Formula A) → leaves_one (postfix f) 0 ≡
 postfix_runs f = subst (λ s. leaves_one s 0 ≡ true) (append-nil (postfix f)) (postfix_leaves_one f [] 0)
 
 -- a run of the steps folds the expression
-pub flat_folds : {L : Type 0} (not_of : L → L) (or_of and_of xor_of : L → L → L) (gives : CompiledLeaf → L → Type 0) (steps : List (Step CompiledLeaf)) (default e : CompiledExpr) (value : L) → steps ≡ postfix (with_default default e) → Runs not_of or_of and_of xor_of gives steps [] value → Folds not_of or_of and_of xor_of gives (with_default default e) value
-flat_folds not_of or_of and_of xor_of gives steps default e value same run =
-    run_folds not_of or_of and_of xor_of gives (with_default default e) value (subst (λ s. Runs not_of or_of and_of xor_of gives s [] value) same run)
+pub flat_folds : {L : Type 0} (not_of : L → L) (connect : Connective → L → L → L) (gives : CompiledLeaf → L → Type 0) (steps : List (Step CompiledLeaf)) (default e : CompiledExpr) (value : L) → steps ≡ postfix (with_default default e) → Runs not_of connect gives steps [] value → Folds not_of connect gives (with_default default e) value
+flat_folds not_of connect gives steps default e value same run =
+    run_folds not_of connect gives (with_default default e) value (subst (λ s. Runs not_of connect gives s [] value) same run)
 
 or_none : (a b : Bool) → a ≡ false → b ≡ false → (a || b) ≡ false
 or_none true b e k = e
@@ -209,13 +163,7 @@ module _ {A B : Type 0} (p : A → Bool) (q : B → Bool) (at : A → Formula B)
   pub none_replaced : (f : Formula A) → list_any p (leaves f) ≡ false → list_any q (leaves (replaced at f)) ≡ false
   none_replaced (Leaf leaf) e = none_at leaf (or_false_left (p leaf) false e)
   none_replaced (Negation f) e = none_replaced f e
-  none_replaced (Disjunction f g) e =
-      let both : (list_any p (leaves f) || list_any p (leaves g)) ≡ false = sym (list_any-append p (leaves f) (leaves g)) ∙ e in
-      none_joined q (leaves (replaced at f)) (leaves (replaced at g)) (none_replaced f (or_false_left (list_any p (leaves f)) (list_any p (leaves g)) both)) (none_replaced g (or_false_right (list_any p (leaves f)) (list_any p (leaves g)) both))
-  none_replaced (Conjunction f g) e =
-      let both : (list_any p (leaves f) || list_any p (leaves g)) ≡ false = sym (list_any-append p (leaves f) (leaves g)) ∙ e in
-      none_joined q (leaves (replaced at f)) (leaves (replaced at g)) (none_replaced f (or_false_left (list_any p (leaves f)) (list_any p (leaves g)) both)) (none_replaced g (or_false_right (list_any p (leaves f)) (list_any p (leaves g)) both))
-  none_replaced (ExclusiveDisjunction f g) e =
+  none_replaced (Compound c f g) e =
       let both : (list_any p (leaves f) || list_any p (leaves g)) ≡ false = sym (list_any-append p (leaves f) (leaves g)) ∙ e in
       none_joined q (leaves (replaced at f)) (leaves (replaced at g)) (none_replaced f (or_false_left (list_any p (leaves f)) (list_any p (leaves g)) both)) (none_replaced g (or_false_right (list_any p (leaves f)) (list_any p (leaves g)) both))
 
@@ -234,10 +182,8 @@ any_of_postfix : (test : CompiledLeaf → Bool) (f : Formula CompiledLeaf) → l
 any_of_postfix test (Leaf leaf) = refl
 any_of_postfix test (Negation f) =
     list_any-append (leaf_passes test) (postfix f) (Negate ∷ []) ∙ or-false (list_any (leaf_passes test) (postfix f)) ∙ any_of_postfix test f
-any_of_postfix test (Disjunction f g) = any_of_both test f g Disjoin refl (any_of_postfix test f) (any_of_postfix test g)
-any_of_postfix test (Conjunction f g) = any_of_both test f g Conjoin refl (any_of_postfix test f) (any_of_postfix test g)
-any_of_postfix test (ExclusiveDisjunction f g) =
-    any_of_both test f g DisjoinExclusively refl (any_of_postfix test f) (any_of_postfix test g)
+any_of_postfix test (Compound c f g) =
+    any_of_both test f g (Combine c) refl (any_of_postfix test f) (any_of_postfix test g)
 
 any_of_steps : (test : CompiledLeaf → Bool) (steps : List FlatStep) → list_any (λ s. leaf_passes test (step_of s)) steps ≡ list_any (leaf_passes test) (steps_of steps)
 any_of_steps test [] = refl
@@ -260,9 +206,7 @@ no_group_step steps e default same none none_default =
 none_of_all : {A : Type 0} (f : Formula A) → list_any (λ l. false) (leaves f) ≡ false
 none_of_all (Leaf l) = refl
 none_of_all (Negation f) = none_of_all f
-none_of_all (Disjunction f g) = none_joined (λ l. false) (leaves f) (leaves g) (none_of_all f) (none_of_all g)
-none_of_all (Conjunction f g) = none_joined (λ l. false) (leaves f) (leaves g) (none_of_all f) (none_of_all g)
-none_of_all (ExclusiveDisjunction f g) = none_joined (λ l. false) (leaves f) (leaves g) (none_of_all f) (none_of_all g)
+none_of_all (Compound c f g) = none_joined (λ l. false) (leaves f) (leaves g) (none_of_all f) (none_of_all g)
 
 no_default_with_default : (default : CompiledExpr) → has_leaf is_default default ≡ false → (l : CompiledLeaf) → list_any is_default (leaves (leaf_with_default default l)) ≡ false
 no_default_with_default default none compiled.Default = none

@@ -8,14 +8,14 @@ use Rattle.filterset_faults.specs.declared.span.SourceSpan.{SourceSpan}
 use Rattle.filterset_matchers.specs.declared.matcher.NameMatcher.{NameMatcher}
 use Rattle.filterset_expression.specs.Expression as compiled
 use Rattle.filterset_expression.specs.Expression.{CompiledLeaf, compiled_leaf, is_group, is_of_test, Lookup, no_groups, with_default, HoldsOfBinary, HoldsOfTest, Holds, IsDefinite}
-use Rattle.filterset_expression.specs.Formula.{Formula, Leaf, Negation, Disjunction, Conjunction, ExclusiveDisjunction, leaves, TrueWhere}
+use Rattle.filterset_expression.specs.Formula.{Formula, Leaf, Negation, Compound, leaves, TrueWhere}
 use Rattle.filterset_expression.specs.declared.expression.CompiledExpr.{CompiledExpr}
 use Rattle.filterset_expression.specs.declared.leaves.FiltersetLeaf.{FiltersetLeaf}
 use Rattle.filterset_expression.specs.declared.leaves.FiltersetLeaf.TheVariants as leaf
 use Rattle.filterset_expression.specs.declared.query.TestQuery.{TestQuery}
+use Rattle.filterset_expression.proofs.Connectives.{connects_alike}
 use Rattle.filterset_expression.proofs.Exact.{definite_answer}
 use Rattle.filterset_expression.proofs.Meanings.{alike}
-use Rattle.filterset_expression.proofs.Shapes.{both_or, both_xor}
 
 -- what the arm for the other leaves knows
 pub no_group : (l : FiltersetLeaf) → ((matcher : NameMatcher) (span : SourceSpan) → l ≡ leaf.Group matcher span → ⊥) → is_group (compiled_leaf l) ≡ false
@@ -51,17 +51,9 @@ module _ {A : Type 0} (p : A → Bool) (P Q : A → Type 0) (agree : (leaf : A) 
   truth_alike : (f : Formula A) → list_any p (leaves f) ≡ false → TrueWhere P f ↔ TrueWhere Q f
   truth_alike (Leaf leaf) none = agree leaf (or_parts (p leaf) false none).0
   truth_alike (Negation f) none = let e = truth_alike f none in (λ n q. n (e.1 q), λ n t. n (e.0 t))
-  truth_alike (Disjunction f g) none =
+  truth_alike (Compound c f g) none =
       let both = or_parts _ _ (sym (list_any-append p (leaves f) (leaves g)) ∙ none) in
-      both_or _ _ _ _ (truth_alike f both.0) (truth_alike g both.1)
-  truth_alike (Conjunction f g) none =
-      let both = or_parts _ _ (sym (list_any-append p (leaves f) (leaves g)) ∙ none) in
-      let e = truth_alike f both.0 in
-      let k = truth_alike g both.1 in
-      (λ t. (e.0 t.0, k.0 t.1), λ t. (e.1 t.0, k.1 t.1))
-  truth_alike (ExclusiveDisjunction f g) none =
-      let both = or_parts _ _ (sym (list_any-append p (leaves f) (leaves g)) ∙ none) in
-      both_xor _ _ _ _ (truth_alike f both.0) (truth_alike g both.1)
+      connects_alike c _ _ _ _ (truth_alike f both.0) (truth_alike g both.1)
 
 no_lookup : (test : TestQuery) (lookup other : Lookup) (l : CompiledLeaf) → is_group l ≡ false → HoldsOfTest test lookup l ↔ HoldsOfTest test other l
 no_lookup test lookup other (compiled.Group matcher span) e = absurd (let clash : true ≡ false = e in cc)

@@ -1,4 +1,5 @@
 pub mod PackageIds
+pub mod Connectives
 pub mod Shapes
 pub mod Meanings
 pub mod AddedParens

@@ -9,12 +9,12 @@ use Rattle.filterset_expression.specs.Formula.{leaves, TrueWhere}
 use Rattle.filterset_matchers.specs.Matcher.{Hits}
 use Rattle.filterset_expression.specs.Meaning as meaning
 use Rattle.filterset_expression.specs.Meaning.{tree_formula, has_tree_leaf, MeansOfTest, Meaning, SaysTheSame, IsCompiledLeaf, IsCompiled}
-use Rattle.filterset_language.specs.Tree as tree
-use Rattle.filterset_language.specs.Tree.{Leaf, Tree, Matching, Platform, Default, Not, Union, Join, Parens, Set, tree_leaves}
-use Rattle.filterset_language.specs.declared.tree.predicate.Predicate.TheVariants.{Package, Deps, Rdeps, Kind, Binary, BinaryId, Test, Group}
-use Rattle.filterset_language.specs.declared.tree.Joiner.TheVariants.{Both, Without, ExactlyOne}
+use Rattle.filterset_grammar.specs.Tree as tree
+use Rattle.filterset_grammar.specs.Tree.{Leaf, Tree, Matching, Platform, Default, Not, Union, Join, Parens, Set, tree_leaves}
+use Rattle.filterset_grammar.specs.declared.predicate.Predicate.TheVariants.{Package, Deps, Rdeps, Kind, Binary, BinaryId, Test, Group}
 use Rattle.filterset_expression.specs.declared.expression.CompiledExpr.{CompiledExpr}
 use Rattle.filterset_expression.specs.declared.query.TestQuery.{TestQuery}
+use Rattle.filterset_expression.proofs.Connectives.{leaves-joined}
 use Rattle.filterset_expression.proofs.Shapes.{same_truth, same_test, truth-replaced}
 
 pub alike : (P : Type 0) → P ↔ P
@@ -56,9 +56,7 @@ says_the_same packages e c is = λ test default lookup. compiled_means packages 
 leaves-formula : {S : Type 0} (e : Tree S) → leaves (tree_formula e) ≡ tree_leaves e
 leaves-formula (Not op e) = leaves-formula e
 leaves-formula (Union op a b) = rw (leaves-formula a, leaves-formula b) refl
-leaves-formula (Join (Both op) a b) = rw (leaves-formula a, leaves-formula b) refl
-leaves-formula (Join (Without op) a b) = rw (leaves-formula a, leaves-formula b) refl
-leaves-formula (Join (ExactlyOne op) a b) = rw (leaves-formula a, leaves-formula b) refl
+leaves-formula (Join op a b) = rw (leaves-joined op (tree_formula a) (tree_formula b), leaves-formula a, leaves-formula b) refl
 leaves-formula (Parens e) = leaves-formula e
 leaves-formula (Set leaf) = refl
 

@@ -2,23 +2,28 @@
 use Rattle.std.specs.Prelude.{◌≡◌, ◌↔◌, Bool, true, false, List}
 use Rattle.filterset_faults.specs.declared.span.SourceSpan.{SourceSpan}
 use Rattle.filterset_graph.specs.declared.package.PackageMetadata.{PackageMetadata}
-use Rattle.filterset_language.specs.Tree.{Leaf, Tree, Matching, Platform, Default, All}
-use Rattle.filterset_language.specs.declared.tree.predicate.Predicate.TheVariants.{Package, Deps, Rdeps, Kind, Binary, BinaryId, Test, Group}
-use Rattle.filterset_matchers.specs.Matcher.{Hits}
+use Rattle.filterset_grammar.specs.Tree.{Leaf, Tree, Matching, Default}
+use Rattle.filterset_grammar.specs.declared.predicate.Predicate.TheVariants.{Test, Group}
 use Rattle.filterset_expression.specs.Expression.{CompiledLeaf, formula, is_of_test, with_default, HoldsOfBinary}
 use Rattle.filterset_expression.specs.Formula as formulas
 use Rattle.filterset_expression.specs.Formula.{Formula, replaced}
-use Rattle.filterset_expression.specs.Meaning.{tree_formula, IsPackage, IsDependency, IsDependent}
+use Rattle.filterset_expression.specs.Meaning.{tree_formula, MeansOfBinary}
 use Rattle.filterset_expression.specs.Values.{occurrences, TrueUnder, CanBe}
 use Rattle.filterset_expression.specs.declared.expression.CompiledExpr.{CompiledExpr}
 use Rattle.filterset_expression.specs.declared.query.BinaryQuery.{BinaryQuery}
 
--- a leaf of a tree, or one of the default filter
+-- ---- a tree with the default filter put in
+--
+-- A `default` predicate of a tree stands for the default filter, which is a compiled expression and no tree. With the
+-- default filter in the place of each `default` predicate, then, the tree is a formula over leaves of two kinds:
+-- predicates of the tree, and leaves of the default filter.
+
+-- a predicate of the tree, or a leaf of the default filter
 pub data EitherLeaf (S : Type 0) : Type 0 where
   OfTree : Leaf S → EitherLeaf S
   OfDefault : CompiledLeaf → EitherLeaf S
 
--- a leaf, and the default filter in the place of a `default` predicate
+-- what stands in the place of a predicate: the default filter for `default`, and each other predicate for itself
 abbrev pub tree_leaf_with_default : {S : Type 0} → CompiledExpr → Leaf S → Formula (EitherLeaf S)
 tree_leaf_with_default default (Default span) = replaced (λ leaf. formulas.Leaf (OfDefault leaf)) (formula default)
 tree_leaf_with_default default leaf = formulas.Leaf (OfTree leaf)
@@ -33,25 +38,17 @@ is_of_test_predicate (Matching Test matcher span) = true
 is_of_test_predicate (Matching Group matcher span) = true
 is_of_test_predicate _ = false
 
+-- the same of a leaf of either kind
 abbrev pub is_either_of_test : {S : Type 0} → EitherLeaf S → Bool
 is_either_of_test (OfTree leaf) = is_of_test_predicate leaf
 is_either_of_test (OfDefault leaf) = is_of_test leaf
 
--- what a leaf says of a binary; what it says of a test alone is not said here, nor what the default filter says
-abbrev pub MeansOfBinary : {S : Type 0} → List PackageMetadata → BinaryQuery → Leaf S → Type 0
-MeansOfBinary packages binary (Matching Package matcher span) = IsPackage packages matcher binary.package_id.now
-MeansOfBinary packages binary (Matching Deps matcher span) = IsDependency packages matcher binary.package_id.now
-MeansOfBinary packages binary (Matching Rdeps matcher span) = IsDependent packages matcher binary.package_id.now
-MeansOfBinary packages binary (Matching Kind matcher span) = Hits matcher binary.kind.now
-MeansOfBinary packages binary (Matching Binary matcher span) = Hits matcher binary.binary_name.now
-MeansOfBinary packages binary (Matching BinaryId matcher span) = Hits matcher binary.binary_id.now
-MeansOfBinary packages binary (Platform platform span) = binary.platform ≡ platform
-MeansOfBinary packages binary All = Unit {0}
-MeansOfBinary packages binary _ = ⊥
-
+-- what a leaf of either kind says of a binary
 abbrev pub EitherOfBinary : {S : Type 0} → List PackageMetadata → BinaryQuery → EitherLeaf S → Type 0
 EitherOfBinary packages binary (OfTree leaf) = MeansOfBinary packages binary leaf
 EitherOfBinary packages binary (OfDefault leaf) = HoldsOfBinary binary leaf
+
+-- ---- what it can be of a binary
 
 -- The tree takes this value for a binary under some list of answers, one for each `test` and `group` predicate, those
 -- of the default filter anew at each `default` predicate. Two equal predicates may get two answers.

@@ -3,10 +3,11 @@
 use Rattle.std.specs.Prelude.{◌&&◌, Bool, true, false}
 use Rattle.std.specs.Cmp.Lexicographic.{pointwise}
 use Rattle.std.specs.Str.{bytes_eq}
-use Rattle.filterset_language.specs.Equality.{compared_matcher, same_platform, same_span}
+use Rattle.filterset_grammar.specs.Equality.{compared_matcher, same_platform, same_span}
 use Rattle.filterset_matchers.specs.Equality.{compared, same_compared}
+use Rattle.filterset_expression.specs.Connectives.{same_connective}
 use Rattle.filterset_expression.specs.Expression.{CompiledLeaf, Packages, Kind, Platform, Binary, BinaryId, Test, Group, Default, All, None}
-use Rattle.filterset_expression.specs.Formula.{Formula, Leaf, Negation, Disjunction, Conjunction, ExclusiveDisjunction}
+use Rattle.filterset_expression.specs.Formula.{Formula, Leaf, Negation, Compound}
 use Rattle.filterset_expression.specs.declared.query.BinaryQuery.{BinaryQuery}
 use Rattle.filterset_expression.specs.declared.query.TestQuery.{TestQuery}
 
@@ -28,10 +29,8 @@ same_compiled_leaf _ _ = false
 abbrev pub same_formula : {A : Type 0} → (A → A → Bool) → Formula A → Formula A → Bool
 same_formula same (Leaf a) (Leaf b) = same a b
 same_formula same (Negation f) (Negation g) = same_formula same f g
-same_formula same (Disjunction f f') (Disjunction g g') = same_formula same f g && same_formula same f' g'
-same_formula same (Conjunction f f') (Conjunction g g') = same_formula same f g && same_formula same f' g'
-same_formula same (ExclusiveDisjunction f f') (ExclusiveDisjunction g g') =
-    same_formula same f g && same_formula same f' g'
+same_formula same (Compound connective f f') (Compound other g g') =
+    same_connective connective other && same_formula same f g && same_formula same f' g'
 same_formula same _ _ = false
 
 -- what is compared of a leaf: every glob gets the same text and sign, and so its tokens alone tell it from others
@@ -47,9 +46,7 @@ compared_compiled leaf = leaf
 abbrev pub compared_formula : Formula CompiledLeaf → Formula CompiledLeaf
 compared_formula (Leaf leaf) = Leaf (compared_compiled leaf)
 compared_formula (Negation f) = Negation (compared_formula f)
-compared_formula (Disjunction f g) = Disjunction (compared_formula f) (compared_formula g)
-compared_formula (Conjunction f g) = Conjunction (compared_formula f) (compared_formula g)
-compared_formula (ExclusiveDisjunction f g) = ExclusiveDisjunction (compared_formula f) (compared_formula g)
+compared_formula (Compound connective f g) = Compound connective (compared_formula f) (compared_formula g)
 
 -- whether questions about binaries are equal
 abbrev pub same_binary_query : BinaryQuery → BinaryQuery → Bool

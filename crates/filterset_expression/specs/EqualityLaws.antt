@@ -7,13 +7,14 @@ use Rattle.std.proofs.Common.{ap, sym, subst, ◌∙◌}
 use Rattle.std.proofs.lemmas.Bool.{and_parts, false≢true}
 use Rattle.std.proofs.lemmas.Slice.Eq.{bytes_eq-Decides}
 use Rattle.filterset_faults.specs.declared.span.SourceSpan.{SourceSpan}
-use Rattle.filterset_language.specs.Equality.{compared_matcher, same_platform, same_span}
-use Rattle.filterset_language.specs.EqualityLaws.{alike, alike_Decides, alike_equiv, kept_matcher, same_platform_Decides, same_span_Decides}
+use Rattle.filterset_grammar.specs.Equality.{compared_matcher, same_platform, same_span}
+use Rattle.filterset_grammar.specs.EqualityLaws.{alike, alike_Decides, alike_equiv, kept_matcher, same_platform_Decides, same_span_Decides}
 use Rattle.filterset_matchers.specs.Equality.{same_compared}
 use Rattle.filterset_matchers.specs.Matcher.{Matcher}
+use Rattle.filterset_expression.specs.Connectives.{Connective, Conjunction, Disjunction, ExclusiveDisjunction, same_connective}
 use Rattle.filterset_expression.specs.Equality.{same_compiled_leaf, same_formula, compared_compiled, compared_formula}
 use Rattle.filterset_expression.specs.Expression.{CompiledLeaf, Packages, Kind, Platform, Binary, BinaryId, Test, Group, Default, All, None}
-use Rattle.filterset_expression.specs.Formula.{Formula, Leaf, Negation, Disjunction, Conjunction, ExclusiveDisjunction}
+use Rattle.filterset_expression.specs.Formula.{Formula, Leaf, Negation, Compound}
 
 -- a test that says whether the same is compared of two is an equivalence
 by_compared : {K J : Type 0} (f : K → J) (test : K → K → Bool)
@@ -90,6 +91,17 @@ same_compiled_leaf_Decides a b =
 pub same_compiled_leaf_equiv : IsEquivalence same_compiled_leaf
 same_compiled_leaf_equiv = by_compared compared_compiled same_compiled_leaf same_compiled_leaf_Decides
 
+connective_is : (c d : Connective) → same_connective c d ≡ true → c ≡ d
+connective_is Conjunction Conjunction h = refl
+connective_is Disjunction Disjunction h = refl
+connective_is ExclusiveDisjunction ExclusiveDisjunction h = refl
+connective_is _ _ h = absurd (false≢true h)
+
+connective_self : (c : Connective) → same_connective c c ≡ true
+connective_self Conjunction = refl
+connective_self Disjunction = refl
+connective_self ExclusiveDisjunction = refl
+
 -- whether compiled expressions are equal
 abbrev same : Formula CompiledLeaf → Formula CompiledLeaf → Bool
 same = same_formula same_compiled_leaf
@@ -97,30 +109,22 @@ same = same_formula same_compiled_leaf
 formula_is : (f g : Formula CompiledLeaf) → same f g ≡ true → compared_formula f ≡ compared_formula g
 formula_is (Leaf a) (Leaf b) h = ap Leaf (leaf_is a b h)
 formula_is (Negation f) (Negation g) h = ap Negation (formula_is f g h)
-formula_is (Disjunction f f') (Disjunction g g') h =
-    let parts = and_parts (same f g) (same f' g') h in
-    λ i. Disjunction (formula_is f g parts.0 i) (formula_is f' g' parts.1 i)
-formula_is (Conjunction f f') (Conjunction g g') h =
-    let parts = and_parts (same f g) (same f' g') h in
-    λ i. Conjunction (formula_is f g parts.0 i) (formula_is f' g' parts.1 i)
-formula_is (ExclusiveDisjunction f f') (ExclusiveDisjunction g g') h =
-    let parts = and_parts (same f g) (same f' g') h in
-    λ i. ExclusiveDisjunction (formula_is f g parts.0 i) (formula_is f' g' parts.1 i)
+formula_is (Compound c f f') (Compound d g g') h =
+    let parts = and_parts (same_connective c d && same f g) (same f' g') h in
+    let first = and_parts (same_connective c d) (same f g) parts.0 in
+    λ i. Compound (connective_is c d first.0 i) (formula_is f g first.1 i) (formula_is f' g' parts.1 i)
 formula_is _ _ h = absurd (false≢true h)
 
 formula_self : (f : Formula CompiledLeaf) → same f f ≡ true
 formula_self (Leaf a) = leaf_self a
 formula_self (Negation f) = formula_self f
-formula_self (Disjunction f g) = λ i. formula_self f i && formula_self g i
-formula_self (Conjunction f g) = λ i. formula_self f i && formula_self g i
-formula_self (ExclusiveDisjunction f g) = λ i. formula_self f i && formula_self g i
+formula_self (Compound c f g) = λ i. connective_self c i && formula_self f i && formula_self g i
 
 formula_kept : (f g : Formula CompiledLeaf) → same (compared_formula f) (compared_formula g) ≡ same f g
 formula_kept (Leaf a) (Leaf b) = leaf_kept a b
 formula_kept (Negation f) (Negation g) = formula_kept f g
-formula_kept (Disjunction f f') (Disjunction g g') = λ i. formula_kept f g i && formula_kept f' g' i
-formula_kept (Conjunction f f') (Conjunction g g') = λ i. formula_kept f g i && formula_kept f' g' i
-formula_kept (ExclusiveDisjunction f f') (ExclusiveDisjunction g g') = λ i. formula_kept f g i && formula_kept f' g' i
+formula_kept (Compound c f f') (Compound d g g') =
+    λ i. same_connective c d && formula_kept f g i && formula_kept f' g' i
 formula_kept _ _ = refl
 
 pub same_formula_Decides : (f g : Formula CompiledLeaf)

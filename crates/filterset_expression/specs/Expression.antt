@@ -3,7 +3,8 @@ use Rattle.std.specs.Prelude.{◌≡◌, ◌↔◌, ℕ, Bool, true, false, List
 use Rattle.std.specs.List.{list_any}
 use Rattle.filterset_faults.specs.declared.span.SourceSpan.{SourceSpan}
 use Rattle.filterset_graph.specs.declared.package.BuildPlatform.{BuildPlatform}
-use Rattle.filterset_expression.specs.Formula.{Formula, Leaf, Negation, Disjunction, Conjunction, ExclusiveDisjunction, leaves, replaced, TrueWhere}
+use Rattle.filterset_expression.specs.Connectives.{Conjunction, Disjunction, ExclusiveDisjunction}
+use Rattle.filterset_expression.specs.Formula.{Formula, Leaf, Negation, Compound, leaves, replaced, TrueWhere}
 use Rattle.filterset_expression.specs.Values.{CanBe}
 use Rattle.filterset_matchers.specs.Matcher.{Matcher, Hits}
 use Rattle.filterset_matchers.specs.Matchers.{matcher_of}
@@ -36,9 +37,9 @@ compiled_leaf leaf.None = None
 -- the expression as a formula over its leaves
 abbrev pub formula : CompiledExpr → Formula CompiledLeaf
 formula (Not' p e) = Negation (formula e)
-formula (Union' p a q b) = Disjunction (formula a) (formula b)
-formula (Intersection' p a q b) = Conjunction (formula a) (formula b)
-formula (SymmetricDifference' p a q b) = ExclusiveDisjunction (formula a) (formula b)
+formula (Union' p a q b) = Compound Disjunction (formula a) (formula b)
+formula (Intersection' p a q b) = Compound Conjunction (formula a) (formula b)
+formula (SymmetricDifference' p a q b) = Compound ExclusiveDisjunction (formula a) (formula b)
 formula (Set leaf) = Leaf (compiled_leaf leaf)
 
 -- a leaf, and the default filter in the place of a `default` leaf

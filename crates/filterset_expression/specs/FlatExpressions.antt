@@ -3,7 +3,7 @@ use Rattle.std.specs.Prelude.{◌≡◌, Bool, false, List}
 use Rattle.std.specs.List.{list_any}
 use Rattle.filterset_faults.specs.declared.span.SourceSpan.{SourceSpan}
 use Rattle.filterset_graph.specs.declared.package.PackageMetadata.{PackageMetadata}
-use Rattle.filterset_language.specs.Tree.{Tree}
+use Rattle.filterset_grammar.specs.Tree.{Tree}
 use Rattle.filterset_expression.specs.Expression.{CompiledLeaf, with_default}
 use Rattle.filterset_expression.specs.Meaning.{IsCompiled}
 use Rattle.filterset_expression.specs.FlatSteps.{Step, Push, step_of, steps_of, postfix}

@@ -1,24 +1,20 @@
 -- Folds of formulas by connectives and values of the leaves.
 use Rattle.std.specs.Prelude.{◌≡◌, ◌↔◌, Bool, Option, None, IsSomeAnd, IsTrue, MatchBool}
-use Rattle.filterset_expression.specs.Formula.{Formula, Leaf, Negation, Disjunction, Conjunction, ExclusiveDisjunction}
+use Rattle.filterset_expression.specs.Connectives.{Connective}
+use Rattle.filterset_expression.specs.Formula.{Formula, Leaf, Negation, Compound}
 
--- the value is a fold of the formula, by these connectives and a value of each leaf that `gives` allows
-abbrev pub Folds : {A L : Type 0} → (L → L) → (L → L → L) → (L → L → L) → (L → L → L) → (A → L → Type 0)
-    → Formula A → L → Type 0
-Folds not_of or_of and_of xor_of gives (Leaf leaf) value = gives leaf value
-Folds {A} {L} not_of or_of and_of xor_of gives (Negation f) value =
-    (x : L) × Folds not_of or_of and_of xor_of gives f x × (value ≡ not_of x)
-Folds {A} {L} not_of or_of and_of xor_of gives (Disjunction f g) value =
-    (x : L) × (y : L) × Folds not_of or_of and_of xor_of gives f x × Folds not_of or_of and_of xor_of gives g y
-    × (value ≡ or_of x y)
-Folds {A} {L} not_of or_of and_of xor_of gives (Conjunction f g) value =
-    (x : L) × (y : L) × Folds not_of or_of and_of xor_of gives f x × Folds not_of or_of and_of xor_of gives g y
-    × (value ≡ and_of x y)
-Folds {A} {L} not_of or_of and_of xor_of gives (ExclusiveDisjunction f g) value =
-    (x : L) × (y : L) × Folds not_of or_of and_of xor_of gives f x × Folds not_of or_of and_of xor_of gives g y
-    × (value ≡ xor_of x y)
+-- The value is a fold of the formula: what `not_of` and `connect` make of values of the leaves, of which each is one
+-- that `gives` allows.
+abbrev pub Folds : {A L : Type 0} → (L → L) → (Connective → L → L → L) → (A → L → Type 0) → Formula A → L → Type 0
+Folds not_of connect gives (Leaf leaf) value = gives leaf value
+Folds {A} {L} not_of connect gives (Negation f) value =
+    (x : L) × Folds not_of connect gives f x × (value ≡ not_of x)
+Folds {A} {L} not_of connect gives (Compound connective f g) value =
+    (x : L) × (y : L) × Folds not_of connect gives f x × Folds not_of connect gives g y
+    × (value ≡ connect connective x y)
 
--- what the value of a leaf may be: unknown where the leaf is asked, and else whether it holds
+-- What the value of a leaf may be: unknown where the leaf is asked, and else whether it holds. (`MatchBool b P Q` is P
+-- where b is true, and Q where it is false.)
 abbrev pub Settles : {A : Type 0} → (A → Bool) → (A → Type 0) → A → Option Bool → Type 0
 Settles is_asked holds leaf value =
     MatchBool (is_asked leaf) (value ≡ None) (IsSomeAnd value (λ b. IsTrue b ↔ holds leaf))

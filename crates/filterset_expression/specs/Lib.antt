@@ -1,3 +1,4 @@
+pub mod Connectives
 pub mod Formula
 pub mod Values
 pub mod Expression
@@ -11,4 +12,5 @@ pub mod LogicLaws
 pub mod Folds
 pub mod FlatSteps
 pub mod Running
+pub mod Stacks
 pub mod FlatExpressions

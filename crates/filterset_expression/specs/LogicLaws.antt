@@ -1,8 +1,9 @@
 -- The connectives of two values and those of three keep the laws of a logic.
-use Rattle.std.specs.Prelude.{◌≡◌, Bool, true, false, not, ◌&&◌, ◌||◌, Option, Some, None, refl}
-use Rattle.filterset_expression.specs.Logics.{IsLogic, IsExclusiveOr, exclusive_or, kleene_and, kleene_or, kleene_not, kleene_xor}
+use Rattle.std.specs.Prelude.{◌≡◌, Bool, true, false, not, Option, Some, None, refl}
+use Rattle.filterset_expression.specs.Connectives.{Conjunction, Disjunction, ExclusiveDisjunction, exclusive_or, connected, kleene, kleene_not}
+use Rattle.filterset_expression.specs.Logics.{IsLogic, IsExclusiveOr}
 
-pub bool_is_logic : IsLogic true false ◌&&◌ ◌||◌ not
+pub bool_is_logic : IsLogic true false connected not
 bool_is_logic = record {
   and_unit = elim [ true ↦ refl | false ↦ refl ];
   or_unit = elim [ true ↦ refl | false ↦ refl ];
@@ -15,7 +16,7 @@ bool_is_logic = record {
   not_not = elim [ true ↦ refl | false ↦ refl ];
 }
 
-and_commutative : (x y : Option Bool) → kleene_and x y ≡ kleene_and y x
+and_commutative : (x y : Option Bool) → kleene Conjunction x y ≡ kleene Conjunction y x
 and_commutative None None = refl
 and_commutative None (Some true) = refl
 and_commutative None (Some false) = refl
@@ -26,7 +27,7 @@ and_commutative (Some false) None = refl
 and_commutative (Some false) (Some true) = refl
 and_commutative (Some false) (Some false) = refl
 
-or_commutative : (x y : Option Bool) → kleene_or x y ≡ kleene_or y x
+or_commutative : (x y : Option Bool) → kleene Disjunction x y ≡ kleene Disjunction y x
 or_commutative None None = refl
 or_commutative None (Some true) = refl
 or_commutative None (Some false) = refl
@@ -37,7 +38,8 @@ or_commutative (Some false) None = refl
 or_commutative (Some false) (Some true) = refl
 or_commutative (Some false) (Some false) = refl
 
-and_associative : (x y z : Option Bool) → kleene_and (kleene_and x y) z ≡ kleene_and x (kleene_and y z)
+and_associative : (x y z : Option Bool)
+    → kleene Conjunction (kleene Conjunction x y) z ≡ kleene Conjunction x (kleene Conjunction y z)
 and_associative (Some true) y z = refl
 and_associative (Some false) y z = refl
 and_associative None (Some true) z = refl
@@ -46,7 +48,8 @@ and_associative None None None = refl
 and_associative None None (Some true) = refl
 and_associative None None (Some false) = refl
 
-or_associative : (x y z : Option Bool) → kleene_or (kleene_or x y) z ≡ kleene_or x (kleene_or y z)
+or_associative : (x y z : Option Bool)
+    → kleene Disjunction (kleene Disjunction x y) z ≡ kleene Disjunction x (kleene Disjunction y z)
 or_associative (Some true) y z = refl
 or_associative (Some false) y z = refl
 or_associative None (Some true) z = refl
@@ -55,14 +58,14 @@ or_associative None None None = refl
 or_associative None None (Some true) = refl
 or_associative None None (Some false) = refl
 
-not_and : (x y : Option Bool) → kleene_not (kleene_and x y) ≡ kleene_or (kleene_not x) (kleene_not y)
+not_and : (x y : Option Bool) → kleene_not (kleene Conjunction x y) ≡ kleene Disjunction (kleene_not x) (kleene_not y)
 not_and (Some true) y = refl
 not_and (Some false) y = refl
 not_and None None = refl
 not_and None (Some true) = refl
 not_and None (Some false) = refl
 
-not_or : (x y : Option Bool) → kleene_not (kleene_or x y) ≡ kleene_and (kleene_not x) (kleene_not y)
+not_or : (x y : Option Bool) → kleene_not (kleene Disjunction x y) ≡ kleene Conjunction (kleene_not x) (kleene_not y)
 not_or (Some true) y = refl
 not_or (Some false) y = refl
 not_or None None = refl
@@ -74,7 +77,7 @@ not_not None = refl
 not_not (Some true) = refl
 not_not (Some false) = refl
 
-pub kleene_is_logic : IsLogic (Some true) (Some false) kleene_and kleene_or kleene_not
+pub kleene_is_logic : IsLogic (Some true) (Some false) kleene kleene_not
 kleene_is_logic = record {
   and_unit = λ x. refl;
   or_unit = λ x. refl;
@@ -103,7 +106,7 @@ either_associative false true false = refl
 either_associative false false true = refl
 either_associative false false false = refl
 
-pub bool_has_exclusive_or : IsExclusiveOr true false exclusive_or not
+pub bool_has_exclusive_or : IsExclusiveOr true false connected not
 bool_has_exclusive_or = record {
   xor_unit = elim [ true ↦ refl | false ↦ refl ];
   xor_top = elim [ true ↦ refl | false ↦ refl ];
@@ -111,29 +114,31 @@ bool_has_exclusive_or = record {
   xor_associative = either_associative;
 }
 
-xor_unit : (x : Option Bool) → kleene_xor (Some false) x ≡ x
+xor_unit : (x : Option Bool) → kleene ExclusiveDisjunction (Some false) x ≡ x
 xor_unit None = refl
 xor_unit (Some true) = refl
 xor_unit (Some false) = refl
 
-xor_top : (x : Option Bool) → kleene_xor (Some true) x ≡ kleene_not x
+xor_top : (x : Option Bool) → kleene ExclusiveDisjunction (Some true) x ≡ kleene_not x
 xor_top None = refl
 xor_top (Some true) = refl
 xor_top (Some false) = refl
 
-xor_commutative : (x y : Option Bool) → kleene_xor x y ≡ kleene_xor y x
+xor_commutative : (x y : Option Bool) → kleene ExclusiveDisjunction x y ≡ kleene ExclusiveDisjunction y x
 xor_commutative None None = refl
 xor_commutative None (Some y) = refl
 xor_commutative (Some x) None = refl
 xor_commutative (Some x) (Some y) = λ i. Some (either_commutative x y i)
 
-xor_associative : (x y z : Option Bool) → kleene_xor (kleene_xor x y) z ≡ kleene_xor x (kleene_xor y z)
+xor_associative : (x y z : Option Bool)
+    → kleene ExclusiveDisjunction (kleene ExclusiveDisjunction x y) z
+    ≡ kleene ExclusiveDisjunction x (kleene ExclusiveDisjunction y z)
 xor_associative None y z = refl
 xor_associative (Some x) None z = refl
 xor_associative (Some x) (Some y) None = refl
 xor_associative (Some x) (Some y) (Some z) = λ i. Some (either_associative x y z i)
 
-pub kleene_has_exclusive_or : IsExclusiveOr (Some true) (Some false) kleene_xor kleene_not
+pub kleene_has_exclusive_or : IsExclusiveOr (Some true) (Some false) kleene kleene_not
 kleene_has_exclusive_or = record {
   xor_unit = xor_unit;
   xor_top = xor_top;

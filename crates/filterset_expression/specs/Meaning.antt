@@ -4,24 +4,31 @@ use Rattle.std.specs.List.{list_any}
 use Rattle.filterset_faults.specs.declared.span.SourceSpan.{SourceSpan}
 use Rattle.filterset_graph.specs.Packages.{Path}
 use Rattle.filterset_graph.specs.declared.package.PackageMetadata.{PackageMetadata}
+use Rattle.filterset_expression.specs.Connectives.{Conjunction, Disjunction, ExclusiveDisjunction}
 use Rattle.filterset_expression.specs.Expression as compiled
 use Rattle.filterset_expression.specs.Expression.{CompiledLeaf, Lookup, Holds, HoldsOfTest, formula}
 use Rattle.filterset_expression.specs.Formula as formulas
-use Rattle.filterset_expression.specs.Formula.{Formula, Negation, Disjunction, Conjunction, ExclusiveDisjunction, TrueWhere, SameShape}
+use Rattle.filterset_expression.specs.Formula.{Formula, Negation, Compound, TrueWhere, SameShape}
 use Rattle.filterset_matchers.specs.Matcher.{Matcher, Hits}
-use Rattle.filterset_language.specs.Tree.{Leaf, Tree, Matching, Platform, Default, All, None, Not, Union, Join, Parens, Set, tree_leaves}
-use Rattle.filterset_language.specs.declared.tree.predicate.Predicate.TheVariants.{Package, Deps, Rdeps, Kind, Binary, BinaryId, Test, Group}
-use Rattle.filterset_language.specs.declared.tree.Joiner.TheVariants.{Both, Without, ExactlyOne}
+use Rattle.filterset_grammar.specs.Tree.{Leaf, Tree, Matching, Platform, Default, All, None, Not, Union, Join, Parens, Set, tree_leaves}
+use Rattle.filterset_grammar.specs.declared.predicate.Predicate.TheVariants.{Package, Deps, Rdeps, Kind, Binary, BinaryId, Test, Group}
+use Rattle.filterset_grammar.specs.declared.operators.Joiner.{Joiner}
+use Rattle.filterset_grammar.specs.declared.operators.Joiner.TheVariants.{Both, Without, ExactlyOne}
 use Rattle.filterset_expression.specs.declared.expression.CompiledExpr.{CompiledExpr}
+use Rattle.filterset_expression.specs.declared.query.BinaryQuery.{BinaryQuery}
 use Rattle.filterset_expression.specs.declared.query.TestQuery.{TestQuery}
 
--- the tree as a formula over its leaves: `a - b` is a and not b, and parentheses mean what they hold
+-- what an operator of the level of `and` makes of two formulas: `a - b` is a and not b
+abbrev pub joined : {A : Type 0} → Joiner → Formula A → Formula A → Formula A
+joined (Both op) f g = Compound Conjunction f g
+joined (Without op) f g = Compound Conjunction f (Negation g)
+joined (ExactlyOne op) f g = Compound ExclusiveDisjunction f g
+
+-- the tree as a formula over its leaves; parentheses mean what they hold
 abbrev pub tree_formula : {S : Type 0} → Tree S → Formula (Leaf S)
 tree_formula (Not op e) = Negation (tree_formula e)
-tree_formula (Union op a b) = Disjunction (tree_formula a) (tree_formula b)
-tree_formula (Join (Both op) a b) = Conjunction (tree_formula a) (tree_formula b)
-tree_formula (Join (Without op) a b) = Conjunction (tree_formula a) (Negation (tree_formula b))
-tree_formula (Join (ExactlyOne op) a b) = ExclusiveDisjunction (tree_formula a) (tree_formula b)
+tree_formula (Union op a b) = Compound Disjunction (tree_formula a) (tree_formula b)
+tree_formula (Join op a b) = joined op (tree_formula a) (tree_formula b)
 tree_formula (Parens e) = tree_formula e
 tree_formula (Set leaf) = formulas.Leaf leaf
 
@@ -61,23 +68,25 @@ IsDependent packages matcher id =
     (p : PackageMetadata) × (to : PackageMetadata) × IsMember packages p × (p.id ≡ id)
     × IsNamed packages matcher to × Path packages id to.id
 
--- what a leaf says of a test
+-- what a leaf says of a binary; what it says of a test alone is not said here, nor what the default filter says
+abbrev pub MeansOfBinary : {S : Type 0} → List PackageMetadata → BinaryQuery → Leaf S → Type 0
+MeansOfBinary packages binary (Matching Package matcher span) = IsPackage packages matcher binary.package_id.now
+MeansOfBinary packages binary (Matching Deps matcher span) = IsDependency packages matcher binary.package_id.now
+MeansOfBinary packages binary (Matching Rdeps matcher span) = IsDependent packages matcher binary.package_id.now
+MeansOfBinary packages binary (Matching Kind matcher span) = Hits matcher binary.kind.now
+MeansOfBinary packages binary (Matching Binary matcher span) = Hits matcher binary.binary_name.now
+MeansOfBinary packages binary (Matching BinaryId matcher span) = Hits matcher binary.binary_id.now
+MeansOfBinary packages binary (Platform platform span) = binary.platform ≡ platform
+MeansOfBinary packages binary All = Unit {0}
+MeansOfBinary packages binary _ = ⊥
+
+-- what a leaf says of a test: `test` and `group` speak of the test itself, `default` says what the default filter says,
+-- and every other leaf says what it says of the test's binary
 abbrev pub MeansOfTest : {S : Type 0} → List PackageMetadata → TestQuery → CompiledExpr → Lookup → Leaf S → Type 0
-MeansOfTest packages test default lookup (Matching Package matcher span) =
-    IsPackage packages matcher test.binary_query.package_id.now
-MeansOfTest packages test default lookup (Matching Deps matcher span) =
-    IsDependency packages matcher test.binary_query.package_id.now
-MeansOfTest packages test default lookup (Matching Rdeps matcher span) =
-    IsDependent packages matcher test.binary_query.package_id.now
-MeansOfTest packages test default lookup (Matching Kind matcher span) = Hits matcher test.binary_query.kind.now
-MeansOfTest packages test default lookup (Matching Binary matcher span) = Hits matcher test.binary_query.binary_name.now
-MeansOfTest packages test default lookup (Matching BinaryId matcher span) = Hits matcher test.binary_query.binary_id.now
 MeansOfTest packages test default lookup (Matching Test matcher span) = Hits matcher test.test_name.now
 MeansOfTest packages test default lookup (Matching Group matcher span) = lookup test matcher
-MeansOfTest packages test default lookup (Platform platform span) = test.binary_query.platform ≡ platform
 MeansOfTest packages test default lookup (Default span) = TrueWhere (HoldsOfTest test lookup) (formula default)
-MeansOfTest packages test default lookup All = Unit {0}
-MeansOfTest packages test default lookup None = ⊥
+MeansOfTest packages test default lookup leaf = MeansOfBinary packages test.binary_query leaf
 
 -- what a tree says of a test, for this list of packages, this default filter and this lookup of groups
 abbrev pub Meaning : {S : Type 0} → Tree S → List PackageMetadata → TestQuery → CompiledExpr → Lookup → Type 0

@@ -1,7 +1,16 @@
 -- How steps run on a stack.
 use Rattle.std.specs.Prelude.{◌≡◌, ℕ, zero, suc, max, Bool, true, false, ◌&&◌, List, [], ◌∷◌}
-use Rattle.filterset_expression.specs.Expression.{CompiledLeaf, Default}
-use Rattle.filterset_expression.specs.FlatSteps.{Step, Push, Negate, Conjoin, Disjoin, DisjoinExclusively}
+use Rattle.filterset_expression.specs.Connectives.{Connective}
+use Rattle.filterset_expression.specs.Expression.{CompiledLeaf, Default, compiled_leaf}
+use Rattle.filterset_expression.specs.FlatSteps.{Step, Push, Negate, Combine}
+use Rattle.filterset_expression.specs.declared.flat.steps.Action.{Action}
+use Rattle.filterset_expression.specs.declared.flat.steps.Action.TheVariants as action
+
+-- the step that does what an action of the code does
+abbrev pub step_of_action : Action → Step CompiledLeaf
+step_of_action (action.Push leaf) = Push (compiled_leaf leaf.now)
+step_of_action action.Negate = Negate
+step_of_action (action.Combine connective) = Combine connective
 
 -- a leaf's step, or these steps in the place of a `default` leaf
 abbrev pub leaf_or : List (Step CompiledLeaf) → CompiledLeaf → List (Step CompiledLeaf)
@@ -16,24 +25,16 @@ one_less (suc height) = height
 abbrev pub height_after : {A : Type 0} → Step A → ℕ → ℕ
 height_after (Push leaf) height = suc height
 height_after Negate height = height
-height_after Conjoin height = one_less height
-height_after Disjoin height = one_less height
-height_after DisjoinExclusively height = one_less height
+height_after (Combine connective) height = one_less height
 
 -- whether the step finds its operands
 abbrev pub finds_operands : {A : Type 0} → Step A → ℕ → Bool
 finds_operands (Push leaf) height = true
 finds_operands Negate zero = false
 finds_operands Negate (suc height) = true
-finds_operands Conjoin zero = false
-finds_operands Conjoin (suc zero) = false
-finds_operands Conjoin (suc (suc height)) = true
-finds_operands Disjoin zero = false
-finds_operands Disjoin (suc zero) = false
-finds_operands Disjoin (suc (suc height)) = true
-finds_operands DisjoinExclusively zero = false
-finds_operands DisjoinExclusively (suc zero) = false
-finds_operands DisjoinExclusively (suc (suc height)) = true
+finds_operands (Combine connective) zero = false
+finds_operands (Combine connective) (suc zero) = false
+finds_operands (Combine connective) (suc (suc height)) = true
 
 -- whether each step finds its operands, and one value is left
 abbrev pub leaves_one : {A : Type 0} → List (Step A) → ℕ → Bool
@@ -47,24 +48,17 @@ abbrev pub greatest_height : {A : Type 0} → List (Step A) → ℕ → ℕ
 greatest_height [] height = height
 greatest_height (s ∷ steps) height = max height (greatest_height steps (height_after s height))
 
--- the steps take the stack, whose top comes first, to the one value, where each leaf has a value that `gives` allows
-abbrev pub Runs : {A L : Type 0} → (L → L) → (L → L → L) → (L → L → L) → (L → L → L) → (A → L → Type 0)
+-- The steps take the stack, whose top comes first, to the one value, where each leaf has a value that `gives` allows,
+-- and `not_of` and `connect` say what is made of values.
+abbrev pub Runs : {A L : Type 0} → (L → L) → (Connective → L → L → L) → (A → L → Type 0)
     → List (Step A) → List L → L → Type 0
-Runs not_of or_of and_of xor_of gives [] stack value = stack ≡ value ∷ []
-Runs {A} {L} not_of or_of and_of xor_of gives (Push leaf ∷ steps) stack value =
-    (x : L) × gives leaf x × Runs not_of or_of and_of xor_of gives steps (x ∷ stack) value
-Runs not_of or_of and_of xor_of gives (Negate ∷ steps) [] value = ⊥
-Runs not_of or_of and_of xor_of gives (Negate ∷ steps) (x ∷ stack) value =
-    Runs not_of or_of and_of xor_of gives steps (not_of x ∷ stack) value
-Runs not_of or_of and_of xor_of gives (Conjoin ∷ steps) [] value = ⊥
-Runs not_of or_of and_of xor_of gives (Conjoin ∷ steps) (y ∷ []) value = ⊥
-Runs not_of or_of and_of xor_of gives (Conjoin ∷ steps) (y ∷ x ∷ stack) value =
-    Runs not_of or_of and_of xor_of gives steps (and_of x y ∷ stack) value
-Runs not_of or_of and_of xor_of gives (Disjoin ∷ steps) [] value = ⊥
-Runs not_of or_of and_of xor_of gives (Disjoin ∷ steps) (y ∷ []) value = ⊥
-Runs not_of or_of and_of xor_of gives (Disjoin ∷ steps) (y ∷ x ∷ stack) value =
-    Runs not_of or_of and_of xor_of gives steps (or_of x y ∷ stack) value
-Runs not_of or_of and_of xor_of gives (DisjoinExclusively ∷ steps) [] value = ⊥
-Runs not_of or_of and_of xor_of gives (DisjoinExclusively ∷ steps) (y ∷ []) value = ⊥
-Runs not_of or_of and_of xor_of gives (DisjoinExclusively ∷ steps) (y ∷ x ∷ stack) value =
-    Runs not_of or_of and_of xor_of gives steps (xor_of x y ∷ stack) value
+Runs not_of connect gives [] stack value = stack ≡ value ∷ []
+Runs {A} {L} not_of connect gives (Push leaf ∷ steps) stack value =
+    (x : L) × gives leaf x × Runs not_of connect gives steps (x ∷ stack) value
+Runs not_of connect gives (Negate ∷ steps) [] value = ⊥
+Runs not_of connect gives (Negate ∷ steps) (x ∷ stack) value =
+    Runs not_of connect gives steps (not_of x ∷ stack) value
+Runs not_of connect gives (Combine connective ∷ steps) [] value = ⊥
+Runs not_of connect gives (Combine connective ∷ steps) (y ∷ []) value = ⊥
+Runs not_of connect gives (Combine connective ∷ steps) (y ∷ x ∷ stack) value =
+    Runs not_of connect gives steps (connect connective x y ∷ stack) value

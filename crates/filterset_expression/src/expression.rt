@@ -3,11 +3,9 @@ ghost use Rattle.std.specs.Prelude.{◌≡◌, ◌↔◌, Bool, false, Some, Non
 ghost use Rattle.filterset_expression.specs.Expression.{formula, has_leaf, is_default, is_group, no_groups};
 ghost use Rattle.filterset_expression.specs.Expression.{Holds, IsDefinite, IsUndecided};
 
+use crate::nodes::copied;
 use crate::{BinaryQuery, EvalContext, FiltersetLeaf, FlatExpr, GroupLookup, TestQuery};
-use copying::copied;
 use std::alloc::{AllocError, Global};
-
-mod copying;
 
 /// A compiled expression: sets of tests, and what is made of them.
 #[derive(Debug, Drop)]
@@ -65,7 +63,7 @@ impl CompiledExpr {
     ///
     /// Each `test` and `group` leaf says yes or no by itself, also where two are equal: `test(a) or not test(a)` may be
     /// either. The context's default filter stands in the place of each `default` leaf, with leaves of its own at each.
-    /// It is an error only for want of memory.
+    /// The only error is out of memory.
     pub fn matches_binary(
         &self,
         alloc: Global,
@@ -83,8 +81,8 @@ impl CompiledExpr {
     /// Whether the expression holds of the test, with the context's default filter in the place of each `default`
     /// leaf.
     ///
-    /// The expression holds no `group` leaf, which [`CompiledExpr::has_group_matchers`] tests. It is an error only for
-    /// want of memory.
+    /// The expression holds no `group` leaf, which [`CompiledExpr::has_group_matchers`] tests. The only error is out of
+    /// memory.
     pub fn matches_test(
         &self,
         alloc: Global,
@@ -103,7 +101,7 @@ impl CompiledExpr {
     }
 
     /// Whether the expression holds of the test, whose group the lookup tells, with the context's default filter in the
-    /// place of each `default` leaf. It is an error only for want of memory, the lookup's too.
+    /// place of each `default` leaf. The only error is out of memory, the lookup's too.
     pub fn matches_test_with_groups(
         &self,
         alloc: Global,
@@ -124,7 +122,7 @@ impl CompiledExpr {
         FlatExpr::new(alloc, self, cx)?.matches_test_with_groups(alloc, query, groups)
     }
 
-    /// A copy, equal in every field. It is an error only for want of memory.
+    /// A copy, equal in every field. The only error is out of memory.
     pub fn try_clone(&self, alloc: Global) -> Result<CompiledExpr, AllocError>
         ensures { IfOk result (λ copy. formula copy ≡ formula self.now) }
     {

@@ -1,8 +1,8 @@
 //! Compiled expressions as lists of steps, and what they say of binaries and tests.
-ghost use Rattle.std.specs.Prelude.{◌≡◌, ◌↔◌, ◌++◌, ◌∷◌, [], ◌<◌, Bool, true, false, List, Ok, Some, None, IfOk, IfSome, IsTrue, vec_len, vec_capacity};
+ghost use Rattle.std.specs.Prelude.{◌≡◌, ◌↔◌, ◌∷◌, [], Bool, true, false, List, Ok, Some, None, IfOk, IfSome, IsTrue, ◌≤◌};
 ghost use Rattle.filterset_faults.specs.declared.span.SourceSpan.{SourceSpan};
 ghost use Rattle.filterset_graph.specs.declared.package.PackageMetadata.{PackageMetadata};
-ghost use Rattle.filterset_language.specs.Tree.{Tree};
+ghost use Rattle.filterset_grammar.specs.Tree.{Tree};
 ghost use Rattle.filterset_expression.specs.BinaryMeaning.{IsDefiniteTree, IsUndecidedTree};
 ghost use Rattle.filterset_expression.specs.Expression.{compiled_leaf, is_default, is_group, no_groups, HoldsOfTest};
 ghost use Rattle.filterset_expression.specs.Expression.{Holds, IsDefinite, IsUndecided};
@@ -12,14 +12,17 @@ ghost use Rattle.filterset_expression.specs.FlatSteps.{steps_of, Push};
 ghost use Rattle.filterset_expression.specs.declared.expression.CompiledExpr.{CompiledExpr};
 ghost use Rattle.filterset_expression.specs.declared.flat.asked.AskedLeaf.{AskedLeaf};
 
+use crate::logic::connected;
 use crate::{BinaryQuery, CompiledExpr, EvalContext, FiltersetLeaf, GroupLookup, Logic, TestQuery};
 use asked::AskedLeaf;
 use kept::{KeptMatcher, kept_matchers};
+use stack::{Reserved, Stack, TwoBits, Words};
 use std::alloc::{AllocError, Global};
-use steps::{push_steps, reserved_height};
+use steps::{Action, push_steps, reserved_height};
 
 mod asked;
 mod kept;
+mod stack;
 mod steps;
 
 pub use steps::FlatStep;
@@ -38,24 +41,12 @@ pub struct FlatExpr<'a> {
     ghost fits: { height ≡ greatest_height (steps_of steps.items) 0 },
 }
 
-/// Takes the value on top of the stack.
-fn take_top<L>(stack: &mut Vec<L>) -> L
-    requires { 0 < vec_len stack.old }
-    ensures items { stack.old.items ≡ stack.new.items ++ result ∷ [] }
-    ensures capacity { vec_capacity stack.new ≡ vec_capacity stack.old }
-{
-    match stack.pop() {
-        Some(value) => value,
-        None => unreachable!(),
-    }
-}
-
 impl<'a> FlatExpr<'a> {
     ghost use Rattle.filterset_expression.specs.Contexts.{default_of};
     ghost use Rattle.filterset_expression.specs.FlatExpressions.{flat_steps, has_step, IsFlat, IsFlatOfTree};
 
     /// The steps of the expression, with those of the context's default filter in the place of each `default` leaf. It
-    /// is an error only for want of memory.
+    /// is an error only if it is out of memory.
     pub fn new(
         alloc: Global,
         expr: &'a CompiledExpr,
@@ -118,7 +109,7 @@ impl<'a> FlatExpr<'a> {
 
     /// Whether the expression holds of the test.
     ///
-    /// It holds no `group` leaf, which [`FlatExpr::has_group_matchers`] tests. It is an error only for want of memory.
+    /// It holds no `group` leaf, which [`FlatExpr::has_group_matchers`] tests. The only error is out of memory.
     pub fn matches_test(&self, alloc: Global, query: &TestQuery<'_>) -> Result<bool, AllocError>
         requires { has_step is_group self.now ≡ false }
         ensures holds { IfOk result (λ answer. (expr default : CompiledExpr) → IsFlat self.now expr default
@@ -137,7 +128,7 @@ impl<'a> FlatExpr<'a> {
         )
     }
 
-    /// Whether the expression holds of the test, whose group the lookup tells. It is an error only for want of memory,
+    /// Whether the expression holds of the test, whose group the lookup tells. The only error is out of memory,
     /// the lookup's too.
     pub fn matches_test_with_groups(
         &self,
@@ -167,14 +158,15 @@ impl<'a> FlatExpr<'a> {
         )
     }
 
-    /// The value that the steps leave, where `of_leaf` gives the value of each leaf. A single leaf needs no stack.
-    fn run<L: Logic, F: Fn(AskedLeaf<'_, 'a>) -> Result<L, AllocError>>(
+    /// The value that the steps leave, where `of_leaf` gives the value of each leaf. A single leaf needs no stack, and
+    /// up to 64 values stand in words, which take no memory.
+    fn run<L: TwoBits, F: Fn(AskedLeaf<'_, 'a>) -> Result<L, AllocError>>(
         &self,
         alloc: Global,
         of_leaf: &F,
     ) -> Result<L, AllocError>
         requires callable { F.IsAlwaysCallable of_leaf.now }
-        ensures { IfOk result (λ value. Runs L.not_of L.or_of L.and_of L.xor_of
+        ensures { IfOk result (λ value. Runs L.not_of L.connect
             (λ leaf x. (asked : AskedLeaf) × (compiled_leaf asked.leaf.now ≡ leaf) × F.post of_leaf.now asked (Ok x))
             (flat_steps self.now) [] value) }
     {
@@ -182,7 +174,10 @@ impl<'a> FlatExpr<'a> {
             let kept = self.kept.first();
             return of_leaf(AskedLeaf { leaf, kept });
         }
-        self.run_on_stack(alloc, of_leaf)
+        if self.height <= 64 {
+            return self.run_on(Words::new(), of_leaf);
+        }
+        self.run_on(Reserved::with_room(alloc, self.height)?, of_leaf)
     }
 
     /// The leaf that is the only step.
@@ -197,47 +192,38 @@ impl<'a> FlatExpr<'a> {
         None
     }
 
-    /// The same on a stack, which is reserved at its greatest height.
-    fn run_on_stack<L: Logic, F: Fn(AskedLeaf<'_, 'a>) -> Result<L, AllocError>>(
+    /// The same on this stack.
+    fn run_on<L: Logic, S: Stack<L> + Drop, F: Fn(AskedLeaf<'_, 'a>) -> Result<L, AllocError>>(
         &self,
-        alloc: Global,
+        mut stack: S,
         of_leaf: &F,
     ) -> Result<L, AllocError>
         requires callable { F.IsAlwaysCallable of_leaf.now }
-        ensures { IfOk result (λ value. Runs L.not_of L.or_of L.and_of L.xor_of
+        requires empty { S.values stack ≡ [] }
+        requires has_room { greatest_height (flat_steps self.now) 0 ≤ S.room stack }
+        ensures { IfOk result (λ value. Runs L.not_of L.connect
             (λ leaf x. (asked : AskedLeaf) × (compiled_leaf asked.leaf.now ≡ leaf) × F.post of_leaf.now asked (Ok x))
             (flat_steps self.now) [] value) }
     {
-        let mut stack = Vec::with_capacity(alloc, self.height)?;
         let mut all_kept = self.kept.iter();
         for step in &self.steps {
             let kept = all_kept.next();
-            match step {
-                FlatStep::Leaf(leaf) => {
+            match step.action() {
+                Action::Push(leaf) => {
                     let value = of_leaf(AskedLeaf { leaf, kept })?;
-                    stack.push_reserved(value);
+                    stack.push(value);
                 }
-                FlatStep::Not => {
-                    let value = take_top(&mut stack);
-                    stack.push_reserved(value.logic_not());
+                Action::Negate => {
+                    let value = stack.pop();
+                    stack.push(value.logic_not());
                 }
-                FlatStep::And => {
-                    let right = take_top(&mut stack);
-                    let left = take_top(&mut stack);
-                    stack.push_reserved(left.logic_and(right));
-                }
-                FlatStep::Or => {
-                    let right = take_top(&mut stack);
-                    let left = take_top(&mut stack);
-                    stack.push_reserved(left.logic_or(right));
-                }
-                FlatStep::Xor => {
-                    let right = take_top(&mut stack);
-                    let left = take_top(&mut stack);
-                    stack.push_reserved(left.logic_xor(right));
+                Action::Combine(connective) => {
+                    let right = stack.pop();
+                    let left = stack.pop();
+                    stack.push(connected(connective, left, right));
                 }
             }
         }
-        Ok(take_top(&mut stack))
+        Ok(stack.pop())
     }
 }

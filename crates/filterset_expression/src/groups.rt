@@ -14,7 +14,7 @@ pub trait GroupLookup: Debug {
     /// What the lookup says: of which tests a matcher hits the group.
     ghost hits_group: { Self → Lookup };
 
-    /// Whether the matcher hits the group of the test. It is an error only for want of memory.
+    /// Whether the matcher hits the group of the test. The only error is out of memory.
     fn is_member_test(
         &self,
         alloc: Global,

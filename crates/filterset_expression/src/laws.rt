@@ -1,22 +1,24 @@
 //! Laws of what filtersets mean: each stands in the contract of a function that gives nothing and takes no memory.
-ghost use Rattle.std.specs.Prelude.{◌≡◌, ◌↔◌, Bool, IsTrue, List};
+ghost use Rattle.std.specs.Prelude.{◌≡◌, ◌↔◌, Bool, false, IsTrue, List};
 ghost use Rattle.filterset_faults.specs.declared.span.SourceSpan.{SourceSpan};
 ghost use Rattle.filterset_graph.specs.declared.package.PackageMetadata.{PackageMetadata};
-ghost use Rattle.filterset_language.specs.AddedParens.{IsWithParens};
-ghost use Rattle.filterset_language.specs.Tree.{Tree, Join, Not, Parens, Union};
-ghost use Rattle.filterset_language.specs.declared.tree.AndOperator.{AndOperator};
-ghost use Rattle.filterset_language.specs.declared.tree.DifferenceOperator.{DifferenceOperator};
-ghost use Rattle.filterset_language.specs.declared.tree.Joiner.TheVariants.{Both, Without, ExactlyOne};
-ghost use Rattle.filterset_language.specs.declared.tree.NotOperator.{NotOperator};
-ghost use Rattle.filterset_language.specs.declared.tree.OrOperator.{OrOperator};
-ghost use Rattle.filterset_language.specs.declared.tree.SymmetricDifferenceOperator.{SymmetricDifferenceOperator};
+ghost use Rattle.filterset_grammar.specs.AddedParens.{IsWithParens};
+ghost use Rattle.filterset_grammar.specs.Tree.{Tree, Join, Not, Parens, Union};
+ghost use Rattle.filterset_grammar.specs.declared.operators.AndOperator.{AndOperator};
+ghost use Rattle.filterset_grammar.specs.declared.operators.DifferenceOperator.{DifferenceOperator};
+ghost use Rattle.filterset_grammar.specs.declared.operators.Joiner.TheVariants.{Both, Without, ExactlyOne};
+ghost use Rattle.filterset_grammar.specs.declared.operators.NotOperator.{NotOperator};
+ghost use Rattle.filterset_grammar.specs.declared.operators.OrOperator.{OrOperator};
+ghost use Rattle.filterset_grammar.specs.declared.operators.SymmetricDifferenceOperator.{SymmetricDifferenceOperator};
 ghost use Rattle.filterset_matchers.specs.Matcher.{Matcher};
-ghost use Rattle.filterset_expression.specs.BinaryMeaning.{is_either_of_test, EitherOfBinary, tree_with_default, PossibleOfTree};
-ghost use Rattle.filterset_expression.specs.Meaning.{tree_formula, Meaning};
+ghost use Rattle.filterset_expression.specs.BinaryMeaning.{is_either_of_test, EitherOfBinary, tree_with_default, IsDefiniteTree, PossibleOfTree};
+ghost use Rattle.filterset_expression.specs.Meaning.{tree_formula, IsCompiled, Meaning};
 ghost use Rattle.filterset_expression.specs.Values.{TrueUnder};
 ghost use Rattle.filterset_expression.specs.declared.expression.CompiledExpr.{CompiledExpr};
 ghost use Rattle.filterset_expression.specs.declared.query.BinaryQuery.{BinaryQuery};
 ghost use Rattle.filterset_expression.specs.declared.query.TestQuery.{TestQuery};
+
+use crate::GroupLookup;
 
 /// `a - b` says of each test, and may say of each binary, what `a and not b` does, whatever the operators are spelled as.
 pub fn difference_is_and_not()
@@ -80,4 +82,13 @@ pub fn added_parens_change_nothing()
     ensures binaries { (packages : List PackageMetadata) (binary : BinaryQuery) (default : CompiledExpr)
         (value : Bool) (e d : Tree SourceSpan) → IsWithParens e d
         → PossibleOfTree d packages binary default value ↔ PossibleOfTree e packages binary default value }
+{}
+
+/// A binary of which `matches_binary` says no may be skipped: the filterset is false of each of its tests, whatever their
+/// names are, and whatever the lookup says of their groups.
+pub fn skipping_loses_no_test(groups: &dyn GroupLookup)
+    ensures { (packages : List PackageMetadata) (e : Tree SourceSpan) (compiled default : CompiledExpr)
+        (test : TestQuery) → IsCompiled packages e compiled
+        → IsDefiniteTree e packages test.binary_query default false
+        → ¬ Meaning e packages test default (hits_group groups.now) }
 {}

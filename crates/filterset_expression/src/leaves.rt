@@ -46,7 +46,7 @@ impl FiltersetLeaf {
         )
     }
 
-    /// A copy, equal in every field. It is an error only for want of memory.
+    /// A copy, equal in every field. The only error is out of memory.
     pub fn try_clone(&self, alloc: Global) -> Result<FiltersetLeaf, AllocError>
         ensures { IfOk result (λ copy. compiled_leaf copy ≡ compiled_leaf self.now) }
     {

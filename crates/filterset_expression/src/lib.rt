@@ -9,6 +9,7 @@ mod groups;
 pub mod laws;
 mod leaves;
 mod logic;
+pub mod nodes;
 mod query;
 
 pub use context::EvalContext;
@@ -16,5 +17,5 @@ pub use expression::CompiledExpr;
 pub use flat::{FlatExpr, FlatStep};
 pub use groups::GroupLookup;
 pub use leaves::FiltersetLeaf;
-pub use logic::Logic;
+pub use logic::{Connective, Logic};
 pub use query::{BinaryQuery, TestQuery};

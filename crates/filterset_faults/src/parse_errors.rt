@@ -14,7 +14,7 @@ pub struct FiltersetParseErrors {
 }
 
 impl FiltersetParseErrors {
-    /// A copy, equal in every field. It is an error only for want of memory.
+    /// A copy, equal in every field. The only error is out of memory.
     pub fn try_clone(&self, alloc: Global) -> Result<FiltersetParseErrors, AllocError>
         ensures input { IfOk result (λ copy. string_bytes copy.input ≡ string_bytes self.now.input) }
         ensures errors { IfOk result (λ copy. copy.errors.items ≡ self.now.errors.items) }

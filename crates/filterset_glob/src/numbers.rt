@@ -1,4 +1,4 @@
-//! Which of 64 numbers a token takes, by vectors. Each number stands for the character of that number.
+//! Which of 64 numbers a token takes, by vectors. Each number is that of a character.
 
 ghost use Rattle.std.specs.Prelude.{◌≡◌, ℕ, ◌+◌, ◌*◌, ◌<◌, ◌≤◌, ◌↔◌, length, slice_index};
 ghost use Rattle.std.specs.Int.{bit_at};
@@ -12,7 +12,7 @@ use std::simd::prelude::*;
 /// 64 numbers.
 type Block = Simd<u32, 64>;
 
-/// Which of these 64 characters the token takes, the lowest bit for the first. Bits behind the text
+/// Which of these 64 characters the token takes, the lowest bit for the first. Bits after the text
 /// may be anything.
 #[inline(never)]
 pub(crate) fn taken_at(numbers: &[u32], block: usize, token: &GlobToken) -> u64
@@ -25,7 +25,7 @@ pub(crate) fn taken_at(numbers: &[u32], block: usize, token: &GlobToken) -> u64
     taken(load(&numbers[64 * block..]), token)
 }
 
-/// Which of the first 64 numbers are this one. Bits behind them may be anything.
+/// Which of the first 64 numbers are this one. Bits after them may be anything.
 #[inline(never)]
 pub(crate) fn is_number(numbers: &[u32], number: u32) -> u64
     ensures { (k : ℕ) → k < 64 → k < length numbers.now → (bit_at result k ≡ 1) ↔ (slice_index numbers.now k ≡ number) }
@@ -49,7 +49,7 @@ fn taken(block: Block, token: &GlobToken) -> u64
     }
 }
 
-/// The first 64 numbers. Where there are fewer, others stand behind them.
+/// The first 64 numbers. Where there are fewer, others come after them.
 #[inline(always)]
 fn load(numbers: &[u32]) -> Block
     ensures { (k : ℕ) → k < 64 → k < length numbers.now → slice_index result k ≡ slice_index numbers.now k }
@@ -61,7 +61,7 @@ fn load(numbers: &[u32]) -> Block
     }
 }
 
-/// The first 64 numbers. Where there are fewer, others stand behind them.
+/// The first 64 numbers. Where there are fewer, others come after them.
 #[inline(always)]
 fn filled_up(numbers: &[u32]) -> [u32; 64]
     ensures { (k : ℕ) → k < 64 → k < length numbers.now → slice_index result k ≡ slice_index numbers.now k }

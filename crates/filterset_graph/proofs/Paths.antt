@@ -6,41 +6,42 @@ use Rattle.std.specs.BTreeMap.{BTreeMap}
 use Rattle.std.proofs.lemmas.List.{length-map}
 use Rattle.std.proofs.lemmas.Option.{none-some, same_Some, slice_get-get_or, slice_get_within}
 use Rattle.filterset_graph.specs.declared.package.PackageMetadata.{PackageMetadata}
-use Rattle.filterset_graph.specs.Walks.{Follows, HasEdge, EdgesStayBelow, IsMarked, IsReached, Walk}
+use Rattle.filterset_graph.specs.Edges.{HasEdge, EdgesStayBelow, IsReached, Walk}
+use Rattle.filterset_graph.specs.Walks.{Follows, IsMarked}
 use Rattle.filterset_graph.specs.Packages.{Text, ids, IsLinked, Path}
-use Rattle.filterset_graph.specs.Index.{AreRows, IsIndexed, PlacesAre, index_of}
+use Rattle.filterset_graph.specs.Index.{AreRows, IsIndexed, PositionsAre, index_of}
 use Rattle.filterset_graph.specs.Marked.{MarksReached, MarksReaching}
 use Rattle.filterset_graph.proofs.Places.{place_from_Contains, Contains-from_place, element_at, element_from_mapped, mapped_at, row_names, row_has}
 use Rattle.filterset_graph.proofs.Steps.{Walk-push}
 
 -- the end of an edge is a package, to which the package at its start is linked
-pub edge_link : (packages : List PackageMetadata) (places : BTreeMap Text ℕ) (links : List (Vec ℕ Global)) → PlacesAre places (ids packages) → AreRows places packages links → (a b : ℕ) (x : Text) → HasEdge links a b → slice_get (ids packages) a ≡ Some x → (y : Text) × (slice_get (ids packages) b ≡ Some y) × IsLinked packages x y
-edge_link packages places links placed rows a b x edge here =
+pub edge_link : (packages : List PackageMetadata) (positions : BTreeMap Text ℕ) (links : List (Vec ℕ Global)) → PositionsAre positions (ids packages) → AreRows positions packages links → (a b : ℕ) (x : Text) → HasEdge links a b → slice_get (ids packages) a ≡ Some x → (y : Text) × (slice_get (ids packages) b ≡ Some y) × IsLinked packages x y
+edge_link packages positions links placed rows a b x edge here =
     let from = element_from_mapped (λ (p : PackageMetadata). p.id) packages a x here in
     let row = rows a from.0 edge.0 from.1 edge.1 in
-    let named = row_names (index_of places) from.0.links.items edge.0.items row b edge.2 in
+    let named = row_names (index_of positions) from.0.links.items edge.0.items row b edge.2 in
     (named.0, (placed named.0 b).0 named.2, (from.0, Contains-from_place packages from.0 a from.1, from.2, named.1))
 
--- a link of the package at a place is an edge from there
-pub link_edge : {packages : List PackageMetadata} {places : BTreeMap Text ℕ} {links back : List (Vec ℕ Global)} → IsIndexed packages places links back → (a : ℕ) (x y : Text) → IsLinked packages x y → slice_get (ids packages) a ≡ Some x → (b : ℕ) × (slice_get (ids packages) b ≡ Some y) × HasEdge links a b
-link_edge {packages} {places} {links} {back} index a x y link here =
+-- a link of the package at a position is an edge from there
+pub link_edge : {packages : List PackageMetadata} {positions : BTreeMap Text ℕ} {links back : List (Vec ℕ Global)} → IsIndexed packages positions links back → (a : ℕ) (x y : Text) → IsLinked packages x y → slice_get (ids packages) a ≡ Some x → (b : ℕ) × (slice_get (ids packages) b ≡ Some y) × HasEdge links a b
+link_edge {packages} {positions} {links} {back} index a x y link here =
     let at = place_from_Contains packages link.0 link.1 in
     let named : slice_get (ids packages) at.0 ≡ Some x = mapped_at (λ (p : PackageMetadata). p.id) packages at.0 link.0 at.1 ∙ ap Some link.2 in
     let same : at.0 ≡ a = same_Some at.0 a (sym ((index.placed x at.0).1 named) ∙ (index.placed x a).1 here) in
     let owner : slice_get packages a ≡ Some link.0 = ap (slice_get packages) (sym same) ∙ at.1 in
     let within : a < length packages = slice_get_within packages a link.0 owner in
     let row = element_at links a (omega (arith, within, index.size)) in
-    let found = row_has (index_of places) link.0.links.items row.0.items (index.rows a link.0 row.0 owner row.1) y link.3 in
+    let found = row_has (index_of positions) link.0.links.items row.0.items (index.rows a link.0 row.0 owner row.1) y link.3 in
     (found.0, (index.placed y found.0).0 found.2, (row.0, row.1, found.1))
 
-pub walk_path : {packages : List PackageMetadata} {places : BTreeMap Text ℕ} {links back : List (Vec ℕ Global)} → IsIndexed packages places links back → (a : ℕ) (rest : List ℕ) (b : ℕ) (x y : Text) → Follows (HasEdge links) a rest b → slice_get (ids packages) a ≡ Some x → slice_get (ids packages) b ≡ Some y → (route : List Text) × Follows (IsLinked packages) x route y
+pub walk_path : {packages : List PackageMetadata} {positions : BTreeMap Text ℕ} {links back : List (Vec ℕ Global)} → IsIndexed packages positions links back → (a : ℕ) (rest : List ℕ) (b : ℕ) (x y : Text) → Follows (HasEdge links) a rest b → slice_get (ids packages) a ≡ Some x → slice_get (ids packages) b ≡ Some y → (route : List Text) × Follows (IsLinked packages) x route y
 walk_path {packages} index a [] b x y e here there = ([], same_Some x y (sym here ∙ ap (slice_get (ids packages)) e ∙ there))
-walk_path {packages} {places} {links} index a (next ∷ rest) b x y walk here there =
-    let step = edge_link packages places links index.placed index.rows a next x walk.0 here in
+walk_path {packages} {positions} {links} index a (next ∷ rest) b x y walk here there =
+    let step = edge_link packages positions links index.placed index.rows a next x walk.0 here in
     let on = walk_path index next rest b step.0 y walk.1 step.1 there in
     (step.0 ∷ on.0, (step.2, on.1))
 
-pub path_walk : {packages : List PackageMetadata} {places : BTreeMap Text ℕ} {links back : List (Vec ℕ Global)} → IsIndexed packages places links back → (a : ℕ) (x : Text) (route : List Text) (y : Text) → Follows (IsLinked packages) x route y → slice_get (ids packages) a ≡ Some x → (b : ℕ) × (slice_get (ids packages) b ≡ Some y) × Walk links a b
+pub path_walk : {packages : List PackageMetadata} {positions : BTreeMap Text ℕ} {links back : List (Vec ℕ Global)} → IsIndexed packages positions links back → (a : ℕ) (x : Text) (route : List Text) (y : Text) → Follows (IsLinked packages) x route y → slice_get (ids packages) a ≡ Some x → (b : ℕ) × (slice_get (ids packages) b ≡ Some y) × Walk links a b
 path_walk index a x [] y e here = (a, here ∙ ap Some e, ([], refl))
 path_walk index a x (next ∷ route) y path here =
     let step = link_edge index a x next path.0 here in
@@ -52,26 +53,26 @@ pub Walk-reversed : (forth back : List (Vec ℕ Global)) → ((a b : ℕ) → Ha
 Walk-reversed forth back turns a [] b e = ([], sym e)
 Walk-reversed forth back turns a (next ∷ rest) b walk = Walk-push back b next a (Walk-reversed forth back turns next rest b walk.1) (turns a next walk.0)
 
-pub rows_stay_below : (packages : List PackageMetadata) (places : BTreeMap Text ℕ) (links : List (Vec ℕ Global)) → PlacesAre places (ids packages) → AreRows places packages links → length links ≡ length packages → EdgesStayBelow (length links) links
-rows_stay_below packages places links placed rows size a b edge =
+pub rows_stay_below : (packages : List PackageMetadata) (positions : BTreeMap Text ℕ) (links : List (Vec ℕ Global)) → PositionsAre positions (ids packages) → AreRows positions packages links → length links ≡ length packages → EdgesStayBelow (length links) links
+rows_stay_below packages positions links placed rows size a b edge =
     let start : a < length links = slice_get_within links a edge.0 edge.1 in
     let x = element_at (ids packages) a (rw length-map (omega (arith, start, size))) in
-    let y = edge_link packages places links placed rows a b x.0 edge x.1 in
+    let y = edge_link packages positions links placed rows a b x.0 edge x.1 in
     let within : b < length (ids packages) = slice_get_within (ids packages) b y.0 y.1 in
     omega (arith, within, size, length-map packages (λ (p : PackageMetadata). p.id))
 
-pub links_stay_below : {packages : List PackageMetadata} {places : BTreeMap Text ℕ} {links back : List (Vec ℕ Global)} → IsIndexed packages places links back → EdgesStayBelow (length links) links
-links_stay_below {packages} {places} {links} index = rows_stay_below packages places links index.placed index.rows index.size
+pub links_stay_below : {packages : List PackageMetadata} {positions : BTreeMap Text ℕ} {links back : List (Vec ℕ Global)} → IsIndexed packages positions links back → EdgesStayBelow (length links) links
+links_stay_below {packages} {positions} {links} index = rows_stay_below packages positions links index.placed index.rows index.size
 
-pub back_stays_below : {packages : List PackageMetadata} {places : BTreeMap Text ℕ} {links back : List (Vec ℕ Global)} → IsIndexed packages places links back → EdgesStayBelow (length back) back
-back_stays_below {packages} {places} {links} {back} index b a edge =
+pub back_stays_below : {packages : List PackageMetadata} {positions : BTreeMap Text ℕ} {links back : List (Vec ℕ Global)} → IsIndexed packages positions links back → EdgesStayBelow (length back) back
+back_stays_below {packages} {positions} {links} {back} index b a edge =
     let forth = (index.back_edges a b).0 edge in
     let start : a < length links = slice_get_within links a forth.0 forth.1 in
     omega (arith, start, index.size, index.back_size)
 
 -- the marks that a search over the links leaves
-pub MarksReached-from_search : {packages : List PackageMetadata} {places : BTreeMap Text ℕ} {links back : List (Vec ℕ Global)} → IsIndexed packages places links back → (starts : List Bool) (marks : Vec Bool Global) → length starts ≡ length packages → ((k : ℕ) → IsMarked marks.items k ↔ IsReached links starts k) → MarksReached packages starts marks
-MarksReached-from_search {packages} {places} {links} {back} index starts marks size exact id = (
+pub MarksReached-from_search : {packages : List PackageMetadata} {positions : BTreeMap Text ℕ} {links back : List (Vec ℕ Global)} → IsIndexed packages positions links back → (starts : List Bool) (marks : Vec Bool Global) → length starts ≡ length packages → ((k : ℕ) → IsMarked marks.items k ↔ IsReached links starts k) → MarksReached packages starts marks
+MarksReached-from_search {packages} {positions} {links} {back} index starts marks size exact id = (
   (λ m.
       let reached = (exact m.0).0 m.2 in
       let within : reached.0 < length starts = slice_get_within starts reached.0 true reached.1 in
@@ -82,8 +83,8 @@ MarksReached-from_search {packages} {places} {links} {back} index starts marks s
       (walk.0, walk.1, (exact walk.0).1 (p.1.0, p.1.2, walk.2))),
 )
 
-pub MarksReaching-from_search : {packages : List PackageMetadata} {places : BTreeMap Text ℕ} {links back : List (Vec ℕ Global)} → IsIndexed packages places links back → (ends : List Bool) (marks : Vec Bool Global) → length ends ≡ length packages → ((k : ℕ) → IsMarked marks.items k ↔ IsReached back ends k) → MarksReaching packages ends marks
-MarksReaching-from_search {packages} {places} {links} {back} index ends marks size exact id = (
+pub MarksReaching-from_search : {packages : List PackageMetadata} {positions : BTreeMap Text ℕ} {links back : List (Vec ℕ Global)} → IsIndexed packages positions links back → (ends : List Bool) (marks : Vec Bool Global) → length ends ≡ length packages → ((k : ℕ) → IsMarked marks.items k ↔ IsReached back ends k) → MarksReaching packages ends marks
+MarksReaching-from_search {packages} {positions} {links} {back} index ends marks size exact id = (
   (λ m.
       let reached = (exact m.0).0 m.2 in
       let within : reached.0 < length ends = slice_get_within ends reached.0 true reached.1 in
@@ -99,20 +100,20 @@ MarksReaching-from_search {packages} {places} {links} {back} index ends marks si
 )
 
 -- the same of what a search answered
-pub IfOk-MarksReached : {packages : List PackageMetadata} {places : BTreeMap Text ℕ} {links back : List (Vec ℕ Global)} {E : Type 0} → IsIndexed packages places links back → (starts : List Bool) (r : Result (Vec Bool Global) E) → length starts ≡ length packages → IfOk r (λ marks. (k : ℕ) → IsMarked marks.items k ↔ IsReached links starts k) → IfOk r (MarksReached packages starts)
+pub IfOk-MarksReached : {packages : List PackageMetadata} {positions : BTreeMap Text ℕ} {links back : List (Vec ℕ Global)} {E : Type 0} → IsIndexed packages positions links back → (starts : List Bool) (r : Result (Vec Bool Global) E) → length starts ≡ length packages → IfOk r (λ marks. (k : ℕ) → IsMarked marks.items k ↔ IsReached links starts k) → IfOk r (MarksReached packages starts)
 IfOk-MarksReached index starts (Ok marks) size exact = MarksReached-from_search index starts marks size exact
 IfOk-MarksReached index starts (Err e) size exact = tt
 
-pub IfOk-MarksReaching : {packages : List PackageMetadata} {places : BTreeMap Text ℕ} {links back : List (Vec ℕ Global)} {E : Type 0} → IsIndexed packages places links back → (ends : List Bool) (r : Result (Vec Bool Global) E) → length ends ≡ length packages → IfOk r (λ marks. (k : ℕ) → IsMarked marks.items k ↔ IsReached back ends k) → IfOk r (MarksReaching packages ends)
+pub IfOk-MarksReaching : {packages : List PackageMetadata} {positions : BTreeMap Text ℕ} {links back : List (Vec ℕ Global)} {E : Type 0} → IsIndexed packages positions links back → (ends : List Bool) (r : Result (Vec Bool Global) E) → length ends ≡ length packages → IfOk r (λ marks. (k : ℕ) → IsMarked marks.items k ↔ IsReached back ends k) → IfOk r (MarksReaching packages ends)
 IfOk-MarksReaching index ends (Ok marks) size exact = MarksReaching-from_search index ends marks size exact
 IfOk-MarksReaching index ends (Err e) size exact = tt
 
--- the id at each place that a look-up found, and no other, as the look-up says
-abbrev pub IsOnlyPlace : List PackageMetadata → Text → ℕ → Type 0
-IsOnlyPlace packages id place = (k : ℕ) → (◌≡◌ {A = Option ℕ} (Some place) (Some k)) ↔ (slice_get (ids packages) k ≡ Some id)
+-- the id at each position that a look-up found, and no other, as the look-up says
+abbrev pub IsOnlyPosition : List PackageMetadata → Text → ℕ → Type 0
+IsOnlyPosition packages id position = (k : ℕ) → (◌≡◌ {A = Option ℕ} (Some position) (Some k)) ↔ (slice_get (ids packages) k ≡ Some id)
 
 -- what a search from one package says of another
-pub reached_from_one : (packages : List PackageMetadata) (a b : Text) (from to : ℕ) (starts : List Bool) (marks : Vec Bool Global) (answer : Bool) → IsOnlyPlace packages a from → IsOnlyPlace packages b to → ((k : ℕ) → IsMarked starts k ↔ (k ≡ from)) → MarksReached packages starts marks → to < length marks.items → answer ≡ get_or marks.items to answer → IsTrue answer ↔ Path packages a b
+pub reached_from_one : (packages : List PackageMetadata) (a b : Text) (from to : ℕ) (starts : List Bool) (marks : Vec Bool Global) (answer : Bool) → IsOnlyPosition packages a from → IsOnlyPosition packages b to → ((k : ℕ) → IsMarked starts k ↔ (k ≡ from)) → MarksReached packages starts marks → to < length marks.items → answer ≡ get_or marks.items to answer → IsTrue answer ↔ Path packages a b
 reached_from_one packages a b from to starts marks answer at_a at_b alone exact within read =
     let here : slice_get (ids packages) from ≡ Some a = (at_a from).0 refl in
     let there : slice_get (ids packages) to ≡ Some b = (at_b to).0 refl in
@@ -128,21 +129,21 @@ reached_from_one packages a b from to starts marks answer at_a at_b alone exact 
           same_Some answer true (sym stands ∙ ap (slice_get marks.items) same ∙ marked.2)),
     )
 
--- a look-up that found no place, of an id that no package has
-pub no_place : (packages : List PackageMetadata) (id : Text) → ((k : ℕ) → (◌≡◌ {A = Option ℕ} None (Some k)) ↔ (slice_get (ids packages) k ≡ Some id)) → ¬ Contains (ids packages) id
-no_place packages id none = λ c. let at = place_from_Contains (ids packages) id c in none-some at.0 ((none at.0).1 at.1)
+-- a look-up that found no position, of an id that no package has
+pub no_position : (packages : List PackageMetadata) (id : Text) → ((k : ℕ) → (◌≡◌ {A = Option ℕ} None (Some k)) ↔ (slice_get (ids packages) k ≡ Some id)) → ¬ Contains (ids packages) id
+no_position packages id none = λ c. let at = place_from_Contains (ids packages) id c in none-some at.0 ((none at.0).1 at.1)
 
-pub one_place : (packages : List PackageMetadata) (id : Text) (place : ℕ) → IsOnlyPlace packages id place → Contains (ids packages) id
-one_place packages id place only = Contains-from_place (ids packages) id place ((only place).0 refl)
+pub one_position : (packages : List PackageMetadata) (id : Text) (position : ℕ) → IsOnlyPosition packages id position → Contains (ids packages) id
+one_position packages id position only = Contains-from_place (ids packages) id position ((only position).0 refl)
 
-pub one_place_within : (packages : List PackageMetadata) (id : Text) (place : ℕ) → IsOnlyPlace packages id place → place < length packages
-one_place_within packages id place only =
-    let within : place < length (ids packages) = slice_get_within (ids packages) place id ((only place).0 refl) in
+pub one_position_within : (packages : List PackageMetadata) (id : Text) (position : ℕ) → IsOnlyPosition packages id position → position < length packages
+one_position_within packages id position only =
+    let within : position < length (ids packages) = slice_get_within (ids packages) position id ((only position).0 refl) in
     omega (arith, within, length-map packages (λ (p : PackageMetadata). p.id))
 
--- the package at the place of an id
-pub package_of_place : (packages : List PackageMetadata) (id : Text) (place : ℕ) (p : PackageMetadata) → IsOnlyPlace packages id place → p ≡ get_or packages place p → Contains packages p × (p.id ≡ id)
-package_of_place packages id place p only read =
-    let within : place < length packages = one_place_within packages id place only in
-    let at : slice_get packages place ≡ Some p = slice_get-get_or packages place p within ∙ ap Some (sym read) in
-    (Contains-from_place packages p place at, same_Some p.id id (sym (mapped_at (λ (q : PackageMetadata). q.id) packages place p at) ∙ (only place).0 refl))
+-- the package at the position of an id
+pub package_of_position : (packages : List PackageMetadata) (id : Text) (position : ℕ) (p : PackageMetadata) → IsOnlyPosition packages id position → p ≡ get_or packages position p → Contains packages p × (p.id ≡ id)
+package_of_position packages id position p only read =
+    let within : position < length packages = one_position_within packages id position only in
+    let at : slice_get packages position ≡ Some p = slice_get-get_or packages position p within ∙ ap Some (sym read) in
+    (Contains-from_place packages p position at, same_Some p.id id (sym (mapped_at (λ (q : PackageMetadata). q.id) packages position p at) ∙ (only position).0 refl))

@@ -1,22 +1,22 @@
--- Places in lists, and the rows of places that an index keeps.
+-- Positions in lists, and the rows of positions that an index keeps.
 use Rattle.std.proofs.Common.{zero, suc, ◌≡◌, ◌<◌, ℕ, List, [], ◌∷◌, Option, Some, length, map, refl, sym, ◌∙◌, ap, arith}
 use Rattle.std.specs.Prelude.{Contains, slice_get}
 use Rattle.std.proofs.lemmas.Option.{same_Some, slice_get-get_or, slice_get_within, get_or_from_slice_get}
 
--- an element of a list has a place, and what stands at a place is an element
+-- an element of a list has a position, and what stands at a position is an element
 pub place_from_Contains : {X : Type 0} (xs : List X) (x : X) → Contains xs x → (k : ℕ) × (slice_get xs k ≡ Some x)
 place_from_Contains xs x c = (c.0, slice_get-get_or xs c.0 x c.1 ∙ ap Some c.2)
 
 pub Contains-from_place : {X : Type 0} (xs : List X) (x : X) (k : ℕ) → slice_get xs k ≡ Some x → Contains xs x
 Contains-from_place xs x k e = (k, slice_get_within xs k x e, get_or_from_slice_get xs k x x e)
 
--- a place below the length has an element
+-- a position below the length has an element
 pub element_at : {X : Type 0} (xs : List X) (k : ℕ) → k < length xs → (x : X) × (slice_get xs k ≡ Some x)
 element_at [] k h = absurd (omega (arith, h))
 element_at (x ∷ xs) zero h = (x, refl)
 element_at (x ∷ xs) (suc k) h = element_at xs k (omega (arith, h))
 
--- what stands at a place of a mapped list was made of the element there
+-- what stands at a position of a mapped list was made of the element there
 pub element_from_mapped : {X Y : Type 0} (f : X → Y) (xs : List X) (k : ℕ) (y : Y) → slice_get (map f xs) k ≡ Some y → (x : X) × (slice_get xs k ≡ Some x) × (f x ≡ y)
 element_from_mapped f [] k y e = absurd (cc)
 element_from_mapped f (x ∷ xs) zero y e = (x, refl, same_Some (f x) y e)

@@ -14,10 +14,10 @@ use Rattle.std.proofs.lemmas.List.{take_more, length-map, length-take-le}
 use Rattle.std.proofs.lemmas.List.Elements.{Contains-append_left, Contains-get_or, Contains-push, Contains-push_cases}
 use Rattle.std.proofs.lemmas.Option.{none-some, same_Some, slice_get-get_or, slice_get_within, get_or_from_slice_get}
 use Rattle.filterset_graph.specs.declared.package.PackageMetadata.{PackageMetadata}
-use Rattle.filterset_graph.specs.Walks.{HasEdge}
+use Rattle.filterset_graph.specs.Edges.{HasEdge}
 use Rattle.filterset_graph.specs.Packages.{Text, ids, AllDiffer, IsFirstRepeat, LinksKnown, IsUnknownLink, IsFirstUnknownLink}
-use Rattle.filterset_graph.specs.Index.{PlacesAre, index_of, IsRowOf, AreRows, AddsEdges, IsReversed}
-use Rattle.filterset_graph.specs.Refusals.{IsFirstWithout}
+use Rattle.filterset_graph.specs.Index.{PositionsAre, index_of, IsRowOf, AreRows, AddsEdges, IsReversed}
+use Rattle.filterset_graph.specs.PartRefusals.{IsFirstWithout}
 use Rattle.filterset_graph.proofs.Places.{place_from_Contains, Contains-from_place, element_at, mapped_at, row_has}
 use Rattle.filterset_graph.proofs.Steps.{slice_get-set_same, slice_get-set_other}
 
@@ -50,9 +50,9 @@ pushed_cases [] x (suc k) y e = absurd (cc)
 pushed_cases (z ∷ xs) x zero y e = inl e
 pushed_cases (z ∷ xs) x (suc k) y e = elim (pushed_cases xs x k y e) [ inl h ↦ inl h | inr h ↦ inr (omega (arith, h.0), h.1) ]
 
--- one more id with its place
-pub PlacesAre-push : (old new : BTreeMap Text ℕ) (names : List Text) (id : Text) → index_of old id ≡ None → ((q : Text) → index_of new q ≡ cond (is_eq (slice_cmp nat_cmp id q)) (Some (length names)) (index_of old q)) → PlacesAre old names → PlacesAre new (names ++ id ∷ [])
-PlacesAre-push old new names id fresh updates placed q k =
+-- one more id with its position
+pub PositionsAre-push : (old new : BTreeMap Text ℕ) (names : List Text) (id : Text) → index_of old id ≡ None → ((q : Text) → index_of new q ≡ cond (is_eq (slice_cmp nat_cmp id q)) (Some (length names)) (index_of old q)) → PositionsAre old names → PositionsAre new (names ++ id ∷ [])
+PositionsAre-push old new names id fresh updates placed q k =
     elim (cases_Bool (bytes_eq id q)) [
       | inl equal ↦
           (let same : id ≡ q = (bytes_eq-Decides id q).0 equal in
@@ -74,25 +74,25 @@ PlacesAre-push old new names id fresh updates placed q k =
           ))
     ]
 
--- ids that have one place each are all different
-pub PlacesAre-AllDiffer : (places : BTreeMap Text ℕ) (names : List Text) → PlacesAre places names → AllDiffer names
-PlacesAre-AllDiffer places names placed at (k, below, within, same) =
+-- ids that have one position each are all different
+pub PositionsAre-AllDiffer : (positions : BTreeMap Text ℕ) (names : List Text) → PositionsAre positions names → AllDiffer names
+PositionsAre-AllDiffer positions names placed at (k, below, within, same) =
     let x = element_at names at within in
     let one : k ≡ at = same_Some k at (sym ((placed x.0 k).1 (same ∙ x.1)) ∙ (placed x.0 at).1 x.1) in
     omega (arith, below, one)
 
--- an id that has a place already is the first that is repeated
-pub PlacesAre-IsFirstRepeat : (places : BTreeMap Text ℕ) (names : List Text) (at : ℕ) (id : Text) (k : ℕ) → PlacesAre places (take at names) → slice_get names at ≡ Some id → index_of places id ≡ Some k → IsFirstRepeat names at
-PlacesAre-IsFirstRepeat places names at id k placed here found =
+-- an id that has a position already is the first that is repeated
+pub PositionsAre-IsFirstRepeat : (positions : BTreeMap Text ℕ) (names : List Text) (at : ℕ) (id : Text) (k : ℕ) → PositionsAre positions (take at names) → slice_get names at ≡ Some id → index_of positions id ≡ Some k → IsFirstRepeat names at
+PositionsAre-IsFirstRepeat positions names at id k placed here found =
     let earlier = taken_within at names k id ((placed id k).0 found) in
     let within : at < length names = slice_get_within names at id here in (
       (k, earlier.0, within, earlier.1 ∙ sym here),
       (λ j below (i, less, inside, same).
           let long : length (take at names) ≡ at = length-take-le at names (omega (arith, within)) in
-          PlacesAre-AllDiffer places (take at names) placed j (i, less, omega (arith, long, below), slice_get-take at names i (omega (arith, less, below)) ∙ same ∙ sym (slice_get-take at names j below))),
+          PositionsAre-AllDiffer positions (take at names) placed j (i, less, omega (arith, long, below), slice_get-take at names i (omega (arith, less, below)) ∙ same ∙ sym (slice_get-take at names j below))),
     )
 
--- an id of the packages by its place
+-- an id of the packages by its position
 pub id_at : (packages : List PackageMetadata) (at : ℕ) (p : PackageMetadata) → at < length packages → p ≡ get_or packages at p → slice_get (ids packages) at ≡ Some p.id
 id_at packages at p within read = mapped_at (λ (q : PackageMetadata). q.id) packages at p (slice_get-get_or packages at p within ∙ ap Some (sym read))
 
@@ -104,27 +104,27 @@ none_of : (o : Option ℕ) → is_some o ≡ false → o ≡ None
 none_of (Some k) e = absurd (cc)
 none_of None e = refl
 
--- an id whose look-up found an earlier place
-pub repeated_at : (packages : List PackageMetadata) (at : ℕ) (p : PackageMetadata) (key : Text) (places : BTreeMap Text ℕ) (earlier : Option ℕ) → at < length packages → p ≡ get_or packages at p → key ≡ p.id → PlacesAre places (take at (ids packages)) → earlier ≡ index_of places key → is_some earlier ≡ true → IsFirstRepeat (ids packages) at
-repeated_at packages at p key places earlier within read copy placed old found =
+-- an id whose look-up found an earlier position
+pub repeated_at : (packages : List PackageMetadata) (at : ℕ) (p : PackageMetadata) (key : Text) (positions : BTreeMap Text ℕ) (earlier : Option ℕ) → at < length packages → p ≡ get_or packages at p → key ≡ p.id → PositionsAre positions (take at (ids packages)) → earlier ≡ index_of positions key → is_some earlier ≡ true → IsFirstRepeat (ids packages) at
+repeated_at packages at p key positions earlier within read copy placed old found =
     let k = some_of earlier found in
-    PlacesAre-IsFirstRepeat places (ids packages) at p.id k.0 placed (id_at packages at p within read) (ap (index_of places) (sym copy) ∙ sym old ∙ k.1)
+    PositionsAre-IsFirstRepeat positions (ids packages) at p.id k.0 placed (id_at packages at p within read) (ap (index_of positions) (sym copy) ∙ sym old ∙ k.1)
 
--- an id whose look-up found none, with its own place now
-pub placed_more : (packages : List PackageMetadata) (at : ℕ) (p : PackageMetadata) (key : Text) (old new : BTreeMap Text ℕ) (earlier : Option ℕ) → at < length packages → p ≡ get_or packages at p → key ≡ p.id → PlacesAre old (take at (ids packages)) → earlier ≡ index_of old key → is_some earlier ≡ false → ((q : Text) → index_of new q ≡ cond (is_eq (slice_cmp nat_cmp key q)) (Some at) (index_of old q)) → PlacesAre new (take (at + 1) (ids packages))
+-- an id whose look-up found none, with its own position now
+pub placed_more : (packages : List PackageMetadata) (at : ℕ) (p : PackageMetadata) (key : Text) (old new : BTreeMap Text ℕ) (earlier : Option ℕ) → at < length packages → p ≡ get_or packages at p → key ≡ p.id → PositionsAre old (take at (ids packages)) → earlier ≡ index_of old key → is_some earlier ≡ false → ((q : Text) → index_of new q ≡ cond (is_eq (slice_cmp nat_cmp key q)) (Some at) (index_of old q)) → PositionsAre new (take (at + 1) (ids packages))
 placed_more packages at p key old new earlier within read copy placed found missing updates =
     let inside : at < length (ids packages) = rw length-map within in
     let long : length (take at (ids packages)) ≡ at = length-take-le at (ids packages) (omega (arith, inside)) in
     let named : get_or (ids packages) at [] ≡ key = get_or_from_slice_get (ids packages) at key [] (id_at packages at p within read ∙ ap Some (sym copy)) in
     rw (take_more (ids packages) at [] inside, named)
-    (PlacesAre-push old new (take at (ids packages)) key (sym found ∙ none_of earlier missing) (λ q. rw long (updates q)) placed)
+    (PositionsAre-push old new (take at (ids packages)) key (sym found ∙ none_of earlier missing) (λ q. rw long (updates q)) placed)
 
--- one more place in the row at one place
-pub HasEdge-push : (rows : List (Vec ℕ Global)) (place from : ℕ) (old new : Vec ℕ Global) → place < length rows → slice_get rows place ≡ Some old → new.items ≡ old.items ++ from ∷ [] → (a b : ℕ) → HasEdge (set rows place new) b a ↔ (HasEdge rows b a ⊎ ((a ≡ from) × (b ≡ place)))
-HasEdge-push rows place from old new within here pushed a b =
-    elim (cases_eq b place) [
+-- one more position in the row at one position
+pub HasEdge-push : (rows : List (Vec ℕ Global)) (position from : ℕ) (old new : Vec ℕ Global) → position < length rows → slice_get rows position ≡ Some old → new.items ≡ old.items ++ from ∷ [] → (a b : ℕ) → HasEdge (set rows position new) b a ↔ (HasEdge rows b a ⊎ ((a ≡ from) × (b ≡ position)))
+HasEdge-push rows position from old new within here pushed a b =
+    elim (cases_eq b position) [
       | inl same ↦
-          (let after : slice_get (set rows place new) b ≡ Some new = ap (slice_get (set rows place new)) same ∙ slice_get-set_same rows place new within in
+          (let after : slice_get (set rows position new) b ≡ Some new = ap (slice_get (set rows position new)) same ∙ slice_get-set_same rows position new within in
           let before : slice_get rows b ≡ Some old = ap (slice_get rows) same ∙ here in (
             (λ edge.
                 let row : edge.0 ≡ new = same_Some edge.0 new (sym edge.1 ∙ after) in
@@ -136,7 +136,7 @@ HasEdge-push rows place from old new within here pushed a b =
             ]),
           ))
       | inr apart ↦
-          (let kept : slice_get (set rows place new) b ≡ slice_get rows b = slice_get-set_other rows place new b apart in (
+          (let kept : slice_get (set rows position new) b ≡ slice_get rows b = slice_get-set_other rows position new b apart in (
             (λ edge. inl (edge.0, sym kept ∙ edge.1, edge.2)),
             (λ cases. elim cases [ inl edge ↦ (edge.0, kept ∙ edge.1, edge.2) | inr e ↦ absurd (apart e.1) ]),
           ))
@@ -145,19 +145,19 @@ HasEdge-push rows place from old new within here pushed a b =
 pub AddsEdges-none : (rows : List (Vec ℕ Global)) (from : ℕ) → AddsEdges rows [] from rows
 AddsEdges-none rows from a b = ((λ edge. inl edge), (λ cases. elim cases [ inl edge ↦ edge | inr e ↦ absurd (omega (arith, e.1.1)) ]))
 
-pub AddsEdges-more : (rows mid : List (Vec ℕ Global)) (places : List ℕ) (i from : ℕ) (old new : Vec ℕ Global) → i < length places → get_or places i 0 < length mid → old ≡ get_or mid (get_or places i 0) old → new.items ≡ old.items ++ from ∷ [] → AddsEdges rows (take i places) from mid → AddsEdges rows (take (i + 1) places) from (set mid (get_or places i 0) new)
-AddsEdges-more rows mid places i from old new h within read pushed adds =
-    rw (take_more places i 0 h) (λ a b.
-    let place : ℕ = get_or places i 0 in
-    let here : slice_get mid place ≡ Some old = slice_get-get_or mid place old within ∙ ap Some (sym read) in
-    let step = HasEdge-push mid place from old new within here pushed a b in (
+pub AddsEdges-more : (rows mid : List (Vec ℕ Global)) (positions : List ℕ) (i from : ℕ) (old new : Vec ℕ Global) → i < length positions → get_or positions i 0 < length mid → old ≡ get_or mid (get_or positions i 0) old → new.items ≡ old.items ++ from ∷ [] → AddsEdges rows (take i positions) from mid → AddsEdges rows (take (i + 1) positions) from (set mid (get_or positions i 0) new)
+AddsEdges-more rows mid positions i from old new h within read pushed adds =
+    rw (take_more positions i 0 h) (λ a b.
+    let position : ℕ = get_or positions i 0 in
+    let here : slice_get mid position ≡ Some old = slice_get-get_or mid position old within ∙ ap Some (sym read) in
+    let step = HasEdge-push mid position from old new within here pushed a b in (
       (λ edge. elim (step.0 edge) [
-        | inl e ↦ elim ((adds a b).0 e) [ inl g ↦ inl g | inr g ↦ inr (g.0, Contains-append_left (take i places) (place ∷ []) b g.1) ]
-        | inr e ↦ inr (e.0, subst (λ (k : ℕ). Contains (take i places ++ place ∷ []) k) (sym e.1) (Contains-push (take i places) place))
+        | inl e ↦ elim ((adds a b).0 e) [ inl g ↦ inl g | inr g ↦ inr (g.0, Contains-append_left (take i positions) (position ∷ []) b g.1) ]
+        | inr e ↦ inr (e.0, subst (λ (k : ℕ). Contains (take i positions ++ position ∷ []) k) (sym e.1) (Contains-push (take i positions) position))
       ]),
       (λ cases. elim cases [
         | inl g ↦ step.1 (inl ((adds a b).1 (inl g)))
-        | inr g ↦ elim (Contains-push_cases (take i places) place b g.1) [
+        | inr g ↦ elim (Contains-push_cases (take i positions) position b g.1) [
           | inl e ↦ step.1 (inl ((adds a b).1 (inr (g.0, e))))
           | inr e ↦ step.1 (inr (g.0, sym e))
         ]
@@ -172,7 +172,7 @@ no_edges rows empty a b (row, at, c) =
     let inside : c.0 < length row.items = c.1 in
     omega (arith, inside, ap length none)
 
--- the edges from the places below i, the other way round
+-- the edges from the positions below i, the other way round
 abbrev pub ReversedBelow : ℕ → List (Vec ℕ Global) → List (Vec ℕ Global) → Type 0
 ReversedBelow i links back = (a b : ℕ) → HasEdge back b a ↔ ((a < i) × HasEdge links a b)
 
@@ -198,43 +198,43 @@ ReversedBelow-all links back n long below a b = (
 )
 
 -- one more row
-pub AreRows-push : (places : BTreeMap Text ℕ) (packages : List PackageMetadata) (links : List (Vec ℕ Global)) (at : ℕ) (p : PackageMetadata) (row : Vec ℕ Global) → length links ≡ at → at < length packages → p ≡ get_or packages at p → IsRowOf places p.links.items row.items → AreRows places packages links → AreRows places packages (links ++ row ∷ [])
-AreRows-push places packages links at p row size within read resolved rows = λ k q r here there.
+pub AreRows-push : (positions : BTreeMap Text ℕ) (packages : List PackageMetadata) (links : List (Vec ℕ Global)) (at : ℕ) (p : PackageMetadata) (row : Vec ℕ Global) → length links ≡ at → at < length packages → p ≡ get_or packages at p → IsRowOf positions p.links.items row.items → AreRows positions packages links → AreRows positions packages (links ++ row ∷ [])
+AreRows-push positions packages links at p row size within read resolved rows = λ k q r here there.
     elim (pushed_cases links row k r there) [
       | inl h ↦ rows k q r here h
       | inr h ↦
           (let at_p : slice_get packages at ≡ Some p = slice_get-get_or packages at p within ∙ ap Some (sym read) in
-          let place : k ≡ at = h.0 ∙ size in
-          let one : p ≡ q = same_Some p q (sym at_p ∙ ap (slice_get packages) (sym place) ∙ here) in
-          subst (λ (x : PackageMetadata). IsRowOf places x.links.items r.items) one (subst (λ (v : Vec ℕ Global). IsRowOf places p.links.items v.items) h.1 resolved))
+          let position : k ≡ at = h.0 ∙ size in
+          let one : p ≡ q = same_Some p q (sym at_p ∙ ap (slice_get packages) (sym position) ∙ here) in
+          subst (λ (x : PackageMetadata). IsRowOf positions x.links.items r.items) one (subst (λ (v : Vec ℕ Global). IsRowOf positions p.links.items v.items) h.1 resolved))
     ]
 
--- a link whose look-up finds a place names a package
-known_link : (places : BTreeMap Text ℕ) (packages : List PackageMetadata) (links : List Text) (row : List ℕ) → PlacesAre places (ids packages) → IsRowOf places links row → (id : Text) → Contains links id → Contains (ids packages) id
-known_link places packages links row placed resolved id c =
-    let b = row_has (index_of places) links row resolved id c in
+-- a link whose look-up finds a position names a package
+known_link : (positions : BTreeMap Text ℕ) (packages : List PackageMetadata) (links : List Text) (row : List ℕ) → PositionsAre positions (ids packages) → IsRowOf positions links row → (id : Text) → Contains links id → Contains (ids packages) id
+known_link positions packages links row placed resolved id c =
+    let b = row_has (index_of positions) links row resolved id c in
     Contains-from_place (ids packages) id b.0 ((placed id b.0).0 b.2)
 
 -- the links of a package that has a row name packages
-pub known_links : (places : BTreeMap Text ℕ) (packages : List PackageMetadata) (links : List (Vec ℕ Global)) (k : ℕ) → PlacesAre places (ids packages) → AreRows places packages links → k < length links → (j : ℕ) → IsUnknownLink packages k j → ⊥
-known_links places packages links k placed rows within j (p, id, here, there, unknown) =
+pub known_links : (positions : BTreeMap Text ℕ) (packages : List PackageMetadata) (links : List (Vec ℕ Global)) (k : ℕ) → PositionsAre positions (ids packages) → AreRows positions packages links → k < length links → (j : ℕ) → IsUnknownLink packages k j → ⊥
+known_links positions packages links k placed rows within j (p, id, here, there, unknown) =
     let row = element_at links k within in
-    unknown (known_link places packages p.links.items row.0.items placed (rows k p row.0 here row.1) id (Contains-from_place p.links.items id j there))
+    unknown (known_link positions packages p.links.items row.0.items placed (rows k p row.0 here row.1) id (Contains-from_place p.links.items id j there))
 
-pub LinksKnown-from_rows : (places : BTreeMap Text ℕ) (packages : List PackageMetadata) (links : List (Vec ℕ Global)) → PlacesAre places (ids packages) → length links ≡ length packages → AreRows places packages links → LinksKnown packages
-LinksKnown-from_rows places packages links placed size rows = λ k d h j e g.
+pub LinksKnown-from_rows : (positions : BTreeMap Text ℕ) (packages : List PackageMetadata) (links : List (Vec ℕ Global)) → PositionsAre positions (ids packages) → length links ≡ length packages → AreRows positions packages links → LinksKnown packages
+LinksKnown-from_rows positions packages links placed size rows = λ k d h j e g.
     let p : PackageMetadata = get_or packages k d in
     let row = element_at links k (omega (arith, h, size)) in
-    known_link places packages p.links.items row.0.items placed (rows k p row.0 (slice_get-get_or packages k d h) row.1) (get_or p.links.items j e) (Contains-get_or p.links.items j e g)
+    known_link positions packages p.links.items row.0.items placed (rows k p row.0 (slice_get-get_or packages k d h) row.1) (get_or p.links.items j e) (Contains-get_or p.links.items j e g)
 
--- the first link without a place, in the first package that has one
-pub first_unknown : (places : BTreeMap Text ℕ) (packages : List PackageMetadata) (links : List (Vec ℕ Global)) (at : ℕ) (p : PackageMetadata) (owner link : ℕ) → PlacesAre places (ids packages) → length links ≡ at → AreRows places packages links → at < length packages → p ≡ get_or packages at p → owner ≡ at → IsFirstWithout places p.links.items link → IsFirstUnknownLink packages owner link
-first_unknown places packages links at p owner link placed size rows within read same (known, (id, here, missing)) =
+-- the first link without a position, in the first package that has one
+pub first_unknown : (positions : BTreeMap Text ℕ) (packages : List PackageMetadata) (links : List (Vec ℕ Global)) (at : ℕ) (p : PackageMetadata) (owner link : ℕ) → PositionsAre positions (ids packages) → length links ≡ at → AreRows positions packages links → at < length packages → p ≡ get_or packages at p → owner ≡ at → IsFirstWithout positions p.links.items link → IsFirstUnknownLink packages owner link
+first_unknown positions packages links at p owner link placed size rows within read same (known, (id, here, missing)) =
     let at_p : slice_get packages owner ≡ Some p = ap (slice_get packages) same ∙ slice_get-get_or packages at p within ∙ ap Some (sym read) in (
       (p, id, at_p, here, (λ c. let k = place_from_Contains (ids packages) id c in none-some k.0 (sym missing ∙ (placed id k.0).1 k.1))),
-      (λ k j below. known_links places packages links k placed rows (omega (arith, below, size, same)) j),
+      (λ k j below. known_links positions packages links k placed rows (omega (arith, below, size, same)) j),
       (λ j below (q, other, q_at, other_at, unknown).
           let one : q ≡ p = same_Some q p (sym q_at ∙ at_p) in
           let listed : slice_get p.links.items j ≡ Some other = subst (λ (x : PackageMetadata). slice_get x.links.items j ≡ Some other) one other_at in
-          unknown (known_link places packages (take link p.links.items) known.0 placed known.1 other (Contains-from_place (take link p.links.items) other j (slice_get-take link p.links.items j below ∙ listed)))),
+          unknown (known_link positions packages (take link p.links.items) known.0 placed known.1 other (Contains-from_place (take link p.links.items) other j (slice_get-take link p.links.items j below ∙ listed)))),
     )

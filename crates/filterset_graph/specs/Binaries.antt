@@ -8,7 +8,7 @@ use Rattle.filterset_graph.specs.declared.package.PackageMetadata.{PackageMetada
 use Rattle.filterset_graph.specs.Packages.{Text}
 
 -- the id of the test binary of this kind that is made of a target of a package: for the tests of a library the
--- package's name, for an integration test the target's name behind it, for any other kind the kind between them
+-- package's name, for an integration test the target's name after it, for any other kind the kind between them
 abbrev pub written_id : Text → Text → Text → Text
 written_id package_name kind target_name =
     if bytes_eq kind (codes "lib") || bytes_eq kind (codes "proc-macro") then package_name

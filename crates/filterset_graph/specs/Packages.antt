@@ -21,16 +21,16 @@ abbrev pub Path : List PackageMetadata → Text → Text → Type 0
 Path packages a b =
     Contains (ids packages) a × ((rest : List Text) × Follows (IsLinked packages) a rest b)
 
--- the id at this place stands at an earlier place too
+-- the id at this position stands at an earlier position too
 abbrev pub RepeatsAt : List Text → ℕ → Type 0
 RepeatsAt names at =
     (k : ℕ) × (k < at) × (at < length names) × (slice_get names k ≡ slice_get names at)
 
--- no two places have the same id
+-- no two positions have the same id
 abbrev pub AllDiffer : List Text → Type 0
 AllDiffer names = (at : ℕ) → ¬ RepeatsAt names at
 
--- the least place whose id stands at an earlier place
+-- the least position whose id stands at an earlier position
 abbrev pub IsFirstRepeat : List Text → ℕ → Type 0
 IsFirstRepeat names at = RepeatsAt names at × ((k : ℕ) → k < at → ¬ RepeatsAt names k)
 
@@ -44,7 +44,7 @@ IsUnknownLink packages owner link =
     (p : PackageMetadata) × (id : Text) × (slice_get packages owner ≡ Some p)
     × (slice_get p.links.items link ≡ Some id) × ¬ Contains (ids packages) id
 
--- the first place of a package, and in it the first place of a link, that names no package
+-- the first position of a package, and in it the first position of a link, that names no package
 abbrev pub IsFirstUnknownLink : List PackageMetadata → ℕ → ℕ → Type 0
 IsFirstUnknownLink packages owner link =
     IsUnknownLink packages owner link

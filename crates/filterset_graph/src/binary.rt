@@ -127,7 +127,7 @@ impl RustBinaryId {
 
     /// The id of the test binary of this kind that is made of a target of a package: the package's name
     /// where the kind is `lib` or `proc-macro`, `package::target` where it is `test`, and else
-    /// `package::kind/target`. The only error is want of memory.
+    /// `package::kind/target`. The only error is out of memory.
     pub fn from_parts(
         alloc: Global,
         package_name: &str,
@@ -185,7 +185,7 @@ impl Model for TestCaseName {
 }
 
 impl TestCaseName {
-    /// The name with this text. The only error is want of memory.
+    /// The name with this text. The only error is out of memory.
     pub fn new(alloc: Global, name: &str) -> Result<TestCaseName, AllocError>
         ensures { IfOk result (λ made. made ≡ name.now) }
     {

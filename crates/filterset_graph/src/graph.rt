@@ -5,7 +5,7 @@ ghost use Rattle.filterset_graph.specs.Packages.{Path, AllDiffer, LinksKnown, id
 ghost use Rattle.filterset_graph.specs.Marked.{MarksReached, MarksReaching};
 ghost use Rattle.filterset_graph.specs.Refusals.{IsRefusalOf};
 
-use crate::index::{places_of, resolved_links, reversed};
+use crate::index::{positions_of, resolved_links, reversed};
 use crate::package::{PackageId, PackageMetadata};
 use crate::refusal::{DependsRefusal, GraphRefusal};
 use crate::search::{marked_alone, reached};
@@ -19,10 +19,10 @@ use std::marker::Model;
 pub struct PackageGraph {
     packages: Vec<PackageMetadata>,
     /// Where the package of each id stands in that list.
-    places: BTreeMap<PackageId, usize>,
-    /// For each package the places of those that it depends on.
+    positions: BTreeMap<PackageId, usize>,
+    /// For each package the positions of those that it depends on.
     links: Vec<Vec<usize>>,
-    /// For each package the places of those that depend on it.
+    /// For each package the positions of those that depend on it.
     linked_by: Vec<Vec<usize>>,
 }
 
@@ -35,37 +35,37 @@ impl Model for PackageGraph {
 
     ghost view = { λ g. g.packages.items };
 
-    ghost invariant = { λ g. IsIndexed g.packages.items g.places g.links.items g.linked_by.items };
+    ghost invariant = { λ g. IsIndexed g.packages.items g.positions g.links.items g.linked_by.items };
 }
 
 impl PackageGraph {
     /// The graph of these packages; no packages make the empty graph.
     ///
-    /// `RepeatedId` names the first place whose id stands at an earlier place. Where no id is repeated,
-    /// `UnknownLink` names the first place of a package, and in it the first place of a link, that names
-    /// no package. Places begin at 0. The list is not handed back. It takes packages plus links, times
+    /// `RepeatedId` names the first position whose id stands at an earlier position. Where no id is repeated,
+    /// `UnknownLink` names the first position of a package, and in it the first position of a link, that names
+    /// no package. Positions begin at 0. The list is not handed back. It takes packages plus links, times
     /// the logarithm of the packages.
     pub fn new(alloc: Global, packages: Vec<PackageMetadata>) -> Result<PackageGraph, GraphRefusal>
         ensures ok { IfOk result (λ graph. graph ≡ packages.items) }
         ensures sound { OnOk result (AllDiffer (ids packages.items) × LinksKnown packages.items) }
         ensures refused { IfErr result (IsRefusalOf packages.items) }
     {
-        let places = places_of(alloc, packages.as_slice())?;
-        let links = resolved_links(alloc, &places, packages.as_slice())?;
+        let positions = positions_of(alloc, packages.as_slice())?;
+        let links = resolved_links(alloc, &positions, packages.as_slice())?;
         let linked_by = reversed(alloc, links.as_slice())?;
         Ok(PackageGraph {
             packages,
-            places,
+            positions,
             links,
             linked_by,
         })
     }
 
-    /// The place of the package with this id.
-    fn place(&self, id: &PackageId) -> Option<usize>
+    /// The position of the package with this id.
+    fn position(&self, id: &PackageId) -> Option<usize>
         ensures { (k : ℕ) → (result ≡ Some k) ↔ (slice_get (ids self.now) k ≡ Some id.now) }
     {
-        self.places.get(id).copied()
+        self.positions.get(id).copied()
     }
 
     /// The packages, in the order in which they were given. Their ids differ, and each link names one
@@ -83,15 +83,15 @@ impl PackageGraph {
         ensures { MatchOption result (¬ Contains (ids self.now) id.now)
             (λ p. Contains self.now p.now × (p.now.id ≡ id.now)) }
     {
-        let place = self.place(id)?;
-        Some(&self.packages[place])
+        let position = self.position(id)?;
+        Some(&self.packages[position])
     }
 
     /// Whether `a` depends on `b`: whether a path of links, of any length and zero too, leads from `a`
     /// to `b`. Paths may run through packages outside the workspace.
     ///
     /// `UnknownPackage` is answered exactly where `a` or `b` is no package of the graph; the only other
-    /// error is want of memory. It is one search, linear in the packages and the links that it reaches.
+    /// error is out of memory. It is one search, linear in the packages and the links that it reaches.
     pub fn depends_on(
         &self,
         alloc: Global,
@@ -103,7 +103,7 @@ impl PackageGraph {
         ensures unknown { IsErrOf result unanswered.UnknownPackage
             ↔ ¬ (Contains (ids self.now) a.now × Contains (ids self.now) b.now) }
     {
-        let (Some(from), Some(to)) = (self.place(a), self.place(b)) else {
+        let (Some(from), Some(to)) = (self.position(a), self.position(b)) else {
             return Err(DependsRefusal::UnknownPackage);
         };
         let starts = marked_alone(alloc, self.packages.len(), from)?;
@@ -112,8 +112,8 @@ impl PackageGraph {
     }
 
     /// Marks the packages to which a path of links leads from a marked one: these themselves, and all
-    /// that they depend on. A mark belongs to the package at the same place of `packages`. The only
-    /// error is want of memory. It is one search for all starts.
+    /// that they depend on. A mark belongs to the package at the same position of `packages`. The only
+    /// error is out of memory. It is one search for all starts.
     pub fn reached_from(&self, alloc: Global, starts: &[bool]) -> Result<Vec<bool>, AllocError>
         requires { length starts.now ≡ length self.now }
         ensures len { IfOk result (λ marks. vec_len marks ≡ length self.now) }
@@ -123,8 +123,8 @@ impl PackageGraph {
     }
 
     /// Marks the packages from which a path of links leads to a marked one: these themselves, and all
-    /// that depend on them. A mark belongs to the package at the same place of `packages`. The only
-    /// error is want of memory. It is one search for all ends.
+    /// that depend on them. A mark belongs to the package at the same position of `packages`. The only
+    /// error is out of memory. It is one search for all ends.
     pub fn reaching(&self, alloc: Global, ends: &[bool]) -> Result<Vec<bool>, AllocError>
         requires { length ends.now ≡ length self.now }
         ensures len { IfOk result (λ marks. vec_len marks ≡ length self.now) }

@@ -1,73 +1,73 @@
 //! What a graph keeps beside its packages, so that a question takes one search.
 ghost use Rattle.std.specs.Prelude.{◌≡◌, ◌<◌, ◌+◌, ℕ, All, IfOk, IfErr, OnOk, length, vec_len};
-ghost use Rattle.filterset_graph.specs.Index.{AddsEdges, AreRows, IsReversed, IsRowOf, PlacesAre};
+ghost use Rattle.filterset_graph.specs.Index.{AddsEdges, AreRows, IsReversed, IsRowOf, PositionsAre};
 ghost use Rattle.filterset_graph.specs.Packages.{ids};
-ghost use Rattle.filterset_graph.specs.Refusals.{IsRefusalOfIds, IsRefusalOfLinks, IsRefusalOfRow};
-ghost use Rattle.filterset_graph.specs.Walks.{EdgesStayBelow, HasEdge};
+ghost use Rattle.filterset_graph.specs.PartRefusals.{IsRefusalOfIds, IsRefusalOfLinks, IsRefusalOfRow};
+ghost use Rattle.filterset_graph.specs.Edges.{EdgesStayBelow, HasEdge};
 
 use crate::package::{PackageId, PackageMetadata};
 use crate::refusal::GraphRefusal;
 use std::alloc::{AllocError, Global};
 use std::collections::BTreeMap;
 
-/// The place of each id, or the first place whose id stands at an earlier one.
-pub fn places_of(
+/// The position of each id, or the first position whose id stands at an earlier one.
+pub fn positions_of(
     alloc: Global,
     packages: &[PackageMetadata],
 ) -> Result<BTreeMap<PackageId, usize>, GraphRefusal>
-    ensures ok { IfOk result (λ places. PlacesAre places (ids packages.now)) }
+    ensures ok { IfOk result (λ positions. PositionsAre positions (ids packages.now)) }
     ensures refused { IfErr result (IsRefusalOfIds (ids packages.now)) }
 {
-    let mut places = BTreeMap::new(alloc);
+    let mut positions = BTreeMap::new(alloc);
     for (at, package) in packages.iter().enumerate() {
-        let earlier = places.insert(package.id.try_clone(alloc)?, at)?;
+        let earlier = positions.insert(package.id.try_clone(alloc)?, at)?;
         if earlier.is_some() {
             return Err(GraphRefusal::RepeatedId { at });
         }
     }
-    Ok(places)
+    Ok(positions)
 }
 
-/// The places of the packages that the links of the package at `package` name, or the first link that
+/// The positions of the packages that the links of the package at `package` name, or the first link that
 /// names none.
 fn resolved_row(
     alloc: Global,
-    places: &BTreeMap<PackageId, usize>,
+    positions: &BTreeMap<PackageId, usize>,
     links: &[PackageId],
     package: usize,
 ) -> Result<Vec<usize>, GraphRefusal>
-    ensures ok { IfOk result (λ row. IsRowOf places.now links.now row.items) }
-    ensures refused { IfErr result (IsRefusalOfRow places.now links.now «package») }
+    ensures ok { IfOk result (λ row. IsRowOf positions.now links.now row.items) }
+    ensures refused { IfErr result (IsRefusalOfRow positions.now links.now «package») }
 {
     let mut row = Vec::new(alloc);
     for (link, id) in links.iter().enumerate() {
-        let Some(place) = places.get(id) else {
+        let Some(position) = positions.get(id) else {
             return Err(GraphRefusal::UnknownLink { package, link });
         };
-        row.push(*place)?;
+        row.push(*position)?;
     }
     Ok(row)
 }
 
-/// For each package the places of those that it is linked to, or the first link that names none.
+/// For each package the positions of those that it is linked to, or the first link that names none.
 pub fn resolved_links(
     alloc: Global,
-    places: &BTreeMap<PackageId, usize>,
+    positions: &BTreeMap<PackageId, usize>,
     packages: &[PackageMetadata],
 ) -> Result<Vec<Vec<usize>>, GraphRefusal>
-    requires { PlacesAre places.now (ids packages.now) }
+    requires { PositionsAre positions.now (ids packages.now) }
     ensures len { IfOk result (λ links. vec_len links ≡ length packages.now) }
-    ensures ok { IfOk result (λ links. AreRows places.now packages.now links.items) }
+    ensures ok { IfOk result (λ links. AreRows positions.now packages.now links.items) }
     ensures refused { IfErr result (IsRefusalOfLinks packages.now) }
 {
     let mut links = Vec::new(alloc);
     for (at, package) in packages.iter().enumerate() {
-        links.push(resolved_row(alloc, places, package.links.as_slice(), at)?)?;
+        links.push(resolved_row(alloc, positions, package.links.as_slice(), at)?)?;
     }
     Ok(links)
 }
 
-/// `len` rows without places.
+/// `len` rows without positions.
 fn empty_rows(alloc: Global, len: usize) -> Result<Vec<Vec<usize>>, AllocError>
     ensures len { IfOk result (λ rows. vec_len rows ≡ len) }
     ensures empty { IfOk result (λ rows. (a b : ℕ) → ¬ HasEdge rows.items a b) }
@@ -79,18 +79,18 @@ fn empty_rows(alloc: Global, len: usize) -> Result<Vec<Vec<usize>>, AllocError>
     Ok(rows)
 }
 
-/// Adds the place `from` to each of these rows.
-fn add_to_rows(rows: &mut [Vec<usize>], places: &[usize], from: usize) -> Result<(), AllocError>
-    requires { All (λ place. place < length rows.old) places.now }
-    ensures { OnOk result (AddsEdges rows.old places.now from rows.new) }
+/// Adds the position `from` to each of these rows.
+fn add_to_rows(rows: &mut [Vec<usize>], positions: &[usize], from: usize) -> Result<(), AllocError>
+    requires { All (λ position. position < length rows.old) positions.now }
+    ensures { OnOk result (AddsEdges rows.old positions.now from rows.new) }
 {
-    for place in places {
-        rows[*place].push(from)?;
+    for position in positions {
+        rows[*position].push(from)?;
     }
     Ok(())
 }
 
-/// For each place the places whose rows name it.
+/// For each position the positions whose rows name it.
 pub fn reversed(alloc: Global, links: &[Vec<usize>]) -> Result<Vec<Vec<usize>>, AllocError>
     requires { EdgesStayBelow (length links.now) links.now }
     ensures len { IfOk result (λ back. vec_len back ≡ length links.now) }

@@ -45,7 +45,7 @@ impl PackageId {
         self.repr.as_str()
     }
 
-    /// An equal id. The only error is want of memory.
+    /// An equal id. The only error is out of memory.
     pub fn try_clone(&self, alloc: Global) -> Result<PackageId, AllocError>
         ensures { IfOk result (λ copy. copy ≡ self.now) }
     {

@@ -8,14 +8,14 @@ use Rattle.std.proofs.Math.Seq.{get_or-append_seam}
 use Rattle.filterset_faults.specs.Span.{span}
 use Rattle.filterset_faults.specs.declared.span.SourceSpan.{SourceSpan}
 use Rattle.filterset_faults.specs.declared.error.ParseSingleError.TheVariants.{InvalidRegexWithoutMessage}
-use Rattle.filterset_language.specs.Text.{SlashesFollow, ends_in_backslash, with_slashes, Body}
+use Rattle.filterset_grammar.specs.Text.{SlashesFollow, ends_in_backslash, with_slashes, Body}
 use Rattle.std.specs.Prelude.{slice_range}
 use Rattle.filterset_language.specs.Parsing.Place.{Place, place, place_of, advanced, after}
 use Rattle.filterset_language.specs.Parsing.RawTexts.{body_len, body_by, body_at, BodyTaken}
 use Rattle.filterset_language.specs.Faults.{piece, EndsWith}
 use Rattle.filterset_language.specs.Parsing.Recovery.{Found}
 use Rattle.filterset_language.specs.declared.parsing.input.Input.{Input}
-use Rattle.filterset_language.proofs.Takes.{after_takes}
+use Rattle.filterset_language.proofs.StepsTakeText.{after_takes}
 use Rattle.filterset_language.proofs.EscapeReading.{map_is}
 use Rattle.filterset_language.proofs.RawTextFaults.{size, begins_here}
 

@@ -8,7 +8,7 @@ use Rattle.std.proofs.lemmas.Bool.{lt-ltb, ltb-true, ne_eqb, eqb-true}
 use Rattle.std.proofs.lemmas.Bool.Decides.{eqb_tells}
 use Rattle.std.proofs.lemmas.Str.{IsCharBoundary-after_ascii}
 use Rattle.std.proofs.Math.Seq.{get_or-append_seam}
-use Rattle.filterset_language.specs.Text.{hex_value, HexDigits, Letter, line_feed, carriage_return, tab, backspace, form_feed, backslash, slash, close, comma, Escape, letter, hexadecimal}
+use Rattle.filterset_grammar.specs.Text.{hex_value, HexDigits, Letter, line_feed, carriage_return, tab, backspace, form_feed, backslash, slash, close, comma, Escape, letter, hexadecimal}
 use Rattle.filterset_language.specs.Parsing.Escapes.{letter_at, digit_at, named, code_from, escape_at}
 
 -- ---- options

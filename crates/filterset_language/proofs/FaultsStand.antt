@@ -5,31 +5,31 @@ use Rattle.std.specs.Option.{option_map}
 use Rattle.std.proofs.lemmas.List.{take-append-drop, take_at}
 use Rattle.std.proofs.Math.Seq.{take-append-add}
 use Rattle.std.proofs.lemmas.Str.{IsCharBoundary-from_rest}
-use Rattle.filterset_language.specs.Text.{Blanks, WhiteSpace}
+use Rattle.filterset_grammar.specs.Text.{Blanks, WhiteSpace}
 use Rattle.filterset_language.specs.Parsing.Front.{blank_len, close_len, is_white}
 use Rattle.filterset_language.specs.Parsing.Place.{Place, place, place_of, skip, skip_from, after, IsBehind}
 use Rattle.filterset_language.specs.Parsing.Words.{choose, with, not_at, name_at, joiner_at, or_at, name_text}
-use Rattle.filterset_language.specs.Tree as tree
-use Rattle.filterset_language.specs.Tree.{Predicate, Joiner}
-use Rattle.filterset_language.specs.Grammar.{Name, not_text, join_text, or_text, not_ends}
+use Rattle.filterset_grammar.specs.declared.operators.Joiner.{Joiner}
+use Rattle.filterset_grammar.specs.declared.predicate.Predicate.{Predicate}
+use Rattle.filterset_grammar.specs.Grammar.{Name, not_text, join_text, or_text, not_ends}
 use Rattle.filterset_language.specs.Faults.{ClosesArgument, InvalidAnd, InvalidOr, Misplaced, misplaced_and, misplaced_or, misplaced_AND, misplaced_OR, misplaced_ampersands, misplaced_pipes, EndsWith, BehindBlanks, BeginsOperand, with_name, with_negation, with_parenthesis, IsName, Opener, parenthesis, invalid_and, invalid_or, BeforeOperand, at_start, behind_opener, FaultStands}
 use Rattle.filterset_language.specs.Faults as faults
 use Rattle.filterset_language.specs.Parsing.Recovery.{Found, AtOperand, AtName, behind_misplaced, IsMisplaced, NoMisplacedWord, NoMisplacedSign, IsCapitalNot}
 use Rattle.filterset_faults.specs.Span.{span}
 use Rattle.filterset_language.specs.declared.parsing.misplaced.Misplaced.{Misplaced as Found-operator}
 use Rattle.filterset_language.specs.declared.parsing.input.Input.{Input}
-use Rattle.filterset_language.specs.declared.tree.NotOperator.{NotOperator}
-use Rattle.filterset_language.specs.declared.tree.NotOperator.TheVariants.{LiteralNot, Exclamation}
-use Rattle.filterset_language.specs.declared.tree.OrOperator.{OrOperator}
-use Rattle.filterset_language.specs.declared.tree.predicate.Predicate.TheVariants as matching
+use Rattle.filterset_grammar.specs.declared.operators.NotOperator.{NotOperator}
+use Rattle.filterset_grammar.specs.declared.operators.NotOperator.TheVariants.{LiteralNot, Exclamation}
+use Rattle.filterset_grammar.specs.declared.operators.OrOperator.{OrOperator}
+use Rattle.filterset_grammar.specs.declared.predicate.Predicate.TheVariants as matching
 use Rattle.filterset_language.specs.declared.parsing.names.PredicateName.{PredicateName}
 use Rattle.filterset_language.specs.declared.parsing.names.PredicateName.TheVariants as names
 use Rattle.filterset_faults.specs.declared.error.ParseSingleError.TheVariants.{ExpectedOpenParenthesis, ExpectedCloseParenthesis, ExpectedExpr, UnexpectedComma, UnexpectedArgument, InvalidAndOperator, InvalidOrOperator, ExprFoundBinaryOp, ExprFoundUnaryOp}
 use Rattle.filterset_language.proofs.Places.{behind_same, skip_again}
-use Rattle.filterset_language.proofs.Takes.{Takes, word_after, after_takes, skip_takes, JoinerTaken, joiner_takes, OrTaken, or_takes, not_takes, name_takes}
+use Rattle.filterset_language.proofs.StepsTakeText.{Takes, word_after, after_takes, skip_takes, JoinerTaken, joiner_takes, OrTaken, or_takes, not_takes, name_takes}
 use Rattle.filterset_language.proofs.RawTextFaults.{size, begins_here, point_ends, rest_ends, piece_ends}
-use Rattle.filterset_language.proofs.Closing.{close_within, close_behind, close_none, close_boundary}
-use Rattle.filterset_language.proofs.White.{white_to}
+use Rattle.filterset_language.proofs.ClosingParenthesis.{close_within, close_behind, close_none, close_boundary}
+use Rattle.filterset_language.proofs.WhiteSpaceTest.{white_to}
 
 -- a text is what is before a place and what is left there
 pub whole : (i : Input) → i.text.now ≡ take i.offset i.text.now ++ i.rest.now
@@ -78,14 +78,14 @@ not_first Exclamation [] = refl
 not_first Exclamation (b ∷ u) = refl
 
 matching_first : (p : Predicate) (u : List ℕ) → blank_len (Name p ++ u) ≡ 0
-matching_first tree.Package u = refl
-matching_first tree.Deps u = refl
-matching_first tree.Rdeps u = refl
-matching_first tree.Kind u = refl
-matching_first tree.Binary u = refl
-matching_first tree.BinaryId u = refl
-matching_first tree.Test u = refl
-matching_first tree.Group u = refl
+matching_first matching.Package u = refl
+matching_first matching.Deps u = refl
+matching_first matching.Rdeps u = refl
+matching_first matching.Kind u = refl
+matching_first matching.Binary u = refl
+matching_first matching.BinaryId u = refl
+matching_first matching.Test u = refl
+matching_first matching.Group u = refl
 
 name_first : {name : List ℕ} → IsName name → (u : List ℕ) → blank_len (name ++ u) ≡ 0
 name_first (faults.matching p) u = matching_first p u
@@ -103,14 +103,14 @@ binary_stands at u e = one_of (after (codes "binary_id") (place at (codes "binar
     one_of (Some q) e = cc
 
 matching_stands : (p : Predicate) (at : ℕ) (u : List ℕ) → None ≡ name_at (place at (Name p ++ u)) → ⊥
-matching_stands tree.Package at u e = cc
-matching_stands tree.Deps at u e = cc
-matching_stands tree.Rdeps at u e = cc
-matching_stands tree.Kind at u e = cc
-matching_stands tree.Binary at u e = binary_stands at u e
-matching_stands tree.BinaryId at u e = cc
-matching_stands tree.Test at u e = cc
-matching_stands tree.Group at u e = cc
+matching_stands matching.Package at u e = cc
+matching_stands matching.Deps at u e = cc
+matching_stands matching.Rdeps at u e = cc
+matching_stands matching.Kind at u e = cc
+matching_stands matching.Binary at u e = binary_stands at u e
+matching_stands matching.BinaryId at u e = cc
+matching_stands matching.Test at u e = cc
+matching_stands matching.Group at u e = cc
 
 name_stands : {name : List ℕ} → IsName name → (at : ℕ) (u : List ℕ) → None ≡ name_at (place at (name ++ u)) → ⊥
 name_stands (faults.matching p) at u e = matching_stands p at u e

@@ -4,13 +4,14 @@ use Rattle.std.specs.Prelude.{All}
 use Rattle.std.specs.Option.{option_map}
 use Rattle.filterset_faults.specs.declared.error.ParseSingleError.{ParseSingleError}
 use Rattle.filterset_faults.specs.declared.span.SourceSpan.{SourceSpan}
-use Rattle.filterset_language.specs.Tree.{Tree, tree_of}
-use Rattle.filterset_language.specs.Grammar.{Spells}
+use Rattle.filterset_grammar.specs.Tree.{Tree}
+use Rattle.filterset_language.specs.Views.{tree_of}
+use Rattle.filterset_grammar.specs.Grammar.{Spells}
 use Rattle.filterset_language.specs.Faults.{FaultStands}
 use Rattle.filterset_language.specs.Parsed.{Reads, Comes, HasRefusedBodies, IsUnreadWith, SpellsNothing}
 use Rattle.filterset_language.specs.declared.parsing.parse.Parsed.{Parsed}
 use Rattle.filterset_language.specs.declared.tree.ParsedExpr.{ParsedExpr}
-use Rattle.filterset_language.proofs.Takes.{is_some}
+use Rattle.filterset_language.proofs.StepsTakeText.{is_some}
 
 module _ (text : List ℕ) (p : Parsed)
     (clean : p.faults.items ≡ [] → (e : Tree SourceSpan) × Comes p e × Reads text e)

@@ -15,25 +15,26 @@ use Rattle.filterset_faults.specs.declared.span.SourceSpan.{SourceSpan}
 use Rattle.filterset_language.specs.declared.parsing.names.PredicateName.{PredicateName}
 use Rattle.filterset_language.specs.Parsing.Place.{Place, place_of, skip, after}
 use Rattle.filterset_matchers.specs.Matcher.{Matcher, Equal, Contains, Glob, Regex}
-use Rattle.filterset_language.specs.Tree.{Predicate, Leaf, Matching, Platform, Default, Set}
-use Rattle.filterset_language.specs.Patterns.{MatcherIsRead, LeafIsRead, PatternsAreRead}
+use Rattle.filterset_grammar.specs.Tree.{Leaf, Matching, Platform, Default, Set}
+use Rattle.filterset_grammar.specs.declared.predicate.Predicate.{Predicate}
+use Rattle.filterset_grammar.specs.Patterns.{MatcherIsRead, LeafIsRead, PatternsAreRead}
 use Rattle.filterset_language.specs.Faults.{EndsWith}
 use Rattle.filterset_language.specs.Parsed.{LiesOnBody}
 use Rattle.filterset_language.specs.Parsing.RawTexts.{raw_at, body_at, SpelledTo, BodyTaken}
-use Rattle.filterset_language.specs.Platforms.{Names}
+use Rattle.filterset_grammar.specs.Platforms.{Names}
 use Rattle.filterset_language.specs.Parsing.PlatformNames.{platform_in}
 use Rattle.filterset_language.specs.Parsing.Globs.{glob_by}
 use Rattle.filterset_language.specs.Parsing.Descent.{◌>>=◌, made, sign_at, text_matcher_at, regex_at, matcher_at, between, matching_at, platform_at, bare_end_at, bare_at, default_at, argument_at, leaf_at}
 use Rattle.filterset_language.specs.Parsing.Recovery.{Recovers, Found, Keeps, beside}
 use Rattle.filterset_language.specs.Parsing.Outcome.{Faults, Carried, comes, refused, reads, fails, MakesPattern, LiesOnPattern, GivesMatcher, GivesLeaf, GivesTree}
 use Rattle.filterset_language.specs.declared.parsing.input.Input.{Input}
-use Rattle.filterset_language.specs.declared.tree.predicate.TextMatching.{TextMatching}
-use Rattle.filterset_language.specs.declared.tree.predicate.TextMatching.TheVariants as ways
+use Rattle.filterset_grammar.specs.declared.predicate.TextMatching.{TextMatching}
+use Rattle.filterset_grammar.specs.declared.predicate.TextMatching.TheVariants as ways
 use Rattle.filterset_language.proofs.BodyReading.{body_piece, refused_body_found}
 use Rattle.filterset_language.proofs.Recovering.{bind_some, bind_none, recovers_then, recovers_along}
 use Rattle.filterset_language.proofs.Outcomes.{carried_grows, gives_of, gives_then, gives_map, gives_pair}
 use Rattle.filterset_language.proofs.PlatformArguments.{with_blanks, platform_refused}
-use Rattle.filterset_language.proofs.Takes.{bind_is, is_some, skip_takes}
+use Rattle.filterset_language.proofs.StepsTakeText.{bind_is, is_some, skip_takes}
 
 -- ---- regular expressions
 

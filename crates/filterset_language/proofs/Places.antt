@@ -8,7 +8,7 @@ use Rattle.std.proofs.lemmas.Str.{is_utf8-from_IsUtf8, IsCharBoundary-after_asci
 use Rattle.filterset_language.specs.Parsing.Front.{blank_len}
 use Rattle.filterset_language.specs.Parsing.Seam.{IsSeam}
 use Rattle.filterset_language.specs.declared.parsing.input.Input.{Input}
-use Rattle.filterset_language.specs.Text.{Blanks, no_blank, space, newline, return_newline}
+use Rattle.filterset_grammar.specs.Text.{Blanks, no_blank, space, newline, return_newline}
 use Rattle.filterset_language.specs.Parsing.Place.{place, place_of, behind, skip_from, IsBehind, IsAtOrBehind}
 
 -- an input some bytes further

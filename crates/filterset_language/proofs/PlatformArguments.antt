@@ -12,20 +12,20 @@ use Rattle.filterset_graph.specs.Platforms.{platform_text}
 use Rattle.filterset_graph.specs.declared.package.BuildPlatform.{BuildPlatform}
 use Rattle.filterset_graph.specs.declared.package.BuildPlatform.TheVariants.{Target, Host}
 use Rattle.filterset_language.specs.Parsing.Front.{blank_len}
-use Rattle.filterset_language.specs.Text.{Blanks, no_blank, space, newline, return_newline, is_plain, Spelled, nothing, plain, escaped, WhiteSpace}
+use Rattle.filterset_grammar.specs.Text.{Blanks, no_blank, space, newline, return_newline, is_plain, Spelled, nothing, plain, escaped, WhiteSpace}
 use Rattle.filterset_language.specs.Parsing.Place.{Place, place, place_of, skip}
 use Rattle.filterset_language.specs.Parsing.RawTexts.{raw_at, SpelledTo}
-use Rattle.filterset_language.specs.Platforms.{Names}
+use Rattle.filterset_grammar.specs.Platforms.{Names}
 use Rattle.filterset_language.specs.Parsing.PlatformNames.{platform_in}
 use Rattle.filterset_language.specs.Faults.{EndsText, comma, closed, at_end, at_close}
 use Rattle.filterset_language.specs.Parsing.Recovery.{Found}
 use Rattle.filterset_language.specs.declared.parsing.input.Input.{Input}
 use Rattle.filterset_language.proofs.Places.{skip_again}
-use Rattle.filterset_language.proofs.Closing.{ends_stop}
-use Rattle.filterset_language.proofs.Takes.{Takes, blank_front, return_front}
+use Rattle.filterset_language.proofs.ClosingParenthesis.{ends_stop}
+use Rattle.filterset_language.proofs.StepsTakeText.{Takes, blank_front, return_front}
 use Rattle.filterset_language.proofs.RawTexts.{text_again, spelled_none}
 use Rattle.filterset_language.proofs.RawTextFaults.{size, begins_here, piece_ends}
-use Rattle.filterset_language.proofs.White.{IsWhite, white_skipped, white_scalars}
+use Rattle.filterset_language.proofs.WhiteSpaceTest.{IsWhite, white_skipped, white_scalars}
 use Rattle.filterset_language.proofs.Trimming.{start_trimmed, scalars_append, names_utf8, names_trimmed, trimmed_names, platform_again}
 
 -- ---- blanks before a raw text

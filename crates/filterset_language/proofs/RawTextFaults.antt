@@ -10,7 +10,7 @@ use Rattle.filterset_language.specs.Parsing.Escapes.{escape_at}
 use Rattle.filterset_language.specs.Faults.{EndsText, ClosesArgument}
 use Rattle.filterset_language.specs.Parsing.Recovery.{Found}
 use Rattle.filterset_language.specs.declared.parsing.input.Input.{Input}
-use Rattle.filterset_language.proofs.Takes.{after_takes}
+use Rattle.filterset_language.proofs.StepsTakeText.{after_takes}
 use Rattle.filterset_language.proofs.EscapeReading.{no_escape}
 
 -- the end of a text

@@ -7,12 +7,12 @@ use Rattle.std.proofs.lemmas.Bool.Decides.{eqb_tells, nat_tests}
 use Rattle.std.proofs.Math.Seq.{drop-nil}
 use Rattle.std.proofs.lemmas.List.{append-nil, take-append-drop, drop_at, length-take}
 use Rattle.std.proofs.lemmas.Str.{length-encode, len_utf8_bounds}
-use Rattle.filterset_language.specs.Text.{is_plain, Spelled, nothing, plain, escaped}
+use Rattle.filterset_grammar.specs.Text.{is_plain, Spelled, nothing, plain, escaped}
 use Rattle.filterset_language.specs.Parsing.Place.{Place, place, advanced, after}
 use Rattle.filterset_language.specs.Parsing.Escapes.{escape_at}
 use Rattle.filterset_language.specs.Parsing.RawTexts.{plain_len, behind_value, raw_from, unless_empty, raw_at, SpelledTo, TextTaken}
 use Rattle.filterset_language.specs.Faults.{EndsText, comma, closed, at_end, at_close}
-use Rattle.filterset_language.proofs.Takes.{after_takes}
+use Rattle.filterset_language.proofs.StepsTakeText.{after_takes}
 use Rattle.filterset_language.proofs.EscapeReading.{and_then_is, map_is, none_some, some_same, escape_again, escape_takes}
 
 -- ---- the front of a raw text

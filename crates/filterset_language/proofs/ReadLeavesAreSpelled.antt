@@ -11,34 +11,35 @@ use Rattle.filterset_glob.specs.Tokens.{Tokens}
 use Rattle.filterset_glob.specs.declared.fault.GlobConstructError.{GlobConstructError}
 use Rattle.filterset_glob.proofs.ReadIsSpelled.{glob_of_reading}
 use Rattle.filterset_graph.specs.declared.package.BuildPlatform.{BuildPlatform}
-use Rattle.filterset_language.specs.Text.{Blanks, Spelled, WhiteSpace}
+use Rattle.filterset_grammar.specs.Text.{Blanks, no_blank, space, newline, return_newline, Spelled, WhiteSpace}
 use Rattle.filterset_language.specs.Parsing.Front.{blank_len, close_len, is_white}
 use Rattle.filterset_language.specs.Parsing.Place.{Place, place, skip, after, behind, advanced}
 use Rattle.filterset_language.specs.Parsing.RawTexts.{raw_at, body_at, TextTaken}
 use Rattle.filterset_language.specs.Parsing.Globs.{glob_by, glob_in}
-use Rattle.filterset_language.specs.Platforms.{Names}
+use Rattle.filterset_grammar.specs.Platforms.{Names}
 use Rattle.filterset_language.specs.Parsing.PlatformNames.{platform_in}
 use Rattle.filterset_language.specs.Parsing.Words.{name_text}
 use Rattle.filterset_matchers.specs.Matcher.{Matcher, Equal, Contains, Glob, Regex}
-use Rattle.filterset_language.specs.Tree as tree
-use Rattle.filterset_language.specs.Tree.{Leaf, Predicate, Kind, Test, Matching, Platform, Default}
+use Rattle.filterset_grammar.specs.Tree as tree
+use Rattle.filterset_grammar.specs.Tree.{Leaf, Matching, Platform, Default}
+use Rattle.filterset_grammar.specs.declared.predicate.Predicate.{Predicate}
 use Rattle.filterset_language.specs.Faults.{EndsText}
-use Rattle.filterset_language.specs.Grammar.{Name, own_matching, matching_sign, Matches, begins_plainly, MatcherText, BehindMatcher, Call, LeafText}
-use Rattle.filterset_language.specs.Grammar as grammar
-use Rattle.filterset_language.specs.declared.tree.predicate.TextMatching.{TextMatching}
-use Rattle.filterset_language.specs.declared.tree.predicate.TextMatching.TheVariants as ways
+use Rattle.filterset_grammar.specs.Grammar.{Name, own_matching, matching_sign, Matches, begins_plainly, MatcherText, BehindMatcher, Call, LeafText}
+use Rattle.filterset_grammar.specs.Grammar as grammar
+use Rattle.filterset_grammar.specs.declared.predicate.TextMatching.{TextMatching}
+use Rattle.filterset_grammar.specs.declared.predicate.TextMatching.TheVariants as ways
 use Rattle.filterset_language.specs.declared.parsing.names.PredicateName.{PredicateName}
 use Rattle.filterset_language.specs.declared.parsing.names.PredicateName.TheVariants as names
 use Rattle.filterset_language.specs.Parsing.Descent.{◌>>=◌, regex_at, signed_or, made, signed_text, text_matcher_at, matcher_at, between, matching_at, platform_at, bare_end_at, bare_at, default_at, argument_at, leaf_at}
 use Rattle.filterset_language.proofs.Places.{behind_some, one_blank, one_newline, skip_stop}
-use Rattle.filterset_language.proofs.White.{white_from}
-use Rattle.filterset_language.proofs.Closing.{close_within, ends_stop}
-use Rattle.filterset_language.proofs.Sizes.{span_same}
+use Rattle.filterset_language.proofs.WhiteSpaceTest.{white_from}
+use Rattle.filterset_language.proofs.ClosingParenthesis.{close_within, ends_stop}
+use Rattle.filterset_language.proofs.SpelledIsNotEmpty.{span_same}
 use Rattle.filterset_language.proofs.RawTexts.{text_takes}
 use Rattle.filterset_language.proofs.BodyReading.{regex_takes}
 use Rattle.filterset_language.proofs.Trimming.{platform_takes}
 use Rattle.filterset_language.proofs.PlatformArguments.{names_before, with_blanks}
-use Rattle.filterset_language.proofs.Takes.{bind_is, choose_is, is_some, Takes, Takes-then, skip_takes, after_takes}
+use Rattle.filterset_language.proofs.StepsTakeText.{bind_is, choose_is, is_some, Takes, Takes-then, skip_takes, after_takes}
 
 -- ---- what ends a text
 
@@ -68,12 +69,12 @@ not_front c b p r is none e =
     let g : None ≡ Some (place (p.at + 1) r) = sym none ∙ f in
     cc
 
-not_blank : (b : ℕ) (r : List ℕ) → blank_len (b ∷ r) ≡ 0 → (b ≢ 32) × (b ≢ 10) × (b ≡ 13 → (u : List ℕ) → r ≢ 10 ∷ u)
-not_blank b r e = (
-  λ is. let f : blank_len (b ∷ r) ≡ 1 = ap (λ (x : ℕ). blank_len (x ∷ r)) is ∙ one_blank r in absurd (omega arith),
-  λ is. let f : blank_len (b ∷ r) ≡ 1 = ap (λ (x : ℕ). blank_len (x ∷ r)) is ∙ one_newline r in absurd (omega arith),
-  λ is u also. let f : blank_len (b ∷ r) ≡ 2 = ap (λ (x : ℕ). blank_len (x ∷ r)) is ∙ ap (λ (x : List ℕ). blank_len (13 ∷ x)) also in absurd (omega arith),
-)
+-- where no blank stands, a list of blanks is empty
+blank_free : {blanks : List ℕ} → Blanks blanks → (rest : List ℕ) → blank_len (blanks ++ rest) ≡ 0 → blanks ≡ []
+blank_free no_blank rest e = refl
+blank_free (space {t} r) rest e = absurd (let one = one_blank (t ++ rest) in omega arith)
+blank_free (newline {t} r) rest e = absurd (let one = one_newline (t ++ rest) in omega arith)
+blank_free (return_newline {t} r) rest e = absurd (let two : 2 ≡ 0 = e in omega arith)
 
 -- neither a blank nor a sign stands at the place
 record Unsigned (p : Place) : Type 0 where
@@ -84,17 +85,18 @@ record Unsigned (p : Place) : Type 0 where
   no_tilde : after (codes "~") p ≡ None
 
 plainly : (p q : Place) (raw : List ℕ) → Unsigned p → Takes p raw q → begins_plainly raw
-plainly p q raw unsigned takes b t is =
-    let front : p.rest ≡ b ∷ (t ++ q.rest) = takes.parts ∙ ap (λ (w : List ℕ). w ++ q.rest) is in
-    let n = not_blank b (t ++ q.rest) (ap blank_len (sym front) ∙ unsigned.stop) in (
-      n.0,
-      n.1,
-      not_front 47 b p _ front unsigned.no_slash,
-      not_front 35 b p _ front unsigned.no_hash,
-      not_front 61 b p _ front unsigned.no_equal,
-      not_front 126 b p _ front unsigned.no_tilde,
-      λ return u also. n.2 return (u ++ q.rest) (ap (λ (w : List ℕ). w ++ q.rest) also),
-    )
+plainly p q raw unsigned takes = (
+  λ blanks rest are is.
+      let front : p.rest ≡ blanks ++ (rest ++ q.rest) = takes.parts ∙ ap (λ (w : List ℕ). w ++ q.rest) is ∙ append_assoc blanks rest q.rest in
+      blank_free are (rest ++ q.rest) (ap blank_len (sym front) ∙ unsigned.stop),
+  λ b t is.
+      let front : p.rest ≡ b ∷ (t ++ q.rest) = takes.parts ∙ ap (λ (w : List ℕ). w ++ q.rest) is in (
+        not_front 47 b p _ front unsigned.no_slash,
+        not_front 35 b p _ front unsigned.no_hash,
+        not_front 61 b p _ front unsigned.no_equal,
+        not_front 126 b p _ front unsigned.no_tilde,
+      ),
+)
 
 -- ---- what is made of a value
 

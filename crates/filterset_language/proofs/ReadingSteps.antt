@@ -1,14 +1,14 @@
 -- One step of reading an expression.
 use Rattle.std.proofs.Common.{◌≡◌, ℕ, zero, suc, ◌<◌, ◌≤◌, List, length, Option, Some, None, true, refl, sym, ◌∙◌, subst, arith}
 use Rattle.std.specs.Prelude.{codes, is_some}
-use Rattle.filterset_language.specs.declared.tree.NotOperator.{NotOperator}
+use Rattle.filterset_grammar.specs.declared.operators.NotOperator.{NotOperator}
 use Rattle.filterset_language.specs.declared.parsing.names.PredicateName.{PredicateName}
 use Rattle.filterset_language.specs.Parsing.Recovery.{NoOperand}
 use Rattle.filterset_language.specs.Parsing.Place.{Place, place, skip, after}
 use Rattle.filterset_language.specs.Parsing.Words.{not_at, name_at}
-use Rattle.filterset_language.specs.Tree.{Not, Parens}
+use Rattle.filterset_grammar.specs.Tree.{Not, Parens}
 use Rattle.filterset_language.specs.Parsing.Descent.{Placed, ◌>>=◌, Reader, Next, Make, operand_at, set_at, or_level_by, more}
-use Rattle.filterset_language.proofs.Takes.{after_takes}
+use Rattle.filterset_language.proofs.StepsTakeText.{after_takes}
 
 -- the bound for what is nested
 pub record Less (n below : ℕ) : Type 0 where

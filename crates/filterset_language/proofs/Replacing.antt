@@ -5,7 +5,7 @@ use Rattle.std.specs.Str.Pattern.{FindsText}
 use Rattle.std.specs.Str.Replace.{ReplacesMatches}
 use Rattle.std.proofs.Math.Seq.{drop-nil}
 use Rattle.std.proofs.lemmas.Bool.{eqb-true}
-use Rattle.filterset_language.specs.Text.{with_slashes}
+use Rattle.filterset_grammar.specs.Text.{with_slashes}
 
 -- an escaped slash stands at the front
 front_is : (b c : ℕ) (t : List ℕ) → (eqb b 92 && eqb c 47) ≡ true → b ∷ c ∷ t ≡ 92 ∷ 47 ∷ t

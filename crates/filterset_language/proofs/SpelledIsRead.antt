@@ -3,28 +3,31 @@ use Rattle.std.proofs.Common.{◌≡◌, ℕ, suc, ◌+◌, ◌<◌, ◌≤◌, 
 use Rattle.std.specs.Prelude.{codes}
 use Rattle.std.proofs.lemmas.List.{append-nil}
 use Rattle.filterset_faults.specs.declared.span.SourceSpan.{SourceSpan}
-use Rattle.filterset_language.specs.Text.{Blanks, no_blank, space, newline, return_newline, ends_word}
+use Rattle.filterset_grammar.specs.Text.{Blanks, no_blank, space, newline, return_newline, ends_word}
 use Rattle.filterset_language.specs.Parsing.Front.{blank_len}
 use Rattle.filterset_language.specs.Parsing.Place.{Place, place, skip, skip_from, behind}
 use Rattle.filterset_language.specs.Parsing.Words.{choose, not_at, joiner_at, or_at, name_at}
-use Rattle.filterset_language.specs.Tree as tree
-use Rattle.filterset_language.specs.Tree.{Leaf, Predicate, Joiner, Both, Without, ExactlyOne, Union, Join, Set}
-use Rattle.filterset_language.specs.Grammar as grammar
-use Rattle.filterset_language.specs.Grammar.{Name, LeafText, not_text, or_text, join_text, not_ends, or_ends, join_ends, Basic, AndLevel, OrLevel, Spells}
+use Rattle.filterset_grammar.specs.declared.predicate.Predicate.TheVariants as predicates
+use Rattle.filterset_grammar.specs.Tree.{Leaf, Union, Join, Set}
+use Rattle.filterset_grammar.specs.declared.operators.Joiner.{Joiner}
+use Rattle.filterset_grammar.specs.declared.operators.Joiner.TheVariants.{Both, Without, ExactlyOne}
+use Rattle.filterset_grammar.specs.declared.predicate.Predicate.{Predicate}
+use Rattle.filterset_grammar.specs.Grammar as grammar
+use Rattle.filterset_grammar.specs.Grammar.{Name, LeafText, not_text, or_text, join_text, not_ends, or_ends, join_ends, Basic, AndLevel, OrLevel, Spells}
 use Rattle.filterset_language.specs.Parsing.Descent.{Placed, ◌>>=◌, Reader, Next, Make, leaf_at, set_at, join, unite, more, level_by, and_level_by, or_level_by, operand_by, operand_at, whole_by}
-use Rattle.filterset_language.specs.declared.tree.NotOperator.{NotOperator}
-use Rattle.filterset_language.specs.declared.tree.NotOperator.TheVariants.{LiteralNot, Exclamation}
-use Rattle.filterset_language.specs.declared.tree.OrOperator.{OrOperator}
-use Rattle.filterset_language.specs.declared.tree.OrOperator.TheVariants.{LiteralOr, Pipe, Plus}
-use Rattle.filterset_language.specs.declared.tree.AndOperator.TheVariants.{LiteralAnd, Ampersand}
-use Rattle.filterset_language.specs.declared.tree.DifferenceOperator.TheVariants.{Minus}
-use Rattle.filterset_language.specs.declared.tree.SymmetricDifferenceOperator.TheVariants.{Caret}
+use Rattle.filterset_grammar.specs.declared.operators.NotOperator.{NotOperator}
+use Rattle.filterset_grammar.specs.declared.operators.NotOperator.TheVariants.{LiteralNot, Exclamation}
+use Rattle.filterset_grammar.specs.declared.operators.OrOperator.{OrOperator}
+use Rattle.filterset_grammar.specs.declared.operators.OrOperator.TheVariants.{LiteralOr, Pipe, Plus}
+use Rattle.filterset_grammar.specs.declared.operators.AndOperator.TheVariants.{LiteralAnd, Ampersand}
+use Rattle.filterset_grammar.specs.declared.operators.DifferenceOperator.TheVariants.{Minus}
+use Rattle.filterset_grammar.specs.declared.operators.SymmetricDifferenceOperator.TheVariants.{Caret}
 use Rattle.filterset_language.specs.declared.parsing.names.PredicateName.{PredicateName}
 use Rattle.filterset_language.proofs.Places.{skip_again}
-use Rattle.filterset_language.proofs.Takes.{is_some}
+use Rattle.filterset_language.proofs.StepsTakeText.{is_some}
 use Rattle.filterset_language.proofs.ReadingSteps.{less, loop_turns, more_ends}
 use Rattle.filterset_language.proofs.SpelledLeavesAreRead.{byte_stop, open_stop, close_stop, close_again, call_text, leaf_again}
-use Rattle.filterset_language.proofs.Sizes.{not_some, basic_some, and_some}
+use Rattle.filterset_language.proofs.SpelledIsNotEmpty.{not_some, basic_some, and_some}
 
 -- ---- operators
 
@@ -73,14 +76,14 @@ abbrev NoSign : List ℕ → Type 0
 NoSign t = (behind (codes "&") t ≡ None) × (behind (codes "|") t ≡ None)
 
 name_no_sign : (p : Predicate) (v : List ℕ) → NoSign (Name p ++ v)
-name_no_sign tree.Package v = (refl, refl)
-name_no_sign tree.Deps v = (refl, refl)
-name_no_sign tree.Rdeps v = (refl, refl)
-name_no_sign tree.Kind v = (refl, refl)
-name_no_sign tree.Binary v = (refl, refl)
-name_no_sign tree.BinaryId v = (refl, refl)
-name_no_sign tree.Test v = (refl, refl)
-name_no_sign tree.Group v = (refl, refl)
+name_no_sign predicates.Package v = (refl, refl)
+name_no_sign predicates.Deps v = (refl, refl)
+name_no_sign predicates.Rdeps v = (refl, refl)
+name_no_sign predicates.Kind v = (refl, refl)
+name_no_sign predicates.Binary v = (refl, refl)
+name_no_sign predicates.BinaryId v = (refl, refl)
+name_no_sign predicates.Test v = (refl, refl)
+name_no_sign predicates.Group v = (refl, refl)
 
 not_no_sign : (op : NotOperator) (v : List ℕ) → NoSign (not_text op ++ v)
 not_no_sign LiteralNot v = (refl, refl)

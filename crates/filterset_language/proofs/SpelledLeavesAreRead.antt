@@ -7,27 +7,29 @@ use Rattle.filterset_glob.proofs.SpelledIsRead.{reading_of_glob}
 use Rattle.filterset_graph.specs.declared.package.BuildPlatform.{BuildPlatform}
 use Rattle.filterset_faults.specs.Span.{span}
 use Rattle.filterset_faults.specs.declared.span.SourceSpan.{SourceSpan}
-use Rattle.filterset_language.specs.Text.{Blanks, no_blank, space, newline, return_newline, Spelled, WhiteSpace}
+use Rattle.filterset_grammar.specs.Text.{Blanks, no_blank, space, newline, return_newline, Spelled, WhiteSpace}
 use Rattle.filterset_language.specs.Parsing.Front.{blank_len}
 use Rattle.filterset_language.specs.Faults.{closed, at_close}
 use Rattle.filterset_language.specs.Parsing.Place.{Place, place, skip, after, behind}
-use Rattle.filterset_language.specs.Platforms.{Names}
+use Rattle.filterset_grammar.specs.Platforms.{Names}
 use Rattle.filterset_language.specs.Parsing.RawTexts.{raw_at}
 use Rattle.filterset_language.specs.Parsing.Words.{name_at}
 use Rattle.filterset_matchers.specs.Matcher.{Matcher}
-use Rattle.filterset_language.specs.Tree as tree
-use Rattle.filterset_language.specs.declared.tree.predicate.TextMatching.{TextMatching}
-use Rattle.filterset_language.specs.declared.tree.predicate.TextMatching.TheVariants as ways
-use Rattle.filterset_language.specs.Tree.{Predicate, Leaf, Matching, Platform}
-use Rattle.filterset_language.specs.Grammar as grammar
-use Rattle.filterset_language.specs.Grammar.{Name, own_matching, matching_sign, Matches, begins_plainly, MatcherText, regex, signed, implicit, BehindMatcher, Call, LeafText}
+use Rattle.filterset_grammar.specs.Tree as tree
+use Rattle.filterset_grammar.specs.declared.predicate.Predicate.TheVariants as predicates
+use Rattle.filterset_grammar.specs.declared.predicate.TextMatching.{TextMatching}
+use Rattle.filterset_grammar.specs.declared.predicate.TextMatching.TheVariants as ways
+use Rattle.filterset_grammar.specs.Tree.{Leaf, Matching, Platform}
+use Rattle.filterset_grammar.specs.declared.predicate.Predicate.{Predicate}
+use Rattle.filterset_grammar.specs.Grammar as grammar
+use Rattle.filterset_grammar.specs.Grammar.{Name, own_matching, matching_sign, Matches, begins_plainly, MatcherText, regex, signed, implicit, BehindMatcher, Call, LeafText}
 use Rattle.filterset_language.specs.Parsing.Descent.{◌>>=◌, made, signed_text, matcher_at, between, matching_at, platform_at, bare_end_at, bare_at, default_at, leaf_at}
 use Rattle.filterset_language.proofs.Places.{skip_stop, skip_again}
-use Rattle.filterset_language.proofs.White.{white_to, white_close}
+use Rattle.filterset_language.proofs.WhiteSpaceTest.{white_to, white_close}
 use Rattle.filterset_language.proofs.RawTexts.{text_again}
 use Rattle.filterset_language.proofs.BodyReading.{regex_again}
 use Rattle.filterset_language.proofs.PlatformArguments.{argument_again}
-use Rattle.filterset_language.proofs.Sizes.{span_same, call_length}
+use Rattle.filterset_language.proofs.SpelledIsNotEmpty.{span_same, call_length}
 
 -- ---- blanks
 
@@ -66,15 +68,19 @@ plain_begins : (p : Predicate) (raw : List ℕ) (at : ℕ) (u : List ℕ) → ra
     → (blank_len (raw ++ 41 ∷ u) ≡ 0) × (matcher_at p (place at (raw ++ 41 ∷ u)) ≡ signed_text ((own_matching p, true), place at (raw ++ 41 ∷ u)))
 plain_begins p [] at u some h = absurd (some refl)
 plain_begins p (b ∷ raw) at u some h =
-    let f = h b raw refl in
-    let e32 : eqb b 32 ≡ false = ne_eqb b 32 f.0 in
-    let e10 : eqb b 10 ≡ false = ne_eqb b 10 f.1 in
-    let e47 : eqb 47 b ≡ false = ne_eqb 47 b (λ e. f.2 (sym e)) in
-    let e35 : eqb 35 b ≡ false = ne_eqb 35 b (λ e. f.3 (sym e)) in
-    let e61 : eqb 61 b ≡ false = ne_eqb 61 b (λ e. f.4 (sym e)) in
-    let e126 : eqb 126 b ≡ false = ne_eqb 126 b (λ e. f.5 (sym e)) in
-    (blank b raw e32 e10 f.6, rw (e47, e35, e61, e126) refl)
+    let f = h.1 b raw refl in
+    let e32 : eqb b 32 ≡ false = ne_eqb b 32 (λ e. some_blanks b [] (h.0 (b ∷ []) raw (subst (λ (x : ℕ). Blanks (x ∷ [])) (sym e) (space no_blank)) refl)) in
+    let e10 : eqb b 10 ≡ false = ne_eqb b 10 (λ e. some_blanks b [] (h.0 (b ∷ []) raw (subst (λ (x : ℕ). Blanks (x ∷ [])) (sym e) (newline no_blank)) refl)) in
+    let e47 : eqb 47 b ≡ false = ne_eqb 47 b (λ e. f.0 (sym e)) in
+    let e35 : eqb 35 b ≡ false = ne_eqb 35 b (λ e. f.1 (sym e)) in
+    let e61 : eqb 61 b ≡ false = ne_eqb 61 b (λ e. f.2 (sym e)) in
+    let e126 : eqb 126 b ≡ false = ne_eqb 126 b (λ e. f.3 (sym e)) in
+    let line : b ≡ 13 → (u : List ℕ) → raw ≢ 10 ∷ u = λ e u is. some_blanks b (10 ∷ []) (h.0 (b ∷ 10 ∷ []) u (subst (λ (x : ℕ). Blanks (x ∷ 10 ∷ [])) (sym e) (return_newline no_blank)) (ap (λ (x : List ℕ). b ∷ x) is)) in
+    (blank b raw e32 e10 line, rw (e47, e35, e61, e126) refl)
   where
+    some_blanks : (b : ℕ) (t : List ℕ) → b ∷ t ≡ [] → ⊥
+    some_blanks b t e = cc
+
     blank : (b : ℕ) (raw : List ℕ) → eqb b 32 ≡ false → eqb b 10 ≡ false → (b ≡ 13 → (u : List ℕ) → raw ≢ 10 ∷ u) → blank_len (b ∷ (raw ++ 41 ∷ u)) ≡ 0
     blank b [] e32 e10 h = rw (e32, e10) (at13 (eqb b 13))
       where
@@ -191,25 +197,25 @@ no_id (newline r) v = refl
 no_id (return_newline r) v = refl
 
 name_stop : (p : Predicate) (v : List ℕ) → blank_len (Name p ++ v) ≡ 0
-name_stop tree.Package v = refl
-name_stop tree.Deps v = refl
-name_stop tree.Rdeps v = refl
-name_stop tree.Kind v = refl
-name_stop tree.Binary v = refl
-name_stop tree.BinaryId v = refl
-name_stop tree.Test v = refl
-name_stop tree.Group v = refl
+name_stop predicates.Package v = refl
+name_stop predicates.Deps v = refl
+name_stop predicates.Rdeps v = refl
+name_stop predicates.Kind v = refl
+name_stop predicates.Binary v = refl
+name_stop predicates.BinaryId v = refl
+name_stop predicates.Test v = refl
+name_stop predicates.Group v = refl
 
 name_again : (p : Predicate) {b : List ℕ} → Blanks b → (at : ℕ) (v : List ℕ)
     → (name_at (place at (Name p ++ (b ++ 40 ∷ v))) >>= λ x. leaf_at x.0 at x.1) ≡ (after (codes "(") (skip (place (at + length (Name p)) (b ++ 40 ∷ v))) >>= λ q. matching_at p q)
-name_again tree.Package r at v = refl
-name_again tree.Deps r at v = refl
-name_again tree.Rdeps r at v = refl
-name_again tree.Kind r at v = refl
-name_again tree.Binary r at v = rw (no_id r v) refl
-name_again tree.BinaryId r at v = refl
-name_again tree.Test r at v = refl
-name_again tree.Group r at v = refl
+name_again predicates.Package r at v = refl
+name_again predicates.Deps r at v = refl
+name_again predicates.Rdeps r at v = refl
+name_again predicates.Kind r at v = refl
+name_again predicates.Binary r at v = rw (no_id r v) refl
+name_again predicates.BinaryId r at v = refl
+name_again predicates.Test r at v = refl
+name_again predicates.Group r at v = refl
 
 pub leaf_again : {t : List ℕ} {at : ℕ} {l : Leaf SourceSpan} → LeafText t at l → (u : List ℕ) → LeafRead t at l u
 leaf_again (grammar.matching {p} {t} {at} {m} {s} inside before raw behind call blanks text last s_is) u =

@@ -1,12 +1,16 @@
 -- What stands in a text where a fault of it is reported.
-use Rattle.std.specs.Prelude.{◌≡◌, ◌≢◌, ℕ, ◌+◌, ◌≤◌, min, List, [], ◌∷◌, ◌++◌, take, drop, codes, chars, All, IfSome, IsCharBoundary, ◌⊎◌}
+use Rattle.std.specs.Prelude.{◌≡◌, ◌≢◌, ℕ, ◌+◌, ◌≤◌, min, List, [], ◌∷◌, ◌++◌, take, drop, codes, chars, All, IfSome, Option, Some, None, IsCharBoundary, ◌⊎◌}
 use Rattle.std.specs.Prelude as std
 use Rattle.std.specs.List.{Contains}
-use Rattle.filterset_language.specs.Text.{Blanks, WhiteSpace, Escape, Spelled, Body}
-use Rattle.filterset_matchers.specs.Matcher.{Matcher}
-use Rattle.filterset_language.specs.Tree.{Predicate, Leaf, Joiner, Tree, Package, Deps, Rdeps, Binary, BinaryId, Test, Group, Matching, Platform, Default, tree_leaves}
-use Rattle.filterset_language.specs.Platforms.{Names}
-use Rattle.filterset_language.specs.Grammar.{Name, not_text, not_ends, or_text, join_text, Spells}
+use Rattle.filterset_grammar.specs.Text.{Blanks, WhiteSpace, Escape, Spelled, Body}
+use Rattle.filterset_grammar.specs.Bans.{ban_reason}
+use Rattle.filterset_grammar.specs.Tree as tree
+use Rattle.filterset_grammar.specs.Tree.{Leaf, Tree, Matching, Platform, Default, leaf_without_span, tree_leaves}
+use Rattle.filterset_grammar.specs.declared.operators.Joiner.{Joiner}
+use Rattle.filterset_grammar.specs.declared.predicate.Predicate.{Predicate}
+use Rattle.filterset_grammar.specs.declared.predicate.Predicate.TheVariants.{Package, Deps, Rdeps, Binary, BinaryId, Group}
+use Rattle.filterset_grammar.specs.Platforms.{Names}
+use Rattle.filterset_grammar.specs.Grammar.{Name, not_text, not_ends, or_text, join_text, Spells}
 use Rattle.filterset_glob.specs.Faults as glob
 use Rattle.filterset_glob.specs.Grammar.{GlobText}
 use Rattle.filterset_glob.specs.Signs.{sign}
@@ -14,12 +18,8 @@ use Rattle.filterset_glob.specs.Tokens.{Tokens}
 use Rattle.filterset_faults.specs.Faults.{span_of}
 use Rattle.filterset_faults.specs.declared.span.SourceSpan.{SourceSpan}
 use Rattle.filterset_graph.specs.declared.package.BuildPlatform.{BuildPlatform}
-use Rattle.filterset_language.specs.declared.tree.NotOperator.{NotOperator}
-use Rattle.filterset_language.specs.declared.tree.OrOperator.{OrOperator}
-use Rattle.filterset_faults.specs.declared.kind.FiltersetKind.{FiltersetKind}
-use Rattle.filterset_faults.specs.declared.kind.FiltersetKind.TheVariants as kinds
-use Rattle.filterset_faults.specs.declared.kind.BannedPredicateReason.{BannedPredicateReason}
-use Rattle.filterset_faults.specs.declared.kind.BannedPredicateReason.TheVariants.{DefaultInfiniteRecursion, GroupCircularDependency, GroupNotAvailableInDefaultFilter, GroupNotAvailableInArchive, TestNotAvailableInArchive}
+use Rattle.filterset_grammar.specs.declared.operators.NotOperator.{NotOperator}
+use Rattle.filterset_grammar.specs.declared.operators.OrOperator.{OrOperator}
 use Rattle.filterset_faults.specs.declared.error.ParseSingleError.{ParseSingleError}
 use Rattle.filterset_faults.specs.declared.error.ParseSingleError.TheVariants.{InvalidGlob, BannedPredicate, InvalidRegexWithoutMessage, ExpectedCloseRegex, InvalidOrOperator, InvalidAndOperator, UnexpectedArgument, UnexpectedComma, InvalidString, ExpectedOpenParenthesis, ExpectedCloseParenthesis, InvalidEscapeCharacter, ExpectedExpr, ExprFoundBinaryOp, ExprFoundUnaryOp, ExpectedEndOfExpression, NoPackageMatch, NoGroupMatch, NoBinaryIdMatch, NoBinaryNameMatch, InvalidPlatformArgument, UnsupportedExpression, Unknown}
 
@@ -127,12 +127,13 @@ pub data Misplaced : List ℕ → List ℕ → Type 0 where
 
 -- ---- leaves of the tree
 
--- a leaf with the span
-abbrev pub HasSpan : SourceSpan → Leaf SourceSpan → Type 0
-HasSpan s (Matching p m t) = t ≡ s
-HasSpan s (Platform p t) = t ≡ s
-HasSpan s (Default t) = t ≡ s
-HasSpan s _ = ⊥
+-- the span of a leaf, where it has one
+abbrev pub leaf_span : Leaf SourceSpan → Option SourceSpan
+leaf_span (Matching p m s) = Some s
+leaf_span (Platform p s) = Some s
+leaf_span (Default s) = Some s
+leaf_span tree.All = None
+leaf_span tree.None = None
 
 -- the text spells a tree, and a leaf of it has this span and this property
 pub record LeafAt (text : List ℕ) (s : SourceSpan) (Is : Leaf SourceSpan → Type 0) : Type 0 where
@@ -140,7 +141,7 @@ pub record LeafAt (text : List ℕ) (s : SourceSpan) (Is : Leaf SourceSpan → T
   pub spelled : Spells text expr
   pub leaf : Leaf SourceSpan
   pub is_leaf : Contains (tree_leaves expr) leaf
-  pub at : HasSpan s leaf
+  pub at : leaf_span leaf ≡ Some s
   pub is : Is leaf
 
 -- the leaf takes a matcher, and its predicate has this property
@@ -148,21 +149,10 @@ abbrev pub IsOf : (Predicate → Type 0) → Leaf SourceSpan → Type 0
 IsOf Is (Matching p m s) = Is p
 IsOf Is _ = ⊥
 
--- the leaf is not allowed in a filterset of this kind, and why
-pub data Banned : FiltersetKind → Leaf SourceSpan → BannedPredicateReason → Type 0 where
-  group_in_override : {m : Matcher} {s : SourceSpan}
-      → Banned kinds.OverrideFilter (Matching Group m s) GroupCircularDependency
-  test_in_archive : {m : Matcher} {s : SourceSpan}
-      → Banned kinds.TestArchive (Matching Test m s) TestNotAvailableInArchive
-  group_in_archive : {m : Matcher} {s : SourceSpan}
-      → Banned kinds.TestArchive (Matching Group m s) GroupNotAvailableInArchive
-  default_in_default : {s : SourceSpan} → Banned kinds.DefaultFilter (Default s) DefaultInfiniteRecursion
-  group_in_default : {m : Matcher} {s : SourceSpan}
-      → Banned kinds.DefaultFilter (Matching Group m s) GroupNotAvailableInDefaultFilter
-
 -- ---- faults
 
--- What stands at the span of a fault that a text has. `UnsupportedExpression` is said of a tree, and `Unknown` never.
+-- What is at the span of a fault that a text has. `UnsupportedExpression` and `Unknown` are never made, and stand in no
+-- text.
 abbrev pub FaultSays : List ℕ → ParseSingleError → Type 0
 FaultSays text (ExpectedOpenParenthesis s) =
     IsPoint s × (BehindBlanks (codes "(") (onward text s) → ⊥)
@@ -193,7 +183,7 @@ FaultSays text (InvalidGlob s error) =
     × ((tokens : Tokens) → GlobText (chars value) tokens → ⊥) × glob.FaultStands (chars value) error
 FaultSays text (InvalidPlatformArgument s) =
     (value : List ℕ) × Spelled (piece text s) value × ((platform : BuildPlatform) → Names value platform → ⊥)
-FaultSays text (BannedPredicate s kind reason) = LeafAt text s (λ l. Banned kind l reason)
+FaultSays text (BannedPredicate s kind reason) = LeafAt text s (λ l. ban_reason (leaf_without_span l) kind ≡ Some reason)
 FaultSays text (NoPackageMatch s) = LeafAt text s (IsOf (λ p. (p ≡ Package) ⊎ ((p ≡ Deps) ⊎ (p ≡ Rdeps))))
 FaultSays text (NoGroupMatch s) = LeafAt text s (IsOf (λ p. p ≡ Group))
 FaultSays text (NoBinaryIdMatch s) = LeafAt text s (IsOf (λ p. p ≡ BinaryId))

@@ -1,8 +1,8 @@
 -- Tools of the proof that parentheses are added right: the level that an operand has to be of, and what is written of it
 -- there.
-use Rattle.filterset_language.specs.Tree.{Tree}
-use Rattle.filterset_language.specs.Printing.{IsBasic, IsNoUnion}
-use Rattle.filterset_language.specs.AddedParens.{IsEnclosedUnless, IsWithParens}
+use Rattle.filterset_grammar.specs.Tree.{Tree}
+use Rattle.filterset_grammar.specs.Printing.{IsBasic, IsNoUnion}
+use Rattle.filterset_grammar.specs.AddedParens.{IsEnclosedUnless, IsWithParens}
 use Rattle.filterset_language.specs.declared.tree.parens.Level.{Level}
 use Rattle.filterset_language.specs.declared.tree.parens.Level.TheVariants.{Basic, And, Or}
 

@@ -2,11 +2,13 @@
 use Rattle.std.specs.Prelude.{◌≡◌, ◌≢◌, ℕ, ◌+◌, List, [], All, Some, None}
 use Rattle.std.specs.List.{Contains}
 use Rattle.std.specs.Option.{option_map}
-use Rattle.filterset_language.specs.Text.{Body}
+use Rattle.filterset_grammar.specs.Text.{Body}
 use Rattle.filterset_matchers.specs.Matcher.{Regex}
-use Rattle.filterset_language.specs.Tree.{Predicate, Matching, Tree, tree_of, tree_leaves}
-use Rattle.filterset_language.specs.Grammar.{Spells}
-use Rattle.filterset_language.specs.Patterns.{PatternsAreRead}
+use Rattle.filterset_grammar.specs.Tree.{Matching, Tree, tree_leaves}
+use Rattle.filterset_grammar.specs.declared.predicate.Predicate.{Predicate}
+use Rattle.filterset_language.specs.Views.{tree_of}
+use Rattle.filterset_grammar.specs.Grammar.{Spells}
+use Rattle.filterset_grammar.specs.Patterns.{PatternsAreRead}
 use Rattle.filterset_language.specs.Faults.{piece, FaultStands}
 use Rattle.filterset_faults.specs.declared.span.SourceSpan.{SourceSpan}
 use Rattle.filterset_faults.specs.declared.error.ParseSingleError.{ParseSingleError}
@@ -53,7 +55,7 @@ pub record IsUnreadWith (text : List ℕ) (faults : List ParseSingleError) : Typ
   pub stand : All (FaultStands text) faults
   pub bodies : (e : Tree SourceSpan) → Spells text e → All (LiesOnBody text e) faults
 
--- why a text has no tree: its faults, or want of memory
+-- why a text has no tree: its faults, or out of memory
 abbrev pub IsRefusalOf : List ℕ → ParseStop → Type 0
 IsRefusalOf text (Faults faults) = IsUnreadWith text faults.items
 IsRefusalOf text (OutOfMemory error) = Unit {0}

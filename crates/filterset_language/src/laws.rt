@@ -1,9 +1,10 @@
 //! Laws of the language: each stands in the contract of a function that gives nothing and takes no memory.
 ghost use Rattle.std.specs.Prelude.{◌≡◌, ◌↔◌, ℕ, List};
-ghost use Rattle.filterset_language.specs.Tree.{Tree, tree_of, SameTree};
-ghost use Rattle.filterset_language.specs.Grammar.{Spells};
-ghost use Rattle.filterset_language.specs.Printing.{printed, WellFormed};
-ghost use Rattle.filterset_language.specs.AddedParens.{IsWithParens};
+ghost use Rattle.filterset_grammar.specs.Tree.{Tree, SameTree};
+ghost use Rattle.filterset_language.specs.Views.{tree_of};
+ghost use Rattle.filterset_grammar.specs.Grammar.{Spells};
+ghost use Rattle.filterset_grammar.specs.Printing.{printed, WellFormed};
+ghost use Rattle.filterset_grammar.specs.AddedParens.{IsWithParens};
 ghost use Rattle.filterset_faults.specs.declared.span.SourceSpan.{SourceSpan};
 
 use crate::tree::ParsedExpr;

@@ -1,4 +1,4 @@
-//! The language of filtersets: its trees, its parser, its printer, and its laws.
+//! The language of filtersets as it is read and written: parsed trees, the parser, the printer, and its laws.
 #![tactic(auto)]
 
 pub mod laws;
@@ -7,10 +7,10 @@ mod printing;
 mod reference;
 mod tree;
 
+pub use filterset_grammar::{
+    AndOperator, DifferenceOperator, Joiner, NotOperator, OrOperator, Predicate,
+    SymmetricDifferenceOperator, TextMatching,
+};
 pub use parsing::{ParseStop, Parsed};
 pub use reference::FILTERSET_REFERENCE_MD;
-pub use tree::predicate::{Predicate, TextMatching};
-pub use tree::{
-    AndOperator, DifferenceOperator, Joiner, NotOperator, OrOperator, ParsedExpr, ParsedLeaf,
-    SymmetricDifferenceOperator,
-};
+pub use tree::{ParsedExpr, ParsedLeaf};

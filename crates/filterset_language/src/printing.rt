@@ -1,74 +1,11 @@
 //! What trees and their parts print.
 ghost use Rattle.std.specs.Prelude.{Some};
-ghost use Rattle.filterset_language.specs.Tree.{leaf_of, tree_of, Both, Without, ExactlyOne};
-ghost use Rattle.filterset_language.specs.Grammar.{not_text, or_text, join_text};
-ghost use Rattle.filterset_language.specs.Printing.{printed, printed_leaf};
+ghost use Rattle.filterset_language.specs.Views.{leaf_of, tree_of};
+ghost use Rattle.filterset_grammar.specs.Printing.{printed, printed_leaf};
 
-use crate::tree::{
-    AndOperator, DifferenceOperator, NotOperator, OrOperator, ParsedExpr, ParsedLeaf,
-    SymmetricDifferenceOperator,
-};
+use crate::tree::{ParsedExpr, ParsedLeaf};
 use std::fmt;
 use std::fmt::Display;
-
-/// `not` or `!`.
-impl fmt::Display for NotOperator {
-    ghost output = { λ o. Some (not_text o) };
-
-    fn fmt<W: fmt::Write>(&self, f: &mut fmt::Formatter<W>) -> fmt::Result {
-        match self {
-            NotOperator::LiteralNot => f.write_str("not"),
-            NotOperator::Exclamation => f.write_str("!"),
-        }
-    }
-}
-
-/// `or`, `|` or `+`.
-impl fmt::Display for OrOperator {
-    ghost output = { λ o. Some (or_text o) };
-
-    fn fmt<W: fmt::Write>(&self, f: &mut fmt::Formatter<W>) -> fmt::Result {
-        match self {
-            OrOperator::LiteralOr => f.write_str("or"),
-            OrOperator::Pipe => f.write_str("|"),
-            OrOperator::Plus => f.write_str("+"),
-        }
-    }
-}
-
-/// `and` or `&`.
-impl fmt::Display for AndOperator {
-    ghost output = { λ o. Some (join_text (Both o)) };
-
-    fn fmt<W: fmt::Write>(&self, f: &mut fmt::Formatter<W>) -> fmt::Result {
-        match self {
-            AndOperator::LiteralAnd => f.write_str("and"),
-            AndOperator::Ampersand => f.write_str("&"),
-        }
-    }
-}
-
-/// `-`.
-impl fmt::Display for DifferenceOperator {
-    ghost output = { λ o. Some (join_text (Without o)) };
-
-    fn fmt<W: fmt::Write>(&self, f: &mut fmt::Formatter<W>) -> fmt::Result {
-        match self {
-            DifferenceOperator::Minus => f.write_str("-"),
-        }
-    }
-}
-
-/// `^`.
-impl fmt::Display for SymmetricDifferenceOperator {
-    ghost output = { λ o. Some (join_text (ExactlyOne o)) };
-
-    fn fmt<W: fmt::Write>(&self, f: &mut fmt::Formatter<W>) -> fmt::Result {
-        match self {
-            SymmetricDifferenceOperator::Caret => f.write_str("^"),
-        }
-    }
-}
 
 /// Operators with one blank on either side, a negation with one behind it, and parentheses as in the tree.
 impl<S> fmt::Display for ParsedExpr<S> {

@@ -1,61 +1,22 @@
 //! The trees of filtersets.
 ghost use Rattle.std.specs.Prelude.{◌≡◌, IfOk};
-ghost use Rattle.filterset_language.specs.Tree.{leaf_of, tree_of, is_runtime_only};
+ghost use Rattle.filterset_grammar.specs.Tree.{is_runtime_only};
+ghost use Rattle.filterset_language.specs.Views.{leaf_of, tree_of};
 
 use filterset_faults::SourceSpan;
+use filterset_grammar::{
+    AndOperator, DifferenceOperator, Joiner, NotOperator, OrOperator, SymmetricDifferenceOperator,
+};
 use filterset_graph::BuildPlatform;
 use filterset_matchers::NameMatcher;
 use std::alloc::{AllocError, Global};
 
 mod equality;
 mod leaves;
-mod nodes;
+pub(crate) mod nodes;
 mod parens;
-pub mod predicate;
 
 use nodes::{copied_set, enclosed, joined, negation, union};
-
-/// How a negation is written: `not` or `!`.
-#[derive(Clone, Copy, Debug, PartialEq, Eq)]
-pub enum NotOperator {
-    LiteralNot,
-    Exclamation,
-}
-
-/// How a union is written: `or`, `|` or `+`.
-#[derive(Clone, Copy, Debug, PartialEq, Eq)]
-pub enum OrOperator {
-    LiteralOr,
-    Pipe,
-    Plus,
-}
-
-/// How an intersection is written: `and` or `&`.
-#[derive(Clone, Copy, Debug, PartialEq, Eq)]
-pub enum AndOperator {
-    LiteralAnd,
-    Ampersand,
-}
-
-/// How a difference is written: `-`.
-#[derive(Clone, Copy, Debug, PartialEq, Eq)]
-pub enum DifferenceOperator {
-    Minus,
-}
-
-/// How a symmetric difference is written: `^`.
-#[derive(Clone, Copy, Debug, PartialEq, Eq)]
-pub enum SymmetricDifferenceOperator {
-    Caret,
-}
-
-/// An operator of the level of `and`: both operands, the first without the second, or exactly one of the two.
-#[derive(Clone, Copy, Debug, PartialEq, Eq)]
-pub enum Joiner {
-    Both(AndOperator),
-    Without(DifferenceOperator),
-    ExactlyOne(SymmetricDifferenceOperator),
-}
 
 /// A predicate of a filterset. Its span is that of its argument without the blanks behind a pattern, and of `default()`
 /// that of the whole predicate; `all()` and `none()` have none.
@@ -100,7 +61,7 @@ impl<S> ParsedLeaf<S> {
 }
 
 impl<S: Copy> ParsedLeaf<S> {
-    /// A copy of the predicate, spans included. The only error is want of memory.
+    /// A copy of the predicate, spans included. The only error is out of memory.
     pub fn try_clone(&self, alloc: Global) -> Result<ParsedLeaf<S>, AllocError>
         ensures { IfOk result (λ copy. leaf_of copy ≡ leaf_of self.now) }
     {
@@ -142,7 +103,7 @@ pub enum ParsedExpr<S = SourceSpan> {
 }
 
 impl<S: Copy> ParsedExpr<S> {
-    /// A copy of the tree, spans included. The only error is want of memory.
+    /// A copy of the tree, spans included. The only error is out of memory.
     pub fn try_clone(&self, alloc: Global) -> Result<ParsedExpr<S>, AllocError>
         ensures { IfOk result (λ copy. tree_of copy ≡ tree_of self.now) }
     {

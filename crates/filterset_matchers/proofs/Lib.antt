@@ -1,2 +1,3 @@
 pub mod Chars
 pub mod PatternLemmas
+pub mod Runs

@@ -2,4 +2,5 @@ pub mod Pattern
 pub mod Matcher
 pub mod Matchers
 pub mod PrintedMatcher
+pub mod Runs
 pub mod Equality

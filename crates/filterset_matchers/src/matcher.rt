@@ -87,7 +87,7 @@ impl NameMatcher {
 
     /// Whether the matcher hits the input.
     ///
-    /// `Equal` and `Contains` take no memory and always answer. It is an error only for want of memory.
+    /// For `Equal` and `Contains` it always succeeds. The only error is out of memory.
     pub fn is_match(&self, alloc: Global, input: &str) -> Result<bool, AllocError>
         ensures hits { IfOk result (λ hit. IsTrue hit ↔ Hits (matcher_of self.now) input.now) }
         ensures no_memory { ByComparing (matcher_of self.now) → IsOk result }
@@ -100,7 +100,7 @@ impl NameMatcher {
         }
     }
 
-    /// A copy, equal in every field; a pattern is shared. It is an error only for want of memory.
+    /// A copy, equal in every field; a pattern is shared. The only error is out of memory.
     pub fn try_clone(&self, alloc: Global) -> Result<NameMatcher, AllocError>
         ensures { IfOk result (λ copy. matcher_of copy ≡ matcher_of self.now) }
     {

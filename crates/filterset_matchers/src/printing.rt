@@ -1,9 +1,10 @@
 //! What matchers print.
-ghost use Rattle.std.specs.Prelude.{Some, cond, ◌++◌, chars};
+ghost use Rattle.std.specs.Prelude.{◌≡◌, ◌≤◌, ◌++◌, All, IsTrue, Some, chars, cond, length, take};
 ghost use Rattle.std.specs.Fmt.{WritesOnOk};
 ghost use Rattle.std.specs.List.{flat_map};
 ghost use Rattle.filterset_matchers.specs.Matchers.{matcher_of};
 ghost use Rattle.filterset_matchers.specs.PrintedMatcher.{printed_matcher, printed_char, printed_first, printed_implicit, printed_value, printed_slash, printed_pattern};
+ghost use Rattle.filterset_matchers.specs.Runs.{IsPlain};
 
 use crate::matcher::NameMatcher;
 use std::fmt;
@@ -59,14 +60,49 @@ fn write_signed<W: fmt::Write>(
     write_value(f, rest.as_str())
 }
 
-/// Writes the characters of a value.
+/// Writes the characters of a value, each run of those that print as they are at once.
 fn write_value<W: fmt::Write>(f: &mut fmt::Formatter<W>, value: &str) -> fmt::Result
     ensures { WritesOnOk W.write_str_gives f.old result (printed_value value.now) f.new }
 {
-    for c in value.chars() {
+    let (run, rest) = split_plain(value);
+    f.write_str(run)?;
+    let mut chars = rest.chars();
+    while let Some(c) = chars.next() {
         EscapedChar(c).fmt(f)?;
+        let (run, rest) = split_plain(chars.as_str());
+        f.write_str(run)?;
+        chars = rest.chars();
     }
     Ok(())
+}
+
+/// What stands at the front of a value and prints as it is, and the rest.
+fn split_plain(value: &str) -> (&str, &str)
+    ensures whole { value.now ≡ result.0.now ++ result.1.now }
+    ensures plain { All IsPlain result.0.now }
+{
+    let count = plain_len(value.as_bytes());
+    (&value[..count], &value[count..])
+}
+
+/// How many bytes at the front are characters that print as they are.
+fn plain_len(value: &[u8]) -> usize
+    ensures within { result ≤ length value.now }
+    ensures plain { All IsPlain (take result value.now) }
+{
+    for (i, b) in value.iter().enumerate() {
+        if !is_plain(*b) {
+            return i;
+        }
+    }
+    value.len()
+}
+
+/// Whether a byte is a character that prints as it is.
+fn is_plain(b: u8) -> bool
+    ensures { IsTrue result → IsPlain b }
+{
+    matches!(b, b' '..=b'~') && !matches!(b, b'/' | b')' | b',' | b'\\')
 }
 
 /// Writes a pattern between slashes.
@@ -78,14 +114,17 @@ fn write_pattern<W: fmt::Write>(f: &mut fmt::Formatter<W>, pattern: &str) -> fmt
     f.write_str("/")
 }
 
-/// Writes the characters of a pattern.
+/// Writes the characters of a pattern, each run of those between slashes at once.
 fn write_slashed<W: fmt::Write>(f: &mut fmt::Formatter<W>, pattern: &str) -> fmt::Result
     ensures { WritesOnOk W.write_str_gives f.old result (flat_map printed_slash (chars pattern.now)) f.new }
 {
-    for c in pattern.chars() {
-        SlashedChar(c).fmt(f)?;
+    let mut rest = pattern;
+    while let Some((run, after)) = rest.split_once('/') {
+        f.write_str(run)?;
+        f.write_str("\\/")?;
+        rest = after;
     }
-    Ok(())
+    f.write_str(rest)
 }
 
 /// A character of a value, escaped where it has to be.
@@ -126,23 +165,6 @@ impl fmt::Display for FirstChar {
                 write!(f, "\\u{{{code:x}}}")
             }
             _ => EscapedChar(c).fmt(f),
-        }
-    }
-}
-
-/// A character of a pattern.
-#[derive(Clone, Copy)]
-struct SlashedChar(char);
-
-impl fmt::Display for SlashedChar {
-    ghost output = { λ c. Some (printed_slash c.0) };
-
-    fn fmt<W: fmt::Write>(&self, f: &mut fmt::Formatter<W>) -> fmt::Result {
-        let c = self.0;
-        if c == '/' {
-            f.write_str("\\/")
-        } else {
-            write!(f, "{c}")
         }
     }
 }

@@ -1,5 +1,5 @@
-//! How many steps globs that a matcher by trial would take very long over may take: examples, worked out, of what
-//! `is_match_counted` promises. A call does nothing: its contract is the example.
+//! How many steps `is_match_counted` may take, by its contract, on globs on which a backtracking matcher would take very
+//! long: worked examples. A call does nothing: its contract is the example.
 ghost use Rattle.std.specs.Prelude.{◌≡◌, ℕ, ◌+◌, ◌*◌, codes};
 ghost use Rattle.filterset_glob.specs.Grammar.{GlobText};
 ghost use Rattle.filterset_glob.specs.Matching.{node_count};

@@ -7,9 +7,9 @@ use filterset_glob::{GenericGlob, Steps};
 use std::alloc::{AllocError, Global};
 
 /// Whether the wanted answer is right, and both calls that match give it. The contract is by what globs match, and by
-/// no call, so that a row is held against the rule itself.
+/// no call, so that a row is compared with the rule itself.
 ///
-/// Errors: want of memory alone.
+/// Errors: out of memory alone.
 pub fn is_answer(
     alloc: Global,
     glob: &GenericGlob,

@@ -1,11 +1,11 @@
-//! Want of memory: each call answers the row or says that memory is wanting.
+//! Refused memory: each call answers the row or says that it is out of memory.
 use crate::judging::is_answer;
 use filterset_glob::{GenericGlob, GlobConstructError, GlobRefusal};
 use std::alloc::{AllocError, Global};
 use std::process::Abort;
 
-/// Whether a copy of the glob gives this many copies of the piece the wanted answer. Both are what they were then,
-/// whatever came of the question.
+/// Whether a copy of the glob gives the wanted answer for a text of so many copies of the piece. The copy and the glob
+/// are equal afterwards, whatever the answer was.
 pub fn is_right(
     alloc: Global,
     pattern: &str,
@@ -29,7 +29,7 @@ pub fn is_right(
     }
 }
 
-/// The glob answers so, or memory is wanting.
+/// The glob gives the wanted answer, or is out of memory.
 fn answers_or_wants(
     rt: &(impl AllocGlobal + Abort),
     pattern: &str,

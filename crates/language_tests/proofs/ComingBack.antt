@@ -4,10 +4,11 @@ use Rattle.std.specs.Prelude.{All}
 use Rattle.std.specs.Option.{option_map}
 use Rattle.std.proofs.lemmas.List.Elements.{All-head}
 use Rattle.filterset_faults.specs.declared.span.SourceSpan.{SourceSpan}
-use Rattle.filterset_language.specs.Tree as tree
-use Rattle.filterset_language.specs.Tree.{Leaf, Tree, tree_of, leaf_without_span, without_spans, SameTree}
-use Rattle.filterset_language.specs.Grammar.{Spells, not_text, or_text, join_text}
-use Rattle.filterset_language.specs.Printing.{printed, printed_leaf, operands, WellFormed}
+use Rattle.filterset_grammar.specs.Tree as tree
+use Rattle.filterset_grammar.specs.Tree.{Leaf, Tree, leaf_without_span, without_spans, SameTree}
+use Rattle.filterset_language.specs.Views.{tree_of}
+use Rattle.filterset_grammar.specs.Grammar.{Spells, not_text, or_text, join_text}
+use Rattle.filterset_grammar.specs.Printing.{printed, printed_leaf, operands, WellFormed}
 use Rattle.filterset_language.specs.Parsed.{Reads, Comes, LiesOnBody, HasRefusedBodies}
 use Rattle.filterset_language.specs.declared.parsing.parse.Parsed.{Parsed}
 use Rattle.filterset_language.specs.declared.tree.ParsedExpr.{ParsedExpr}

@@ -2,9 +2,9 @@
 use Rattle.std.specs.Prelude.{◌≡◌, ◌⊎◌, ℕ, List, []}
 use Rattle.filterset_faults.specs.declared.span.SourceSpan.{SourceSpan}
 use Rattle.filterset_faults.specs.declared.error.ParseSingleError.{ParseSingleError}
-use Rattle.filterset_language.specs.Tree.{Tree, SameTree}
-use Rattle.filterset_language.specs.Grammar.{Spells}
-use Rattle.filterset_language.specs.Printing.{printed}
+use Rattle.filterset_grammar.specs.Tree.{Tree, SameTree}
+use Rattle.filterset_grammar.specs.Grammar.{Spells}
+use Rattle.filterset_grammar.specs.Printing.{printed}
 use Rattle.filterset_language.specs.Parsed.{Comes, LiesOnBody, HasRefusedBodies}
 use Rattle.filterset_language.specs.declared.parsing.parse.Parsed.{Parsed}
 

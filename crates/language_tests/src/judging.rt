@@ -1,7 +1,7 @@
 //! What the tests judge by. It is proved like the crates below, so that no test passes for a judge that is lax.
 ghost use Rattle.std.specs.Prelude.{◌≡◌, ◌↔◌, IsTrue};
-ghost use Rattle.filterset_language.specs.Equality.{compared_tree, same_span, same_tree};
-ghost use Rattle.filterset_language.specs.Tree.{tree_of};
+ghost use Rattle.filterset_grammar.specs.Equality.{compared_tree, same_span, same_tree};
+ghost use Rattle.filterset_language.specs.Views.{tree_of};
 
 use nextest_filtering::ParsedExpr;
 

@@ -1,7 +1,7 @@
-//! Tests of trees: what rows of `conformance` can't say, as trees made by hand, equality, copies and want of memory.
+//! Tests of trees: what rows of `conformance` can't say, as trees made by hand, equality, copies and refused memory.
 //!
 //! Expected values follow from the rules in docs/, none from what the program says. A test whose name ends in
-//! `_or_wants_memory` passes where a call answers want of memory too, since a script refuses each request in turn.
+//! `_or_wants_memory` passes where a call returns out of memory too, since a script refuses each request in turn.
 #![tactic(auto)]
 
 #[cfg(test)]

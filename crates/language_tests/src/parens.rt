@@ -113,7 +113,7 @@ fn operands_of_their_level_stay(rt: HostRuntime) -> Result<(), Fail> {
     )
 }
 
-/// The tree of the text, and it without its parentheses, or none where memory is wanting.
+/// The tree of the text, and it without its parentheses, or none if it is out of memory.
 fn needed(rt: &(impl AllocGlobal + Abort)) -> Option<(ParsedExpr, ParsedExpr)> {
     let tree = tree_of(rt, NEEDED)?;
     match bare(rt.alloc(), &tree) {

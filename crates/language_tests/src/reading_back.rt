@@ -1,7 +1,8 @@
 //! What a program can rely on that prints trees and reads texts, proved from the public calls alone.
 ghost use Rattle.std.specs.Prelude.{IfOk, IfSome, IfNone, IsTrue, string_bytes};
-ghost use Rattle.filterset_language.specs.Tree.{tree_of, SameTree};
-ghost use Rattle.filterset_language.specs.Printing.{WellFormed};
+ghost use Rattle.filterset_grammar.specs.Tree.{SameTree};
+ghost use Rattle.filterset_language.specs.Views.{tree_of};
+ghost use Rattle.filterset_grammar.specs.Printing.{WellFormed};
 ghost use Rattle.language_tests.specs.ReadingBack.{ComesBack, SpellAlike, IsRefused};
 
 use nextest_filtering::{Parsed, ParsedExpr, laws};

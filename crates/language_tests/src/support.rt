@@ -31,7 +31,7 @@ pub fn described(alloc: Global, faults: &[ParseSingleError]) -> Result<String, A
     Ok(text)
 }
 
-/// The tree of a text without faults, or none where memory is wanting.
+/// The tree of a text without faults, or none if it is out of memory.
 pub fn tree_of(rt: &(impl AllocGlobal + Abort), text: &str) -> Option<ParsedExpr> {
     match ParsedExpr::parse_with_faults(rt.alloc(), text) {
         Ok(parsed) => {

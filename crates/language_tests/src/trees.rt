@@ -1,4 +1,4 @@
-//! Want of memory where texts are read: each call gives its tree or its faults, or says that memory is wanting.
+//! Refused memory where texts are read: each call gives its tree or its faults, or says that it is out of memory.
 use nextest_filtering::{ParseSingleError, ParseStop, ParsedExpr, SourceSpan};
 use std::alloc::AllocError;
 use std::process::Abort;

@@ -1,5 +1,5 @@
-//! Want of memory over workspaces: each call gives the answer that it gives where there is memory, or says in its own
-//! form that memory is wanting, and what it was lent is what it was.
+//! Refused memory over workspaces: each call gives the answer that it gives where there is memory, or says in its own
+//! form that it is out of memory, and what it was lent is what it was.
 //!
 //! Calls stand in two tests: one passes where a call wants memory, and one does not.
 use nextest_filtering::{
@@ -71,7 +71,7 @@ fn is_of_rows(graph: &PackageGraph, rows: &[Row<'_>]) -> bool {
     found.len() == rows.len() && (found.iter().zip(rows)).all(|(it, row)| is_of_row(it, row))
 }
 
-/// The graph of these rows, or none where memory is wanting.
+/// The graph of these rows, or none if it is out of memory.
 fn graph_of(rt: &(impl AllocGlobal + Abort), rows: &[Row<'_>]) -> Option<PackageGraph> {
     match with_libraries(rt.alloc(), rows) {
         Ok(graph) => {

@@ -2,7 +2,7 @@
 use Rattle.std.proofs.Common.{◌≡◌, ◌≢◌, false, List, [], ◌∷◌, refl}
 use Rattle.std.specs.Prelude.{All, Option, None, Some, option_map}
 use Rattle.std.specs.List.{filter, filter_map}
-use Rattle.std.specs.Option.{is_some}
+use Rattle.std.specs.Option.{is_some, option_and_then}
 use Rattle.std.proofs.lemmas.List.Elements.{All-nil, All-cons, All-head, All-tail, All-weaker}
 use Rattle.std.proofs.lemmas.List.Folds.{list_any_none}
 use Rattle.filterset_faults.specs.declared.error.ParseSingleError.{ParseSingleError}
@@ -11,14 +11,31 @@ use Rattle.filterset_faults.specs.declared.kind.BannedPredicateReason.{BannedPre
 use Rattle.filterset_faults.specs.declared.kind.FiltersetKind.{FiltersetKind}
 use Rattle.filterset_faults.specs.declared.kind.FiltersetKind.TheVariants as kinds
 use Rattle.filterset_faults.specs.declared.span.SourceSpan.{SourceSpan}
-use Rattle.filterset_language.specs.Tree as tree
-use Rattle.filterset_language.specs.Tree.{Leaf, Tree, Matching, Platform, Default, tree_leaves}
-use Rattle.filterset_language.specs.declared.tree.predicate.Predicate.TheVariants.{Package, Deps, Rdeps, Kind, Binary, BinaryId, Test, Group}
+use Rattle.filterset_grammar.specs.Bans.{ban_reason}
+use Rattle.filterset_grammar.specs.Tree as tree
+use Rattle.filterset_grammar.specs.Tree.{Leaf, Tree, Matching, Platform, Default, leaf_without_span, tree_leaves}
+use Rattle.filterset_grammar.specs.declared.predicate.Predicate.TheVariants.{Package, Deps, Rdeps, Kind, Binary, BinaryId, Test, Group}
+use Rattle.filterset_language.specs.Faults.{leaf_span}
 use Rattle.nextest_filtering.specs.Bans.{banned, is_banned, ban, bans, IsAllowed}
 use Rattle.filterset_expression.specs.Meaning.{has_tree_leaf, is_default_predicate, is_group_predicate}
 use Rattle.nextest_filtering.proofs.Filtered.{filtered_first}
 
+abbrev pair : SourceSpan → BannedPredicateReason → SourceSpan × BannedPredicateReason
+pair s reason = (s, reason)
+
+no_pair : (s : SourceSpan) (o : Option BannedPredicateReason) → option_map (pair s) o ≡ None → o ≡ None
+no_pair s (Some reason) e = absurd cc
+no_pair s None e = refl
+
+no_span : (o : Option SourceSpan) → option_and_then (λ (s : SourceSpan). option_map (pair s) None) o ≡ None
+no_span (Some s) = refl
+no_span None = refl
+
 module _ (kind : FiltersetKind) where
+  -- no reason bans the predicate
+  abbrev IsFree : Leaf SourceSpan → Type 0
+  IsFree leaf = ban_reason (leaf_without_span leaf) kind ≡ None
+
   abbrev pub fault_at : SourceSpan × BannedPredicateReason → ParseSingleError
   fault_at = λ (span, reason). BannedPredicate span kind reason
 
@@ -43,28 +60,39 @@ module _ (kind : FiltersetKind) where
       by (Some at) is none more = let h = rw (is, is) at none in cc
       by None is none more = rw is (more (rw is at none))
 
+  -- a predicate is not banned where there is no reason
+  reason_none : (leaf : Leaf SourceSpan) → banned kind leaf ≡ None → ban_reason (leaf_without_span leaf) kind ≡ None
+  reason_none (Matching p m s) is = no_pair s (ban_reason (Matching p m tt) kind) is
+  reason_none (Platform q s) is = no_pair s (ban_reason (Platform q tt) kind) is
+  reason_none (Default s) is = no_pair s (ban_reason (Default tt) kind) is
+  reason_none tree.All is = refl
+  reason_none tree.None is = refl
+
+  banned_none : (leaf : Leaf SourceSpan) → ban_reason (leaf_without_span leaf) kind ≡ None → banned kind leaf ≡ None
+  banned_none leaf is = rw is (no_span (leaf_span leaf))
+
   -- where none is chosen, the tree is allowed
-  pub allowed : (leaves : List (Leaf SourceSpan)) → filter (is_banned kind) leaves ≡ [] → All (λ leaf. banned kind leaf ≡ None) leaves
-  allowed [] e = All-nil (λ (leaf : Leaf SourceSpan). banned kind leaf ≡ None)
+  pub allowed : (leaves : List (Leaf SourceSpan)) → filter (is_banned kind) leaves ≡ [] → All (λ leaf. ban_reason (leaf_without_span leaf) kind ≡ None) leaves
+  allowed [] e = All-nil IsFree
   allowed (leaf ∷ leaves) e = by (banned kind leaf) refl e (allowed leaves)
     where
       by : (o : Option (SourceSpan × BannedPredicateReason)) → banned kind leaf ≡ o → filter (is_banned kind) (leaf ∷ leaves) ≡ []
-          → (filter (is_banned kind) leaves ≡ [] → All (λ leaf. banned kind leaf ≡ None) leaves) → All (λ leaf. banned kind leaf ≡ None) (leaf ∷ leaves)
+          → (filter (is_banned kind) leaves ≡ [] → All IsFree leaves) → All IsFree (leaf ∷ leaves)
       by (Some at) is none more = absurd (let h = rw is at none in cc)
-      by None is none more = All-cons (λ (leaf : Leaf SourceSpan). banned kind leaf ≡ None) leaf leaves is (more (rw is at none))
+      by None is none more = All-cons IsFree leaf leaves (reason_none leaf is) (more (rw is at none))
 
   -- an allowed tree has no such fault
-  none_banned : (leaves : List (Leaf SourceSpan)) → All (λ leaf. banned kind leaf ≡ None) leaves → filter_map (ban kind) leaves ≡ []
+  none_banned : (leaves : List (Leaf SourceSpan)) → All IsFree leaves → filter_map (ban kind) leaves ≡ []
   none_banned [] all = refl
   none_banned (leaf ∷ leaves) all =
-      let is = All-head (λ (leaf : Leaf SourceSpan). banned kind leaf ≡ None) leaf leaves all in
-      rw is (none_banned leaves (All-tail (λ (leaf : Leaf SourceSpan). banned kind leaf ≡ None) leaf leaves all))
+      let is = banned_none leaf (All-head IsFree leaf leaves all) in
+      rw is (none_banned leaves (All-tail IsFree leaf leaves all))
 
   pub no_bans : (e : Tree SourceSpan) → IsAllowed kind e → bans kind e ≡ []
   no_bans e all = none_banned (tree_leaves e) all
 
 -- a default filter has no `default` leaf
-leaf_no_default : (leaf : Leaf SourceSpan) → banned kinds.DefaultFilter leaf ≡ None → is_default_predicate leaf ≡ false
+leaf_no_default : (leaf : Leaf SourceSpan) → ban_reason (leaf_without_span leaf) kinds.DefaultFilter ≡ None → is_default_predicate leaf ≡ false
 leaf_no_default (Matching p m s) is = refl
 leaf_no_default (Platform p s) is = refl
 leaf_no_default (Default s) is = cc
@@ -73,10 +101,10 @@ leaf_no_default tree.None is = refl
 
 pub no_default : (e : Tree SourceSpan) → IsAllowed kinds.DefaultFilter e → has_tree_leaf is_default_predicate e ≡ false
 no_default e all = list_any_none is_default_predicate (tree_leaves e)
-    (All-weaker (λ (leaf : Leaf SourceSpan). banned kinds.DefaultFilter leaf ≡ None) (λ (leaf : Leaf SourceSpan). is_default_predicate leaf ≡ false) leaf_no_default (tree_leaves e) all)
+    (All-weaker (λ (leaf : Leaf SourceSpan). ban_reason (leaf_without_span leaf) kinds.DefaultFilter ≡ None) (λ (leaf : Leaf SourceSpan). is_default_predicate leaf ≡ false) leaf_no_default (tree_leaves e) all)
 
 -- only a filterset of kind test may have a `group` leaf
-leaf_no_group : (kind : FiltersetKind) → kind ≢ kinds.Test → (leaf : Leaf SourceSpan) → banned kind leaf ≡ None → is_group_predicate leaf ≡ false
+leaf_no_group : (kind : FiltersetKind) → kind ≢ kinds.Test → (leaf : Leaf SourceSpan) → ban_reason (leaf_without_span leaf) kind ≡ None → is_group_predicate leaf ≡ false
 leaf_no_group kinds.Test apart leaf is = absurd (apart refl)
 leaf_no_group kinds.TestArchive apart (Matching Group m s) is = cc
 leaf_no_group kinds.OverrideFilter apart (Matching Group m s) is = cc
@@ -95,4 +123,4 @@ leaf_no_group kind apart tree.None is = refl
 
 pub no_group : (kind : FiltersetKind) → kind ≢ kinds.Test → (e : Tree SourceSpan) → IsAllowed kind e → has_tree_leaf is_group_predicate e ≡ false
 no_group kind apart e all = list_any_none is_group_predicate (tree_leaves e)
-    (All-weaker (λ (leaf : Leaf SourceSpan). banned kind leaf ≡ None) (λ (leaf : Leaf SourceSpan). is_group_predicate leaf ≡ false) (leaf_no_group kind apart) (tree_leaves e) all)
+    (All-weaker (λ (leaf : Leaf SourceSpan). ban_reason (leaf_without_span leaf) kind ≡ None) (λ (leaf : Leaf SourceSpan). is_group_predicate leaf ≡ false) (leaf_no_group kind apart) (tree_leaves e) all)

@@ -7,3 +7,5 @@ pub mod PackageSets
 pub mod Refusals
 pub mod Filtered
 pub mod SameTrees
+pub mod DepsAreNamed
+pub mod FaultsOfTrees

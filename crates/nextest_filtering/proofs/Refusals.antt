@@ -6,10 +6,10 @@ use Rattle.filterset_faults.specs.declared.kind.FiltersetKind.{FiltersetKind}
 use Rattle.filterset_faults.specs.declared.span.SourceSpan.{SourceSpan}
 use Rattle.filterset_graph.specs.declared.package.PackageMetadata.{PackageMetadata}
 use Rattle.filterset_language.specs.Faults.{FaultStands}
-use Rattle.filterset_language.specs.Grammar.{Spells}
+use Rattle.filterset_grammar.specs.Grammar.{Spells}
 use Rattle.filterset_language.specs.Parsed.{Reads, LiesOnBody, Comes, HasRefusedBodies, IsUnreadWith}
 use Rattle.filterset_language.specs.Parsed.{IsRefusalOf as IsUnread}
-use Rattle.filterset_language.specs.Tree.{Tree, tree_leaves}
+use Rattle.filterset_grammar.specs.Tree.{Tree, tree_leaves}
 use Rattle.filterset_language.specs.declared.parsing.parse.ParseStop.{ParseStop}
 use Rattle.filterset_language.specs.declared.parsing.parse.ParseStop.TheVariants as stop
 use Rattle.filterset_language.specs.declared.parsing.parse.Parsed.{Parsed}

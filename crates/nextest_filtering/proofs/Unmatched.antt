@@ -6,7 +6,7 @@ use Rattle.std.proofs.lemmas.List.Elements.{All-nil, All-cons, All-head, All-tai
 use Rattle.filterset_faults.specs.declared.error.ParseSingleError.{ParseSingleError}
 use Rattle.filterset_faults.specs.declared.span.SourceSpan.{SourceSpan}
 use Rattle.filterset_graph.specs.declared.package.PackageMetadata.{PackageMetadata}
-use Rattle.filterset_language.specs.Tree.{Leaf}
+use Rattle.filterset_grammar.specs.Tree.{Leaf}
 use Rattle.nextest_filtering.specs.Checks.{IsChecked, SaysUnmatched, AreUnmatched, AddsUnmatched, AddsUnless}
 use Rattle.nextest_filtering.specs.declared.compile.context.KnownGroups.{KnownGroups}
 

@@ -1,25 +1,20 @@
--- Which predicates a filterset of each kind may not hold.
+-- The predicates of a tree that a filterset of some kind may not hold, and their faults.
 use Rattle.std.specs.Prelude.{◌≡◌, Bool, List, All, Option, Some, None, option_map}
 use Rattle.std.specs.List.{filter_map}
-use Rattle.std.specs.Option.{is_some}
+use Rattle.std.specs.Option.{is_some, option_and_then}
 use Rattle.filterset_faults.specs.declared.error.ParseSingleError.{ParseSingleError}
 use Rattle.filterset_faults.specs.declared.error.ParseSingleError.TheVariants.{BannedPredicate}
 use Rattle.filterset_faults.specs.declared.kind.BannedPredicateReason.{BannedPredicateReason}
-use Rattle.filterset_faults.specs.declared.kind.BannedPredicateReason.TheVariants.{DefaultInfiniteRecursion, GroupCircularDependency, GroupNotAvailableInDefaultFilter, GroupNotAvailableInArchive, TestNotAvailableInArchive}
 use Rattle.filterset_faults.specs.declared.kind.FiltersetKind.{FiltersetKind}
-use Rattle.filterset_faults.specs.declared.kind.FiltersetKind.TheVariants.{TestArchive, OverrideFilter, DefaultFilter}
 use Rattle.filterset_faults.specs.declared.span.SourceSpan.{SourceSpan}
-use Rattle.filterset_language.specs.Tree.{Leaf, Tree, Matching, Default, tree_leaves}
-use Rattle.filterset_language.specs.declared.tree.predicate.Predicate.TheVariants.{Test, Group}
+use Rattle.filterset_grammar.specs.Bans.{ban_reason}
+use Rattle.filterset_grammar.specs.Tree.{Leaf, Tree, leaf_without_span, tree_leaves}
+use Rattle.filterset_language.specs.Faults.{leaf_span}
 
--- why a filterset of this kind may not hold the predicate, and the predicate's span
+-- the span of a predicate that a filterset of this kind may not hold, and why it may not
 abbrev pub banned : FiltersetKind → Leaf SourceSpan → Option (SourceSpan × BannedPredicateReason)
-banned OverrideFilter (Matching Group matcher span) = Some (span, GroupCircularDependency)
-banned TestArchive (Matching Test matcher span) = Some (span, TestNotAvailableInArchive)
-banned TestArchive (Matching Group matcher span) = Some (span, GroupNotAvailableInArchive)
-banned DefaultFilter (Default span) = Some (span, DefaultInfiniteRecursion)
-banned DefaultFilter (Matching Group matcher span) = Some (span, GroupNotAvailableInDefaultFilter)
-banned _ _ = None
+banned kind leaf =
+    option_and_then (λ span. option_map (λ reason. (span, reason)) (ban_reason (leaf_without_span leaf) kind)) (leaf_span leaf)
 
 -- whether a filterset of this kind may not hold the predicate
 abbrev pub is_banned : FiltersetKind → Leaf SourceSpan → Bool
@@ -35,4 +30,4 @@ bans kind e = filter_map (ban kind) (tree_leaves e)
 
 -- a filterset of this kind may hold each predicate of the tree
 abbrev pub IsAllowed : FiltersetKind → Tree SourceSpan → Type 0
-IsAllowed kind e = All (λ leaf. banned kind leaf ≡ None) (tree_leaves e)
+IsAllowed kind e = All (λ leaf. ban_reason (leaf_without_span leaf) kind ≡ None) (tree_leaves e)

@@ -6,8 +6,8 @@ use Rattle.filterset_faults.specs.declared.span.SourceSpan.{SourceSpan}
 use Rattle.filterset_graph.specs.Binaries.{IsBinaryName, IsBinaryId}
 use Rattle.filterset_graph.specs.declared.package.PackageMetadata.{PackageMetadata}
 use Rattle.filterset_matchers.specs.Matcher.{Matcher, Hits}
-use Rattle.filterset_language.specs.Tree.{Leaf, Tree, Matching, tree_leaves}
-use Rattle.filterset_language.specs.declared.tree.predicate.Predicate.TheVariants.{Package, Deps, Rdeps, Binary, BinaryId, Group}
+use Rattle.filterset_grammar.specs.Tree.{Leaf, Tree, Matching, leaf_without_span, tree_leaves}
+use Rattle.filterset_grammar.specs.declared.predicate.Predicate.TheVariants.{Package, Deps, Rdeps, Binary, BinaryId, Group}
 use Rattle.nextest_filtering.specs.Groups.{IsGroupName}
 use Rattle.filterset_expression.specs.Meaning.{IsNamed}
 use Rattle.nextest_filtering.specs.declared.compile.context.KnownGroups.{KnownGroups}
@@ -18,14 +18,18 @@ HitsSome matcher IsOne = (text : List ℕ) × IsOne text × Hits matcher text
 
 -- the predicate hits something: one of packages the name of a package of the workspace, `binary` the name of a test
 -- binary, `binary_id` the id of one, and `group` the name of a known group; all others need hit nothing
+abbrev pub HitsSomething : List PackageMetadata → KnownGroups → Leaf (Unit {0}) → Type 0
+HitsSomething packages groups (Matching Package matcher s) = (p : PackageMetadata) × IsNamed packages matcher p
+HitsSomething packages groups (Matching Deps matcher s) = (p : PackageMetadata) × IsNamed packages matcher p
+HitsSomething packages groups (Matching Rdeps matcher s) = (p : PackageMetadata) × IsNamed packages matcher p
+HitsSomething packages groups (Matching Binary matcher s) = HitsSome matcher (IsBinaryName packages)
+HitsSomething packages groups (Matching BinaryId matcher s) = HitsSome matcher (IsBinaryId packages)
+HitsSomething packages groups (Matching Group matcher s) = HitsSome matcher (IsGroupName groups)
+HitsSomething packages groups _ = Unit {0}
+
+-- the same of a predicate with its span
 abbrev pub IsChecked : List PackageMetadata → KnownGroups → Leaf SourceSpan → Type 0
-IsChecked packages groups (Matching Package matcher span) = (p : PackageMetadata) × IsNamed packages matcher p
-IsChecked packages groups (Matching Deps matcher span) = (p : PackageMetadata) × IsNamed packages matcher p
-IsChecked packages groups (Matching Rdeps matcher span) = (p : PackageMetadata) × IsNamed packages matcher p
-IsChecked packages groups (Matching Binary matcher span) = HitsSome matcher (IsBinaryName packages)
-IsChecked packages groups (Matching BinaryId matcher span) = HitsSome matcher (IsBinaryId packages)
-IsChecked packages groups (Matching Group matcher span) = HitsSome matcher (IsGroupName groups)
-IsChecked packages groups _ = Unit {0}
+IsChecked packages groups leaf = HitsSomething packages groups (leaf_without_span leaf)
 
 -- each predicate of the tree hits something
 abbrev pub AllChecked : List PackageMetadata → KnownGroups → Tree SourceSpan → Type 0

@@ -7,7 +7,7 @@ use Rattle.filterset_faults.specs.declared.kind.FiltersetKind.{FiltersetKind}
 use Rattle.filterset_faults.specs.declared.span.SourceSpan.{SourceSpan}
 use Rattle.filterset_graph.specs.declared.package.PackageMetadata.{PackageMetadata}
 use Rattle.filterset_language.specs.Parsed.{Reads, LiesOnBody, IsUnreadWith}
-use Rattle.filterset_language.specs.Tree.{Tree, tree_leaves}
+use Rattle.filterset_grammar.specs.Tree.{Tree, tree_leaves}
 use Rattle.filterset_language.specs.declared.parsing.parse.ParseStop.{ParseStop}
 use Rattle.filterset_language.specs.declared.parsing.parse.ParseStop.TheVariants as stop
 use Rattle.nextest_filtering.specs.Bans.{bans, IsAllowed}

@@ -3,8 +3,8 @@ use Rattle.std.specs.Prelude.{◌&&◌, Bool, string_bytes}
 use Rattle.std.specs.Str.{bytes_eq}
 use Rattle.filterset_expression.specs.Equality.{same_compiled_leaf, same_formula}
 use Rattle.filterset_expression.specs.Expression.{formula}
-use Rattle.filterset_language.specs.Equality.{same_span, same_tree}
-use Rattle.filterset_language.specs.Tree.{tree_of}
+use Rattle.filterset_grammar.specs.Equality.{same_span, same_tree}
+use Rattle.filterset_language.specs.Views.{tree_of}
 use Rattle.nextest_filtering.specs.declared.filterset.Filterset.{Filterset}
 
 -- whether filtersets are equal: their texts, their trees with the spans, and what these are compiled to

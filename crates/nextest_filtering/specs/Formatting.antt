@@ -3,8 +3,8 @@ use Rattle.std.specs.Prelude.{List}
 use Rattle.filterset_faults.specs.declared.kind.FiltersetKind.{FiltersetKind}
 use Rattle.filterset_faults.specs.declared.span.SourceSpan.{SourceSpan}
 use Rattle.filterset_graph.specs.declared.package.PackageMetadata.{PackageMetadata}
-use Rattle.filterset_language.specs.Printing.{printed}
-use Rattle.filterset_language.specs.Tree.{SameTree, Tree}
+use Rattle.filterset_grammar.specs.Printing.{printed}
+use Rattle.filterset_grammar.specs.Tree.{SameTree, Tree}
 use Rattle.nextest_filtering.specs.Compiling.{IsFiltersetOf}
 use Rattle.nextest_filtering.specs.declared.compile.context.KnownGroups.{KnownGroups}
 

@@ -6,4 +6,6 @@ pub mod PackageMarks
 pub mod Asking
 pub mod Checks
 pub mod Compiling
+pub mod Refusals
 pub mod Formatting
+pub mod NeedsDeps

@@ -4,11 +4,14 @@ ghost use Rattle.nextest_filtering.specs.Bans.{IsAllowed};
 ghost use Rattle.nextest_filtering.specs.Checks.{AddsUnmatched, AllChecked};
 ghost use Rattle.nextest_filtering.specs.Compiling.{packages_of, IsRejectionOf};
 ghost use Rattle.filterset_expression.specs.Expression.{formula};
-ghost use Rattle.filterset_expression.specs.Formula.{Negation, Disjunction, Conjunction, ExclusiveDisjunction};
+ghost use Rattle.filterset_expression.specs.Formula.{Negation, Compound};
 ghost use Rattle.filterset_expression.specs.Meaning.{IsCompiled};
-ghost use Rattle.filterset_language.specs.Tree.{leaf_of, tree_of, tree_leaves, Set};
+ghost use Rattle.filterset_expression.specs.declared.logic.Connective.TheVariants.{Conjunction};
+ghost use Rattle.filterset_grammar.specs.Tree.{tree_leaves, Set};
+ghost use Rattle.filterset_language.specs.Views.{leaf_of, tree_of};
 
-use filterset_expression::CompiledExpr;
+use filterset_expression::nodes::{compound, negation};
+use filterset_expression::{CompiledExpr, Connective};
 use filterset_faults::{FiltersetKind, ParseSingleError};
 use filterset_language::{ParseStop, ParsedExpr, ParsedLeaf};
 use std::alloc::{AllocError, Global};
@@ -74,16 +77,18 @@ fn compile_expr(
         }
         ParsedExpr::Union(_, a, b) => {
             let left = compile_expr(alloc, cx, known_groups, a, faults)?;
-            disjunction(
+            compound(
                 alloc,
+                Connective::Disjunction,
                 left,
                 compile_expr(alloc, cx, known_groups, b, faults)?,
             )
         }
         ParsedExpr::Intersection(_, a, b) => {
             let left = compile_expr(alloc, cx, known_groups, a, faults)?;
-            conjunction(
+            compound(
                 alloc,
+                Connective::Conjunction,
                 left,
                 compile_expr(alloc, cx, known_groups, b, faults)?,
             )
@@ -98,8 +103,9 @@ fn compile_expr(
         }
         ParsedExpr::SymmetricDifference(_, a, b) => {
             let left = compile_expr(alloc, cx, known_groups, a, faults)?;
-            exclusive_disjunction(
+            compound(
                 alloc,
+                Connective::ExclusiveDisjunction,
                 left,
                 compile_expr(alloc, cx, known_groups, b, faults)?,
             )
@@ -126,51 +132,6 @@ fn compile_set(
     Ok(Box::new(alloc, CompiledExpr::Set(set))?)
 }
 
-/// The tests that are not in the set.
-#[inline(never)]
-fn negation(alloc: Global, e: Box<CompiledExpr>) -> Result<Box<CompiledExpr>, AllocError>
-    ensures { IfOk result (λ made. formula made.value ≡ Negation (formula e.value)) }
-{
-    Ok(Box::new(alloc, CompiledExpr::Not(e))?)
-}
-
-/// The tests that are in one of the two sets, or in both.
-#[inline(never)]
-fn disjunction(
-    alloc: Global,
-    left: Box<CompiledExpr>,
-    right: Box<CompiledExpr>,
-) -> Result<Box<CompiledExpr>, AllocError>
-    ensures { IfOk result (λ made. formula made.value ≡ Disjunction (formula left.value) (formula right.value)) }
-{
-    Ok(Box::new(alloc, CompiledExpr::Union(left, right))?)
-}
-
-/// The tests that are in both sets.
-#[inline(never)]
-fn conjunction(
-    alloc: Global,
-    left: Box<CompiledExpr>,
-    right: Box<CompiledExpr>,
-) -> Result<Box<CompiledExpr>, AllocError>
-    ensures { IfOk result (λ made. formula made.value ≡ Conjunction (formula left.value) (formula right.value)) }
-{
-    Ok(Box::new(alloc, CompiledExpr::Intersection(left, right))?)
-}
-
-/// The tests that are in exactly one of the two sets.
-#[inline(never)]
-fn exclusive_disjunction(
-    alloc: Global,
-    left: Box<CompiledExpr>,
-    right: Box<CompiledExpr>,
-) -> Result<Box<CompiledExpr>, AllocError>
-    ensures { IfOk result (λ made.
-        formula made.value ≡ ExclusiveDisjunction (formula left.value) (formula right.value)) }
-{
-    Ok(Box::new(alloc, CompiledExpr::SymmetricDifference(left, right))?)
-}
-
 /// The tests that are in the first set and not in the second.
 fn difference(
     alloc: Global,
@@ -178,7 +139,12 @@ fn difference(
     right: Box<CompiledExpr>,
 ) -> Result<Box<CompiledExpr>, AllocError>
     ensures { IfOk result (λ made.
-        formula made.value ≡ Conjunction (formula left.value) (Negation (formula right.value))) }
+        formula made.value ≡ Compound Conjunction (formula left.value) (Negation (formula right.value))) }
 {
-    conjunction(alloc, left, negation(alloc, right)?)
+    compound(
+        alloc,
+        Connective::Conjunction,
+        left,
+        negation(alloc, right)?,
+    )
 }

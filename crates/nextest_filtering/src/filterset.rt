@@ -9,14 +9,17 @@ ghost use Rattle.nextest_filtering.specs.Compiling.{IsRefusalOf, IsRefusalOfBodi
 ghost use Rattle.filterset_expression.specs.Contexts.{default_of};
 ghost use Rattle.filterset_expression.specs.Expression.{formula, has_leaf, is_default, is_group, no_groups, Holds};
 ghost use Rattle.filterset_expression.specs.Expression.{IsDefinite, IsUndecided};
-ghost use Rattle.filterset_language.specs.Grammar.{Spells};
+ghost use Rattle.filterset_grammar.specs.Grammar.{Spells};
 ghost use Rattle.nextest_filtering.specs.Groups.{IsKnown};
+ghost use Rattle.nextest_filtering.specs.NeedsDeps.{HasDeps};
+ghost use Rattle.nextest_filtering.specs.Refusals.{IsTrueOf};
 ghost use Rattle.filterset_expression.specs.Meaning.{has_tree_leaf, is_default_predicate, is_group_predicate};
 ghost use Rattle.filterset_expression.specs.Meaning.{IsCompiled, Meaning, SaysTheSame};
 ghost use Rattle.filterset_expression.specs.BinaryMeaning.{IsDefiniteTree, IsUndecidedTree, TellsTheSame};
 ghost use Rattle.filterset_language.specs.Parsed.{Reads};
 ghost use Rattle.filterset_language.specs.Parsed.{IsRefusalOf as IsUnread};
-ghost use Rattle.filterset_language.specs.Tree.{Tree, tree_of};
+ghost use Rattle.filterset_grammar.specs.Tree.{Tree};
+ghost use Rattle.filterset_language.specs.Views.{tree_of};
 
 use crate::compile::{KnownGroups, ParseContext, compile};
 use filterset_expression::{BinaryQuery, CompiledExpr, EvalContext, GroupLookup, TestQuery};
@@ -77,16 +80,18 @@ fn read(
 impl Filterset {
     /// Reads a filterset and compiles it.
     ///
-    /// A text is accepted exactly where the language spells it, `regex` builds each of its patterns, none of its
-    /// predicates is banned from filtersets of this kind, and each predicate that names packages, test binaries or
-    /// groups hits one:
+    /// A text is accepted only where the language spells it, the grammar of `regex` reads each of its patterns, none of
+    /// its predicates is banned from filtersets of this kind, and each predicate that names packages, test binaries or
+    /// groups matches one:
     ///
     /// - `package`, `deps` and `rdeps` the name of a package of the workspace;
     /// - `binary` the name, and `binary_id` the id, of a test binary of the workspace;
     /// - `group` the name of a known group, of which `@global` is always one.
     ///
+    /// Such a text is accepted, or refused with faults that all lie on bodies of its regular expressions.
+    ///
     /// A refusal hands the text back. Where the text was read, its faults are those of the banned predicates alone,
-    /// or else those of the predicates that hit nothing, from left to right, with the spans of their arguments.
+    /// or else those of the unmatched predicates, from left to right, with the spans of their arguments.
     ///
     /// For a filterset of kind `Test` the groups are known. All other kinds ban `group`, so they need not be.
     pub fn parse(
@@ -124,12 +129,15 @@ impl Filterset {
         // A refusal is by faults that the parser found, or by banned predicates, or by ones that hit nothing.
         ensures refused { IfErr result (IsRefusalOf input kind (packages_of cx.now) known_groups.now) }
 
+        // Whichever it is by, each of its faults is true of the text, and its span lies within the text.
+        ensures stand { IfErr result (IsTrueOf (string_bytes input)) }
+
         // Where the text spells a tree, only the bodies of its regular expressions, its banned predicates, those that
-        // hit nothing and want of memory refuse it.
+        // match nothing and lack of memory refuse it.
         ensures spelled { (e : Tree SourceSpan) → Spells (string_bytes input) e
             → IfErr result (IsRefusalOfTree (string_bytes input) kind (packages_of cx.now) known_groups.now e) }
 
-        // Where a tree makes it a filterset, only the bodies of its regular expressions and want of memory do.
+        // Where a tree makes it a filterset, only the bodies of its regular expressions and lack of memory do.
         ensures complete { (e : Tree SourceSpan)
             → IsFiltersetOf (string_bytes input) kind (packages_of cx.now) known_groups.now e
             → IfErr result (IsRefusalOfBodies (string_bytes input) e) }
@@ -148,7 +156,7 @@ impl Filterset {
     }
 
     /// Whether the filterset holds of the tests of a binary, as far as the binary tells, as
-    /// [`CompiledExpr::matches_binary`] of `compiled` answers it. It is an error only for want of memory.
+    /// [`CompiledExpr::matches_binary`] of `compiled` answers it. The only error is out of memory.
     pub fn matches_binary(
         &self,
         alloc: Global,
@@ -174,7 +182,7 @@ impl Filterset {
     /// Whether the filterset holds of the test, with the context's default filter in the place of each `default()`.
     ///
     /// The filterset holds no `group(..)`, which [`CompiledExpr::has_group_matchers`] of `compiled` tests. It is an
-    /// error only for want of memory.
+    /// error only if it is out of memory.
     pub fn matches_test(
         &self,
         alloc: Global,
@@ -198,7 +206,7 @@ impl Filterset {
     }
 
     /// Whether the filterset holds of the test, whose group the lookup tells, with the context's default filter in the
-    /// place of each `default()`. It is an error only for want of memory, the lookup's too.
+    /// place of each `default()`. The only error is out of memory, the lookup's too.
     pub fn matches_test_with_groups(
         &self,
         alloc: Global,
@@ -228,12 +236,14 @@ impl Filterset {
     /// Whether `deps` stands in the text. Where it does not, no `deps(..)` and no `rdeps(..)` does.
     #[tactic(auto, using(std::proofs::lemmas::Str::Pattern::contains_text))]
     pub fn needs_deps(raw_expr: &str) -> bool
-        ensures { IsTrue result ↔ HasSubslice raw_expr.now (codes "deps") }
+        ensures stands { IsTrue result ↔ HasSubslice raw_expr.now (codes "deps") }
+        // So it is true of each text whose tree has a `deps` or an `rdeps`.
+        ensures named { (e : Tree SourceSpan) → Spells raw_expr.now e → HasDeps e → IsTrue result }
     {
         raw_expr.contains("deps")
     }
 
-    /// A copy, equal in every field. It is an error only for want of memory.
+    /// A copy, equal in every field. The only error is out of memory.
     pub fn try_clone(&self, alloc: Global) -> Result<Filterset, AllocError>
         ensures input { IfOk result (λ copy. string_bytes copy.input ≡ string_bytes self.now.input) }
         ensures parsed { IfOk result (λ copy. tree_of copy.parsed ≡ tree_of self.now.parsed) }

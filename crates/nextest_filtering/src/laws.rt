@@ -3,14 +3,15 @@
 ghost use Rattle.std.specs.Prelude.{ℕ, List};
 ghost use Rattle.filterset_faults.specs.declared.kind.FiltersetKind.{FiltersetKind};
 ghost use Rattle.filterset_graph.specs.declared.package.PackageMetadata.{PackageMetadata};
-ghost use Rattle.filterset_language.specs.Tree.{tree_of};
+ghost use Rattle.filterset_language.specs.Views.{tree_of};
 ghost use Rattle.nextest_filtering.specs.Compiling.{IsFiltersetOf};
 ghost use Rattle.nextest_filtering.specs.Formatting.{PrintsFilterset};
 ghost use Rattle.nextest_filtering.specs.declared.compile.context.KnownGroups.{KnownGroups};
 
 pub use filterset_expression::laws::{
     added_parens_change_nothing, difference_is_and_not, parens_change_nothing,
-    symmetric_difference_is_commutative, symmetric_difference_is_two_differences,
+    skipping_loses_no_test, symmetric_difference_is_commutative,
+    symmetric_difference_is_two_differences,
 };
 use filterset_language::ParsedExpr;
 pub use filterset_language::laws::{

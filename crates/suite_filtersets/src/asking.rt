@@ -25,7 +25,7 @@ impl<'a> Asked<'a> {
 
     /// The filterset under the default filter of the context.
     ///
-    /// Errors: want of memory alone.
+    /// Errors: out of memory alone.
     pub fn new(
         alloc: Global,
         filterset: &'a Filterset,
@@ -55,7 +55,7 @@ impl<'a> Asked<'a> {
 
     /// Whether the wanted answer is what the filterset tells of the binary, and both calls give it.
     ///
-    /// Errors: want of memory alone.
+    /// Errors: out of memory alone.
     pub fn is_told(
         &self,
         alloc: Global,
@@ -74,7 +74,7 @@ impl<'a> Asked<'a> {
 
     /// Whether the wanted answer is right of the test in its group, and all calls give it.
     ///
-    /// Errors: want of memory alone.
+    /// Errors: out of memory alone.
     pub fn is_held(&self, alloc: Global, test: &TestRow, wanted: bool) -> Result<bool, AllocError>
         requires { HasItsSteps self.now }
         ensures { IfOk result (λ yes. (query : TestQuery) × IsAbout query test.now × (IsTrue yes ↔ (IsTrue wanted

@@ -24,7 +24,7 @@ impl<T: Drop> From<AllocFailed<T>> for RowRefusal {
 
 /// What is read from a JSON value.
 pub trait Entry: Drop {
-    /// The entry that the value stands for. It is refused for want of memory, or where the value has another shape.
+    /// The entry that the value stands for. It is refused if it is out of memory, or where the value has another shape.
     fn read(alloc: Global, value: &Value) -> Result<Self, RowRefusal>
     where
         Self: Sized;

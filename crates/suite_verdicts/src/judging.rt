@@ -22,7 +22,7 @@ pub fn agrees(found: &str, wanted: &str) -> bool
 /// Whether the wanted answer is right, and both calls that match give it. The contract is by what globs match, and by
 /// no call, so that a row is held against the rule itself.
 ///
-/// Errors: want of memory alone.
+/// Errors: out of memory alone.
 pub fn is_answer(
     alloc: Global,
     glob: &GenericGlob,
@@ -39,7 +39,7 @@ pub fn is_answer(
 
 /// Whether the wanted answer is right of what the matcher hits.
 ///
-/// Errors: want of memory alone.
+/// Errors: out of memory alone.
 pub fn is_hit(
     alloc: Global,
     matcher: &NameMatcher,

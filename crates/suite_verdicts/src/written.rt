@@ -7,7 +7,7 @@ use suite_rows::{Count, Written};
 
 /// The text of the pieces, where `n` stands for this number.
 ///
-/// Errors: want of memory alone.
+/// Errors: out of memory alone.
 pub fn text_of(alloc: Global, written: &Written, n: usize) -> Result<String, AllocError>
     ensures { IfOk result (λ text. string_bytes text ≡ written_text n written.now) }
 {

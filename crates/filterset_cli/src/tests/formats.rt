@@ -1,7 +1,7 @@
 //! What is asked of a run: a report, or the filtersets as they print.
 
-use crate::ending::Outcome;
 use crate::tests::{NO_RECORD, STORED_REPORT, answer, refuses};
+use filterset_report::Outcome;
 use std::test::Fail;
 
 /// Filtersets that print otherwise than they came, and one that is refused.

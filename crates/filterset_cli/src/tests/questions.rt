@@ -1,7 +1,7 @@
 //! What is asked of binaries and tests: groups, default filters and kinds.
 
-use crate::ending::Outcome;
 use crate::tests::{NO_RECORD, answer, refuses};
+use filterset_report::Outcome;
 use std::test::Fail;
 
 /// A test of a custom group, and one of the global group.

@@ -23,7 +23,7 @@ impl<'a> KeptMatcher<'a> {
         }
     }
 
-    /// Whether the pattern matches anywhere in the name. It is an error only for want of memory.
+    /// Whether the pattern matches anywhere in the name. The only error is out of memory.
     pub fn is_match(
         &self,
         alloc: Global,
@@ -63,7 +63,7 @@ impl<'a> KeptMatcher<'a> {
 }
 
 /// Room for what searches for the patterns of leaves, one at the place of each step, and none where no leaf has a
-/// pattern. It is an error only for want of memory.
+/// pattern. The only error is out of memory.
 pub fn kept_matchers<'a>(
     alloc: Global,
     steps: &[FlatStep<'a>],
@@ -77,15 +77,26 @@ pub fn kept_matchers<'a>(
     Ok(kept)
 }
 
-/// Whether the step is a leaf with a pattern.
+/// Whether the step is a leaf whose pattern is searched for.
 fn has_pattern(step: &FlatStep<'_>) -> bool {
-    matches!(
-        step,
-        FlatStep::Leaf(
-            FiltersetLeaf::Kind(NameMatcher::Regex(_), _)
-                | FiltersetLeaf::Binary(NameMatcher::Regex(_), _)
-                | FiltersetLeaf::BinaryId(NameMatcher::Regex(_), _)
-                | FiltersetLeaf::Test(NameMatcher::Regex(_), _)
-        )
-    )
+    match step {
+        FlatStep::Leaf(leaf) => leaf_has_pattern(leaf),
+        _ => false,
+    }
+}
+
+/// Whether a pattern is searched for to answer the leaf. Each leaf is named, so that none is forgotten.
+fn leaf_has_pattern(leaf: &FiltersetLeaf) -> bool {
+    match leaf {
+        FiltersetLeaf::Kind(matcher, _)
+        | FiltersetLeaf::Binary(matcher, _)
+        | FiltersetLeaf::BinaryId(matcher, _)
+        | FiltersetLeaf::Test(matcher, _) => matches!(matcher, NameMatcher::Regex(_)),
+        FiltersetLeaf::Packages(..)
+        | FiltersetLeaf::Platform(..)
+        | FiltersetLeaf::Group(..)
+        | FiltersetLeaf::Default
+        | FiltersetLeaf::All
+        | FiltersetLeaf::None => false,
+    }
 }

@@ -1,10 +1,10 @@
 //! The steps of flat expressions.
 ghost use Rattle.std.specs.Prelude.{◌≡◌, ◌++◌, true, OnOk};
 ghost use Rattle.filterset_expression.specs.Expression.{formula};
-ghost use Rattle.filterset_expression.specs.Running.{leaf_or, leaves_one, greatest_height};
-ghost use Rattle.filterset_expression.specs.FlatSteps.{steps_by, steps_of};
+ghost use Rattle.filterset_expression.specs.FlatSteps.{step_of, steps_by, steps_of};
+ghost use Rattle.filterset_expression.specs.Running.{leaf_or, leaves_one, greatest_height, step_of_action};
 
-use crate::{CompiledExpr, FiltersetLeaf};
+use crate::{CompiledExpr, Connective, FiltersetLeaf};
 use std::alloc::AllocError;
 
 /// A step of a flat expression.
@@ -20,6 +20,32 @@ pub enum FlatStep<'a> {
     Or,
     /// Whether exactly one of the last two values holds.
     Xor,
+}
+
+/// What a step does to the values that stand when it runs.
+#[derive(Clone, Copy, Debug)]
+pub(super) enum Action<'a> {
+    /// Adds what the leaf says.
+    Push(&'a FiltersetLeaf),
+    /// Takes the last value, and adds its negation.
+    Negate,
+    /// Takes the last two values, and adds what the connective makes of them.
+    Combine(Connective),
+}
+
+impl<'a> FlatStep<'a> {
+    /// What the step does.
+    pub(super) fn action(self) -> Action<'a>
+        ensures { step_of_action result ≡ step_of self.entry }
+    {
+        match self {
+            FlatStep::Leaf(leaf) => Action::Push(leaf),
+            FlatStep::Not => Action::Negate,
+            FlatStep::And => Action::Combine(Connective::Conjunction),
+            FlatStep::Or => Action::Combine(Connective::Disjunction),
+            FlatStep::Xor => Action::Combine(Connective::ExclusiveDisjunction),
+        }
+    }
 }
 
 /// Appends the steps of an expression, with these in the place of each `default` leaf.
@@ -65,10 +91,10 @@ pub(super) fn reserved_height(steps: &[FlatStep<'_>]) -> usize
     let mut height = 0usize;
     let mut greatest = 0usize;
     for step in steps {
-        match step {
-            FlatStep::Leaf(_) => height += 1,
-            FlatStep::Not => {}
-            FlatStep::And | FlatStep::Or | FlatStep::Xor => height -= 1,
+        match step.action() {
+            Action::Push(_) => height += 1,
+            Action::Negate => {}
+            Action::Combine(_) => height -= 1,
         }
         greatest = greatest.max(height);
     }

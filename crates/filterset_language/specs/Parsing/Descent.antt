@@ -5,18 +5,21 @@ use Rattle.filterset_language.specs.Parsing.Place.{Place, place, advanced, skip,
 use Rattle.filterset_language.specs.Parsing.RawTexts.{raw_at, body_at}
 use Rattle.filterset_language.specs.Parsing.PlatformNames.{platform_in}
 use Rattle.filterset_language.specs.Parsing.Globs.{glob_in}
-use Rattle.filterset_language.specs.Grammar.{own_matching}
+use Rattle.filterset_grammar.specs.Grammar.{own_matching}
 use Rattle.filterset_language.specs.Parsing.Words.{choose, not_at, joiner_at, or_at, name_at}
 use Rattle.filterset_matchers.specs.Matcher.{Matcher, Equal, Contains, Regex}
-use Rattle.filterset_language.specs.Tree as tree
-use Rattle.filterset_language.specs.Tree.{Leaf, Predicate, Matching, Platform, Default, Tree, Joiner, Not, Union, Join, Parens, Set, tree_of}
-use Rattle.filterset_language.specs.declared.tree.OrOperator.{OrOperator}
+use Rattle.filterset_grammar.specs.Tree as tree
+use Rattle.filterset_grammar.specs.Tree.{Leaf, Matching, Platform, Default, Tree, Not, Union, Join, Parens, Set}
+use Rattle.filterset_grammar.specs.declared.operators.Joiner.{Joiner}
+use Rattle.filterset_grammar.specs.declared.predicate.Predicate.{Predicate}
+use Rattle.filterset_language.specs.Views.{tree_of}
+use Rattle.filterset_grammar.specs.declared.operators.OrOperator.{OrOperator}
 use Rattle.filterset_language.specs.declared.tree.ParsedExpr.{ParsedExpr}
 use Rattle.filterset_faults.specs.Span.{span}
 use Rattle.filterset_faults.specs.declared.span.SourceSpan.{SourceSpan}
 use Rattle.filterset_language.specs.declared.parsing.matchers.Sign.{Sign}
-use Rattle.filterset_language.specs.declared.tree.predicate.TextMatching.{TextMatching}
-use Rattle.filterset_language.specs.declared.tree.predicate.TextMatching.TheVariants as ways
+use Rattle.filterset_grammar.specs.declared.predicate.TextMatching.{TextMatching}
+use Rattle.filterset_grammar.specs.declared.predicate.TextMatching.TheVariants as ways
 use Rattle.filterset_language.specs.declared.parsing.names.PredicateName.{PredicateName}
 use Rattle.filterset_language.specs.declared.parsing.names.PredicateName.TheVariants as names
 

@@ -3,7 +3,7 @@ use Rattle.std.specs.Prelude.{ℕ, ◌+◌, ◌*◌, List, [], ◌∷◌, nat_lt
 use Rattle.std.specs.Option.{option_map, option_and_then}
 use lib.Utf8.{scalar}
 use Rattle.filterset_glob.specs.Signs.{sign, ◌∈◌}
-use Rattle.filterset_language.specs.Text.{hex_value}
+use Rattle.filterset_grammar.specs.Text.{hex_value}
 use Rattle.filterset_language.specs.declared.parsing.escapes.Escape.{Escape}
 
 -- the character of an escape, and how many bytes it has behind its backslash

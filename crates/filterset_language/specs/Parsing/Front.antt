@@ -2,12 +2,13 @@
 use Rattle.std.specs.Prelude.{ℕ, suc, Bool, List, [], ◌∷◌, length, ◌==◌, ◌&&◌, if◌then◌else◌}
 use Rattle.std.specs.Str.{is_utf8, trim_start}
 use Rattle.filterset_glob.specs.Signs.{◌∈◌}
+use Rattle.filterset_language.specs.Parsing.Seam.{is_blank, is_line_end}
 
 -- how many bytes the blank at the front has, or 0
 abbrev pub blank_len : List ℕ → ℕ
 blank_len [] = 0
-blank_len (b ∷ []) = if b ∈ " \n" then 1 else 0
-blank_len (b ∷ c ∷ t) = if b ∈ " \n" then 1 else (if (b ∈ "\r") && (c ∈ "\n") then 2 else 0)
+blank_len (b ∷ []) = if is_blank b then 1 else 0
+blank_len (b ∷ c ∷ t) = if is_blank b then 1 else (if is_line_end b c then 2 else 0)
 
 -- how many bytes stand before the next `)`
 abbrev pub close_len : List ℕ → ℕ

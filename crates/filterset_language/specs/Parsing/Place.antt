@@ -1,7 +1,7 @@
 -- Reading from left to right: a place of a text, and what stands there.
 use Rattle.std.specs.Prelude.{◌≡◌, ℕ, ◌+◌, List, [], ◌∷◌, length, drop, ◌<◌, ◌≤◌, ◌==◌, Option, Some, None, if◌then◌else◌}
 use Rattle.std.specs.Option.{option_map, option_and_then}
-use Rattle.filterset_language.specs.Text.{ends_word}
+use Rattle.filterset_grammar.specs.Text.{ends_word}
 pub use Rattle.filterset_language.specs.Parsing.Seam.{Place, place, skip_from}
 use Rattle.filterset_language.specs.declared.parsing.input.Input.{Input}
 

@@ -2,7 +2,7 @@
 use Rattle.std.specs.Prelude.{◌≡◌, ℕ, zero, suc, ◌+◌, ◌-◌, ◌<◌, List, [], ◌∷◌, ◌++◌, length, take, not, ◌&&◌, ◌==◌, Option, Some, None, if◌then◌else◌, encode_utf8, codes}
 use Rattle.std.specs.Option.{option_map, option_and_then}
 use Rattle.filterset_glob.specs.Signs.{sign, ◌∈◌}
-use Rattle.filterset_language.specs.Text.{is_plain, Spelled, Body, with_slashes}
+use Rattle.filterset_grammar.specs.Text.{is_plain, Spelled, Body, with_slashes}
 use Rattle.filterset_language.specs.Parsing.Place.{Place, place, advanced, after}
 use Rattle.filterset_language.specs.Parsing.Escapes.{escape_at}
 use Rattle.filterset_language.specs.Faults.{EndsText}

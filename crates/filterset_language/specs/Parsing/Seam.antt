@@ -1,5 +1,5 @@
 -- A text, what is left of it, and the place behind its blanks.
-use Rattle.std.specs.Prelude.{◌≡◌, ℕ, ◌+◌, ◌≤◌, List, [], ◌∷◌, length, drop, true, ◌&&◌, if◌then◌else◌, IsCharBoundary}
+use Rattle.std.specs.Prelude.{◌≡◌, ℕ, ◌+◌, ◌≤◌, List, [], ◌∷◌, length, drop, Bool, true, ◌&&◌, if◌then◌else◌, IsCharBoundary}
 use Rattle.std.specs.Str.{is_utf8}
 use Rattle.filterset_glob.specs.Signs.{◌∈◌}
 
@@ -12,13 +12,21 @@ pub record Place : Type 0 where
 abbrev pub place : ℕ → List ℕ → Place
 place at rest = record { at = at; rest = rest }
 
+-- how a reader finds the blanks of the grammar: the byte is one
+abbrev pub is_blank : ℕ → Bool
+is_blank b = b ∈ " \n"
+
+-- or the two bytes together are one
+abbrev pub is_line_end : ℕ → ℕ → Bool
+is_line_end b c = (b ∈ "\r") && (c ∈ "\n")
+
 -- the place behind all blanks
 abbrev pub skip_from : ℕ → List ℕ → Place
 skip_from at [] = place at []
-skip_from at (b ∷ []) = if b ∈ " \n" then place (at + 1) [] else place at (b ∷ [])
+skip_from at (b ∷ []) = if is_blank b then place (at + 1) [] else place at (b ∷ [])
 skip_from at (b ∷ c ∷ t) =
-    if b ∈ " \n" then skip_from (at + 1) (c ∷ t)
-    else (if (b ∈ "\r") && (c ∈ "\n") then skip_from (at + 2) t else place at (b ∷ c ∷ t))
+    if is_blank b then skip_from (at + 1) (c ∷ t)
+    else (if is_line_end b c then skip_from (at + 2) t else place at (b ∷ c ∷ t))
 
 -- the rest of a text, from an offset on that stands between two characters
 pub record IsSeam (text rest : List ℕ) (offset : ℕ) : Type 0 where

@@ -2,7 +2,7 @@
 use Rattle.std.specs.Prelude.{◌≡◌, ◌≢◌, ℕ, suc, List, [], ◌∷◌, ◌++◌, ◌⊎◌, length, All, Option, None, Some}
 use Rattle.filterset_language.specs.Parsing.Place.{place}
 use Rattle.filterset_language.specs.Faults.{FaultStands}
-use Rattle.filterset_language.specs.Patterns.{PatternsAreRead}
+use Rattle.filterset_grammar.specs.Patterns.{PatternsAreRead}
 use Rattle.filterset_language.specs.Parsed.{LiesOnBody}
 use Rattle.filterset_language.specs.Parsing.Descent.{Placed, operand_at, or_level_by, whole_by}
 use Rattle.filterset_faults.specs.Span.{offset_of}

@@ -1,7 +1,8 @@
 //! Reading expressions.
 ghost use Rattle.std.specs.Prelude.{◌≡◌, ℕ, suc, ◌<◌, ◌≤◌, length, IfOk, Some};
 ghost use Rattle.std.specs.Option.{option_map};
-ghost use Rattle.filterset_language.specs.Tree.{leaf_of, Not, Parens, Set};
+ghost use Rattle.filterset_grammar.specs.Tree.{Not, Parens, Set};
+ghost use Rattle.filterset_language.specs.Views.{leaf_of};
 ghost use Rattle.filterset_language.specs.Parsing.Place.{place_of, IsBehind, IsAtOrBehind};
 ghost use Rattle.filterset_language.specs.Parsing.Words.{joiner_at, or_at};
 ghost use Rattle.filterset_language.specs.Parsing.Descent.{boxed_tree, operand_at, and_level_by, or_level_by, join, unite, set_at};
@@ -13,8 +14,9 @@ use crate::parsing::misplaced::{find_misplaced, find_misplaced_not};
 use crate::parsing::names::{PredicateName, read_name};
 use crate::parsing::operators::{is_before_caret, read_joiner, read_not, read_or};
 use crate::parsing::predicates::{read_close, read_predicate};
-use crate::tree::{Joiner, NotOperator, OrOperator, ParsedExpr, ParsedLeaf};
+use crate::tree::{ParsedExpr, ParsedLeaf, nodes};
 use filterset_faults::ParseSingleError;
+use filterset_grammar::{Joiner, NotOperator, OrOperator};
 use std::alloc::{AllocError, Global};
 
 /// A leaf, a negation or parentheses.
@@ -360,12 +362,7 @@ fn join(
     let Some(right) = right else {
         return Ok(None);
     };
-    let expr = match joiner {
-        Joiner::Both(operator) => ParsedExpr::Intersection(operator, left, right),
-        Joiner::Without(operator) => ParsedExpr::Difference(operator, left, right),
-        Joiner::ExactlyOne(operator) => ParsedExpr::SymmetricDifference(operator, left, right),
-    };
-    Ok(Some(Box::new(alloc, expr)?))
+    Ok(Some(nodes::joined(alloc, joiner, left, right)?))
 }
 
 /// Two operands of the level of `or` and the operator between them, where all three are there.

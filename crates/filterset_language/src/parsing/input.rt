@@ -1,7 +1,7 @@
 //! Places of a text, and single steps from one to the next: blanks, words, the next `)`.
 ghost use Rattle.std.specs.Prelude.{◌≡◌, ◌+◌, ◌-◌, ◌≤◌, ◌<◌, ◌^◌, ◌∷◌, [], ◌++◌, length, min, take, drop, IsCharBoundary, MatchOption, IfSome, chars};
 ghost use Rattle.std.specs.Option.{option_map};
-ghost use Rattle.filterset_language.specs.Text.{ends_word};
+ghost use Rattle.filterset_grammar.specs.Text.{ends_word};
 ghost use Rattle.filterset_language.specs.Parsing.Front.{blank_len, close_len};
 ghost use Rattle.filterset_language.specs.Parsing.Seam.{IsSeam, AreBlanks};
 ghost use Rattle.filterset_faults.specs.Span.{span};

@@ -13,9 +13,9 @@ ghost use Rattle.filterset_language.specs.Parsing.Outcome.{ReadsMatcher, MakesPa
 use crate::parsing::input::{Input, Read};
 use crate::parsing::raw_text::read_raw_text;
 use crate::parsing::regex_body::{RegexBody, read_regex_body};
-use crate::tree::predicate::{Predicate, TextMatching};
 use filterset_faults::ParseSingleError;
 use filterset_glob::{GenericGlob, GlobRefusal};
+use filterset_grammar::{Predicate, TextMatching};
 use filterset_matchers::{NameMatcher, PatternRefusal, PatternRegex};
 use std::alloc::{AllocError, Global};
 use std::rc::Rc;

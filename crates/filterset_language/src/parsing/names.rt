@@ -5,7 +5,7 @@ ghost use Rattle.filterset_language.specs.Parsing.Place.{place_of, IsBehind};
 ghost use Rattle.filterset_language.specs.Parsing.Words.{seen, first_byte, named, either, binary_name_at, name_at};
 
 use crate::parsing::input::Input;
-use crate::tree::predicate::Predicate;
+use filterset_grammar::Predicate;
 
 /// A predicate's name.
 #[derive(Clone, Copy)]

@@ -5,7 +5,7 @@ ghost use Rattle.filterset_language.specs.Parsing.Place.{place, place_of, skip, 
 ghost use Rattle.filterset_language.specs.Parsing.Words.{seen, not_at, joiner_at, or_at};
 
 use crate::parsing::input::Input;
-use crate::tree::{
+use filterset_grammar::{
     AndOperator, DifferenceOperator, Joiner, NotOperator, OrOperator, SymmetricDifferenceOperator,
 };
 

@@ -1,8 +1,9 @@
 //! Reading whole texts.
 ghost use Rattle.std.specs.Prelude.{◌≡◌, ℕ, suc, List, [], ◌∷◌, ◌++◌, ◌⊎◌, length, take, All, Some, IfOk, IfErr};
 ghost use Rattle.std.specs.Option.{option_map};
-ghost use Rattle.filterset_language.specs.Tree.{Tree, tree_of};
-ghost use Rattle.filterset_language.specs.Grammar.{Spells};
+ghost use Rattle.filterset_grammar.specs.Tree.{Tree};
+ghost use Rattle.filterset_language.specs.Views.{tree_of};
+ghost use Rattle.filterset_grammar.specs.Grammar.{Spells};
 ghost use Rattle.filterset_language.specs.Faults.{FaultStands};
 ghost use Rattle.filterset_language.specs.Parsed.{Reads, Comes, HasRefusedBodies, SpellsNothing, IsRefusalOf};
 ghost use Rattle.filterset_language.specs.Parsing.Descent.{boxed_tree};

@@ -1,6 +1,6 @@
 //! The platform that a value names.
 ghost use Rattle.std.specs.Prelude.{◌≡◌, MatchOption};
-ghost use Rattle.filterset_language.specs.Platforms.{Names};
+ghost use Rattle.filterset_grammar.specs.Platforms.{Names};
 ghost use Rattle.filterset_language.specs.Parsing.PlatformNames.{platform_in};
 ghost use Rattle.filterset_graph.specs.declared.package.BuildPlatform.{BuildPlatform};
 

@@ -2,7 +2,8 @@
 ghost use Rattle.std.specs.Prelude.{◌∷◌, [], ◌≡◌, ◌<◌, ◌≤◌, length, IfOk, Some, codes, false, true};
 ghost use Rattle.std.specs.Option.{option_map};
 ghost use Rattle.filterset_matchers.specs.Matchers.{matcher_of};
-ghost use Rattle.filterset_language.specs.Tree.{Matching, leaf_of};
+ghost use Rattle.filterset_grammar.specs.Tree.{Matching};
+ghost use Rattle.filterset_language.specs.Views.{leaf_of};
 ghost use Rattle.filterset_language.specs.Parsing.Front.{is_white};
 ghost use Rattle.filterset_language.specs.Parsing.Place.{place_of, skip, after, IsAtOrBehind};
 ghost use Rattle.filterset_language.specs.Parsing.Descent.{bare_end_at, bare_at, default_at, matching_at, platform_at, leaf_at};
@@ -15,8 +16,8 @@ use crate::parsing::names::PredicateName;
 use crate::parsing::platform::platform_of;
 use crate::parsing::raw_text::read_raw_text;
 use crate::tree::ParsedLeaf;
-use crate::tree::predicate::Predicate;
 use filterset_faults::{ParseSingleError, SourceSpan};
+use filterset_grammar::Predicate;
 use filterset_matchers::NameMatcher;
 use std::alloc::{AllocError, Global};
 

@@ -1,7 +1,7 @@
 //! Raw texts.
 ghost use Rattle.std.specs.Prelude.{◌≡◌, ◌≤◌, length, take, IfOk, IfSome, Some, codes};
 ghost use Rattle.std.specs.String.{string_bytes};
-ghost use Rattle.filterset_language.specs.Text.{is_plain};
+ghost use Rattle.filterset_grammar.specs.Text.{is_plain};
 ghost use Rattle.filterset_language.specs.Faults.{EndsText};
 ghost use Rattle.filterset_language.specs.Parsing.Place.{place_of, after, advanced, IsAtOrBehind};
 ghost use Rattle.filterset_language.specs.Parsing.RawTexts.{plain_len, raw_at, SpelledTo};

@@ -1,7 +1,7 @@
 //! Bodies of regular expressions.
 ghost use Rattle.std.specs.Prelude.{◌≡◌, ◌≤◌, length, IfOk, IfSome};
 ghost use Rattle.std.specs.String.{string_bytes};
-ghost use Rattle.filterset_language.specs.Text.{with_slashes};
+ghost use Rattle.filterset_grammar.specs.Text.{with_slashes};
 ghost use Rattle.filterset_language.specs.Parsing.Place.{place_of, IsAtOrBehind};
 ghost use Rattle.filterset_language.specs.Parsing.RawTexts.{body_len, body_at, BodyTaken};
 ghost use Rattle.filterset_language.specs.Parsing.Bodies.{seen_body};

@@ -1,8 +1,8 @@
 //! When trees are equal.
 ghost use Rattle.std.specs.Cmp.{on_equiv, on_per};
-ghost use Rattle.filterset_language.specs.Equality.{same_leaf, same_tree};
-ghost use Rattle.filterset_language.specs.EqualityLaws.{same_leaf_equiv, same_leaf_per, same_tree_equiv, same_tree_per};
-ghost use Rattle.filterset_language.specs.Tree.{leaf_of, tree_of};
+ghost use Rattle.filterset_grammar.specs.Equality.{same_leaf, same_tree};
+ghost use Rattle.filterset_grammar.specs.EqualityLaws.{same_leaf_equiv, same_leaf_per, same_tree_equiv, same_tree_per};
+ghost use Rattle.filterset_language.specs.Views.{leaf_of, tree_of};
 
 use crate::tree::{ParsedExpr, ParsedLeaf};
 

@@ -1,7 +1,8 @@
 //! The predicates of a tree, in their order.
 ghost use Rattle.std.specs.Prelude.{◌≡◌, ◌++◌, Bool, map, IfOk, OnOk};
 ghost use Rattle.std.specs.List.{filter};
-ghost use Rattle.filterset_language.specs.Tree.{Leaf, leaf_of, tree_of, tree_leaves, runtime_only, AnswersAs};
+ghost use Rattle.filterset_grammar.specs.Tree.{Leaf, tree_leaves, runtime_only};
+ghost use Rattle.filterset_language.specs.Views.{leaf_of, tree_of, AnswersAs};
 
 use crate::tree::{ParsedExpr, ParsedLeaf};
 use std::alloc::{AllocError, Global};
@@ -24,7 +25,7 @@ impl<S> ParsedExpr<S> {
     }
 
     /// The predicates that the test itself decides, and not its binary alone, from left to right: `test`, `group` and
-    /// `default`. The only error is want of memory.
+    /// `default`. The only error is out of memory.
     pub fn runtime_only_leaves(&self, alloc: Global) -> Result<Vec<&ParsedLeaf<S>>, AllocError>
         ensures { IfOk result (λ found. map (λ leaf. leaf_of leaf.now) found.items ≡ runtime_only (tree_of self.now)) }
     {

@@ -3,9 +3,11 @@
 //! What copies a tree calls itself, so it takes the room of its frame at each level. A tree by value would stand in that
 //! frame, once for each place where one is made; here it stands in a frame that ends before the next level begins.
 ghost use Rattle.std.specs.Prelude.{◌≡◌, IfOk};
-ghost use Rattle.filterset_language.specs.Tree.{Not, Union, Join, Parens, Set, leaf_of, tree_of};
+ghost use Rattle.filterset_grammar.specs.Tree.{Not, Union, Join, Parens, Set};
+ghost use Rattle.filterset_language.specs.Views.{leaf_of, tree_of};
 
-use crate::tree::{Joiner, NotOperator, OrOperator, ParsedExpr, ParsedLeaf};
+use crate::tree::{ParsedExpr, ParsedLeaf};
+use filterset_grammar::{Joiner, NotOperator, OrOperator};
 use std::alloc::{AllocError, Global};
 
 /// The negation of an operand.

@@ -1,15 +1,17 @@
 //! Parentheses added to a tree where its operands ask for them.
 ghost use Rattle.std.specs.Prelude.{◌≡◌, ◌↔◌, IfOk, IsTrue};
 ghost use Rattle.filterset_faults.specs.declared.span.SourceSpan.{SourceSpan};
-ghost use Rattle.filterset_language.specs.Tree.{Tree, tree_of, SameTree};
-ghost use Rattle.filterset_language.specs.Grammar.{Spells};
-ghost use Rattle.filterset_language.specs.Printing.{printed, WellFormed};
-ghost use Rattle.filterset_language.specs.AddedParens.{IsWithParens, HasWellFormedLeaves};
+ghost use Rattle.filterset_grammar.specs.Tree.{Tree, SameTree};
+ghost use Rattle.filterset_language.specs.Views.{tree_of};
+ghost use Rattle.filterset_grammar.specs.Grammar.{Spells};
+ghost use Rattle.filterset_grammar.specs.Printing.{printed, WellFormed};
+ghost use Rattle.filterset_grammar.specs.AddedParens.{IsWithParens, HasWellFormedLeaves};
 ghost use Rattle.filterset_language.specs.Levels.{IsOfLevel, IsOperand};
 
 use crate::laws::held::tree_is_held;
+use crate::tree::ParsedExpr;
 use crate::tree::nodes::{copied_set, enclosed, joined, negation, union};
-use crate::tree::{Joiner, ParsedExpr};
+use filterset_grammar::Joiner;
 use std::alloc::{AllocError, Global};
 
 /// The level of the grammar that an operand has to be of.
@@ -27,7 +29,7 @@ impl<S: Copy> ParsedExpr<S> {
     /// A copy of the tree, spans included, with one pair of parentheses round each operand that could not be read again
     /// where it stands: round a union or an expression of the level of `and` as the operand of a negation or on the
     /// right at the level of `and`, and round a union on the left at that level or on the right of a union. Nothing else
-    /// changes. The only error is want of memory.
+    /// changes. The only error is out of memory.
     pub fn with_parens(&self, alloc: Global) -> Result<ParsedExpr<S>, AllocError>
         ensures tree { IfOk result (λ new. IsWithParens (tree_of self.now) (tree_of new)) }
         ensures well_formed { HasWellFormedLeaves (tree_of self.now) → IfOk result (λ new. WellFormed (tree_of new)) }

@@ -12,7 +12,7 @@ use std::marker::Model;
 /// Why there is no regex for a text.
 #[derive(Debug, Drop)]
 pub enum PatternRefusal {
-    /// `regex` refused the text, and not for want of memory.
+    /// `regex` refused the text, and was not out of memory.
     NotBuilt,
     /// There was not enough memory.
     OutOfMemory(AllocError),
@@ -59,7 +59,7 @@ impl PatternRegex {
         self.pattern.as_str()
     }
 
-    /// Whether the pattern matches anywhere in the input. It is an error only for want of memory.
+    /// Whether the pattern matches anywhere in the input. The only error is out of memory.
     ///
     /// It makes a matcher for this one question. [`PatternRegex::matcher`] is for whoever asks more often.
     #[cold]
@@ -71,7 +71,7 @@ impl PatternRegex {
         Ok(matcher.is_match(input))
     }
 
-    /// What searches for the pattern. It is an error only for want of memory.
+    /// What searches for the pattern. The only error is out of memory.
     #[cold]
     #[inline(never)]
     pub fn matcher(&self, alloc: Global) -> Result<PatternMatcher<'_>, AllocError>
@@ -100,7 +100,7 @@ fn built_of(alloc: Global, text: &str) -> Result<Box<Regex>, PatternRefusal>
     }
 }
 
-/// Why there is no regex: want of memory is no fault of the text.
+/// Why there is no regex: out of memory is no fault of the text.
 fn refusal_of(error: regex::Error) -> PatternRefusal
     ensures { result ≡ refusal.NotBuilt ↔ error ≢ regex.OutOfMemory }
 {

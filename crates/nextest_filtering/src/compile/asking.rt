@@ -15,7 +15,7 @@ pub(super) enum Asked<'m> {
 }
 
 impl<'m> Asked<'m> {
-    /// For asking this matcher. It is an error only for want of memory.
+    /// For asking this matcher. The only error is out of memory.
     pub fn new(alloc: Global, matcher: &'m NameMatcher) -> Result<Asked<'m>, AllocError>
         ensures { IfOk result (λ asked. asked_matcher asked ≡ matcher_of matcher.now) }
     {
@@ -25,7 +25,7 @@ impl<'m> Asked<'m> {
         })
     }
 
-    /// Whether the matcher hits the name. It is an error only for want of memory.
+    /// Whether the matcher hits the name. The only error is out of memory.
     pub fn hits(&mut self, alloc: Global, name: &str) -> Result<bool, AllocError>
         ensures hits { IfOk result (λ hit. IsTrue hit ↔ Hits (asked_matcher self.old) name.now) }
         ensures same { asked_matcher self.new ≡ asked_matcher self.old }

@@ -2,7 +2,8 @@
 ghost use Rattle.std.specs.Prelude.{◌≡◌, map, IfOk};
 ghost use Rattle.std.specs.List.{filter, filter_map};
 ghost use Rattle.nextest_filtering.specs.Bans.{ban, banned, is_banned};
-ghost use Rattle.filterset_language.specs.Tree.{leaf_of, tree_of, tree_leaves};
+ghost use Rattle.filterset_grammar.specs.Tree.{tree_leaves};
+ghost use Rattle.filterset_language.specs.Views.{leaf_of, tree_of};
 
 use filterset_faults::{BannedPredicateReason, FiltersetKind, ParseSingleError, SourceSpan};
 use filterset_language::{ParsedExpr, ParsedLeaf};

@@ -32,7 +32,7 @@ impl<'g> ParseContext<'g> {
     ghost use Rattle.nextest_filtering.specs.Compiling.{packages_of};
 
     /// The context over these packages. It lists the packages of the workspace and the names and ids of their test
-    /// binaries, once for all filtersets. It is an error only for want of memory.
+    /// binaries, once for all filtersets. The only error is out of memory.
     pub fn new(alloc: Global, graph: &'g PackageGraph) -> Result<ParseContext<'g>, AllocError>
         ensures { IfOk result (λ cx. packages_of cx ≡ graph.now) }
     {

@@ -2,7 +2,7 @@
 ghost use Rattle.std.specs.Prelude.{◌≡◌, ◌≢◌, ◌∷◌, [], Any, IfOk, OnOk};
 ghost use Rattle.filterset_faults.specs.declared.error.ParseSingleError.TheVariants as fault;
 ghost use Rattle.filterset_graph.specs.Binaries.{IsBinaryId, IsBinaryName};
-ghost use Rattle.filterset_language.specs.Tree.{leaf_of};
+ghost use Rattle.filterset_language.specs.Views.{leaf_of};
 ghost use Rattle.filterset_matchers.specs.Matchers.{matcher_of};
 ghost use Rattle.nextest_filtering.specs.Checks.{AddsUnless, AddsUnmatched, HitsSome};
 ghost use Rattle.nextest_filtering.specs.Compiling.{packages_of};

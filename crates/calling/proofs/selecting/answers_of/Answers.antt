@@ -1,6 +1,6 @@
 use Rattle.std.proofs.Common.{rules, arith, ◌≡◌, ◌+◌, ◌<◌, ◌++◌, ◌∷◌, [], length, get_or, take, ◌∙◌, ap}
 use Rattle.std.proofs.lemmas.List.{take_more}
-use Rattle.filterset_language.specs.Tree.{tree_of}
+use Rattle.filterset_language.specs.Views.{tree_of}
 use Rattle.filterset_expression.specs.Contexts.{default_of}
 use Rattle.calling.specs.Selecting.{Tells}
 use Rattle.calling.proofs.AnswersOfTests.{AllZip-more}

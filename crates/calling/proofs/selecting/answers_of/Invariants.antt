@@ -1,7 +1,7 @@
 use Rattle.std.proofs.Common.{List, take}
 use Rattle.std.specs.List.{AllZip}
 use Rattle.filterset_graph.specs.declared.package.PackageMetadata.{PackageMetadata}
-use Rattle.filterset_language.specs.Tree.{tree_of}
+use Rattle.filterset_language.specs.Views.{tree_of}
 use Rattle.filterset_expression.specs.Contexts.{default_of}
 use Rattle.filterset_expression.specs.Meaning.{IsCompiled}
 use Rattle.calling.specs.Selecting.{Tells}

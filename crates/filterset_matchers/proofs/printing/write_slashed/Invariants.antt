@@ -1,7 +1,17 @@
-use Rattle.std.specs.List.{flat_map}
+use Rattle.std.proofs.Common.{◌≡◌, ◌++◌, ℕ, List, chars, length}
+use denote.Text.{Utf8}
+use denote.Shadow.{shadow}
 use Rattle.std.specs.Fmt.{HasWritten, IsPlainFormatter}
+use Rattle.std.specs.List.{flat_map}
 use Rattle.filterset_matchers.specs.PrintedMatcher.{printed_slash}
 use Rattle.filterset_matchers.proofs.printing.write_slashed.Given as goal
 
-abbrev pub invariant-loop-c : goal.invariant-loop-c
-invariant-loop-c g l = IsPlainFormatter l.fn.f → HasWritten g.W.Write.write_str_gives l.fn.f (flat_map printed_slash l.yielded) l.f
+-- the rest is text; what was written so far, and what the rest prints
+abbrev pub invariant-loop-run : goal.invariant-loop-run
+invariant-loop-run g l =
+    shadow (Utf8 l.rest)
+    × (written : List ℕ) × (flat_map printed_slash (chars l.pattern) ≡ written ++ flat_map printed_slash (chars l.rest))
+    × (IsPlainFormatter l.fn.f → HasWritten g.W.Write.write_str_gives l.fn.f written l.f)
+
+abbrev pub decreases-loop-run : goal.decreases-loop-run
+decreases-loop-run g l = length l.rest

@@ -1,9 +1,9 @@
 use Rattle.std.specs.Prelude.{◌≡◌}
 use Rattle.std.specs.Bool.{Decides}
 use Rattle.std.proofs.Common.{subst, sym}
-use Rattle.filterset_language.specs.Equality.{compared_tree, same_span}
-use Rattle.filterset_language.specs.EqualityLaws.{same_span_Decides, same_tree_Decides}
-use Rattle.filterset_language.specs.Tree.{tree_of}
+use Rattle.filterset_grammar.specs.Equality.{compared_tree, same_span}
+use Rattle.filterset_grammar.specs.EqualityLaws.{same_span_Decides, same_tree_Decides}
+use Rattle.filterset_language.specs.Views.{tree_of}
 use Rattle.language_tests.proofs.judging.trees_agree.Goals as goal
 
 pub returns-clause-compared : goal.returns-clause-compared

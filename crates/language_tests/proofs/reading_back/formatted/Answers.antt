@@ -1,8 +1,8 @@
 use Rattle.std.proofs.Common.{rules, ◌≡◌, ◌≢◌, true, List, [], ◌∷◌, length, Some, refl, sym, ◌∙◌, arith, string_bytes, vec_len}
 use Rattle.std.specs.Prelude.{◌==◌}
 use Rattle.std.proofs.lemmas.Bool.{eqb-true}
-use Rattle.filterset_language.specs.Tree.{tree_of}
-use Rattle.filterset_language.specs.Printing.{printed}
+use Rattle.filterset_language.specs.Views.{tree_of}
+use Rattle.filterset_grammar.specs.Printing.{printed}
 use Rattle.language_tests.proofs.ComingBack.{is_refused, spell_alike}
 use Rattle.language_tests.proofs.reading_back.formatted.Goals as goal
 

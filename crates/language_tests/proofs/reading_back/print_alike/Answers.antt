@@ -1,5 +1,5 @@
 use Rattle.std.proofs.Common.{rules}
-use Rattle.filterset_language.specs.Tree.{tree_of}
+use Rattle.filterset_language.specs.Views.{tree_of}
 use Rattle.language_tests.proofs.ComingBack.{printed_same}
 use Rattle.language_tests.proofs.reading_back.print_alike.Goals as goal
 

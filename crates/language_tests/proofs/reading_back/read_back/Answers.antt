@@ -1,7 +1,8 @@
 use Rattle.std.proofs.Common.{rules, ◌≡◌, ◌⊎◌, List, ℕ, [], IfOk, Result, Ok, Err, sym, subst}
-use Rattle.filterset_language.specs.Tree.{Tree, tree_of}
-use Rattle.filterset_language.specs.Grammar.{Spells}
-use Rattle.filterset_language.specs.Printing.{printed}
+use Rattle.filterset_grammar.specs.Tree.{Tree}
+use Rattle.filterset_language.specs.Views.{tree_of}
+use Rattle.filterset_grammar.specs.Grammar.{Spells}
+use Rattle.filterset_grammar.specs.Printing.{printed}
 use Rattle.filterset_language.specs.Parsed.{Comes, HasRefusedBodies}
 use Rattle.filterset_language.specs.declared.parsing.parse.Parsed.{Parsed}
 use Rattle.filterset_faults.specs.declared.span.SourceSpan.{SourceSpan}

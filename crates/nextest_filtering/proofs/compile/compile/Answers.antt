@@ -3,7 +3,8 @@ use Rattle.std.proofs.lemmas.Grind.{common_steps}
 use Rattle.std.specs.List.{filter_map}
 use Rattle.filterset_faults.specs.declared.error.ParseSingleError.{ParseSingleError}
 use Rattle.filterset_faults.specs.declared.span.SourceSpan.{SourceSpan}
-use Rattle.filterset_language.specs.Tree.{Leaf, leaf_of, tree_of, tree_leaves}
+use Rattle.filterset_grammar.specs.Tree.{Leaf, tree_leaves}
+use Rattle.filterset_language.specs.Views.{leaf_of, tree_of}
 use Rattle.filterset_language.specs.declared.tree.ParsedLeaf.{ParsedLeaf}
 use Rattle.nextest_filtering.specs.Bans.{ban}
 use Rattle.nextest_filtering.specs.Checks.{AreUnmatched}

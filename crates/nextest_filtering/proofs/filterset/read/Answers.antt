@@ -1,5 +1,5 @@
 use Rattle.nextest_filtering.specs.Compiling.{packages_of, IsStopOf}
-use Rattle.filterset_language.specs.Tree.{tree_of}
+use Rattle.filterset_language.specs.Views.{tree_of}
 use Rattle.nextest_filtering.proofs.Refusals.{handed_on, unread, stopped}
 use Rattle.nextest_filtering.proofs.filterset.read.Goals as goal
 

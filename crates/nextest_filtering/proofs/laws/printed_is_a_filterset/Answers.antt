@@ -1,5 +1,5 @@
-use Rattle.filterset_language.specs.Printing.{printed}
-use Rattle.filterset_language.specs.Tree.{tree_of}
+use Rattle.filterset_grammar.specs.Printing.{printed}
+use Rattle.filterset_language.specs.Views.{tree_of}
 use Rattle.nextest_filtering.proofs.SameTrees.{is_filterset_too}
 use Rattle.nextest_filtering.proofs.laws.printed_is_a_filterset.Goals as goal
 

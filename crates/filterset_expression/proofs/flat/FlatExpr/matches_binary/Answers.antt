@@ -2,13 +2,13 @@ use Rattle.std.proofs.Common.{◌≡◌, ◌↔◌, [], Bool, List, Option, Some
 use Rattle.std.proofs.lemmas.Result.{IfOk-weaker}
 use Rattle.filterset_faults.specs.declared.span.SourceSpan.{SourceSpan}
 use Rattle.filterset_graph.specs.declared.package.PackageMetadata.{PackageMetadata}
-use Rattle.filterset_language.specs.Tree.{Tree}
+use Rattle.filterset_grammar.specs.Tree.{Tree}
 use Rattle.filterset_expression.specs.BinaryMeaning.{IsDefiniteTree, IsUndecidedTree}
 use Rattle.filterset_expression.specs.Expression.{compiled_leaf, is_of_test, with_default, HoldsOfBinary, IsDefinite, IsUndecided}
 use Rattle.filterset_expression.specs.FlatExpressions.{flat_steps, IsFlat, IsFlatOfTree}
 use Rattle.filterset_expression.specs.Folds.{Folds, Settles}
 use Rattle.filterset_expression.specs.Running.{Runs}
-use Rattle.filterset_expression.specs.Logics.{kleene_not, kleene_or, kleene_and, kleene_xor}
+use Rattle.filterset_expression.specs.Connectives.{kleene_not, kleene}
 use Rattle.filterset_expression.specs.declared.expression.CompiledExpr.{CompiledExpr}
 use Rattle.filterset_expression.specs.declared.flat.FlatExpr.{FlatExpr}
 use Rattle.filterset_expression.specs.declared.flat.asked.AskedLeaf.{AskedLeaf}
@@ -20,10 +20,10 @@ use Rattle.filterset_expression.proofs.FlatSteps.{flat_folds}
 use Rattle.filterset_expression.proofs.flat.FlatExpr.matches_binary.Goals as goal
 
 -- what a run of the steps folds
-folded : (binary : BinaryQuery) (flat : FlatExpr) (of_leaf : AskedLeaf → Option Bool → Type 0) → ((asked : AskedLeaf) (x : Option Bool) → of_leaf asked x → Settles is_of_test (HoldsOfBinary binary) (compiled_leaf asked.leaf.now) x) → (value : Option Bool) → Runs kleene_not kleene_or kleene_and kleene_xor (λ leaf x. (asked : AskedLeaf) × (compiled_leaf asked.leaf.now ≡ leaf) × of_leaf asked x) (flat_steps flat) [] value → (expr default : CompiledExpr) → IsFlat flat expr default → Folds kleene_not kleene_or kleene_and kleene_xor (Settles is_of_test (HoldsOfBinary binary)) (with_default default expr) value
+folded : (binary : BinaryQuery) (flat : FlatExpr) (of_leaf : AskedLeaf → Option Bool → Type 0) → ((asked : AskedLeaf) (x : Option Bool) → of_leaf asked x → Settles is_of_test (HoldsOfBinary binary) (compiled_leaf asked.leaf.now) x) → (value : Option Bool) → Runs kleene_not kleene (λ leaf x. (asked : AskedLeaf) × (compiled_leaf asked.leaf.now ≡ leaf) × of_leaf asked x) (flat_steps flat) [] value → (expr default : CompiledExpr) → IsFlat flat expr default → Folds kleene_not kleene (Settles is_of_test (HoldsOfBinary binary)) (with_default default expr) value
 folded binary flat of_leaf settles value run expr default is_flat =
     let gives = Settles is_of_test (HoldsOfBinary binary) in
-    folds_more kleene_not kleene_or kleene_and kleene_xor _ gives (λ leaf x p. subst (λ l. gives l x) p.1 (settles p.0 x p.2)) (with_default default expr) value (flat_folds kleene_not kleene_or kleene_and kleene_xor _ (flat_steps flat) default expr value is_flat run)
+    folds_more kleene_not kleene _ gives (λ leaf x p. subst (λ l. gives l x) p.1 (settles p.0 x p.2)) (with_default default expr) value (flat_folds kleene_not kleene _ (flat_steps flat) default expr value is_flat run)
 
 pub returns-clause-definite : goal.returns-clause-definite
 returns-clause-definite c =

@@ -1,33 +1,33 @@
 use Rattle.std.proofs.Common.{◌≡◌, length, arith, ap}
 use Rattle.filterset_graph.specs.Packages.{ids}
-use Rattle.filterset_graph.specs.Index.{PlacesAre, AreRows, IsReversed}
+use Rattle.filterset_graph.specs.Index.{PositionsAre, AreRows, IsReversed}
 use Rattle.filterset_graph.specs.Refusals.{IsRefusalOf}
 use Rattle.filterset_graph.proofs.Paths.{rows_stay_below}
-use Rattle.filterset_graph.proofs.Rows.{PlacesAre-AllDiffer, LinksKnown-from_rows}
+use Rattle.filterset_graph.proofs.Rows.{PositionsAre-AllDiffer, LinksKnown-from_rows}
 use Rattle.filterset_graph.proofs.Refused.{handed_on, IsTrueOf-from_ids, IsTrueOf-from_links}
 use Rattle.filterset_graph.proofs.graph.PackageGraph.new.Goals as goal
 
-pub returns-in_err-places-clause-refused : goal.returns-in_err-places-clause-refused
-returns-in_err-places-clause-refused c =
-    handed_on c.from_residual.result c.in_err-places.field-0.0 (IsRefusalOf c.args.packages.items) c.from_residual.ensures.1
-    (IsTrueOf-from_ids c.args.packages.items c.in_err-places.field-0.0 (rw c.as_slice.ensures.value at c.in_err-places.ensures.refused))
+pub returns-in_err-positions-clause-refused : goal.returns-in_err-positions-clause-refused
+returns-in_err-positions-clause-refused c =
+    handed_on c.from_residual.result c.in_err-positions.field-0.0 (IsRefusalOf c.args.packages.items) c.from_residual.ensures.1
+    (IsTrueOf-from_ids c.args.packages.items c.in_err-positions.field-0.0 (rw c.as_slice.ensures.value at c.in_err-positions.ensures.refused))
 
 pub returns-in_err-links-clause-refused : goal.returns-in_err-links-clause-refused
 returns-in_err-links-clause-refused c =
     handed_on c.from_residual-in_err-links.result c.in_err-links.field-0.0 (IsRefusalOf c.args.packages.items) c.from_residual-in_err-links.ensures.1
-    (IsTrueOf-from_links c.in_ok-places.places c.args.packages.items c.in_err-links.field-0.0 (rw c.as_slice.ensures.value at c.in_ok-places.ensures.ok) (rw c.as_slice-2.ensures.value at c.in_err-links.ensures.refused))
+    (IsTrueOf-from_links c.in_ok-positions.positions c.args.packages.items c.in_err-links.field-0.0 (rw c.as_slice.ensures.value at c.in_ok-positions.ensures.ok) (rw c.as_slice-2.ensures.value at c.in_err-links.ensures.refused))
 
 pub reversed-requires : goal.reversed-requires
 reversed-requires c =
-    let placed : PlacesAre c.in_ok-places.places (ids c.args.packages.items) = rw (← c.as_slice.ensures.value) c.in_ok-places.ensures.ok in
-    let rows : AreRows c.in_ok-places.places c.args.packages.items c.in_ok-links.links.items = rw (← c.as_slice-2.ensures.value) c.in_ok-links.ensures.ok in
+    let placed : PositionsAre c.in_ok-positions.positions (ids c.args.packages.items) = rw (← c.as_slice.ensures.value) c.in_ok-positions.ensures.ok in
+    let rows : AreRows c.in_ok-positions.positions c.args.packages.items c.in_ok-links.links.items = rw (← c.as_slice-2.ensures.value) c.in_ok-links.ensures.ok in
     let size : length c.in_ok-links.links.items ≡ length c.args.packages.items = omega (arith, c.in_ok-links.ensures.len, c.in_ok-links.links.ok.0, ap length c.as_slice-2.ensures.value) in
-    rw c.as_slice-3.ensures.value (rows_stay_below c.args.packages.items c.in_ok-places.places c.in_ok-links.links.items placed rows size)
+    rw c.as_slice-3.ensures.value (rows_stay_below c.args.packages.items c.in_ok-positions.positions c.in_ok-links.links.items placed rows size)
 
 pub invariant_of-result : goal.invariant_of-result
 invariant_of-result c =
-    let placed : PlacesAre c.in_ok-places.places (ids c.args.packages.items) = rw (← c.as_slice.ensures.value) c.in_ok-places.ensures.ok in
-    let rows : AreRows c.in_ok-places.places c.args.packages.items c.in_ok-links.links.items = rw (← c.as_slice-2.ensures.value) c.in_ok-links.ensures.ok in
+    let placed : PositionsAre c.in_ok-positions.positions (ids c.args.packages.items) = rw (← c.as_slice.ensures.value) c.in_ok-positions.ensures.ok in
+    let rows : AreRows c.in_ok-positions.positions c.args.packages.items c.in_ok-links.links.items = rw (← c.as_slice-2.ensures.value) c.in_ok-links.ensures.ok in
     let size : length c.in_ok-links.links.items ≡ length c.args.packages.items = omega (arith, c.in_ok-links.ensures.len, c.in_ok-links.links.ok.0, ap length c.as_slice-2.ensures.value) in
     let back : IsReversed c.in_ok-links.links.items c.in_ok-linked_by.linked_by.items = rw (← c.as_slice-3.ensures.value) c.in_ok-linked_by.ensures.edges in
     record {
@@ -40,7 +40,7 @@ invariant_of-result c =
 
 pub returns-clause-sound : goal.returns-clause-sound
 returns-clause-sound c =
-    let placed : PlacesAre c.in_ok-places.places (ids c.args.packages.items) = rw (← c.as_slice.ensures.value) c.in_ok-places.ensures.ok in
-    let rows : AreRows c.in_ok-places.places c.args.packages.items c.in_ok-links.links.items = rw (← c.as_slice-2.ensures.value) c.in_ok-links.ensures.ok in
+    let placed : PositionsAre c.in_ok-positions.positions (ids c.args.packages.items) = rw (← c.as_slice.ensures.value) c.in_ok-positions.ensures.ok in
+    let rows : AreRows c.in_ok-positions.positions c.args.packages.items c.in_ok-links.links.items = rw (← c.as_slice-2.ensures.value) c.in_ok-links.ensures.ok in
     let size : length c.in_ok-links.links.items ≡ length c.args.packages.items = omega (arith, c.in_ok-links.ensures.len, c.in_ok-links.links.ok.0, ap length c.as_slice-2.ensures.value) in
-    (PlacesAre-AllDiffer c.in_ok-places.places (ids c.args.packages.items) placed, LinksKnown-from_rows c.in_ok-places.places c.args.packages.items c.in_ok-links.links.items placed size rows)
+    (PositionsAre-AllDiffer c.in_ok-positions.positions (ids c.args.packages.items) placed, LinksKnown-from_rows c.in_ok-positions.positions c.args.packages.items c.in_ok-links.links.items placed size rows)

@@ -3,7 +3,7 @@ use Rattle.std.specs.Option.{option_map}
 use Rattle.filterset_language.specs.Parsing.Place.{Place, place_of, IsAtOrBehind}
 use Rattle.filterset_language.specs.Parsing.Descent.{Placed, boxed_tree, operand_at, and_level_by, join, unite}
 use Rattle.filterset_language.specs.Parsing.Words.{joiner_at, or_at}
-use Rattle.filterset_language.specs.Patterns.{PatternsAreRead}
+use Rattle.filterset_grammar.specs.Patterns.{PatternsAreRead}
 use Rattle.filterset_language.specs.Parsed.{LiesOnBody}
 use Rattle.filterset_language.specs.Parsing.Recovery.{Keeps}
 use Rattle.filterset_language.specs.Parsing.Outcome.{Faults, Going}

@@ -1,6 +1,6 @@
 use Rattle.std.proofs.Common.{refl}
 use Rattle.filterset_language.specs.Parsing.Place.{place_of}
-use Rattle.filterset_language.specs.Patterns.{PatternsAreRead}
+use Rattle.filterset_grammar.specs.Patterns.{PatternsAreRead}
 use Rattle.filterset_language.specs.Parsed.{LiesOnBody}
 use Rattle.filterset_language.specs.Parsing.Descent.{leaf_at}
 use Rattle.filterset_language.proofs.Matching.{set_gives}

@@ -3,7 +3,7 @@ use Rattle.filterset_language.specs.Parsing.Place.{place_of}
 use Rattle.filterset_language.proofs.Matching.{text_gives}
 use Rattle.filterset_language.proofs.Recovering.{if_ok}
 use Rattle.filterset_language.proofs.FaultsStand.{ends_with}
-use Rattle.filterset_language.proofs.Takes.{after_takes}
+use Rattle.filterset_language.proofs.StepsTakeText.{after_takes}
 use Rattle.filterset_language.proofs.parsing.matchers.read_matcher.Goals as goal
 
 pub read_regex-requires : goal.read_regex-requires

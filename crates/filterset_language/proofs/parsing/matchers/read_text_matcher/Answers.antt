@@ -5,7 +5,7 @@ use Rattle.std.specs.declared.alloc.Global.{Global}
 use Rattle.std.specs.declared.string.String.{String}
 use Rattle.filterset_matchers.specs.Matcher.{Matcher}
 use Rattle.filterset_matchers.specs.Matchers.{matcher_of}
-use Rattle.filterset_language.specs.declared.tree.predicate.TextMatching.{TextMatching}
+use Rattle.filterset_grammar.specs.declared.predicate.TextMatching.{TextMatching}
 use Rattle.filterset_language.specs.Parsing.Place.{Place, place_of}
 use Rattle.filterset_language.specs.Parsing.RawTexts.{raw_at}
 use Rattle.filterset_language.specs.Parsing.Recovery.{Recovers, beside}

@@ -5,7 +5,7 @@ use Rattle.std.proofs.lemmas.List.{nil_from_length}
 use Rattle.filterset_language.specs.Parsing.Place.{Place, place_of}
 use Rattle.filterset_language.specs.Parsing.Descent.{operand_at, or_level_by}
 use Rattle.filterset_language.proofs.FaultsStand.{at_text_start}
-use Rattle.filterset_language.proofs.Ending.{whole_read, whole_unread, first_gives, first_found}
+use Rattle.filterset_language.proofs.WholeTextReading.{whole_read, whole_unread, first_gives, first_found}
 use Rattle.filterset_language.proofs.parsing.parse.read_whole.Goals as goal
 
 pub read_or_level-requires : goal.read_or_level-requires

@@ -1,7 +1,7 @@
 use Rattle.std.proofs.Common.{◌≡◌, take, refl, ap, sym, ◌∙◌, false, true}
 use Rattle.filterset_language.specs.Parsing.Front.{close_len, is_white}
 use Rattle.filterset_language.specs.Parsing.Place.{place_of}
-use Rattle.filterset_language.proofs.Closing.{close_boundary, count_is, front_is, bare_end_is, bare_end_none}
+use Rattle.filterset_language.proofs.ClosingParenthesis.{close_boundary, count_is, front_is, bare_end_is, bare_end_none}
 use Rattle.filterset_language.proofs.Recovering.{reported, keeps_along, keeps_then, if_ok, refused, recovers_as}
 use Rattle.filterset_language.proofs.FaultsStand.{argument_found}
 use Rattle.filterset_language.proofs.parsing.predicates.read_bare_end.Goals as goal

@@ -3,8 +3,8 @@ use Rattle.std.specs.Option.{option_map}
 use Rattle.filterset_language.specs.Parsing.Place.{place_of}
 use Rattle.filterset_matchers.specs.Matchers.{matcher_of}
 use Rattle.filterset_matchers.specs.Matcher.{Matcher}
-use Rattle.filterset_language.specs.Tree.{Leaf, Matching, Set}
-use Rattle.filterset_language.specs.Patterns.{LeafIsRead}
+use Rattle.filterset_grammar.specs.Tree.{Leaf, Matching, Set}
+use Rattle.filterset_grammar.specs.Patterns.{LeafIsRead}
 use Rattle.filterset_language.specs.Parsed.{LiesOnBody}
 use Rattle.filterset_faults.specs.declared.span.SourceSpan.{SourceSpan}
 use Rattle.filterset_language.proofs.Matching.{matching_gives}

@@ -10,7 +10,7 @@ use Rattle.filterset_language.specs.Parsing.PlatformNames.{platform_in}
 use Rattle.filterset_language.specs.Parsing.RawTexts.{raw_at, SpelledTo}
 use Rattle.filterset_language.specs.Parsing.Recovery.{Recovers, beside}
 use Rattle.filterset_language.specs.Parsing.Outcome.{Faults}
-use Rattle.filterset_language.specs.Tree.{Platform}
+use Rattle.filterset_grammar.specs.Tree.{Platform}
 use Rattle.filterset_language.specs.Parsing.Descent.{◌>>=◌, between, platform_at}
 use Rattle.filterset_language.proofs.Matching.{platform_recovers, platform_found}
 use Rattle.filterset_language.proofs.Recovering.{recovers_then, refused, reported, keeps_then, bind_none}

@@ -1,6 +1,6 @@
 use Rattle.std.proofs.Common.{refl}
 use Rattle.filterset_language.specs.Parsing.Place.{place_of}
-use Rattle.filterset_language.specs.Tree as tree
+use Rattle.filterset_grammar.specs.Tree as tree
 use Rattle.filterset_language.specs.declared.parsing.names.PredicateName.TheVariants as names
 use Rattle.filterset_language.proofs.Matching.{leaf_gives, platform_gives, default_gives, bare_gives}
 use Rattle.filterset_language.proofs.Places.{AtOrBehind-then}

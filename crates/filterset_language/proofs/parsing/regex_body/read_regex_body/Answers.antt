@@ -4,7 +4,7 @@ use Rattle.filterset_language.specs.Parsing.Place.{Place}
 use Rattle.filterset_language.specs.Parsing.RawTexts.{body_len}
 use Rattle.filterset_language.specs.Faults.{ClosesArgument}
 use Rattle.filterset_language.proofs.BodyReading.{body_boundary, body_taken}
-use Rattle.filterset_language.proofs.Closing.{close_behind}
+use Rattle.filterset_language.proofs.ClosingParenthesis.{close_behind}
 use Rattle.filterset_language.proofs.Recovering.{reported, keeps_along}
 use Rattle.filterset_language.proofs.RawTextFaults.{unclosed_found}
 use Rattle.filterset_language.proofs.parsing.regex_body.read_regex_body.Goals as goal

@@ -1,5 +1,5 @@
 use Rattle.std.proofs.Common.{rules}
-use Rattle.filterset_language.specs.Tree.{is_runtime_only}
+use Rattle.filterset_grammar.specs.Tree.{is_runtime_only}
 use Rattle.filterset_language.proofs.tree.ParsedExpr.runtime_only_leaves.Goals as goal
 
 pub returns : goal.returns

@@ -1,5 +1,5 @@
-use Rattle.filterset_language.specs.Tree.{tree_of}
-use Rattle.filterset_language.specs.AddedParens.{IsWithParens}
+use Rattle.filterset_language.specs.Views.{tree_of}
+use Rattle.filterset_grammar.specs.AddedParens.{IsWithParens}
 use Rattle.filterset_language.proofs.AddingParens.{anything, well_formed, unchanged, reads_back}
 use Rattle.filterset_language.proofs.tree.ParsedExpr.with_parens.Goals as goal
 

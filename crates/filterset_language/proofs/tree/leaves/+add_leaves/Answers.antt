@@ -1,6 +1,6 @@
 use Rattle.std.proofs.Common.{◌≡◌, refl, sym, ◌∙◌, true, false}
 use Rattle.std.proofs.lemmas.List.{append-nil, map-append}
-use Rattle.filterset_language.specs.Tree.{leaf_of}
+use Rattle.filterset_language.specs.Views.{leaf_of}
 use Rattle.filterset_language.proofs.tree.leaves.+add_leaves.Goals as goal
 
 pub returns-in_ok-push-in-Set : goal.returns-in_ok-push-in-Set

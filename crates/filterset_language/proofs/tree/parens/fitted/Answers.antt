@@ -1,7 +1,8 @@
 use Rattle.std.proofs.Common.{◌≡◌, sym, ◌∙◌}
 use Rattle.std.proofs.lemmas.Bool.{false≢true}
 use Rattle.std.proofs.lemmas.Result.{IfOk-weaker}
-use Rattle.filterset_language.specs.Tree.{Parens, tree_of}
+use Rattle.filterset_grammar.specs.Tree.{Parens}
+use Rattle.filterset_language.specs.Views.{tree_of}
 use Rattle.filterset_language.specs.Levels.{IsOfLevel, IsOperand}
 use Rattle.filterset_language.proofs.AddingParens.{stays, goes_in}
 use Rattle.filterset_language.proofs.tree.parens.fitted.Goals as goal

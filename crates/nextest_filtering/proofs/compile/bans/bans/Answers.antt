@@ -4,7 +4,8 @@ use Rattle.std.specs.List.{filter_map}
 use Rattle.std.proofs.Math.Seq.{take-length}
 use Rattle.filterset_faults.specs.declared.error.ParseSingleError.TheVariants.{BannedPredicate}
 use Rattle.filterset_faults.specs.declared.span.SourceSpan.{SourceSpan}
-use Rattle.filterset_language.specs.Tree.{Leaf, leaf_of}
+use Rattle.filterset_grammar.specs.Tree.{Leaf}
+use Rattle.filterset_language.specs.Views.{leaf_of}
 use Rattle.filterset_language.specs.declared.tree.ParsedLeaf.{ParsedLeaf}
 use Rattle.nextest_filtering.specs.Bans.{ban}
 use Rattle.nextest_filtering.proofs.Banned.{fault_at}

@@ -3,7 +3,7 @@ use Rattle.std.proofs.lemmas.Result.{IfOk-weaker}
 use Rattle.filterset_graph.specs.declared.package.PackageMetadata.{PackageMetadata}
 use Rattle.filterset_expression.specs.Contexts.{default_of}
 use Rattle.filterset_expression.specs.Meaning.{IsCompiled, Meaning}
-use Rattle.filterset_language.specs.Tree.{tree_of}
+use Rattle.filterset_language.specs.Views.{tree_of}
 use Rattle.filterset_expression.proofs.Meanings.{compiled_means}
 use Rattle.nextest_filtering.proofs.filterset.Filterset.matches_test_with_groups.Goals as goal
 

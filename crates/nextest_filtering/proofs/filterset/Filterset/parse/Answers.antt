@@ -1,11 +1,12 @@
-use Rattle.std.proofs.Common.{◌∙◌, rules, string_bytes, subst}
+use Rattle.std.proofs.Common.{◌∙◌, rules, string_bytes, subst, IsUtf8}
 use Rattle.filterset_faults.specs.declared.kind.FiltersetKind.{FiltersetKind}
-use Rattle.filterset_language.specs.Tree.{tree_of}
+use Rattle.filterset_language.specs.Views.{tree_of}
 use Rattle.nextest_filtering.specs.Bans.{IsAllowed}
 use Rattle.nextest_filtering.specs.Compiling.{packages_of, IsRefusedWith}
 use Rattle.nextest_filtering.proofs.Banned.{no_default, no_group}
 use Rattle.filterset_expression.proofs.BinaryMeanings.{tells_the_same}
 use Rattle.filterset_expression.proofs.Meanings.{says_the_same, same_defaults, same_groups}
+use Rattle.nextest_filtering.proofs.FaultsOfTrees.{refused_stand}
 use Rattle.nextest_filtering.proofs.Refusals.{of_tree, of_filterset}
 use Rattle.nextest_filtering.proofs.filterset.Filterset.parse.Goals as goal
 
@@ -44,3 +45,12 @@ returns-in-Err-Faults-clause-complete c =
     let packages = packages_of c.args.cx.now in
     let faults = c.in-Err-Faults.errors.items in
     let refused : IsRefusedWith text c.args.kind packages c.args.known_groups.now faults = search rules in λ e is. of_filterset text c.args.kind packages c.args.known_groups.now faults e is refused
+
+pub returns-in-Err-Faults-clause-stand : goal.returns-in-Err-Faults-clause-stand
+returns-in-Err-Faults-clause-stand c =
+    let text = string_bytes c.args.input in
+    let packages = packages_of c.args.cx.now in
+    let faults = c.in-Err-Faults.errors.items in
+    let refused : IsRefusedWith text c.args.kind packages c.args.known_groups.now faults = search rules in
+    let utf8 : IsUtf8 text = search (rules, c.as_str.utf8) in
+    refused_stand text c.args.kind packages c.args.known_groups.now faults utf8 refused

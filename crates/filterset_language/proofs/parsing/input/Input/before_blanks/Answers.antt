@@ -3,7 +3,7 @@ use Rattle.std.proofs.lemmas.List.{drop_at}
 use Rattle.std.proofs.lemmas.Str.{IsUtf8-from_is_utf8, IsCharBoundary-at_seam}
 use Rattle.filterset_language.specs.Parsing.Seam.{Place, place, skip_from, AreBlanks}
 use Rattle.filterset_language.proofs.Places.{skip_stop}
-use Rattle.filterset_language.proofs.Takes.{Skipped, skip_takes}
+use Rattle.filterset_language.proofs.StepsTakeText.{Skipped, skip_takes}
 use Rattle.filterset_language.proofs.parsing.input.Input.before_blanks.Goals as goal
 
 -- the blanks between a place and the one behind them

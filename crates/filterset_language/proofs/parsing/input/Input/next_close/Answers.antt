@@ -1,6 +1,6 @@
 use Rattle.std.proofs.Common.{ap, ◌∙◌}
 use Rattle.filterset_language.specs.Parsing.Front.{close_len}
-use Rattle.filterset_language.proofs.Closing.{close_boundary}
+use Rattle.filterset_language.proofs.ClosingParenthesis.{close_boundary}
 use Rattle.filterset_language.proofs.parsing.input.Input.next_close.Goals as goal
 
 pub advance-requires-clause-boundary : goal.advance-requires-clause-boundary

@@ -1,9 +1,9 @@
 use Rattle.std.proofs.Common.{length, arith, inl, inr, ⊎_elim}
-use Rattle.filterset_language.specs.Tree.{tree_of}
+use Rattle.filterset_language.specs.Views.{tree_of}
 use Rattle.filterset_language.proofs.SpelledIsRead.{whole_again}
 use Rattle.filterset_language.proofs.ReadIsSpelled.{whole_takes, front_takes_whole}
 use Rattle.filterset_language.proofs.Recovering.{if_ok}
-use Rattle.filterset_language.proofs.Ending.{spelled_whole, none_seen}
+use Rattle.filterset_language.proofs.WholeTextReading.{spelled_whole, none_seen}
 use Rattle.filterset_language.proofs.parsing.parse.ParsedExpr.parse_with_faults.Goals as goal
 
 pub returns-clause-clean : goal.returns-clause-clean

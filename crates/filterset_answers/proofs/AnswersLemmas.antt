@@ -1,0 +1,117 @@
+-- Answers that are made piece by piece.
+use Rattle.std.proofs.Common.{◌≡◌, ◌≢◌, ℕ, suc, Bool, add-zero, arith, ◌+◌, ◌<◌, ◌≤◌, List, [], ◌∷◌, ◌++◌, length, map, take, get_or, ◌∙◌, sym, ap, subst, append_assoc, refl, true, false, ◌||◌}
+use Rattle.std.proofs.lemmas.List.{append-nil, map-append, take_more, length-map, length-take-le}
+use Rattle.serde_json.specs.Data.{Data}
+use Rattle.serde_json.specs.Written.{has_float}
+use Rattle.filterset_drawing.specs.Columns.{Text}
+use Rattle.filterset_drawing.specs.Json.{number_data, text_data, FaultData}
+use Rattle.std.specs.Prelude.{Option, Some, None}
+use Rattle.filterset_faults.specs.declared.error.ParseSingleError.{ParseSingleError}
+use Rattle.filterset_answers.specs.Answers.{FaultsOf, FormatsTexts, FormattedLine, FormattedLines, FormattedPart, TextFaults, has_some}
+use Rattle.filterset_answers.specs.Checked.{HasReadingFaults, TextRow}
+use Rattle.filterset_answers.specs.Counts.{one_if}
+use Rattle.filterset_answers.specs.Forms.{FaultPiece, FaultPieces}
+use Rattle.filterset_answers.specs.declared.form.Form.{Form}
+
+-- what was added twice
+pub added_twice : (old mid new text piece : Text) → mid ≡ old ++ text → new ≡ mid ++ piece → new ≡ old ++ (text ++ piece)
+added_twice old mid new text piece first second = second ∙ ap (λ t. t ++ piece) first ∙ append_assoc old text piece
+
+-- one more fault
+pub FaultPieces-push : (form : Form) (origin text : Text) (number : ℕ) (faults : List ParseSingleError) (fault : ParseSingleError) (pieces piece : Text)
+    → FaultPieces form origin text number faults pieces → FaultPiece form origin text number fault piece
+    → FaultPieces form origin text number (faults ++ fault ∷ []) (pieces ++ piece)
+FaultPieces-push form origin text number [] fault pieces piece none is =
+    (piece, [], ap (λ t. t ++ piece) none ∙ sym (append-nil piece), is, refl)
+FaultPieces-push form origin text number (f ∷ faults) fault pieces piece (first, others, whole, is_first, are) is =
+    (first, others ++ piece, ap (λ t. t ++ piece) whole ∙ append_assoc first others piece, is_first, FaultPieces-push form origin text number faults fault others piece are is)
+
+-- the faults of one more text
+pub FaultsOf-push : (Has : TextRow → List ParseSingleError → Type 0) (form : Form) (n : ℕ) (rows : List TextRow) (row : TextRow) (faulty : ℕ) (has : Bool) (pieces piece : Text)
+    → FaultsOf Has form n rows faulty pieces → TextFaults Has form (n + length rows) row has piece
+    → FaultsOf Has form n (rows ++ row ∷ []) (faulty + one_if has) (pieces ++ piece)
+FaultsOf-push Has form n [] row faulty has pieces piece (zero, none) is =
+    (has, 0, piece, [], rw add-zero at is, omega (arith, zero), ap (λ t. t ++ piece) none ∙ sym (append-nil piece), (refl, refl))
+FaultsOf-push Has form n (u ∷ us) row faulty has pieces piece (first, others, front, rest, is_first, count, whole, are) is =
+    let shifted : n + length (u ∷ us) ≡ suc n + length us = omega arith in
+    let further : TextFaults Has form (suc n + length us) row has piece = rw shifted at is in (
+      first,
+      others + one_if has,
+      front,
+      rest ++ piece,
+      is_first,
+      omega (arith, count),
+      ap (λ t. t ++ piece) whole ∙ append_assoc front rest piece,
+      FaultsOf-push Has form (suc n) us row others has rest piece are further,
+    )
+
+-- the line of one more text
+pub FormattedLines-push : (rows : List TextRow) (row : TextRow) (lines line : Text) → FormattedLines rows lines → FormattedLine row line
+    → FormattedLines (rows ++ row ∷ []) (lines ++ line)
+FormattedLines-push [] row lines line none is =
+    (line, [], ap (λ t. t ++ line) none ∙ sym (append-nil line), is, refl)
+FormattedLines-push (u ∷ rows) row lines line (first, others, whole, is_first, are) is =
+    (first, others ++ line, ap (λ t. t ++ line) whole ∙ append_assoc first others line, is_first, FormattedLines-push rows row others line are is)
+
+-- the rows of one element more
+pub rows_more : {A B : Type 0} (f : A → B) (xs : List A) (i : ℕ) (x : A) → i < length xs → get_or xs i x ≡ x
+    → map f (take (i + 1) xs) ≡ map f (take i xs) ++ f x ∷ []
+rows_more f xs i x lt at =
+    ap (map f) (take_more xs i x lt ∙ ap (λ y. take i xs ++ y ∷ []) at) ∙ map-append f (take i xs) (x ∷ [])
+
+-- one more element of a list
+pub one_more : {A : Type 0} (xs : List A) (i : ℕ) (x : A) → i < length xs → get_or xs i x ≡ x → take (i + 1) xs ≡ take i xs ++ x ∷ []
+one_more xs i x lt at = take_more xs i x lt ∙ ap (λ y. take i xs ++ y ∷ []) at
+
+-- the object of a fault has no number with a fraction
+number_data-has_float : (n : Option ℕ) → has_float (number_data n) ≡ false
+number_data-has_float None = refl
+number_data-has_float (Some n) = refl
+
+text_data-has_float : (t : Option Text) → has_float (text_data t) ≡ false
+text_data-has_float None = refl
+text_data-has_float (Some t) = refl
+
+pub fault_has_no_float : (origin text : Text) (number : ℕ) (fault : ParseSingleError) (d : Data) → FaultData origin text number fault d → has_float d ≡ false
+fault_has_no_float origin text number fault d (place, at, is) =
+    ap has_float is
+    ∙ simp (number_data-has_float, text_data-has_float) refl
+
+-- the number of the next text
+pub next_number : {A B : Type 0} (f : A → B) (xs : List A) (i : ℕ) → i < length xs → 1 + length (map f (take i xs)) ≡ i + 1
+next_number f xs i lt = omega (arith, length-map (take i xs) f, length-take-le i xs (omega arith))
+
+-- the next fault
+pub FaultPieces-next : (form : Form) (origin text : Text) (number : ℕ) (faults : List ParseSingleError) (i : ℕ) (d : ParseSingleError) (pieces piece : Text)
+    → i < length faults → FaultPieces form origin text number (take i faults) pieces → FaultPiece form origin text number (get_or faults i d) piece
+    → FaultPieces form origin text number (take (i + 1) faults) (pieces ++ piece)
+FaultPieces-next form origin text number faults i d pieces piece lt are is =
+    rw (take_more faults i d lt) (FaultPieces-push form origin text number (take i faults) (get_or faults i d) pieces piece are is)
+
+-- the line of the next text, as long as none has faults
+pub FormattedLines-next : (rows : List TextRow) (row : TextRow) (lines line : Text) (faulty : ℕ) (has : Bool)
+    → (faulty ≡ 0 → FormattedLines rows lines) → FormattedPart has row line
+    → (faulty + one_if has ≡ 0 → FormattedLines (rows ++ row ∷ []) (lines ++ line))
+FormattedLines-next rows row lines line faulty true are is none = absurd (omega (arith, none))
+FormattedLines-next rows row lines line faulty false are is none = FormattedLines-push rows row lines line (are (omega (arith, none))) is
+
+-- what formatting answers
+pub formats : (form : Form) (rows : List TextRow) (faulty : ℕ) (lines pieces formatted faults text : Text)
+    → FaultsOf HasReadingFaults form 1 rows faulty pieces → (faulty ≡ 0 → FormattedLines rows lines)
+    → formatted ≡ lines → faults ≡ pieces → (faulty ≡ 0 → text ≡ formatted) → (faulty ≢ 0 → text ≡ faults)
+    → FormatsTexts form rows faulty text
+formats form rows faulty lines pieces formatted faults text are_pieces are_lines is_lines is_pieces fine other =
+    (pieces, are_pieces, λ none. subst (FormattedLines rows) (sym (fine none ∙ is_lines)) (are_lines none), λ some. other some ∙ is_pieces)
+
+-- there are some where there are not none
+pub some_is : (faults : List ParseSingleError) → faults ≢ [] → true ≡ has_some faults
+some_is [] none = absurd (none refl)
+some_is (fault ∷ faults) some = refl
+
+-- the same faults of the same text
+pub FaultPieces-of : (form : Form) (number : ℕ) (piece origin origin' text text' : Text) (faults faults' : List ParseSingleError)
+    → origin ≡ origin' → text ≡ text' → faults ≡ faults' → FaultPieces form origin text number faults piece → FaultPieces form origin' text' number faults' piece
+FaultPieces-of form number piece origin origin' text text' faults faults' same_origin same_text same_faults pieces =
+    subst (λ o. FaultPieces form o text' number faults' piece) same_origin
+    (subst (λ t. FaultPieces form origin t number faults' piece) same_text
+    (subst (λ fs. FaultPieces form origin text number fs piece) same_faults pieces))

@@ -1,0 +1,19 @@
+use Rattle.std.proofs.Common.{rules, arith, ◌≡◌, ◌<◌, ◌++◌, length, get_or, take}
+use Rattle.std.proofs.lemmas.List.{take_all}
+use Rattle.filterset_answers.proofs.AnswersLemmas.{FaultPieces-next, added_twice}
+use Rattle.filterset_answers.proofs.form.push_faults_of.Goals as goal
+
+pub returns : goal.returns
+returns c =
+    let pieces = c.loop-fault.invariant in
+    rw (take_all c.loop-fault.fault-index c.args.faults.now c.loop-fault-test.false) at pieces
+
+pub loop-fault-preserved : goal.loop-fault-preserved
+loop-fault-preserved c =
+    let before = c.loop-fault.invariant in
+    let piece = c.in_ok-push_fault.ensures in
+    let lt : c.loop-fault.fault-index < length c.args.faults.now = omega (arith, c.loop-fault-test.true) in (
+      before.0 ++ piece.0,
+      added_twice _ _ _ _ _ before.1 piece.1,
+      FaultPieces-next _ _ _ _ c.args.faults.now c.loop-fault.fault-index _ _ _ lt before.2 piece.2,
+    )

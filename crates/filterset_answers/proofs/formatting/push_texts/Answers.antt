@@ -1,0 +1,30 @@
+use Rattle.std.proofs.Common.{rules, arith, ◌≡◌, ◌<◌, ◌++◌, length, get_or, map, subst, sym, take}
+use Rattle.filterset_answers.specs.Answers.{TextFaults}
+use Rattle.filterset_answers.specs.Checked.{HasReadingFaults, text_row}
+use Rattle.filterset_answers.proofs.AnswersLemmas.{FaultsOf-push, FormattedLines-next, added_twice, next_number, rows_more}
+use Rattle.filterset_answers.proofs.formatting.push_texts.Goals as goal
+
+pub loop-i-preserved : goal.loop-i-preserved
+loop-i-preserved c =
+    let before = c.loop-i.invariant in
+    let (line, piece, line_added, piece_added, is_line, is_piece) = c.in_ok-has.ensures in
+    let (lines, pieces, lines_added, pieces_added, are_lines, are_pieces) = before.1 in
+    let form = c.args.form in
+    let texts = c.args.texts.now in
+    let i = c.loop-i.i in
+    let entry = c.index-texts-i.result in
+    let has = c.in_ok-has.has in
+    let lt : i < length texts = omega (arith, c.loop-i-test.true) in
+    let at : get_or texts i entry ≡ entry = search (rules, c.index-texts-i.is) in
+    let one = subst (λ n. TextFaults HasReadingFaults form n (text_row entry) has piece) (sym (next_number text_row texts i lt)) is_piece in
+    let more = FaultsOf-push HasReadingFaults form 1 (map text_row (take i texts)) (text_row entry) c.loop-i.faulty has pieces piece are_pieces one in (
+      omega (arith, before.0, c.one_if-faulty.ensures.bound),
+      (
+        lines ++ line,
+        pieces ++ piece,
+        added_twice _ _ _ _ _ lines_added line_added,
+        added_twice _ _ _ _ _ pieces_added piece_added,
+        rw (c.one_if-faulty.ensures.value, rows_more text_row texts i entry lt at) (FormattedLines-next (map text_row (take i texts)) (text_row entry) lines line c.loop-i.faulty has are_lines is_line),
+        rw (c.one_if-faulty.ensures.value, rows_more text_row texts i entry lt at) more,
+      ),
+    )

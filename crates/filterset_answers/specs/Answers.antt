@@ -1,0 +1,87 @@
+-- What is answered about texts.
+use Rattle.std.specs.Prelude.{◌≡◌, ◌≢◌, ◌++◌, Bool, true, false, ℕ, suc, ◌+◌, List, [], ◌∷◌, codes, decimal, length}
+use Rattle.filterset_drawing.specs.Columns.{Text}
+use Rattle.filterset_faults.specs.declared.error.ParseSingleError.{ParseSingleError}
+use Rattle.filterset_faults.specs.declared.span.SourceSpan.{SourceSpan}
+use Rattle.filterset_grammar.specs.Printing.{printed}
+use Rattle.filterset_grammar.specs.Tree.{Tree}
+use Rattle.filterset_language.specs.Parsed.{Reads}
+use Rattle.filterset_answers.specs.Checked.{HasFaults, HasReadingFaults, TextRow}
+use Rattle.filterset_answers.specs.Counts.{one_if}
+use Rattle.filterset_answers.specs.Forms.{FaultPieces}
+use Rattle.filterset_answers.specs.declared.form.Form.{Form}
+use Rattle.filterset_answers.specs.declared.form.Form.TheVariants.{Drawn, Json}
+use Rattle.filterset_answers.specs.declared.names.Names.{Names}
+
+-- ---- faults
+
+abbrev pub has_some : List ParseSingleError → Bool
+has_some [] = false
+has_some (fault ∷ faults) = true
+
+-- what is written of the faults of a text with this number, and whether it has any
+abbrev pub TextFaults : (TextRow → List ParseSingleError → Type 0) → Form → ℕ → TextRow → Bool → Text → Type 0
+TextFaults Has form number row has piece =
+    (faults : List ParseSingleError) × Has row faults × (has ≡ has_some faults)
+    × FaultPieces form row.origin row.text number faults piece
+
+-- what is written of the faults of texts, of which the first has this number, and how many of them have any
+abbrev pub FaultsOf :
+    (TextRow → List ParseSingleError → Type 0) → Form → ℕ → List TextRow → ℕ → Text → Type 0
+FaultsOf Has form number [] faulty text = (faulty ≡ 0) × (text ≡ [])
+FaultsOf Has form number (row ∷ rows) faulty text =
+    (has : Bool) × (others : ℕ) × (front : Text) × (rest : Text)
+    × TextFaults Has form number row has front
+    × (faulty ≡ one_if has + others) × (text ≡ front ++ rest)
+    × FaultsOf Has form (suc number) rows others rest
+
+-- ---- checking
+
+-- what is said of names that were not checked
+abbrev pub unchecked_packages : Bool → Text
+unchecked_packages true = []
+unchecked_packages false = codes "not checked: names of packages and test binaries\n"
+
+abbrev pub unchecked_groups : Bool → Text
+unchecked_groups true = []
+unchecked_groups false = codes "not checked: names of test groups\n"
+
+-- how many texts there are, how many of them have faults, and which names were not checked
+abbrev pub counts_text : Names → ℕ → ℕ → Text
+counts_text names count faulty =
+    codes "filtersets: " ++ (decimal count ++ (codes ", with faults: " ++ (decimal faulty ++ (codes "\n"
+    ++ (unchecked_packages names.has_packages ++ unchecked_groups names.has_groups)))))
+
+-- what is said for people at the end
+abbrev pub summary : Form → Names → ℕ → ℕ → Text
+summary (Drawn color) names count faulty = counts_text names count faulty
+summary Json names count faulty = []
+
+-- what checking texts answers
+abbrev pub ChecksTexts : Names → Form → List TextRow → ℕ → Text → Type 0
+ChecksTexts names form rows faulty text =
+    (front : Text) × FaultsOf (HasFaults names) form 1 rows faulty front
+    × (text ≡ front ++ summary form names (length rows) faulty)
+
+-- ---- formatting
+
+-- the line of a text that reads as a tree: the tree as it prints
+abbrev pub FormattedLine : TextRow → Text → Type 0
+FormattedLine row line = (e : Tree SourceSpan) × Reads row.text e × (line ≡ printed e ++ codes "\n")
+
+abbrev pub FormattedLines : List TextRow → Text → Type 0
+FormattedLines [] text = text ≡ []
+FormattedLines (row ∷ rows) text =
+    (line : Text) × (others : Text) × (text ≡ line ++ others) × FormattedLine row line × FormattedLines rows others
+
+-- what is written of a text that has faults or not: nothing, or its line
+abbrev pub FormattedPart : Bool → TextRow → Text → Type 0
+FormattedPart true row line = line ≡ []
+FormattedPart false row line = FormattedLine row line
+
+-- What formatting texts answers: how many of them have faults as the parser reads them. Where none has, each is written
+-- as its tree prints, in a line of its own; else what is written are the faults, and nothing else.
+abbrev pub FormatsTexts : Form → List TextRow → ℕ → Text → Type 0
+FormatsTexts form rows faulty text =
+    (pieces : Text) × FaultsOf HasReadingFaults form 1 rows faulty pieces
+    × (faulty ≡ 0 → FormattedLines rows text) × (faulty ≢ 0 → text ≡ pieces)

@@ -1,0 +1,36 @@
+-- Which faults a text has.
+use Rattle.std.specs.Prelude.{◌≡◌, ◌⊎◌, List, [], filter, string_bytes}
+use Rattle.filterset_drawing.specs.Columns.{Text}
+use Rattle.filterset_faults.specs.declared.error.ParseSingleError.{ParseSingleError}
+use Rattle.filterset_faults.specs.declared.kind.FiltersetKind.{FiltersetKind}
+use Rattle.filterset_faults.specs.declared.span.SourceSpan.{SourceSpan}
+use Rattle.filterset_grammar.specs.Tree.{Tree}
+use Rattle.filterset_language.specs.Parsed.{IsUnreadWith, Reads}
+use Rattle.nextest_filtering.specs.Compiling.{IsFiltersetOf, IsRefusedWith, packages_of}
+use Rattle.filterset_answers.specs.Names.{is_judged}
+use Rattle.filterset_answers.specs.declared.names.Names.{Names}
+use Rattle.filterset_answers.specs.declared.text.TextEntry.{TextEntry}
+
+-- a filterset's text, what it is to be, and where it stands
+pub record TextRow : Type 0 where
+  pub origin : Text
+  pub kind : FiltersetKind
+  pub text : Text
+
+abbrev pub text_row : TextEntry → TextRow
+text_row entry = record { origin = string_bytes entry.origin; kind = entry.kind; text = string_bytes entry.text }
+
+-- The faults of a text, as far as names are known: none where it is a filterset of its kind over the packages and
+-- groups, and else those that refuse it, without those that are about names of which not enough is known.
+pub data HasFaults (names : Names) (row : TextRow) (faults : List ParseSingleError) : Type 0 where
+  fine : (e : Tree SourceSpan)
+      → IsFiltersetOf row.text row.kind (packages_of names.parse_context) names.known_groups e
+      → faults ≡ [] → HasFaults names row faults
+  refused : (all : List ParseSingleError)
+      → IsRefusedWith row.text row.kind (packages_of names.parse_context) names.known_groups all
+      → faults ≡ filter (is_judged names) all → HasFaults names row faults
+
+-- the faults of a text, as the parser reads it: none, where it reads as a tree; else those that the parser found
+abbrev pub HasReadingFaults : TextRow → List ParseSingleError → Type 0
+HasReadingFaults row faults =
+    ((e : Tree SourceSpan) × Reads row.text e × (faults ≡ [])) ⊎ IsUnreadWith row.text faults

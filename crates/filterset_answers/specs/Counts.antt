@@ -1,0 +1,7 @@
+-- Counting.
+use Rattle.std.specs.Prelude.{ℕ, Bool, true, false}
+
+-- one, where it is so
+abbrev pub one_if : Bool → ℕ
+one_if true = 1
+one_if false = 0

@@ -1,0 +1,6 @@
+pub mod Counts
+pub mod Names
+pub mod Checked
+pub mod Forms
+pub mod Answers
+pub mod Readings

@@ -1,4 +1,0 @@
-pub mod ShapeLemmas
-pub mod ReportLemmas
-pub mod LookupLemmas
-pub mod GroupLemmas

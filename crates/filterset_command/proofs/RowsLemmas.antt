@@ -1,0 +1,34 @@
+-- Texts that are read one after the other.
+use Rattle.std.proofs.Common.{◌≡◌, ℕ, ◌+◌, ◌<◌, List, [], ◌∷◌, ◌++◌, length, map, take, get_or, ◌∙◌, sym, ap, string_bytes}
+use Rattle.std.proofs.lemmas.List.{map-append, take_more}
+use Rattle.std.specs.declared.alloc.Global.{Global}
+use Rattle.std.specs.declared.string.String.{String}
+use Rattle.filterset_drawing.specs.Columns.{Text}
+use Rattle.filterset_faults.specs.declared.kind.FiltersetKind.{FiltersetKind}
+use Rattle.filterset_answers.specs.Checked.{TextRow, text_row}
+use Rattle.filterset_answers.specs.declared.text.TextEntry.{TextEntry}
+use Rattle.filterset_command.specs.Requests.{HaveTexts}
+
+-- one more text
+pub HaveTexts-push : (kind : FiltersetKind) (texts : List Text) (rows : List TextRow) (text : Text) (row : TextRow)
+    → HaveTexts kind texts rows → row.kind ≡ kind → row.text ≡ text → HaveTexts kind (texts ++ text ∷ []) (rows ++ row ∷ [])
+HaveTexts-push kind texts rows text row have of_kind of_text =
+    map-append (λ (r : TextRow). (r.kind, r.text)) rows (row ∷ [])
+    ∙ ap (λ ps. ps ++ (row.kind, row.text) ∷ []) have
+    ∙ ap (λ k. map (λ t. (kind, t)) texts ++ (k, row.text) ∷ []) of_kind
+    ∙ ap (λ t. map (λ t. (kind, t)) texts ++ (kind, t) ∷ []) of_text
+    ∙ sym (map-append (λ t. (kind, t)) texts (text ∷ []))
+
+-- the entry of one more text
+pub HaveTexts-entry : (kind : FiltersetKind) (texts : List Text) (entries : List TextEntry) (text : Text) (entry : TextEntry)
+    → HaveTexts kind texts (map text_row entries) → entry.kind ≡ kind → string_bytes entry.text ≡ text
+    → HaveTexts kind (texts ++ text ∷ []) (map text_row (entries ++ entry ∷ []))
+HaveTexts-entry kind texts entries text entry have of_kind of_text =
+    rw (map-append text_row entries (entry ∷ [])) (HaveTexts-push kind texts (map text_row entries) text (text_row entry) have of_kind of_text)
+
+-- the next of given texts
+pub texts_more : (texts : List (String Global)) (i : ℕ) (text : String Global) → i < length texts → get_or texts i text ≡ text
+    → map (λ (s : String Global). string_bytes s) (take (i + 1) texts) ≡ map (λ (s : String Global). string_bytes s) (take i texts) ++ string_bytes text ∷ []
+texts_more texts i text lt at =
+    ap (map (λ (s : String Global). string_bytes s)) (take_more texts i text lt ∙ ap (λ y. take i texts ++ y ∷ []) at)
+    ∙ map-append (λ (s : String Global). string_bytes s) (take i texts) (text ∷ [])

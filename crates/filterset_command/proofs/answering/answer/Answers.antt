@@ -1,0 +1,12 @@
+use Rattle.std.proofs.Common.{map, string_bytes, subst, sym}
+use Rattle.filterset_answers.specs.Checked.{text_row}
+use Rattle.filterset_command.specs.Requests.{IsAnswered}
+use Rattle.filterset_command.proofs.answering.answer.Goals as goal
+
+pub returns-in_ok-check-in-Check-clause-answered : goal.returns-in_ok-check-in-Check-clause-answered
+returns-in_ok-check-in-Check-clause-answered g c =
+    let answer = c.in_ok-check-in-Check.field-0 in
+    let checked = c.in_ok-check-in-Check.ensures in
+    let checks = rw c.as_slice.ensures.value at checked in
+    subst (λ request. IsAnswered request (g.R.Source.left c.args.input.now) answer.faulty (string_bytes answer.text)) (sym c.in-Check.is)
+    (map text_row c.in_ok-entries-in-Check.entries.items, c.in_ok-names-in-Check.names, c.in_ok-entries-in-Check.ensures.rows, c.in_ok-names-in-Check.ensures.nothing, checks)

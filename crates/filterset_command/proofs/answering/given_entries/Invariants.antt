@@ -1,0 +1,8 @@
+use Rattle.std.proofs.Common.{map, string_bytes, take}
+use Rattle.filterset_answers.specs.Checked.{text_row}
+use Rattle.filterset_command.specs.Requests.{HaveTexts}
+use Rattle.filterset_command.proofs.answering.given_entries.Given as goal
+
+-- the texts so far have their entries
+abbrev pub invariant-loop-i : goal.invariant-loop-i
+invariant-loop-i l = HaveTexts l.kind (map (λ s. string_bytes s) (take l.i l.texts)) (map text_row l.entries.items)

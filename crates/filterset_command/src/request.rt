@@ -1,0 +1,118 @@
+//! What the command line asks for.
+ghost use Rattle.std.specs.Prelude.{◌≡◌, IfErr, IfOk};
+ghost use Rattle.clap.specs.Words.{kind_of};
+ghost use Rattle.filterset_command.specs.Requests.{IsShown, IsTold};
+
+use crate::arguments::arguments;
+use crate::fault::CommandFault;
+use clap::error::ErrorKind;
+use clap::{ArgMatches, Error};
+use filterset_answers::Form;
+use filterset_drawing::Color;
+use nextest_filtering::FiltersetKind;
+use records::RunFault;
+use std::alloc::{AllocError, Global};
+
+/// The texts that are asked about.
+#[derive(Debug, Drop)]
+pub enum Texts {
+    /// Those of the command line.
+    Given(Vec<String>),
+    /// One in each line of standard input.
+    StandardInput,
+}
+
+/// What is asked for.
+#[derive(Debug, Drop)]
+pub enum Request {
+    Check {
+        kind: FiltersetKind,
+        form: Form,
+        texts: Texts,
+    },
+    Format {
+        form: Form,
+        texts: Texts,
+    },
+    /// Writing this text: the help, or the version.
+    Show(String),
+}
+
+/// What the words of the command line ask for.
+pub fn request_of(alloc: Global, words: &[String]) -> Result<Request, CommandFault> {
+    match arguments(alloc)?.try_get_matches_from(words) {
+        Ok(matches) => Ok(requested(alloc, &matches)?),
+        Err(error) => unmatched(alloc, error),
+    }
+}
+
+/// What words ask for that give no command: the help or the version, or nothing that the program takes.
+fn unmatched(alloc: Global, error: Error) -> Result<Request, CommandFault>
+    ensures shown { IfOk result (λ request. IsShown (kind_of error)) }
+    ensures told { IfErr result (IsTold error) }
+{
+    match error.kind() {
+        ErrorKind::DisplayHelp | ErrorKind::DisplayVersion => {
+            Ok(Request::Show(format!(in alloc; "{error}")?))
+        }
+        ErrorKind::OutOfMemory => Err(CommandFault::Run(RunFault::Memory(AllocError))),
+        _ => Err(CommandFault::Words(error)),
+    }
+}
+
+/// What the words ask for, as they were read.
+fn requested(alloc: Global, matches: &ArgMatches<'_>) -> Result<Request, AllocError> {
+    match matches.subcommand() {
+        Some(("format", own)) => Ok(Request::Format {
+            form: Form::Drawn(color_of(own)),
+            texts: texts_of(alloc, own)?,
+        }),
+        Some((_, own)) => check_of(alloc, own),
+        // A command is required.
+        None => check_of(alloc, matches),
+    }
+}
+
+/// What `check` asks for.
+fn check_of(alloc: Global, matches: &ArgMatches<'_>) -> Result<Request, AllocError> {
+    let form = match matches.get_str("format") {
+        Some("json") => Form::Json,
+        _ => Form::Drawn(color_of(matches)),
+    };
+    Ok(Request::Check {
+        kind: kind_of(matches),
+        form,
+        texts: texts_of(alloc, matches)?,
+    })
+}
+
+/// Whether colours are asked for.
+fn color_of(matches: &ArgMatches<'_>) -> Color {
+    match matches.get_str("color") {
+        Some("always") => Color::Always,
+        _ => Color::Never,
+    }
+}
+
+/// Which kind of filtersets is asked about.
+fn kind_of(matches: &ArgMatches<'_>) -> FiltersetKind {
+    match matches.get_str("kind") {
+        Some("default") => FiltersetKind::DefaultFilter,
+        Some("override") => FiltersetKind::OverrideFilter,
+        Some("archive") => FiltersetKind::TestArchive,
+        _ => FiltersetKind::Test,
+    }
+}
+
+/// Which texts are asked about: those given, unless `-` stands for them.
+fn texts_of(alloc: Global, matches: &ArgMatches<'_>) -> Result<Texts, AllocError> {
+    let given = matches.get_strs("text").unwrap_or(&[]);
+    if let ["-"] = given {
+        return Ok(Texts::StandardInput);
+    }
+    let mut texts = Vec::new(alloc);
+    for text in given {
+        texts.push(String::from_str(alloc, *text)?)?;
+    }
+    Ok(Texts::Given(texts))
+}

@@ -1,0 +1,85 @@
+-- Widths of characters, and the columns of texts.
+use Rattle.std.proofs.Common.{◌≡◌, ℕ, ◌+◌, ◌*◌, ◌<◌, ◌≤◌, Bool, true, false, cond, ◌&&◌, nat_le, nat_lt, List, [], ◌∷◌, ◌++◌, length, Option, Some, None, unwrap_or, refl, sym, ap, ◌∙◌, arith, ⊎_elim, zero-add, add-zero, append-nil, length-append}
+use Rattle.std.specs.Prelude.{filter, sum_by, encode_utf8, encode_utf8_all}
+use Rattle.std.proofs.Math.Bool.{and-false}
+use Rattle.std.proofs.lemmas.Bool.{and_from, cases_lt, le-leb, le-ltb, lt-leb, lt-ltb}
+use Rattle.std.proofs.lemmas.Bool.Decides.{nat_tests}
+use Rattle.std.proofs.lemmas.List.Elements.{filter-append}
+use Rattle.std.proofs.lemmas.List.Sums.{sum_by-append}
+use Rattle.std.proofs.lemmas.Str.{encodes-append, length-encode, len_utf8_bounds}
+use Rattle.unicode_width.specs.Width.{char_width}
+use Rattle.unicode_width.proofs.Rules.{width_or_zero-le}
+use Rattle.filterset_drawing.specs.Columns.{columns_of, placed}
+
+width_or_one : (o : Option ℕ) → unwrap_or o 0 ≤ 3 → unwrap_or o 1 ≤ 3
+width_or_one None h = omega arith
+width_or_one (Some w) h = h
+
+ascii_width : (c : ℕ) → c < 128 → unwrap_or (char_width false c) 1 ≤ 1
+unfolding char_width
+ascii_width c h = grind (arith, nat_tests)
+
+two_bytes : (c : ℕ) → 128 ≤ c → 2 ≤ length (encode_utf8 c)
+two_bytes c h = grind (arith, nat_tests, length-encode c)
+
+-- no character takes more columns than twice its bytes
+pub width_bound : (c : ℕ) → unwrap_or (char_width false c) 1 ≤ 2 * length (encode_utf8 c)
+width_bound c =
+    ⊎_elim
+    (λ (low : c < 128). omega (arith, ascii_width c low, length-encode c, (len_utf8_bounds c).0))
+    (λ (high : 128 ≤ c). omega (arith, width_or_one (char_width false c) (width_or_zero-le false c), two_bytes c high))
+    (cases_lt c 128)
+
+-- the columns of the characters that begin in a stretch, the first of them at this byte
+abbrev pub within : ℕ → ℕ → ℕ → List ℕ → ℕ
+within from to at cs = sum_by (λ p. columns_of p.1) (filter (λ p. nat_le from p.0 && nat_lt p.0 to) (placed at cs))
+
+placed-append : (at : ℕ) (cs ds : List ℕ) → placed at (cs ++ ds) ≡ placed at cs ++ placed (at + length (encode_utf8_all cs)) ds
+placed-append at [] ds = ap (λ n. placed n ds) (sym (add-zero at))
+placed-append at (c ∷ cs) ds =
+    let size : at + length (encode_utf8 c) + length (encode_utf8_all cs) ≡ at + length (encode_utf8_all (c ∷ cs)) =
+    omega (arith, length-append (encode_utf8 c) (encode_utf8_all cs)) in
+    ap (λ ps. (at, c) ∷ ps) (placed-append (at + length (encode_utf8 c)) cs ds ∙ ap (λ n. placed (at + length (encode_utf8 c)) cs ++ placed n ds) size)
+
+within-one : (from to at c : ℕ) → within from to at (c ∷ []) ≡ cond (nat_le from at && nat_lt at to) (columns_of c) 0
+within-one from to at c = by_test (nat_le from at && nat_lt at to)
+  where
+    by_test : (b : Bool) → sum_by (λ (p : ℕ × ℕ). columns_of p.1) (cond b ((at, c) ∷ []) []) ≡ cond b (columns_of c) 0
+    by_test true = zero-add (columns_of c)
+    by_test false = refl
+
+-- one more character
+pub within-push : (from to : ℕ) (cs : List ℕ) (c : ℕ) → within from to 0 (cs ++ c ∷ []) ≡ within from to 0 cs + cond (nat_le from (length (encode_utf8_all cs)) && nat_lt (length (encode_utf8_all cs)) to) (columns_of c) 0
+within-push from to cs c =
+    let n = length (encode_utf8_all cs) in
+    let test = λ (p : ℕ × ℕ). nat_le from p.0 && nat_lt p.0 to in
+    let width = λ (p : ℕ × ℕ). columns_of p.1 in
+    ap (λ ps. sum_by width (filter test ps)) (placed-append 0 cs (c ∷ []))
+    ∙ ap (sum_by width) (filter-append test (placed 0 cs) (placed (0 + n) (c ∷ [])))
+    ∙ sum_by-append width (filter test (placed 0 cs)) (filter test (placed (0 + n) (c ∷ [])))
+    ∙ ap (λ k. within from to 0 cs + within from to k (c ∷ [])) (zero-add n)
+    ∙ ap (λ k. within from to 0 cs + k) (within-one from to n c)
+
+-- a character that begins in the stretch, and one that does not
+pub within-push_in : (from to : ℕ) (cs : List ℕ) (c at : ℕ) → at ≡ length (encode_utf8_all cs) → from ≤ at → at < to → within from to 0 (cs ++ c ∷ []) ≡ within from to 0 cs + columns_of c
+within-push_in from to cs c at is low high =
+    let n = length (encode_utf8_all cs) in
+    let test : (nat_le from n && nat_lt n to) ≡ true = rw (sym is) (and_from (nat_le from at) (nat_lt at to) (le-leb from at low) (lt-ltb at to high)) in
+    within-push from to cs c ∙ ap (λ b. within from to 0 cs + cond b (columns_of c) 0) test
+
+pub within-push_before : (from to : ℕ) (cs : List ℕ) (c at : ℕ) → at ≡ length (encode_utf8_all cs) → at < from → within from to 0 (cs ++ c ∷ []) ≡ within from to 0 cs
+within-push_before from to cs c at is before =
+    let n = length (encode_utf8_all cs) in
+    let test : nat_le from n ≡ false = rw (sym is) (lt-leb from at before) in
+    within-push from to cs c ∙ ap (λ b. within from to 0 cs + cond (b && nat_lt n to) (columns_of c) 0) test ∙ add-zero (within from to 0 cs)
+
+pub within-push_after : (from to : ℕ) (cs : List ℕ) (c at : ℕ) → at ≡ length (encode_utf8_all cs) → to ≤ at → within from to 0 (cs ++ c ∷ []) ≡ within from to 0 cs
+within-push_after from to cs c at is after =
+    let n = length (encode_utf8_all cs) in
+    let test : nat_lt n to ≡ false = rw (sym is) (le-ltb at to after) in
+    let both : (nat_le from n && nat_lt n to) ≡ false = ap (λ b. nat_le from n && b) test ∙ and-false (nat_le from n) in
+    within-push from to cs c ∙ ap (λ b. within from to 0 cs + cond b (columns_of c) 0) both ∙ add-zero (within from to 0 cs)
+
+-- the bytes of one more character
+pub encodes-push : (cs : List ℕ) (c : ℕ) → length (encode_utf8_all (cs ++ c ∷ [])) ≡ length (encode_utf8_all cs) + length (encode_utf8 c)
+encodes-push cs c = ap length (encodes-append cs (c ∷ []) ∙ ap (λ l. encode_utf8_all cs ++ l) (append-nil (encode_utf8 c))) ∙ length-append (encode_utf8_all cs) (encode_utf8 c)

@@ -1,0 +1,119 @@
+-- The lines of a text, one after the other.
+use Rattle.std.proofs.Common.{◌≡◌, ℕ, zero, suc, ◌+◌, ◌<◌, ◌≤◌, Bool, true, false, cond, List, [], ◌∷◌, ◌++◌, length, map, take, get_or, refl, sym, ap, ap₂, ◌∙◌, ◌==◌, arith, add-zero, zero-add}
+use Rattle.std.specs.Prelude.{sum_by}
+use Rattle.std.specs.List.{onto_first, slice_split}
+use Rattle.std.specs.Prelude.{Contains}
+use Rattle.std.proofs.lemmas.Bool.{leb-false, leb-true}
+use Rattle.std.proofs.lemmas.List.{get_or-map, length-map, map-append, take_all}
+use Rattle.std.proofs.lemmas.List.Elements.{Contains-get_or}
+use Rattle.std.proofs.lemmas.List.Sums.{sum_by-cons, sum_by_more}
+use Rattle.filterset_drawing.specs.Columns.{Text}
+use Rattle.filterset_drawing.specs.Lines.{LineRow, column_of, line_row, lines_of, numbered, pieces, reaches}
+use Rattle.filterset_drawing.specs.Places.{StandsAt}
+use Rattle.filterset_drawing.specs.declared.line.Line.{Line}
+use Rattle.filterset_drawing.specs.declared.source.Place.{Place}
+
+-- the bytes of these lines, with the place at the end of each
+abbrev pub extent : List Text → ℕ
+extent texts = sum_by (λ text. length text + 1) texts
+
+extent-cons : (text : Text) (texts : List Text) → extent (text ∷ texts) ≡ length text + 1 + extent texts
+extent-cons text texts = sum_by-cons (λ (t : Text). length t + 1) text texts
+
+abbrev row : ℕ → ℕ → Text → LineRow
+row number start text = record { number = number; start = start; text = text }
+
+-- one more line
+pub numbered-push : (number start : ℕ) (texts : List Text) (text : Text) → numbered number start (texts ++ text ∷ []) ≡ numbered number start texts ++ row (number + length texts) (start + extent texts) text ∷ []
+numbered-push number start [] text = ap₂ (λ n s. row n s text ∷ []) (sym (add-zero number)) (sym (add-zero start))
+numbered-push number start (t ∷ texts) text =
+    let n : number + 1 + length texts ≡ number + length (t ∷ texts) = omega arith in
+    let s : start + (length t + 1) + extent texts ≡ start + extent (t ∷ texts) = omega (arith, extent-cons t texts) in
+    ap (λ ls. row number start t ∷ ls)
+    (numbered-push (number + 1) (start + (length t + 1)) texts text
+    ∙ ap₂ (λ m b. numbered (number + 1) (start + (length t + 1)) texts ++ row m b text ∷ []) n s)
+
+-- the line at a place
+pub numbered-at : (number start : ℕ) (texts : List Text) (k : ℕ) (d : LineRow) → k < length texts → get_or (numbered number start texts) k d ≡ row (number + k) (start + extent (take k texts)) (get_or texts k [])
+numbered-at number start [] k d h = absurd (omega arith)
+numbered-at number start (t ∷ texts) zero d h = ap₂ (λ n s. row n s t) (sym (add-zero number)) (sym (add-zero start))
+numbered-at number start (t ∷ texts) (suc k) d h =
+    let n : number + 1 + k ≡ number + suc k = omega arith in
+    let s : start + (length t + 1) + extent (take k texts) ≡ start + extent (take (suc k) (t ∷ texts)) = omega (arith, extent-cons t (take k texts)) in
+    numbered-at (number + 1) (start + (length t + 1)) texts k d (omega arith) ∙ ap₂ (λ m b. row m b (get_or texts k [])) n s
+
+pub length-numbered : (number start : ℕ) (texts : List Text) → length (numbered number start texts) ≡ length texts
+length-numbered number start [] = refl
+length-numbered number start (t ∷ texts) = ap suc (length-numbered (number + 1) (start + (length t + 1)) texts)
+
+extent-onto_first : (b : ℕ) (texts : List Text) → 0 < extent texts → extent (onto_first b texts) ≡ extent texts + 1
+extent-onto_first b [] h = absurd (omega arith)
+extent-onto_first b (t ∷ texts) h = omega (arith, extent-cons (b ∷ t) texts, extent-cons t texts)
+
+split_first : (b : ℕ) (bs : List ℕ) (texts : List Text) (test : Bool) → extent texts ≡ length bs + 1 → extent (cond test ([] ∷ texts) (onto_first b texts)) ≡ length (b ∷ bs) + 1
+split_first b bs texts true h = omega (arith, extent-cons [] texts)
+split_first b bs texts false h = omega (arith, extent-onto_first b texts (omega arith))
+
+-- the lines of a text have its bytes, and one place more
+pub extent-slice_split : (p : ℕ → Bool) (bs : List ℕ) → extent (slice_split p bs) ≡ length bs + 1
+extent-slice_split p [] = refl
+extent-slice_split p (b ∷ bs) = split_first b bs (slice_split p bs) (p b) (extent-slice_split p bs)
+
+-- there are at most as many lines as places
+pub length-le-extent : (texts : List Text) → length texts ≤ extent texts
+length-le-extent [] = omega arith
+length-le-extent (t ∷ texts) = omega (arith, extent-cons t texts, length-le-extent texts)
+
+pub map-same : {A : Type 0} (xs : List A) → map (λ x. x) xs ≡ xs
+map-same [] = refl
+map-same (x ∷ xs) = ap (λ ys. x ∷ ys) (map-same xs)
+
+-- one more line is cut
+pub lines-push : (lines : List Line) (line : Line) (texts : List Text) → map line_row lines ≡ numbered 1 0 texts → line.number ≡ 1 + length texts → line.start ≡ extent texts → map line_row (lines ++ line ∷ []) ≡ numbered 1 0 (texts ++ line.text.now ∷ [])
+lines-push lines line texts cut n s =
+    map-append line_row lines (line ∷ [])
+    ∙ ap₂ (λ ls (l : LineRow). ls ++ l ∷ []) cut (ap₂ (λ m b. row m b line.text.now) n (s ∙ sym (zero-add (extent texts))))
+    ∙ sym (numbered-push 1 0 texts line.text.now)
+
+-- the line at a place of a text that is cut into these
+line-at : (text : Text) (lines : List Line) (k : ℕ) (d : Line) → map line_row lines ≡ lines_of text → k < length lines → line_row (get_or lines k d) ≡ row (1 + k) (extent (take k (pieces text))) (get_or (pieces text) k [])
+line-at text lines k d cut lt =
+    let texts = pieces text in
+    let size : length lines ≡ length texts = sym (length-map lines line_row) ∙ ap length cut ∙ length-numbered 1 0 texts in
+    sym (get_or-map line_row lines k d (line_row d) lt) ∙ ap (λ ls. get_or ls k (line_row d)) cut
+    ∙ numbered-at 1 0 texts k (line_row d) (omega arith)
+    ∙ ap (λ s. row (1 + k) s (get_or texts k [])) (zero-add (extent (take k texts)))
+
+is-line : (text : Text) (lines : List Line) (k : ℕ) (d : Line) → map line_row lines ≡ lines_of text → k < length lines → Contains (lines_of text) (line_row (get_or lines k d))
+is-line text lines k d cut lt =
+    let within : k < length (map line_row lines) = rw length-map lt in
+    rw (get_or-map line_row lines k d (line_row d) lt, cut) at (Contains-get_or (map line_row lines) k (line_row d) within)
+
+-- the first line that reaches a place is the one in which it stands
+pub stands : (text : Text) (lines : List Line) (k from : ℕ) (d : Line) (place : Place) → map line_row lines ≡ lines_of text → k < length lines → extent (take k (pieces text)) ≤ from → reaches from (line_row (get_or lines k d)) ≡ true → place.line ≡ (get_or lines k d).number → place.column ≡ column_of (line_row (get_or lines k d)) from + 1 → StandsAt text from place
+stands text lines k from d place cut lt passed reached is_line is_column =
+    let line = get_or lines k d in
+    let start : line.start ≡ extent (take k (pieces text)) = ap (λ l. l.start) (line-at text lines k d cut lt) in
+    let end : from ≤ line.start + length line.text.now = leb-true from (line.start + length line.text.now) reached in
+    (line_row line, is-line text lines k d cut lt, omega arith, end, is_line, is_column)
+
+-- a line that does not reach a place is passed
+pub passed-more : (text : Text) (lines : List Line) (k from : ℕ) (d : Line) → map line_row lines ≡ lines_of text → k < length lines → reaches from (line_row (get_or lines k d)) ≡ false → extent (take (k + 1) (pieces text)) ≤ from
+passed-more text lines k from d cut lt missed =
+    let texts = pieces text in
+    let line = get_or lines k d in
+    let here = line-at text lines k d cut lt in
+    let size : length lines ≡ length texts = sym (length-map lines line_row) ∙ ap length cut ∙ length-numbered 1 0 texts in
+    let more = sum_by_more (λ (t : Text). length t + 1) texts k [] (omega arith) in
+    let start : line.start ≡ extent (take k texts) = ap (λ l. l.start) here in
+    let bytes : length line.text.now ≡ length (get_or texts k []) = ap (λ l. length l.text) here in
+    let past : line.start + length line.text.now < from = leb-false from (line.start + length line.text.now) missed in
+    omega (arith, more)
+
+-- the last line reaches the end of the text
+pub not_past : (text : Text) (lines : List Line) (k from : ℕ) → map line_row lines ≡ lines_of text → length lines ≤ k → extent (take k (pieces text)) ≤ from → from ≤ length text → ⊥
+not_past text lines k from cut all passed within =
+    let texts = pieces text in
+    let size : length lines ≡ length texts = sym (length-map lines line_row) ∙ ap length cut ∙ length-numbered 1 0 texts in
+    let whole : take k texts ≡ texts = take_all k texts (omega arith) in
+    omega (arith, extent-slice_split (λ b. b == 10) text, ap extent whole)

@@ -1,0 +1,6 @@
+use Rattle.std.proofs.Common.{Some, rules}
+use Rattle.filterset_drawing.proofs.json.spot_of.Goals as goal
+
+pub returns-in-Some : goal.returns-in-Some
+returns-in-Some c =
+    (Some c.place-place.result, (rw c.in-Some.is c.place-place.ensures), search rules, search rules, search rules, search rules)

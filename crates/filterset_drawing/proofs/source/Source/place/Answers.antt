@@ -1,0 +1,33 @@
+use Rattle.std.proofs.Common.{◌≡◌, ◌+◌, ◌≤◌, [], length, map, refl, arith, ap, ◌∙◌, sym}
+use Rattle.filterset_drawing.specs.Lines.{line_row, lines_of}
+use Rattle.filterset_drawing.specs.declared.line.Line.{Line}
+use Rattle.filterset_drawing.proofs.LineLemmas.{not_past, passed-more, stands}
+use Rattle.filterset_drawing.proofs.source.Source.place.Goals as goal
+
+-- what an index past the end reads
+no_line : Line
+no_line = record { number = 0; start = 0; text = record { ref_ptr = (0, 0); now = [] } }
+
+pub returns-then-reaches : goal.returns-then-reaches
+unfolding no_line
+returns-then-reaches c =
+    let source = c.args.self.now in
+    let lines = c.deref-line-items.result.now in
+    let cut : map line_row lines ≡ lines_of source.text.now = ap (map line_row) c.deref-line-items.ensures.value ∙ source.cut in
+    rw (← c.stretch-from.ensures.from) (stands source.text.now lines c.loop-line.line-index c.stretch-from.result.from no_line _ cut c.loop-line-test.true c.loop-line.invariant (sym c.if-reaches.ensures) refl (ap (λ n. n + 1) c.column.ensures.value))
+
+pub loop-line-preserved : goal.loop-line-preserved
+unfolding no_line
+loop-line-preserved c =
+    let source = c.args.self.now in
+    let lines = c.deref-line-items.result.now in
+    let cut : map line_row lines ≡ lines_of source.text.now = ap (map line_row) c.deref-line-items.ensures.value ∙ source.cut in
+    passed-more source.text.now lines c.loop-line.line-index c.stretch-from.result.from no_line cut c.loop-line-test.true (sym c.if-reaches.ensures)
+
+pub unreachable-requires : goal.unreachable-requires
+unreachable-requires c =
+    let source = c.args.self.now in
+    let lines = c.deref-line-items.result.now in
+    let cut : map line_row lines ≡ lines_of source.text.now = ap (map line_row) c.deref-line-items.ensures.value ∙ source.cut in
+    let within : c.stretch-from.result.from ≤ length source.text.now = omega (arith, c.stretch-from.ensures.from) in
+    not_past source.text.now lines c.loop-line.line-index c.stretch-from.result.from cut c.loop-line-test.false c.loop-line.invariant within

@@ -1,0 +1,76 @@
+-- What a drawing of a fault is.
+use Rattle.std.specs.Prelude.{◌≡◌, ℕ, ◌-◌, ◌++◌, List, [], Option, Some, None, codes, decimal, filter, length, replicate}
+use Rattle.std.specs.List.{flat_map}
+use Rattle.filterset_faults.specs.Faults.{code_of, span_of, label_of, help_of}
+use Rattle.filterset_faults.specs.declared.span.SourceSpan.{SourceSpan}
+use Rattle.filterset_faults.specs.declared.error.ParseSingleError.{ParseSingleError}
+use Rattle.filterset_drawing.specs.declared.color.Color.{Color}
+use Rattle.filterset_drawing.specs.declared.drawing.Margin.{Margin}
+use Rattle.filterset_drawing.specs.declared.source.Place.{Place}
+use Rattle.filterset_drawing.specs.Color.{red_of, blue_of, plain_of}
+use Rattle.filterset_drawing.specs.Columns.{Text, drawn}
+use Rattle.filterset_drawing.specs.Lines.{LineRow, caret_count, column_of, from_of, is_touched, lines_of, to_of}
+use Rattle.filterset_drawing.specs.Places.{StandsAt}
+
+-- what stands left of a text: as many columns as the number of its last line takes
+abbrev pub margin_of : Color → Text → Margin
+margin_of color text = record { width = length (decimal (length (lines_of text))); color = color }
+
+-- a new line, with blanks where the number of a line of the text would stand
+abbrev pub margin_line : Margin → Text
+margin_line margin = codes "\n" ++ (replicate margin.width 32 ++ blue_of margin.color)
+
+abbrev pub header : Color → Text → Text → Text
+header color code message =
+    red_of color ++ (codes "error" ++ (plain_of color ++ (codes ": " ++ (code ++ (codes ": " ++ message)))))
+
+abbrev pub location : Margin → Text → Place → Text
+location margin origin place =
+    margin_line margin ++ (codes "-->" ++ (plain_of margin.color ++ (codes " " ++ (drawn origin
+    ++ (codes ":" ++ (decimal place.line ++ (codes ":" ++ decimal place.column)))))))
+
+abbrev pub bar : Margin → Text
+bar margin = margin_line margin ++ (codes " |" ++ plain_of margin.color)
+
+-- a line of the text, after its number
+abbrev pub text_line : Margin → LineRow → Text
+text_line margin line =
+    codes "\n" ++ (replicate (margin.width - length (decimal line.number)) 32 ++ (blue_of margin.color
+    ++ (decimal line.number ++ (codes " |" ++ (plain_of margin.color ++ (codes " " ++ drawn line.text))))))
+
+-- The carets under a line, from the place `from` of the text to the place `to`: as many blanks as the characters of the
+-- line before them are wide, and then as many carets as those between them are, and at least one.
+abbrev pub caret_line : Margin → ℕ → ℕ → LineRow → Text
+caret_line margin from to line =
+    bar margin ++ (codes " " ++ (replicate (column_of line from) 32
+    ++ (red_of margin.color ++ (replicate (caret_count line from to) 94 ++ plain_of margin.color))))
+
+-- the lines that the stretch from the one place to the other concerns, each with its carets
+abbrev pub marked_lines : Margin → ℕ → ℕ → List LineRow → Text
+marked_lines margin from to lines =
+    flat_map (λ line. text_line margin line ++ caret_line margin from to line) (filter (is_touched from to) lines)
+
+-- what is drawn of a span of the text
+abbrev pub DrawnSpan : Margin → Text → Text → Option SourceSpan → Text → Type 0
+DrawnSpan margin origin text None part = part ≡ []
+DrawnSpan margin origin text (Some span) part =
+    (place : Place) × StandsAt text (from_of text span) place
+    × (part ≡ location margin origin place
+    ++ (bar margin ++ marked_lines margin (from_of text span) (to_of text span) (lines_of text)))
+
+abbrev pub label_part : Color → Option Text → Text
+label_part color None = []
+label_part color (Some label) = codes " " ++ (red_of color ++ (drawn label ++ plain_of color))
+
+abbrev pub help_part : Margin → Option Text → Text
+help_part margin None = []
+help_part margin (Some help) =
+    margin_line margin ++ (codes " =" ++ (plain_of margin.color ++ (codes " help: " ++ help)))
+
+-- A drawing of a fault under a text that stands where `origin` says, with the fault's message.
+abbrev pub Drawing : Color → Text → Text → ParseSingleError → Text → Type 0
+Drawing color origin text fault drawing =
+    (message : Text) × (part : Text) × DrawnSpan (margin_of color text) origin text (span_of fault) part
+    × (drawing ≡ header color (code_of fault) message
+    ++ (part ++ (label_part color (label_of fault)
+    ++ (help_part (margin_of color text) (help_of fault) ++ codes "\n"))))

@@ -1,0 +1,219 @@
+//! Faults drawn under their text.
+ghost use Rattle.std.specs.Prelude.{◌≡◌, ◌++◌, IfOk, OnOk, map, option_map, string_bytes};
+ghost use Rattle.filterset_faults.specs.Faults.{code_of};
+ghost use Rattle.filterset_faults.specs.Label.{label_text, help_text};
+ghost use Rattle.filterset_drawing.specs.Columns.{Text};
+ghost use Rattle.filterset_drawing.specs.Drawings.{Drawing, DrawnSpan, bar, caret_line, header, help_part, label_part, location, margin_line, margin_of, marked_lines, text_line};
+ghost use Rattle.filterset_drawing.specs.Lines.{line_row};
+
+use crate::color::Color;
+use crate::column::{push_drawn, push_repeated};
+use crate::line::{Line, Stretch};
+use crate::source::{Place, Source};
+use filterset_faults::{Help, Label, ParseSingleError, SourceSpan};
+use std::alloc::{AllocError, Global};
+use std::fmt::Write;
+
+/// What stands left of a text: how many columns its line numbers take, and whether it has colours.
+#[derive(Clone, Copy, Debug)]
+struct Margin {
+    width: usize,
+    color: Color,
+}
+
+/// Draws a fault under its text: its code and message, where it stands, each line of the text that it concerns with
+/// carets under the characters of its span, its label after the last of them, and its help. The drawing ends in a line feed.
+pub fn draw(
+    drawing: &mut String,
+    alloc: Global,
+    source: &Source<'_>,
+    fault: &ParseSingleError,
+) -> Result<(), AllocError>
+    ensures { let source = source.now in OnOk result ((piece : Text)
+        × (string_bytes drawing.new ≡ string_bytes drawing.old ++ piece)
+        × Drawing source.color source.origin.now source.text.now fault.now piece) }
+{
+    let margin = margin_of(alloc, source)?;
+    push_header(drawing, alloc, margin.color, fault)?;
+    push_span(drawing, alloc, margin, source, fault.span())?;
+    push_label(drawing, alloc, margin.color, fault.label())?;
+    push_help(drawing, margin, fault.help())?;
+    drawing.push_str("\n")
+}
+
+/// What stands left of a text: its last line has the longest number.
+fn margin_of(alloc: Global, source: &Source<'_>) -> Result<Margin, AllocError>
+    ensures { IfOk result (λ margin. margin ≡ margin_of source.now.color source.now.text.now) }
+{
+    let count = source.lines.len();
+    Ok(Margin {
+        width: format!(in alloc; "{count}")?.len(),
+        color: source.color,
+    })
+}
+
+/// Writes the code of a fault, and its message.
+fn push_header(
+    drawing: &mut String,
+    alloc: Global,
+    color: Color,
+    fault: &ParseSingleError,
+) -> Result<(), AllocError>
+    ensures { OnOk result ((message : Text)
+        × (string_bytes drawing.new ≡ string_bytes drawing.old ++ header color (code_of fault.now) message)) }
+{
+    let (red, plain, code) = (color.red(), color.plain(), fault.code());
+    let message = format!(in alloc; "{fault}")?;
+    let message = message.as_str();
+    write!(drawing, "{red}error{plain}: {code}: {message}")
+}
+
+/// Begins a line, with blanks where the number of a line of the text would stand.
+fn push_margin(drawing: &mut String, margin: Margin) -> Result<(), AllocError>
+    ensures { OnOk result (string_bytes drawing.new ≡ string_bytes drawing.old ++ margin_line margin) }
+{
+    drawing.push_str("\n")?;
+    push_repeated(drawing, ' ', margin.width)?;
+    drawing.push_str(margin.color.blue())
+}
+
+/// Writes where a span begins.
+fn push_location(
+    drawing: &mut String,
+    margin: Margin,
+    source: &Source<'_>,
+    place: Place,
+) -> Result<(), AllocError>
+    ensures { OnOk result (string_bytes drawing.new
+        ≡ string_bytes drawing.old ++ location margin source.now.origin.now place) }
+{
+    let (line, column, plain) = (place.line, place.column, margin.color.plain());
+    push_margin(drawing, margin)?;
+    write!(drawing, "-->{plain} ")?;
+    push_drawn(drawing, source.origin)?;
+    write!(drawing, ":{line}:{column}")
+}
+
+/// Begins a line with a bar, where no line of the text stands.
+fn push_bar(drawing: &mut String, margin: Margin) -> Result<(), AllocError>
+    ensures { OnOk result (string_bytes drawing.new ≡ string_bytes drawing.old ++ bar margin) }
+{
+    push_margin(drawing, margin)?;
+    let plain = margin.color.plain();
+    write!(drawing, " |{plain}")
+}
+
+/// Writes where a span begins, and the lines of the text that it concerns.
+fn push_span(
+    drawing: &mut String,
+    alloc: Global,
+    margin: Margin,
+    source: &Source<'_>,
+    span: Option<SourceSpan>,
+) -> Result<(), AllocError>
+    ensures { let source = source.now in OnOk result ((part : Text)
+        × (string_bytes drawing.new ≡ string_bytes drawing.old ++ part)
+        × DrawnSpan margin source.origin.now source.text.now span part) }
+{
+    let Some(span) = span else {
+        return Ok(());
+    };
+    push_location(drawing, margin, source, source.place(span))?;
+    push_bar(drawing, margin)?;
+    push_lines(
+        drawing,
+        alloc,
+        margin,
+        source.lines.as_slice(),
+        source.stretch(span),
+    )
+}
+
+/// Writes the lines that a stretch of the text concerns, each with its carets.
+fn push_lines(
+    drawing: &mut String,
+    alloc: Global,
+    margin: Margin,
+    lines: &[Line<'_>],
+    stretch: Stretch,
+) -> Result<(), AllocError>
+    ensures { OnOk result (string_bytes drawing.new
+        ≡ string_bytes drawing.old ++ marked_lines margin stretch.from stretch.to (map line_row lines.now)) }
+{
+    for line in lines {
+        if line.is_touched(stretch) {
+            push_text(drawing, alloc, margin, line)?;
+            push_marks(drawing, margin, line, stretch)?;
+        }
+    }
+    Ok(())
+}
+
+/// Writes a line of the text, after its number.
+fn push_text(
+    drawing: &mut String,
+    alloc: Global,
+    margin: Margin,
+    line: &Line<'_>,
+) -> Result<(), AllocError>
+    ensures { OnOk result (string_bytes drawing.new ≡ string_bytes drawing.old ++ text_line margin (line_row line.now)) }
+{
+    let (blue, plain, number) = (margin.color.blue(), margin.color.plain(), line.number);
+    let number = format!(in alloc; "{number}")?;
+    let number = number.as_str();
+    drawing.push_str("\n")?;
+    push_repeated(drawing, ' ', margin.width.saturating_sub(number.len()))?;
+    write!(drawing, "{blue}{number} |{plain} ")?;
+    push_drawn(drawing, line.text)
+}
+
+/// Writes the carets under a line of the text.
+fn push_marks(
+    drawing: &mut String,
+    margin: Margin,
+    line: &Line<'_>,
+    stretch: Stretch,
+) -> Result<(), AllocError>
+    ensures { OnOk result (string_bytes drawing.new
+        ≡ string_bytes drawing.old ++ caret_line margin stretch.from stretch.to (line_row line.now)) }
+{
+    push_bar(drawing, margin)?;
+    drawing.push_str(" ")?;
+    push_repeated(drawing, ' ', line.column(stretch.from))?;
+    drawing.push_str(margin.color.red())?;
+    push_repeated(drawing, '^', line.caret_count(stretch))?;
+    drawing.push_str(margin.color.plain())
+}
+
+/// Writes a label after the carets.
+fn push_label(
+    drawing: &mut String,
+    alloc: Global,
+    color: Color,
+    label: Option<Label<'_>>,
+) -> Result<(), AllocError>
+    ensures { OnOk result (string_bytes drawing.new
+        ≡ string_bytes drawing.old ++ label_part color (option_map label_text label.entry)) }
+{
+    let Some(label) = label else {
+        return Ok(());
+    };
+    let label = format!(in alloc; "{label}")?;
+    drawing.push_str(" ")?;
+    drawing.push_str(color.red())?;
+    push_drawn(drawing, label.as_str())?;
+    drawing.push_str(color.plain())
+}
+
+/// Writes a help.
+fn push_help(drawing: &mut String, margin: Margin, help: Option<Help>) -> Result<(), AllocError>
+    ensures { OnOk result (string_bytes drawing.new
+        ≡ string_bytes drawing.old ++ help_part margin (option_map help_text help)) }
+{
+    let Some(help) = help else {
+        return Ok(());
+    };
+    let plain = margin.color.plain();
+    push_margin(drawing, margin)?;
+    write!(drawing, " ={plain} help: {help}")
+}

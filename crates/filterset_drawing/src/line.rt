@@ -1,0 +1,76 @@
+//! The lines of a text.
+ghost use Rattle.std.specs.Prelude.{◌≡◌, ◌+◌, ◌*◌, ◌≤◌, IfOk, length, map};
+ghost use Rattle.filterset_drawing.specs.Lines.{caret_count, column_of, is_touched, line_row, lines_of, reaches};
+
+use crate::column::columns_between;
+use std::alloc::{AllocError, Global};
+
+/// A line of a text.
+#[derive(Clone, Copy, Debug)]
+pub struct Line<'t> {
+    /// Its number, from 1 on.
+    pub number: usize,
+    /// How many bytes of the text stand before it.
+    pub start: usize,
+    /// The line, without the line feed that ends it.
+    pub text: &'t str,
+}
+
+/// A stretch of a text: the bytes from one place to another.
+#[derive(Clone, Copy, Debug)]
+pub struct Stretch {
+    pub from: usize,
+    pub to: usize,
+}
+
+impl Line<'_> {
+    /// Whether the line ends at this place of the text or after it.
+    pub fn reaches(&self, place: usize) -> bool
+        ensures { result ≡ reaches place (line_row self.now) }
+    {
+        place.saturating_sub(self.start) <= self.text.len()
+    }
+
+    /// Whether a stretch of the text has a place in the line.
+    pub fn is_touched(&self, stretch: Stretch) -> bool
+        ensures { result ≡ is_touched stretch.from stretch.to (line_row self.now) }
+    {
+        self.reaches(stretch.from) && (self.start <= stretch.from || self.start < stretch.to)
+    }
+
+    /// The columns of the line before a place of the text.
+    pub fn column(&self, place: usize) -> usize
+        ensures value { result ≡ column_of (line_row self.now) place }
+        ensures bound { result ≤ 2 * length self.now.text.now }
+    {
+        columns_between(self.text, 0, place.saturating_sub(self.start))
+    }
+
+    /// How many carets mark a stretch of the text in the line.
+    pub fn caret_count(&self, stretch: Stretch) -> usize
+        ensures { result ≡ caret_count (line_row self.now) stretch.from stretch.to }
+    {
+        let from = stretch.from.saturating_sub(self.start);
+        let to = stretch.to.saturating_sub(self.start);
+        columns_between(self.text, from, to).max(1)
+    }
+}
+
+/// Cuts a text into its lines, of which it has at least one.
+pub fn lines_of<'t>(alloc: Global, text: &'t str) -> Result<Vec<Line<'t>>, AllocError>
+    ensures { IfOk result (λ lines. map line_row lines.items ≡ lines_of text.now) }
+{
+    let mut lines = Vec::new(alloc);
+    let mut number = 1;
+    let mut start = 0;
+    for piece in text.split('\n') {
+        lines.push(Line {
+            number,
+            start,
+            text: piece,
+        })?;
+        number += 1;
+        start += piece.len() + 1;
+    }
+    Ok(lines)
+}

@@ -1,0 +1,82 @@
+//! Texts with the names of where they stand.
+ghost use Rattle.std.specs.Prelude.{◌≡◌, IfOk, map};
+ghost use Rattle.std.proofs.Props.{props};
+ghost use Rattle.filterset_drawing.specs.Lines.{line_row, lines_of};
+
+use crate::color::Color;
+use crate::line::{Line, Stretch, lines_of};
+use filterset_faults::SourceSpan;
+use std::alloc::{AllocError, Global};
+
+/// A place of a text: its line, and its column as a terminal shows it. Both count from 1 on.
+#[derive(Clone, Copy, Debug, PartialEq, Eq)]
+pub struct Place {
+    pub line: usize,
+    pub column: usize,
+}
+
+/// A text under which faults are drawn, cut into its lines.
+#[derive(Debug, Drop)]
+pub struct Source<'t> {
+    /// Where the text stands, for people.
+    pub origin: &'t str,
+    pub text: &'t str,
+    /// Whether drawings have colours.
+    pub color: Color,
+    pub(crate) lines: Vec<Line<'t>>,
+    ghost cut: { map line_row lines.items ≡ lines_of text.now } by { Prim.hlevel props },
+}
+
+impl<'t> Source<'t> {
+    ghost use Rattle.filterset_drawing.specs.Lines.{from_of, to_of};
+    ghost use Rattle.filterset_drawing.specs.Places.{StandsAt};
+
+    /// A text that stands where `origin` says.
+    pub fn new(
+        alloc: Global,
+        origin: &'t str,
+        text: &'t str,
+        color: Color,
+    ) -> Result<Source<'t>, AllocError>
+        ensures origin { IfOk result (λ source. source.origin.now ≡ origin.entry.now) }
+        ensures text { IfOk result (λ source. source.text.now ≡ text.entry.now) }
+        ensures color { IfOk result (λ source. source.color ≡ color) }
+    {
+        let lines = lines_of(alloc, text)?;
+        Ok(Source {
+            origin,
+            text,
+            color,
+            lines,
+        })
+    }
+
+    /// The stretch of the text that a span covers. It ends where the text ends, where the span does not end before.
+    pub(crate) fn stretch(&self, span: SourceSpan) -> Stretch
+        ensures from { result.from ≡ from_of self.now.text.now span }
+        ensures to { result.to ≡ to_of self.now.text.now span }
+    {
+        let end = self.text.len();
+        Stretch {
+            from: span.offset().min(end),
+            to: span.offset().saturating_add(span.len()).min(end),
+        }
+    }
+
+    /// Where a span begins; at the end of the text, where it begins after that.
+    pub fn place(&self, span: SourceSpan) -> Place
+        ensures { StandsAt self.now.text.now (from_of self.now.text.now span) result }
+    {
+        let from = self.stretch(span).from;
+        for line in &self.lines {
+            if line.reaches(from) {
+                return Place {
+                    line: line.number,
+                    column: line.column(from) + 1,
+                };
+            }
+        }
+        // The last line reaches the end of the text.
+        unreachable!()
+    }
+}

@@ -1,0 +1,12 @@
+-- what the language is
+pub mod Text
+pub mod Tree
+pub mod Equality
+pub mod Patterns
+pub mod Platforms
+pub mod Grammar
+pub mod Printing
+pub mod AddedParens
+pub mod Bans
+-- tools of the proofs of equality
+pub mod EqualityLaws

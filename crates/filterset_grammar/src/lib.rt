@@ -1,0 +1,11 @@
+//! The language of filtersets as it is defined: its trees, the texts that spell them, how they print, when they are
+//! equal, and where parentheses are added.
+#![tactic(auto)]
+
+mod operators;
+mod predicate;
+
+pub use operators::{
+    AndOperator, DifferenceOperator, Joiner, NotOperator, OrOperator, SymmetricDifferenceOperator,
+};
+pub use predicate::{Predicate, TextMatching};

@@ -1,0 +1,7 @@
+use Rattle.std.proofs.Common.{take}
+use Rattle.filterset_graph.specs.Index.{PositionsAre}
+use Rattle.filterset_graph.specs.Packages.{ids}
+use Rattle.filterset_graph.proofs.index.positions_of.Given as goal
+
+abbrev pub invariant-loop-at : goal.invariant-loop-at
+invariant-loop-at l = PositionsAre l.positions (take l.at (ids l.packages))

@@ -1,0 +1,13 @@
+use Rattle.std.proofs.Common.{map, take}
+use Rattle.filterset_expression.specs.FlatExpressions.{IsFlat}
+use Rattle.filterset_expression.specs.declared.expression.CompiledExpr.{CompiledExpr}
+use Rattle.filterset_listing.specs.Asking.{Tells}
+use Rattle.filterset_listing.specs.Comparing.{Divides}
+use Rattle.filterset_listing.proofs.comparing.divided.Given as goal
+
+-- the tests so far are divided
+abbrev pub invariant-loop-test : goal.invariant-loop-test
+invariant-loop-test l =
+    (one other default : CompiledExpr) → IsFlat l.first one default → IsFlat l.second other default
+    → Divides (Tells one default l.query) (Tells other default l.query) (take l.test-index l.tests)
+    (map (λ t. t.now) l.only_first.items) (map (λ t. t.now) l.only_second.items) (map (λ t. t.now) l.both.items)

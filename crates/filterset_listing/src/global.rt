@@ -1,0 +1,24 @@
+//! The groups of tests where nothing puts a test in a group of its own.
+ghost use Rattle.filterset_listing.specs.Asking.{in_global};
+
+use filterset_expression::{GroupLookup, TestQuery};
+use filterset_graph::GLOBAL_TEST_GROUP;
+use filterset_matchers::NameMatcher;
+use std::alloc::{AllocError, Global};
+
+/// Every test is in the group `@global`.
+#[derive(Clone, Copy, Debug)]
+pub struct GlobalLookup;
+
+impl GroupLookup for GlobalLookup {
+    ghost hits_group = { λ _. in_global };
+
+    fn is_member_test(
+        &self,
+        alloc: Global,
+        _test: &TestQuery<'_>,
+        matcher: &NameMatcher,
+    ) -> Result<bool, AllocError> {
+        matcher.is_match(alloc, GLOBAL_TEST_GROUP)
+    }
+}

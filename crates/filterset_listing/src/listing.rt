@@ -1,0 +1,111 @@
+//! Which tests of a list a filterset picks.
+ghost use Rattle.std.specs.Prelude.{◌≡◌, ◌++◌, IfOk, OnOk, map};
+ghost use Rattle.std.specs.List.{AllZip};
+ghost use Rattle.filterset_expression.specs.Contexts.{default_of};
+ghost use Rattle.filterset_expression.specs.FlatExpressions.{IsFlat};
+ghost use Rattle.filterset_expression.specs.declared.expression.CompiledExpr.{CompiledExpr};
+ghost use Rattle.filterset_listing.specs.Asking.{Tells};
+ghost use Rattle.filterset_listing.specs.Listing.{IsSection, Picked, one_of};
+
+use crate::asking::{leaves_out, picks};
+use crate::binary::AskedBinary;
+use crate::global::GlobalLookup;
+use filterset_expression::{BinaryQuery, CompiledExpr, EvalContext, FlatExpr};
+use filterset_graph::TestCaseName;
+use std::alloc::{AllocError, Global};
+
+/// What a filterset picks of a binary.
+#[derive(Debug, Drop)]
+pub struct Section<'s> {
+    /// Whether the binary alone told that none of its tests is picked, so that they were not asked about.
+    pub is_left_out: bool,
+    /// The tests that are picked, in the order of the list.
+    pub tests: Vec<&'s TestCaseName>,
+}
+
+/// Adds a test, where it is so.
+pub(crate) fn push_if<'s>(
+    tests: &mut Vec<&'s TestCaseName>,
+    test: &'s TestCaseName,
+    is_so: bool,
+) -> Result<(), AllocError>
+    ensures { OnOk result (map (λ t. t.now) tests.new.items
+        ≡ map (λ t. t.now) tests.old.items ++ one_of is_so test.entry.now) }
+{
+    if is_so {
+        tests.push(test)?;
+    }
+    Ok(())
+}
+
+/// The tests that are picked of these tests of a binary, in their order.
+fn picked<'s>(
+    alloc: Global,
+    flat: &FlatExpr<'_>,
+    query: &BinaryQuery<'_>,
+    tests: &'s [TestCaseName],
+) -> Result<Vec<&'s TestCaseName>, AllocError>
+    ensures { IfOk result (λ picked. (expr default : CompiledExpr) → IsFlat flat.now expr default
+        → Picked (Tells expr default query.now) tests.now (map (λ t. t.now) picked.items)) }
+{
+    let lookup = GlobalLookup;
+    let mut picked = Vec::new(alloc);
+    for test in tests {
+        let is_picked = picks(alloc, flat, &lookup, query, test)?;
+        push_if(&mut picked, test, is_picked)?;
+    }
+    Ok(picked)
+}
+
+/// What is picked of a binary.
+fn section_of<'s>(
+    alloc: Global,
+    flat: &FlatExpr<'_>,
+    binary: &AskedBinary<'s>,
+) -> Result<Section<'s>, AllocError>
+    ensures { IfOk result (λ section. (expr default : CompiledExpr) → IsFlat flat.now expr default
+        → IsSection expr default binary.now section) }
+{
+    if leaves_out(alloc, flat, &binary.query)? {
+        return Ok(Section {
+            is_left_out: true,
+            tests: Vec::new(alloc),
+        });
+    }
+    Ok(Section {
+        is_left_out: false,
+        tests: picked(alloc, flat, &binary.query, binary.tests)?,
+    })
+}
+
+/// What is picked of binaries.
+fn sections_of<'s>(
+    alloc: Global,
+    flat: &FlatExpr<'_>,
+    binaries: &[AskedBinary<'s>],
+) -> Result<Vec<Section<'s>>, AllocError>
+    ensures { IfOk result (λ sections. (expr default : CompiledExpr) → IsFlat flat.now expr default
+        → AllZip (IsSection expr default) binaries.now sections.items) }
+{
+    let mut sections = Vec::with_capacity(alloc, binaries.len())?;
+    for binary in binaries {
+        sections.push(section_of(alloc, flat, binary)?)?;
+    }
+    Ok(sections)
+}
+
+/// What a filterset picks of each binary: exactly those of its tests that the filterset holds of, in their order. The
+/// tests of a binary are not asked about only where the binary alone tells that the filterset holds of none. Every test
+/// is in the group `@global`. The only error is out of memory.
+pub fn list<'s>(
+    alloc: Global,
+    expr: &CompiledExpr,
+    context: &EvalContext<'_>,
+    binaries: &[AskedBinary<'s>],
+) -> Result<Vec<Section<'s>>, AllocError>
+    ensures { IfOk result (λ sections.
+        AllZip (IsSection expr.now (default_of context.now)) binaries.now sections.items) }
+{
+    let flat = FlatExpr::new(alloc, expr, context)?;
+    sections_of(alloc, &flat, binaries)
+}

@@ -1,0 +1,125 @@
+-- The record of the program, and which JSON values stand for it.
+use Rattle.std.specs.Prelude.{◌≡◌, ◌⊎◌, true, List, [], ◌∷◌, codes, string_bytes}
+use Rattle.serde_json.specs.Data.{Data}
+use Rattle.filterset_faults.specs.Texts.{kind_text}
+use Rattle.filterset_faults.specs.declared.kind.FiltersetKind.{FiltersetKind}
+use Rattle.filterset_faults.specs.declared.kind.FiltersetKind.TheVariants as kinds
+use Rattle.filterset_graph.specs.Platforms.{platform_text}
+use Rattle.filterset_graph.specs.declared.package.BuildPlatform.{BuildPlatform}
+use Rattle.filterset_graph.specs.declared.package.BuildTarget.{BuildTarget}
+use Rattle.filterset_graph.specs.declared.package.BuildTargetId.{BuildTargetId}
+use Rattle.filterset_graph.specs.declared.package.BuildTargetId.TheVariants.{Library, Binary, Example, Test, Benchmark, BuildScript}
+use Rattle.filterset_graph.specs.declared.package.PackageMetadata.{PackageMetadata}
+use Rattle.filterset_record.specs.Shape.{Text, IsText, IsBoolean, IsListOf, IsObjectWith, Required, Optional}
+use Rattle.filterset_record.specs.declared.record.commands.Command.{Command}
+use Rattle.filterset_record.specs.declared.record.commands.Command.TheVariants.{Report, Format}
+
+pub record TestRow : Type 0 where
+  pub name : Text
+  pub group : Text
+
+pub record BinaryRow : Type 0 where
+  pub package_id : Text
+  pub id : Text
+  pub name : Text
+  pub kind : Text
+  pub platform : BuildPlatform
+  pub tests : List TestRow
+
+pub record FiltersetRow : Type 0 where
+  pub text : Text
+  pub kind : FiltersetKind
+
+pub record RecordRow : Type 0 where
+  pub filtersets : List FiltersetRow
+  pub packages : List PackageMetadata
+  pub groups : List Text
+  pub default_filter : Text
+  pub binaries : List BinaryRow
+  pub command : Command
+
+-- the value is the platform's name
+abbrev pub IsPlatform : Data → BuildPlatform → Type 0
+IsPlatform d platform = IsText d (platform_text platform)
+
+-- what each kind of build targets is called
+abbrev pub target_kind : BuildTargetId → Text
+target_kind Library = codes "lib"
+target_kind Binary = codes "bin"
+target_kind Example = codes "example"
+target_kind Test = codes "test"
+target_kind Benchmark = codes "bench"
+target_kind BuildScript = codes "build"
+
+-- the value is what the kind is called
+abbrev pub IsTargetKind : Data → BuildTargetId → Type 0
+IsTargetKind d id = IsText d (target_kind id)
+
+abbrev pub IsTarget : Data → BuildTarget → Type 0
+IsTarget d target = IsObjectWith (codes "kind" ∷ codes "name" ∷ []) d
+    × Required (codes "kind") IsTargetKind d target.id
+    × Required (codes "name") IsText d (string_bytes target.name)
+
+-- a package, which belongs to the workspace where nothing else is said
+abbrev pub IsPackage : Data → PackageMetadata → Type 0
+IsPackage d p =
+    IsObjectWith (codes "id" ∷ codes "name" ∷ codes "workspace" ∷ codes "targets" ∷ codes "links" ∷ []) d
+    × Required (codes "id") IsText d p.id
+    × Required (codes "name") IsText d (string_bytes p.name)
+    × Optional (codes "workspace") IsBoolean true d p.in_workspace
+    × Optional (codes "targets") (IsListOf IsTarget) [] d p.build_targets.items
+    × Optional (codes "links") (IsListOf IsText) [] d p.links.items
+
+-- a test, which is in the global group where nothing else is said
+abbrev pub IsTest : Data → TestRow → Type 0
+IsTest d test = IsObjectWith (codes "name" ∷ codes "group" ∷ []) d
+    × Required (codes "name") IsText d test.name
+    × Optional (codes "group") IsText (codes "@global") d test.group
+
+abbrev pub IsBinary : Data → BinaryRow → Type 0
+IsBinary d binary =
+    IsObjectWith
+    (codes "package" ∷ codes "id" ∷ codes "name" ∷ codes "kind" ∷ codes "platform" ∷ codes "tests" ∷ []) d
+    × Required (codes "package") IsText d binary.package_id
+    × Required (codes "id") IsText d binary.id
+    × Required (codes "name") IsText d binary.name
+    × Required (codes "kind") IsText d binary.kind
+    × Required (codes "platform") IsPlatform d binary.platform
+    × Optional (codes "tests") (IsListOf IsTest) [] d binary.tests
+
+-- the value is what the kind of filtersets is called
+abbrev pub IsFiltersetKind : Data → FiltersetKind → Type 0
+IsFiltersetKind d kind = IsText d (kind_text kind)
+
+-- an object with a text and a kind
+abbrev pub IsFiltersetObject : Data → FiltersetRow → Type 0
+IsFiltersetObject d filterset = IsObjectWith (codes "text" ∷ codes "kind" ∷ []) d
+    × Required (codes "text") IsText d filterset.text
+    × Required (codes "kind") IsFiltersetKind d filterset.kind
+
+-- a filterset: a text alone, of kind test, or an object
+abbrev pub IsFilterset : Data → FiltersetRow → Type 0
+IsFilterset d filterset =
+    (IsText d filterset.text × (filterset.kind ≡ kinds.Test)) ⊎ IsFiltersetObject d filterset
+
+-- what each command is called
+abbrev pub command_text : Command → Text
+command_text Report = codes "report"
+command_text Format = codes "format"
+
+-- the value is what the command is called
+abbrev pub IsCommand : Data → Command → Type 0
+IsCommand d command = IsText d (command_text command)
+
+-- a record, whose default filter holds every test, and which asks for a report, where nothing else is said
+abbrev pub IsRecord : Data → RecordRow → Type 0
+IsRecord d row =
+    IsObjectWith
+    (codes "filtersets" ∷ codes "packages" ∷ codes "groups" ∷ codes "default" ∷ codes "binaries"
+    ∷ codes "command" ∷ []) d
+    × Required (codes "filtersets") (IsListOf IsFilterset) d row.filtersets
+    × Optional (codes "packages") (IsListOf IsPackage) [] d row.packages
+    × Optional (codes "groups") (IsListOf IsText) [] d row.groups
+    × Optional (codes "default") IsText (codes "all()") d row.default_filter
+    × Optional (codes "binaries") (IsListOf IsBinary) [] d row.binaries
+    × Optional (codes "command") IsCommand Report d row.command

@@ -1,0 +1,85 @@
+-- Texts that are made piece by piece.
+use Rattle.std.proofs.Common.{Result, Ok, Err, IfOk, ◌≡◌, ℕ, suc, Bool, true, false, ◌&&◌, add-zero, zero-add, arith, ◌+◌, ◌<◌, List, [], ◌∷◌, ◌++◌, length, map, take, get_or, ◌∙◌, sym, ap, subst, append_assoc, refl}
+use Rattle.std.specs.List.{enumerate_from}
+use Rattle.std.proofs.lemmas.List.{append-nil, map-append, take_more}
+use Rattle.std.proofs.lemmas.List.FromFn.{get_or-enumerate_from, length-enumerate_from}
+use Rattle.filterset_record.specs.Shape.{Text}
+use Rattle.filterset_report.specs.Library.{Background}
+use Rattle.filterset_report.specs.Report.{IsBackgroundOf, MakeGraph, Pieces, RecordReport, Section, Sections, outcome_of}
+use Rattle.filterset_record.specs.Record.{FiltersetRow, RecordRow}
+use Rattle.filterset_record.specs.declared.record.commands.Command.{Command}
+use Rattle.filterset_report.specs.declared.outcome.Outcome.{Outcome}
+use Rattle.std.proofs.Math.Bool.{and_assoc, and-true}
+use Rattle.std.proofs.Math.Seq.{take-length}
+
+-- what two clauses say together
+pub both_ok : {X Y : Type 0} (r : Result X Y) (P Q R : X → Type 0) → ((x : X) → P x → Q x → R x) → IfOk r P → IfOk r Q → IfOk r R
+both_ok (Ok x) P Q R more p q = more x p q
+both_ok (Err e) P Q R more p q = tt
+
+-- one more piece
+pub Pieces-push : {A : Type 0} (P : A → Text → Type 0) (xs : List A) (x : A) (text piece : Text) → Pieces P xs text → P x piece → Pieces P (xs ++ x ∷ []) (text ++ piece)
+Pieces-push P [] x text piece none is = (piece, [], ap (λ t. t ++ piece) none ∙ sym (append-nil piece), is, refl)
+Pieces-push P (y ∷ ys) x text piece (first, others, whole, is_first, are) is =
+    (first, others ++ piece, ap (λ t. t ++ piece) whole ∙ append_assoc first others piece, is_first, Pieces-push P ys x others piece are is)
+
+-- the piece of the next element of a list
+pub Pieces-more : {A B : Type 0} (P : B → Text → Type 0) (f : A → B) (xs : List A) (i : ℕ) (x : A) (text piece : Text) →
+    i < length xs → get_or xs i x ≡ x → Pieces P (map f (take i xs)) text → P (f x) piece → Pieces P (map f (take (i + 1) xs)) (text ++ piece)
+Pieces-more P f xs i x text piece lt at are is =
+    let more : take (i + 1) xs ≡ take i xs ++ x ∷ [] = take_more xs i x lt ∙ ap (λ y. take i xs ++ y ∷ []) at in
+    let mapped : map f (take (i + 1) xs) ≡ map f (take i xs) ++ f x ∷ [] = ap (map f) more ∙ map-append f (take i xs) (x ∷ []) in
+    rw mapped (Pieces-push P (map f (take i xs)) (f x) text piece are is)
+
+-- as many elements as there are
+pub taken_all : {A B : Type 0} (f : A → B) (xs : List A) (n : ℕ) → n ≡ length xs → map f (take n xs) ≡ map f xs
+taken_all f xs n e = ap (map f) (ap (λ k. take k xs) e ∙ take-length xs)
+
+-- what was added twice
+pub added_twice : (old mid new text piece : Text) → mid ≡ old ++ text → new ≡ mid ++ piece → new ≡ old ++ (text ++ piece)
+added_twice old mid new text piece first second = second ∙ ap (λ t. t ++ piece) first ∙ append_assoc old text piece
+
+-- the section of one more filterset
+pub Sections-push : (command : Command) (background : Background) (i : ℕ) (ts : List FiltersetRow) (t : FiltersetRow) (all accepted : Bool) (text section : Text) →
+    Sections command background i ts all text → Section command background (i + length ts) t accepted section →
+    Sections command background i (ts ++ t ∷ []) (all && accepted) (text ++ section)
+Sections-push command background i [] t all accepted text section (is_true, none) is =
+    (accepted, true, section, [], ap (λ b. b && accepted) is_true ∙ sym (and-true accepted), ap (λ x. x ++ section) none ∙ sym (append-nil section), rw add-zero at is, (refl, refl))
+Sections-push command background i (u ∷ us) t all accepted text section (first, others, front, rest, both, whole, is_first, are) is =
+    let shifted : i + length (u ∷ us) ≡ suc i + length us = omega arith in
+    let further : Section command background (suc i + length us) t accepted section = rw shifted at is in (
+      first,
+      others && accepted,
+      front,
+      rest ++ section,
+      ap (λ b. b && accepted) both ∙ and_assoc first others accepted,
+      ap (λ x. x ++ section) whole ∙ append_assoc front rest section,
+      is_first,
+      Sections-push command background (suc i) us t others accepted rest section are further,
+    )
+
+-- the texts of numbered texts
+pub map-enumerate_from : {A B : Type 0} (f : A → B) (n : ℕ) (xs : List A) → map (λ (p : ℕ × A). f p.1) (enumerate_from n xs) ≡ map f xs
+map-enumerate_from f n [] = refl
+map-enumerate_from f n (x ∷ xs) = ap (λ ys. f x ∷ ys) (map-enumerate_from f (n + 1) xs)
+
+-- the same where the numbered texts were passed on as pairs
+pub map-pairs : {A B : Type 0} (f : A → B) (ps : List (ℕ × A)) (xs : List A) → map (λ (p : ℕ × A). (p.0, p.1)) ps ≡ enumerate_from 0 xs →
+    map (λ (p : ℕ × A). f p.1) ps ≡ map f xs
+map-pairs {A} f ps xs h = sym (passed_on ps) ∙ ap (map (λ (p : ℕ × A). f p.1)) h ∙ map-enumerate_from f 0 xs
+  where
+    passed_on : (qs : List (ℕ × A)) → map (λ (p : ℕ × A). f p.1) (map (λ (p : ℕ × A). (p.0, p.1)) qs) ≡ map (λ (p : ℕ × A). f p.1) qs
+    passed_on [] = refl
+    passed_on (q ∷ qs) = ap (λ ys. f q.1 ∷ ys) (passed_on qs)
+
+-- each text is numbered by its place
+pub number_is_place : {A : Type 0} (xs : List A) (n : ℕ) (p : ℕ × A) → n < length (enumerate_from 0 xs) → p ≡ get_or (enumerate_from 0 xs) n p → p.0 ≡ n
+number_is_place xs n p lt at =
+    let below : n < length xs = rw length-enumerate_from at lt in
+    ap (λ q. q.0) (at ∙ get_or-enumerate_from 0 xs n p below) ∙ zero-add n
+
+-- a report of filtersets, with the outcome that says whether all of them are accepted
+pub reported : (row : RecordRow) (background : Background) (text : Text) (outcome : Outcome) (all : Bool) → MakeGraph row.packages → IsBackgroundOf row background →
+    Sections row.command background 0 row.filtersets all text → outcome ≡ outcome_of all → RecordReport row text outcome
+reported row background text outcome true graph is sections says = subst (RecordReport row text) (sym says) (background, graph, is, sections)
+reported row background text outcome false graph is sections says = subst (RecordReport row text) (sym says) (background, graph, is, sections)

@@ -1,0 +1,36 @@
+use Rattle.std.proofs.Common.{◌≡◌, None, Some, map, sym}
+use Rattle.std.specs.List.{find}
+use Rattle.std.specs.Str.{bytes_eq}
+use Rattle.filterset_record.specs.Rows.{binary_row, test_row}
+use Rattle.filterset_record.specs.declared.record.binaries.TestEntry.{TestEntry}
+use Rattle.filterset_report.proofs.LookupLemmas.{first_binary, first_test, none_of_id, none_of_name, no_binary, no_test}
+use Rattle.filterset_report.proofs.lookup.RecordLookup.group_of.Goals as goal
+
+pub returns-in_err-binary : goal.returns-in_err-binary
+returns-in_err-binary c =
+    let query = c.args.test.now in
+    let binaries = c.args.self.now.binaries.now in
+    rw c.from_residual.ensures (λ group. no_binary (map binary_row binaries) query group (none_of_id query.binary_query.binary_id.now binaries (sym c.in_err-binary.ensures)))
+
+pub returns-in_err-entry : goal.returns-in_err-entry
+returns-in_err-entry c =
+    let query = c.args.test.now in
+    let binaries = c.args.self.now.binaries.now in
+    let binary = c.in_ok-binary.binary.now in
+    let found = first_binary query.binary_query.binary_id.now binaries binary (sym c.in_ok-binary.ensures) in
+    let nothing : find (λ (t : TestEntry). bytes_eq t.name query.test_name.now) binary.tests.items ≡ None = rw c.deref.ensures.value at (sym c.in_err-entry.ensures) in
+    rw c.from_residual-in_err-entry.ensures (λ group. no_test (map binary_row binaries) query (binary_row binary) group found (none_of_name query.test_name.now binary.tests.items nothing))
+
+pub returns : goal.returns
+returns c =
+    let query = c.args.test.now in
+    let binaries = c.args.self.now.binaries.now in
+    let binary = c.in_ok-binary.binary.now in
+    let test = c.in_ok-entry.entry.now in
+    let something : find (λ (t : TestEntry). bytes_eq t.name query.test_name.now) binary.tests.items ≡ Some test = rw c.deref.ensures.value at (sym c.in_ok-entry.ensures) in record {
+      binary = binary_row binary;
+      test = test_row test;
+      first_binary = first_binary query.binary_query.binary_id.now binaries binary (sym c.in_ok-binary.ensures);
+      first_test = first_test query.test_name.now binary.tests.items test something;
+      same = sym c.as_str.ensures.value;
+    }

@@ -1,0 +1,31 @@
+use Rattle.std.proofs.Common.{rules, arith, ◌≡◌, ◌<◌, ◌++◌, ◌∙◌, List, length, get_or, subst, sym}
+use Rattle.filterset_record.specs.Record.{BinaryRow}
+use Rattle.filterset_report.specs.Report.{BinaryLines, Pieces}
+use Rattle.filterset_record.specs.Rows.{binary_row}
+use Rattle.filterset_report.proofs.ReportLemmas.{Pieces-more, added_twice, taken_all}
+use Rattle.filterset_report.proofs.report.sections.push_answers.Goals as goal
+
+pub returns : goal.returns
+returns c =
+    let lines = c.loop-binary.invariant in
+    let binaries = c.args.lookup.now.binaries.now in
+    let end : c.loop-binary.binary-index ≡ length binaries = omega (arith, c.loop-binary-test.false, c.loop-binary.auto.binary-index-end) in
+    let all = taken_all binary_row binaries c.loop-binary.binary-index end in (
+      lines.0,
+      lines.1,
+      λ background tree is of_binaries. subst (λ (rows : List BinaryRow). Pieces (BinaryLines background tree) rows lines.0) (all ∙ sym of_binaries) (lines.2 background tree is of_binaries),
+    )
+
+pub loop-binary-preserved : goal.loop-binary-preserved
+loop-binary-preserved c =
+    let before = c.loop-binary.invariant in
+    let piece = c.in_ok-push_binary.ensures in
+    let binaries = c.args.lookup.now.binaries.now in
+    let i = c.loop-binary.binary-index in
+    let binary = c.binary-item.result in
+    let lt : i < length binaries = omega (arith, c.loop-binary-test.true) in
+    let at : get_or binaries i binary ≡ binary = search (rules, c.binary-item.is) in (
+      before.0 ++ piece.0,
+      added_twice _ _ _ _ _ before.1 piece.1,
+      λ background tree is of_binaries. Pieces-more (BinaryLines background tree) binary_row binaries i binary _ _ lt at (before.2 background tree is of_binaries) (piece.2 background tree is of_binaries),
+    )

@@ -1,0 +1,13 @@
+use Rattle.std.proofs.Common.{◌≡◌, ◌++◌, map, string_bytes, take}
+use Rattle.filterset_report.specs.Asking.{ForItsTree, IsLookupOf}
+use Rattle.filterset_record.specs.Shape.{Text}
+use Rattle.filterset_report.specs.Report.{BinaryLines, Pieces}
+use Rattle.filterset_record.specs.Rows.{binary_row}
+use Rattle.filterset_report.proofs.report.sections.push_answers.Given as goal
+
+-- the lines of the binaries so far were added
+abbrev pub invariant-loop-binary : goal.invariant-loop-binary
+invariant-loop-binary l =
+    (text : Text) × (string_bytes l.lines ≡ string_bytes l.initial.lines ++ text)
+    × ForItsTree l.flat (λ background tree. IsLookupOf background.binaries l.lookup
+    → Pieces (BinaryLines background tree) (map binary_row (take l.binary-index l.lookup.binaries.now)) text)

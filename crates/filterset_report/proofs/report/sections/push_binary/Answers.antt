@@ -1,0 +1,38 @@
+use Rattle.std.proofs.Common.{rules, arith, ◌≡◌, ◌<◌, ◌++◌, List, length, get_or, refl, subst}
+use Rattle.filterset_record.specs.Record.{TestRow}
+use Rattle.filterset_report.specs.Report.{Pieces, TestLine}
+use Rattle.filterset_record.specs.Rows.{binary_row, test_row}
+use Rattle.filterset_report.proofs.ReportLemmas.{Pieces-more, added_twice, taken_all}
+use Rattle.filterset_report.proofs.report.sections.push_binary.Goals as goal
+
+pub returns : goal.returns
+returns c =
+    let own = c.in_ok-push_binary_line.ensures in
+    let others = c.loop-test.invariant in
+    let tests = c.args.binary.now.tests.items in
+    let end : c.loop-test.test-index ≡ length tests = omega (arith, c.loop-test-test.false, c.loop-test.auto.test-index-end) in
+    let all = taken_all test_row tests c.loop-test.test-index end in (
+      own.0 ++ others.0,
+      added_twice _ _ _ _ _ own.1 others.1,
+      λ background tree is of_binaries. (
+        own.0,
+        others.0,
+        refl,
+        own.2 background tree is,
+        subst (λ (rows : List TestRow). Pieces (TestLine background tree (binary_row c.args.binary.now)) rows others.0) all (others.2 background tree is of_binaries),
+      ),
+    )
+
+pub loop-test-preserved : goal.loop-test-preserved
+loop-test-preserved c =
+    let before = c.loop-test.invariant in
+    let line = c.in_ok-push_test_line.ensures in
+    let tests = c.args.binary.now.tests.items in
+    let i = c.loop-test.test-index in
+    let test = c.test-item.result in
+    let lt : i < length tests = omega (arith, c.loop-test-test.true) in
+    let at : get_or tests i test ≡ test = search (rules, c.test-item.is) in (
+      before.0 ++ line.0,
+      added_twice _ _ _ _ _ before.1 line.1,
+      λ background tree is of_binaries. Pieces-more (TestLine background tree (binary_row c.args.binary.now)) test_row tests i test _ _ lt at (before.2 background tree is of_binaries) (line.2 background tree is of_binaries),
+    )

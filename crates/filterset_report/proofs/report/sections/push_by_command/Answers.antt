@@ -1,0 +1,31 @@
+use Rattle.std.proofs.Common.{rules, ◌≡◌, ◌++◌, refl, subst}
+use Rattle.std.proofs.lemmas.Result.{on_ok_weaker}
+use Rattle.filterset_language.specs.Views.{tree_of}
+use Rattle.filterset_report.specs.Library.{background_of}
+use Rattle.filterset_report.specs.Report.{Accepted, accepted_line, formatted_line}
+use Rattle.filterset_record.specs.declared.record.commands.Command.{Command}
+use Rattle.filterset_record.specs.declared.record.commands.Command.TheVariants as commands
+use Rattle.filterset_report.proofs.report.sections.push_by_command.Goals as goal
+
+pub returns-in-Report : goal.returns-in-Report
+returns-in-Report c =
+    let tree = tree_of c.args.filterset.now.parsed in
+    let background = background_of c.args.setting.now in
+    let is : commands.Report ≡ c.args.setting.now.command = search rules in
+    on_ok_weaker c.push_accepted.result (λ (text, answers, added). (
+      accepted_line c.args.index tree ++ text,
+      added,
+      λ row _. subst (λ (command : Command). Accepted command background c.args.index row tree (accepted_line c.args.index tree ++ text)) is (text, refl, answers),
+    )) c.push_accepted.ensures
+
+pub returns-in-Format : goal.returns-in-Format
+returns-in-Format c =
+    let tree = tree_of c.args.filterset.now.parsed in
+    let background = background_of c.args.setting.now in
+    let is : commands.Format ≡ c.args.setting.now.command = search rules in
+    on_ok_weaker c.push_formatted.result (λ added. (
+      formatted_line c.args.index tree,
+      added,
+      λ row accepted. subst (λ (command : Command). Accepted command background c.args.index row tree (formatted_line c.args.index tree)) is
+          (refl, c.push_formatted.ensures.again row.text row.kind background.packages background.groups accepted),
+    )) c.push_formatted.ensures.line

@@ -1,0 +1,12 @@
+use Rattle.std.proofs.Common.{◌≡◌, ◌++◌, map, string_bytes}
+use Rattle.filterset_report.specs.Library.{background_of}
+use Rattle.filterset_record.specs.Shape.{Text}
+use Rattle.filterset_report.specs.Report.{Sections}
+use Rattle.filterset_record.specs.Rows.{filterset_row}
+use Rattle.filterset_report.proofs.report.sections.push_sections.Given as goal
+
+-- the sections of the filtersets so far were added
+abbrev pub invariant-loop-index : goal.invariant-loop-index
+invariant-loop-index l =
+    (text : Text) × Sections l.setting.command (background_of l.setting) 0 (map (λ p. filterset_row p.1) l.yielded) l.all_accepted text
+    × (string_bytes l.lines ≡ string_bytes l.initial.lines ++ text)

@@ -1,0 +1,4 @@
+pub mod Lookup
+pub mod Library
+pub mod Asking
+pub mod Report

@@ -1,0 +1,176 @@
+//! What a report says of each filterset.
+ghost use Rattle.std.specs.Prelude.{◌≡◌, ◌++◌, IfOk, List, OnOk, map, string_bytes};
+ghost use Rattle.filterset_language.specs.Views.{tree_of};
+ghost use Rattle.filterset_faults.specs.declared.kind.FiltersetKind.{FiltersetKind};
+ghost use Rattle.filterset_graph.specs.declared.package.PackageMetadata.{PackageMetadata};
+ghost use Rattle.nextest_filtering.specs.Compiling.{IsFiltersetOf};
+ghost use Rattle.nextest_filtering.specs.Formatting.{PrintsFilterset};
+ghost use Rattle.nextest_filtering.specs.Groups.{IsKnown};
+ghost use Rattle.nextest_filtering.specs.declared.compile.context.KnownGroups.{KnownGroups};
+ghost use Rattle.filterset_expression.specs.Meaning.{IsCompiled};
+ghost use Rattle.filterset_report.specs.Asking.{ForItsTree, IsLookupOf};
+ghost use Rattle.filterset_report.specs.Library.{background_of};
+ghost use Rattle.filterset_record.specs.Record.{FiltersetRow};
+ghost use Rattle.filterset_report.specs.Report.{Accepted, AnswerLines, BinaryLines, Section, Sections, accepted_line, formatted_line, refused_text};
+ghost use Rattle.filterset_record.specs.Rows.{binary_row, filterset_row};
+ghost use Rattle.filterset_record.specs.Shape.{Text};
+
+use crate::lookup::RecordLookup;
+use crate::report::faults::push_faults;
+use crate::report::lines::{push_binary_line, push_test_line};
+use crate::report::setting::Setting;
+use filterset_record::{BinaryEntry, Command, FiltersetEntry};
+use nextest_filtering::{Filterset, FlatExpr, ParseRefusal, ParseSingleError, laws};
+use std::alloc::{AllocError, Global};
+use std::fmt::Write;
+
+/// Adds the lines of a binary: its own, and one for each of its tests.
+fn push_binary(
+    lines: &mut String,
+    alloc: Global,
+    flat: &FlatExpr<'_>,
+    lookup: &RecordLookup<'_>,
+    binary: &BinaryEntry,
+) -> Result<(), AllocError>
+    ensures { OnOk result ((text : Text) × (string_bytes lines.new ≡ string_bytes lines.old ++ text)
+        × ForItsTree flat.now (λ background tree. IsLookupOf background.binaries lookup.now
+        → BinaryLines background tree (binary_row binary.now) text)) }
+{
+    push_binary_line(lines, alloc, flat, binary)?;
+    for test in &binary.tests {
+        push_test_line(lines, alloc, flat, lookup, binary, test)?;
+    }
+    Ok(())
+}
+
+/// Adds the lines of all binaries.
+fn push_answers(
+    lines: &mut String,
+    alloc: Global,
+    flat: &FlatExpr<'_>,
+    lookup: &RecordLookup<'_>,
+) -> Result<(), AllocError>
+    ensures { OnOk result ((text : Text) × (string_bytes lines.new ≡ string_bytes lines.old ++ text)
+        × ForItsTree flat.now (λ background tree. IsLookupOf background.binaries lookup.now
+        → AnswerLines background tree text)) }
+{
+    for binary in lookup.binaries {
+        push_binary(lines, alloc, flat, lookup, binary)?;
+    }
+    Ok(())
+}
+
+/// Adds what is said of an accepted filterset. It is made ready once for all questions.
+fn push_accepted(
+    lines: &mut String,
+    alloc: Global,
+    setting: &Setting<'_>,
+    index: usize,
+    filterset: &Filterset,
+) -> Result<(), AllocError>
+    requires { let background = background_of setting.now in
+        IsCompiled background.packages (tree_of filterset.now.parsed) filterset.now.compiled }
+    ensures { let tree = tree_of filterset.now.parsed in
+        OnOk result ((text : Text) × AnswerLines (background_of setting.now) tree text
+        × (string_bytes lines.new ≡ string_bytes lines.old ++ (accepted_line index tree ++ text))) }
+{
+    let printed = &filterset.parsed;
+    writeln!(lines, "filterset {index} accepted: {printed}")?;
+    let flat = FlatExpr::new(alloc, &filterset.compiled, &setting.eval_context)?;
+    push_answers(lines, alloc, &flat, &setting.lookup)
+}
+
+/// Adds an accepted filterset as it prints. What it prints is a filterset of the same kind, by the same tree.
+fn push_formatted(lines: &mut String, index: usize, filterset: &Filterset) -> Result<(), AllocError>
+    ensures line { OnOk result (string_bytes lines.new
+        ≡ string_bytes lines.old ++ formatted_line index (tree_of filterset.now.parsed)) }
+    ensures again { (text : Text) (kind : FiltersetKind) (packages : List PackageMetadata) (groups : KnownGroups)
+        → IsFiltersetOf text kind packages groups (tree_of filterset.now.parsed)
+        → PrintsFilterset kind packages groups (tree_of filterset.now.parsed) }
+{
+    laws::printed_is_a_filterset(&filterset.parsed);
+    // `index` has a type of its own here: so this is another call than that of a report, which the compiler then inlines.
+    let (index, formatted) = (index as u64, &filterset.parsed);
+    writeln!(lines, "filterset {index} formatted: {formatted}")
+}
+
+/// Adds what is asked for of an accepted filterset.
+fn push_by_command(
+    lines: &mut String,
+    alloc: Global,
+    setting: &Setting<'_>,
+    index: usize,
+    filterset: &Filterset,
+) -> Result<(), AllocError>
+    requires { let background = background_of setting.now in
+        IsCompiled background.packages (tree_of filterset.now.parsed) filterset.now.compiled }
+    ensures { let background = background_of setting.now in
+        let tree = tree_of filterset.now.parsed in
+        OnOk result ((section : Text) × (string_bytes lines.new ≡ string_bytes lines.old ++ section)
+        × ((row : FiltersetRow) → IsFiltersetOf row.text row.kind background.packages background.groups tree
+        → Accepted setting.now.command background index row tree section)) }
+{
+    match setting.command {
+        Command::Report => push_accepted(lines, alloc, setting, index, filterset),
+        Command::Format => push_formatted(lines, index, filterset),
+    }
+}
+
+/// Adds what is said of a refused filterset.
+fn push_refused(
+    lines: &mut String,
+    index: usize,
+    faults: &[ParseSingleError],
+) -> Result<(), AllocError>
+    ensures { OnOk result (string_bytes lines.new ≡ string_bytes lines.old ++ refused_text index faults.now) }
+{
+    write!(lines, "filterset {index} refused: ")?;
+    push_faults(lines, faults)
+}
+
+/// Adds what is said of a filterset, and tells whether it is accepted.
+fn push_section(
+    lines: &mut String,
+    alloc: Global,
+    setting: &Setting<'_>,
+    index: usize,
+    filterset: FiltersetEntry,
+) -> Result<bool, AllocError>
+    requires { IsKnown setting.now.known_groups }
+    ensures { IfOk result (λ accepted. (section : Text)
+        × Section setting.now.command (background_of setting.now) index (filterset_row filterset) accepted section
+        × (string_bytes lines.new ≡ string_bytes lines.old ++ section)) }
+{
+    let FiltersetEntry { text, kind } = filterset;
+    let known_groups = &setting.known_groups;
+    match Filterset::parse(alloc, text, &setting.parse_context, kind, known_groups) {
+        Ok(filterset) => {
+            push_by_command(lines, alloc, setting, index, &filterset)?;
+            Ok(true)
+        }
+        Err(ParseRefusal::Faults(refused)) => {
+            push_refused(lines, index, refused.errors.as_slice())?;
+            Ok(false)
+        }
+        Err(ParseRefusal::OutOfMemory { .. }) => Err(AllocError),
+    }
+}
+
+/// Adds what is said of the filtersets, and tells whether all of them are accepted.
+pub fn push_sections(
+    lines: &mut String,
+    alloc: Global,
+    setting: &Setting<'_>,
+    filtersets: Vec<FiltersetEntry>,
+) -> Result<bool, AllocError>
+    requires { IsKnown setting.now.known_groups }
+    ensures { IfOk result (λ all. (text : Text)
+        × Sections setting.now.command (background_of setting.now) 0 (map filterset_row filtersets.items) all text
+        × (string_bytes lines.new ≡ string_bytes lines.old ++ text)) }
+{
+    let mut all_accepted = true;
+    for (index, filterset) in filtersets.into_iter().enumerate() {
+        all_accepted &= push_section(lines, alloc, setting, index, filterset)?;
+    }
+    Ok(all_accepted)
+}
