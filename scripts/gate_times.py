@@ -1,66 +1,86 @@
 #!/usr/bin/env python3
 """Tells what the gate spends its time on.
 
-    bash .ci/run 2>&1 | scripts/gate_times.py > gate.log
+    rt ci 2>&1 | scripts/gate_times.py TABLE
 
-copies what the gate says, each line after the seconds since the start, and writes a table to standard error at the end:
-for each crate when its proof, its tests and its edits had ended, in minutes. A crate's edits are tried after its proof
-and its tests, one after another; when they ended is known only where the gate says so, at its own end.
-
-    scripts/gate_times.py gate.log
-
-writes the table of such a log again.
+passes on each line that the gate prints, and looks every two seconds at the checks that run. At the end it writes to the
+file TABLE a line for each crate: the minutes of processor time that its proof took, the proof of its tests, the check
+that its must-fail edits begin with, and those edits; and when its proof and its last check ended, in minutes since the
+start. What a check took in its last two seconds is not seen.
 """
 
+import os
 import re
 import sys
+import threading
 import time
 
-# What is said when a step has ended, or begins, and the column that it stands in.
-STEPS = {
-    "proof": r"rt: (\w+) (?:proved|NOT PROVED)",
-    "tests": r"rt: (\w+): its tests are (?:proved|NOT PROVED)",
-    "edits begin": r"rt: (\w+): trying its must-fail edits",
-}
+PARTS = ("proof", "tests", "seed", "edits")
+TICKS = 60 * os.sysconf("SC_CLK_TCK")
+PERIOD = 2
 
 
-def table(lines):
-    """Returns the table of lines that begin with their seconds."""
-    times, order, last, edits = {}, [], 0.0, {}
-    for line in lines:
-        stamp, _, text = line.partition(" ")
+def check_of(pid):
+    """Returns the crate and the part that the process checks, or None where it is no check."""
+    with open(f"/proc/{pid}/cmdline", "rb") as file:
+        words = file.read().decode(errors="replace").split("\0")
+    if os.path.basename(words[0]) != "rattle" or "--crate-name" not in words:
+        return None
+    crate = words[words.index("--crate-name") + 1]
+    if os.path.basename(os.readlink(f"/proc/{pid}/cwd")).startswith("rt-edit-"):
+        seed = any(word.endswith("/seed") for word in words)
+        return crate, "seed" if seed else "edits"
+    return crate, "tests" if "--test" in words else "proof"
+
+
+def sample(checks, since):
+    """Notes the processor time of each check that runs now, by its process and when that began."""
+    for pid in filter(str.isdigit, os.listdir("/proc")):
         try:
-            last = float(stamp)
-        except ValueError:
-            continue
-        tried = re.match(r"rt: must-fail (\w+)/", text)
-        if tried:
-            edits[tried[1]] = edits.get(tried[1], 0) + 1
-        for step, said in STEPS.items():
-            found = re.match(said, text)
-            if found:
-                if found[1] not in times:
-                    order.append(found[1])
-                times.setdefault(found[1], {})[step] = last / 60
-    rows = [f"{'crate':<22}" + "".join(f"{step:>13}" for step in STEPS) + f"{'edits':>7}"]
-    for name in order:
-        cells = [times[name].get(step) for step in STEPS]
-        shown = "".join(f"{'-' if cell is None else format(cell, '.1f'):>13}" for cell in cells)
-        rows.append(f"{name:<22}{shown}{edits.get(name, 0):>7}")
-    rows.append(f"the whole: {last / 60:.1f} minutes")
+            check = check_of(pid)
+            if check:
+                with open(f"/proc/{pid}/stat", encoding="utf-8", errors="replace") as file:
+                    fields = file.read().rpartition(")")[2].split()
+                minutes = (int(fields[11]) + int(fields[12])) / TICKS
+                checks[pid, fields[19]] = *check, minutes, (time.monotonic() - since) / 60
+        except (OSError, IndexError):
+            # it has ended
+            pass
+
+
+def table(checks, minutes):
+    """Returns the table of the checks seen, the crates in the order in which their proofs ended."""
+    spent, ends = {}, {}
+    for crate, part, took, end in checks.values():
+        spent.setdefault(crate, dict.fromkeys(PARTS, 0.0))[part] += took
+        proof, last = ends.get(crate, (0.0, 0.0))
+        ends[crate] = max(proof, end if part == "proof" else 0.0), max(last, end)
+    heads = [*PARTS, "proved at", "done at"]
+    rows = [f"{'minutes':<22}" + "".join(f"{it:>10}" for it in heads)]
+    for crate in sorted(spent, key=ends.get):
+        cells = [spent[crate][it] for it in PARTS] + [*ends[crate]]
+        rows.append(f"{crate:<22}" + "".join(f"{it:>10.1f}" for it in cells))
+    sums = [sum(it[part] for it in spent.values()) for part in PARTS]
+    rows.append(f"{'all crates':<22}" + "".join(f"{it:>10.1f}" for it in [*sums, minutes]))
+    rows.append(f"processor time {sum(sums):.0f} minutes on {os.cpu_count()} processors, {minutes:.1f} minutes by the clock")
     return "\n".join(rows)
 
 
 def main():
-    if len(sys.argv) > 1:
-        with open(sys.argv[1], encoding="utf-8", errors="replace") as log:
-            print(table(log))
-        return
-    began, lines = time.monotonic(), []
+    began, checks, ended = time.monotonic(), {}, threading.Event()
+
+    def watch():
+        while not ended.wait(PERIOD):
+            sample(checks, began)
+
+    watcher = threading.Thread(target=watch)
+    watcher.start()
     for line in sys.stdin:
-        lines.append(f"{time.monotonic() - began:.1f} {line}")
-        print(lines[-1], end="", flush=True)
-    print(table(lines), file=sys.stderr)
+        print(line, end="", flush=True)
+    ended.set()
+    watcher.join()
+    with open(sys.argv[1], "w", encoding="utf-8") as file:
+        print(table(checks, (time.monotonic() - began) / 60), file=file)
 
 
 main()
