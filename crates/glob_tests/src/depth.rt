@@ -4,11 +4,12 @@ use std::process::Abort;
 use std::test::Fail;
 
 /// How deep the groups nest, what opens and what closes each, and how often the text has its character.
-const GLOBS: [(usize, &str, &str, usize); 4] = [
+const GLOBS: [(usize, &str, &str, usize); 5] = [
     (40_000, "{", "}", 1),
     (40_000, "{", ",b}", 1),
     (40_000, "{b,", ",b}", 63),
-    (20_000, "{", ",b}", 64),
+    (40_000, "{", ",b}", 64),
+    (40_000, "{b,", ",b}", 130),
 ];
 
 #[test]
