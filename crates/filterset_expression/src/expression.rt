@@ -32,11 +32,11 @@ impl CompiledExpr {
         ensures { result ≡ has_leaf is_default self.now }
     {
         match self {
-            CompiledExpr::Not(e) => e.has_default_leaf(),
-            CompiledExpr::Union(a, b)
-            | CompiledExpr::Intersection(a, b)
-            | CompiledExpr::SymmetricDifference(a, b) => {
-                a.has_default_leaf() || b.has_default_leaf()
+            CompiledExpr::Not(operand) => operand.has_default_leaf(),
+            CompiledExpr::Union(left, right)
+            | CompiledExpr::Intersection(left, right)
+            | CompiledExpr::SymmetricDifference(left, right) => {
+                left.has_default_leaf() || right.has_default_leaf()
             }
             CompiledExpr::Set(leaf) => matches!(leaf, FiltersetLeaf::Default),
         }
@@ -47,11 +47,11 @@ impl CompiledExpr {
         ensures { result ≡ has_leaf is_group self.now }
     {
         match self {
-            CompiledExpr::Not(e) => e.has_group_matchers(),
-            CompiledExpr::Union(a, b)
-            | CompiledExpr::Intersection(a, b)
-            | CompiledExpr::SymmetricDifference(a, b) => {
-                a.has_group_matchers() || b.has_group_matchers()
+            CompiledExpr::Not(operand) => operand.has_group_matchers(),
+            CompiledExpr::Union(left, right)
+            | CompiledExpr::Intersection(left, right)
+            | CompiledExpr::SymmetricDifference(left, right) => {
+                left.has_group_matchers() || right.has_group_matchers()
             }
             CompiledExpr::Set(leaf) => matches!(leaf, FiltersetLeaf::Group(..)),
         }

@@ -14,22 +14,22 @@ pub(crate) fn copied(alloc: Global, expr: &CompiledExpr) -> Result<Box<CompiledE
     ensures { IfOk result (λ copy. formula copy.value ≡ formula expr.now) }
 {
     match expr {
-        CompiledExpr::Not(e) => negation(alloc, copied(alloc, e)?),
-        CompiledExpr::Union(a, b) => {
-            let left = copied(alloc, a)?;
-            compound(alloc, Connective::Disjunction, left, copied(alloc, b)?)
+        CompiledExpr::Not(operand) => negation(alloc, copied(alloc, operand)?),
+        CompiledExpr::Union(left, right) => {
+            let left = copied(alloc, left)?;
+            compound(alloc, Connective::Disjunction, left, copied(alloc, right)?)
         }
-        CompiledExpr::Intersection(a, b) => {
-            let left = copied(alloc, a)?;
-            compound(alloc, Connective::Conjunction, left, copied(alloc, b)?)
+        CompiledExpr::Intersection(left, right) => {
+            let left = copied(alloc, left)?;
+            compound(alloc, Connective::Conjunction, left, copied(alloc, right)?)
         }
-        CompiledExpr::SymmetricDifference(a, b) => {
-            let left = copied(alloc, a)?;
+        CompiledExpr::SymmetricDifference(left, right) => {
+            let left = copied(alloc, left)?;
             compound(
                 alloc,
                 Connective::ExclusiveDisjunction,
                 left,
-                copied(alloc, b)?,
+                copied(alloc, right)?,
             )
         }
         CompiledExpr::Set(leaf) => copied_set(alloc, leaf),
@@ -47,10 +47,10 @@ fn copied_set(alloc: Global, leaf: &FiltersetLeaf) -> Result<Box<CompiledExpr>, 
 
 /// The tests that are not in the set.
 #[inline(never)]
-pub fn negation(alloc: Global, e: Box<CompiledExpr>) -> Result<Box<CompiledExpr>, AllocError>
-    ensures { IfOk result (λ made. formula made.value ≡ Negation (formula e.value)) }
+pub fn negation(alloc: Global, operand: Box<CompiledExpr>) -> Result<Box<CompiledExpr>, AllocError>
+    ensures { IfOk result (λ made. formula made.value ≡ Negation (formula operand.value)) }
 {
-    Ok(Box::new(alloc, CompiledExpr::Not(e))?)
+    Ok(Box::new(alloc, CompiledExpr::Not(operand))?)
 }
 
 /// What the connective makes of two sets of tests.

@@ -13,33 +13,33 @@ impl<S> fmt::Display for ParsedExpr<S> {
 
     fn fmt<W: fmt::Write>(&self, f: &mut fmt::Formatter<W>) -> fmt::Result {
         match self {
-            ParsedExpr::Not(op, e) => {
-                write!(f, "{op} ")?;
-                (**e).fmt(f)
+            ParsedExpr::Not(operator, operand) => {
+                write!(f, "{operator} ")?;
+                (**operand).fmt(f)
             }
-            ParsedExpr::Union(op, l, r) => {
-                (**l).fmt(f)?;
-                write!(f, " {op} ")?;
-                (**r).fmt(f)
+            ParsedExpr::Union(operator, left, right) => {
+                (**left).fmt(f)?;
+                write!(f, " {operator} ")?;
+                (**right).fmt(f)
             }
-            ParsedExpr::Intersection(op, l, r) => {
-                (**l).fmt(f)?;
-                write!(f, " {op} ")?;
-                (**r).fmt(f)
+            ParsedExpr::Intersection(operator, left, right) => {
+                (**left).fmt(f)?;
+                write!(f, " {operator} ")?;
+                (**right).fmt(f)
             }
-            ParsedExpr::Difference(op, l, r) => {
-                (**l).fmt(f)?;
-                write!(f, " {op} ")?;
-                (**r).fmt(f)
+            ParsedExpr::Difference(operator, left, right) => {
+                (**left).fmt(f)?;
+                write!(f, " {operator} ")?;
+                (**right).fmt(f)
             }
-            ParsedExpr::SymmetricDifference(op, l, r) => {
-                (**l).fmt(f)?;
-                write!(f, " {op} ")?;
-                (**r).fmt(f)
+            ParsedExpr::SymmetricDifference(operator, left, right) => {
+                (**left).fmt(f)?;
+                write!(f, " {operator} ")?;
+                (**right).fmt(f)
             }
-            ParsedExpr::Parens(e) => {
+            ParsedExpr::Parens(inner) => {
                 f.write_str("(")?;
-                (**e).fmt(f)?;
+                (**inner).fmt(f)?;
                 f.write_str(")")
             }
             ParsedExpr::Set(leaf) => leaf.fmt(f),

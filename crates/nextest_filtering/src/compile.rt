@@ -72,45 +72,48 @@ fn compile_expr(
         (tree_leaves (tree_of expr.now)) faults.old.items faults.new.items) }
 {
     match expr {
-        ParsedExpr::Not(_, e) => {
-            negation(alloc, compile_expr(alloc, cx, known_groups, e, faults)?)
+        ParsedExpr::Not(_, operand) => {
+            negation(
+                alloc,
+                compile_expr(alloc, cx, known_groups, operand, faults)?,
+            )
         }
-        ParsedExpr::Union(_, a, b) => {
-            let left = compile_expr(alloc, cx, known_groups, a, faults)?;
+        ParsedExpr::Union(_, left, right) => {
+            let left = compile_expr(alloc, cx, known_groups, left, faults)?;
             compound(
                 alloc,
                 Connective::Disjunction,
                 left,
-                compile_expr(alloc, cx, known_groups, b, faults)?,
+                compile_expr(alloc, cx, known_groups, right, faults)?,
             )
         }
-        ParsedExpr::Intersection(_, a, b) => {
-            let left = compile_expr(alloc, cx, known_groups, a, faults)?;
+        ParsedExpr::Intersection(_, left, right) => {
+            let left = compile_expr(alloc, cx, known_groups, left, faults)?;
             compound(
                 alloc,
                 Connective::Conjunction,
                 left,
-                compile_expr(alloc, cx, known_groups, b, faults)?,
+                compile_expr(alloc, cx, known_groups, right, faults)?,
             )
         }
-        ParsedExpr::Difference(_, a, b) => {
-            let left = compile_expr(alloc, cx, known_groups, a, faults)?;
+        ParsedExpr::Difference(_, left, right) => {
+            let left = compile_expr(alloc, cx, known_groups, left, faults)?;
             difference(
                 alloc,
                 left,
-                compile_expr(alloc, cx, known_groups, b, faults)?,
+                compile_expr(alloc, cx, known_groups, right, faults)?,
             )
         }
-        ParsedExpr::SymmetricDifference(_, a, b) => {
-            let left = compile_expr(alloc, cx, known_groups, a, faults)?;
+        ParsedExpr::SymmetricDifference(_, left, right) => {
+            let left = compile_expr(alloc, cx, known_groups, left, faults)?;
             compound(
                 alloc,
                 Connective::ExclusiveDisjunction,
                 left,
-                compile_expr(alloc, cx, known_groups, b, faults)?,
+                compile_expr(alloc, cx, known_groups, right, faults)?,
             )
         }
-        ParsedExpr::Parens(e) => compile_expr(alloc, cx, known_groups, e, faults),
+        ParsedExpr::Parens(inner) => compile_expr(alloc, cx, known_groups, inner, faults),
         ParsedExpr::Set(leaf) => compile_set(alloc, cx, known_groups, leaf, faults),
     }
 }

@@ -58,23 +58,23 @@ pub(super) fn push_steps<'a>(
         steps_of steps.old.items ++ steps_by (leaf_or (steps_of default_steps.now)) (formula expr.now)) }
 {
     match expr {
-        CompiledExpr::Not(e) => {
-            push_steps(steps, e, default_steps)?;
+        CompiledExpr::Not(operand) => {
+            push_steps(steps, operand, default_steps)?;
             steps.push(FlatStep::Not)?;
         }
-        CompiledExpr::Union(a, b) => {
-            push_steps(steps, a, default_steps)?;
-            push_steps(steps, b, default_steps)?;
+        CompiledExpr::Union(left, right) => {
+            push_steps(steps, left, default_steps)?;
+            push_steps(steps, right, default_steps)?;
             steps.push(FlatStep::Or)?;
         }
-        CompiledExpr::Intersection(a, b) => {
-            push_steps(steps, a, default_steps)?;
-            push_steps(steps, b, default_steps)?;
+        CompiledExpr::Intersection(left, right) => {
+            push_steps(steps, left, default_steps)?;
+            push_steps(steps, right, default_steps)?;
             steps.push(FlatStep::And)?;
         }
-        CompiledExpr::SymmetricDifference(a, b) => {
-            push_steps(steps, a, default_steps)?;
-            push_steps(steps, b, default_steps)?;
+        CompiledExpr::SymmetricDifference(left, right) => {
+            push_steps(steps, left, default_steps)?;
+            push_steps(steps, right, default_steps)?;
             steps.push(FlatStep::Xor)?;
         }
         CompiledExpr::Set(FiltersetLeaf::Default) => steps.extend_from_slice(default_steps)?,

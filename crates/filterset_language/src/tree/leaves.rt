@@ -8,8 +8,7 @@ use crate::tree::{ParsedExpr, ParsedLeaf};
 use std::alloc::{AllocError, Global};
 
 impl<S> ParsedExpr<S> {
-    /// The predicates of the tree that `keep` answers `true` of, from left to right. The only error is want of
-    /// memory.
+    /// The predicates of the tree for which `keep` returns `true`, from left to right. The only error is out of memory.
     pub fn leaves_where<F: Fn(&ParsedLeaf<S>) -> bool>(
         &self,
         alloc: Global,
@@ -33,7 +32,7 @@ impl<S> ParsedExpr<S> {
     }
 }
 
-/// Adds the predicates of the tree that `keep` answers `true` of, from left to right.
+/// Adds the predicates of the tree for which `keep` returns `true`, from left to right.
 fn add_leaves<'e, S, F: Fn(&ParsedLeaf<S>) -> bool>(
     expr: &'e ParsedExpr<S>,
     keep: &F,
@@ -45,13 +44,15 @@ fn add_leaves<'e, S, F: Fn(&ParsedLeaf<S>) -> bool>(
         ≡ map (λ leaf. leaf_of leaf.now) found.old.items ++ filter kept (tree_leaves (tree_of expr.now))) }
 {
     match expr {
-        ParsedExpr::Not(_, e) | ParsedExpr::Parens(e) => add_leaves(e, keep, found),
-        ParsedExpr::Union(_, a, b)
-        | ParsedExpr::Intersection(_, a, b)
-        | ParsedExpr::Difference(_, a, b)
-        | ParsedExpr::SymmetricDifference(_, a, b) => {
-            add_leaves(a, keep, found)?;
-            add_leaves(b, keep, found)
+        ParsedExpr::Not(_, operand) | ParsedExpr::Parens(operand) => {
+            add_leaves(operand, keep, found)
+        }
+        ParsedExpr::Union(_, left, right)
+        | ParsedExpr::Intersection(_, left, right)
+        | ParsedExpr::Difference(_, left, right)
+        | ParsedExpr::SymmetricDifference(_, left, right) => {
+            add_leaves(left, keep, found)?;
+            add_leaves(right, keep, found)
         }
         ParsedExpr::Set(leaf) => {
             if keep(leaf) {
