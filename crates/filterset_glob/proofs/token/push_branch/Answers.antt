@@ -4,4 +4,4 @@ use Rattle.filterset_glob.proofs.Opened.{branches_of-push}
 use Rattle.filterset_glob.proofs.token.push_branch.Goals as goal
 
 pub returns : goal.returns
-returns c = ap branches_of c.in_ok-push.ensures.items ∙ branches_of-push c.args.copies.now.items _
+returns c = ap branches_of c.in_ok-push.ensures.items ∙ branches_of-push c.args.branches.now.items _
