@@ -87,10 +87,7 @@ fn print_plans(rt: &impl Print, alloc: Global) -> Result<(), Failure> {
         eval_context: EvalContext::new(&default_filter.compiled),
     };
     let test_binaries = workspace::test_binaries(alloc)?;
-    let mut binaries = Vec::with_capacity(alloc, test_binaries.len())?;
-    for test_binary in &test_binaries {
-        binaries.push(test_binary.binary())?;
-    }
+    let binaries = workspace::binaries(alloc, &test_binaries)?;
     for filterset in FILTERSETS {
         println!(rt; "{filterset}")?;
         let text = String::from_str(alloc, filterset)?;
@@ -111,10 +108,14 @@ fn main(rt: HostRuntime) -> io::Result<()> {
     match print_plans(&rt, rt.alloc()) {
         Ok(()) => Ok(()),
         Err(Failure::Io(error)) => Err(error),
-        Err(Failure::Packages(refusal)) => println!(rt; "the packages make no graph: {refusal:?}"),
+        Err(Failure::Packages(refusal)) => {
+            println!(rt; "the packages make no graph: {refusal:?}")?;
+            Err(io::Error::from(io::ErrorKind::InvalidData))
+        }
         Err(Failure::Setting(refused)) => {
-            println!(rt; "settings are refused: {}", refused.input)?;
-            print_faults(&rt, &refused)
+            println!(rt; "refused in the settings: {}", refused.input)?;
+            print_faults(&rt, &refused)?;
+            Err(io::Error::from(io::ErrorKind::InvalidData))
         }
     }
 }

@@ -6,6 +6,7 @@ ghost use Rattle.filterset_graph.specs.declared.package.PackageMetadata.{Package
 ghost use Rattle.filterset_grammar.specs.Tree.{Tree};
 ghost use Rattle.filterset_expression.specs.Contexts.{default_of};
 ghost use Rattle.filterset_expression.specs.FlatExpressions.{IsFlatOfTree};
+ghost use Rattle.filterset_expression.specs.Meaning.{IsCompiled};
 ghost use Rattle.nextest_filtering.specs.Compiling.{packages_of};
 ghost use Rattle.nextest_filtering.specs.Groups.{IsKnown};
 ghost use Rattle.runner.specs.Planning.{IsChoice, IsPlanned, IsRefused, IsTestOf, PicksNone, Tells};
@@ -62,13 +63,27 @@ pub fn plan_of(
         Err(ParseRefusal::Faults(refused)) => return Ok(Plan::Refused(refused)),
         Err(ParseRefusal::OutOfMemory { .. }) => return Err(AllocError),
     };
-    let flat = FlatExpr::new(alloc, &filterset.compiled, &groups.eval_context)?;
-    let choices = choices_of(alloc, &flat, groups, binaries)?;
+    let choices = choices_of(alloc, &filterset, groups, binaries)?;
     Ok(Plan::Choices(choices))
 }
 
 /// What is to be done with each binary. The filterset is laid out as steps once for all of them.
 fn choices_of(
+    alloc: Global,
+    filterset: &Filterset,
+    groups: &Groups<'_>,
+    binaries: &[Binary<'_>],
+) -> Result<Vec<Choice>, AllocError>
+    ensures { IfOk result (λ choices. (packages : List PackageMetadata) (e : Tree SourceSpan)
+        → IsCompiled packages e filterset.now.compiled
+        → AllZip (IsChoice packages e groups.now) binaries.now choices.items) }
+{
+    let flat = FlatExpr::new(alloc, &filterset.compiled, &groups.eval_context)?;
+    choices_by(alloc, &flat, groups, binaries)
+}
+
+/// What is to be done with each binary, by the steps of a filterset.
+fn choices_by(
     alloc: Global,
     flat: &FlatExpr<'_>,
     groups: &Groups<'_>,

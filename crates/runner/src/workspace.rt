@@ -6,50 +6,66 @@ use nextest_filtering::{
 };
 use std::alloc::{AllocError, Global};
 
-/// A package, whose name is its id too: whether it belongs to the workspace, which packages it depends on, and its
-/// targets.
-type Package = (
-    &'static str,
-    bool,
-    &'static [&'static str],
-    &'static [Target],
-);
+/// A package as cargo tells of it. Here its name is its id too.
+struct CargoPackage {
+    name: &'static str,
+    in_workspace: bool,
+    dependencies: &'static [&'static str],
+    targets: &'static [CargoTarget],
+}
 
-/// A build target: what it is, its name, and the tests that its binary lists.
-type Target = (BuildTargetId, &'static str, &'static [&'static str]);
+/// A build target of a package, and the tests that its binary lists.
+struct CargoTarget {
+    id: BuildTargetId,
+    name: &'static str,
+    tests: &'static [&'static str],
+}
 
 /// Three packages of the workspace, and one that `net` depends on.
-const PACKAGES: [Package; 4] = [
-    (
-        "text",
-        true,
-        &[],
-        &[(
-            BuildTargetId::Library,
-            "text",
-            &["parse::reads_a_list", "parse::slow_sum"],
-        )],
-    ),
-    (
-        "net",
-        true,
-        &["text", "log"],
-        &[
-            (BuildTargetId::BuildScript, "build", &[]),
-            (
-                BuildTargetId::Library,
-                "net",
-                &["get", "live_get", "live_slow_get"],
-            ),
+const PACKAGES: [CargoPackage; 4] = [
+    CargoPackage {
+        name: "text",
+        in_workspace: true,
+        dependencies: &[],
+        targets: &[CargoTarget {
+            id: BuildTargetId::Library,
+            name: "text",
+            tests: &["parse::reads_a_list", "parse::slow_sum"],
+        }],
+    },
+    CargoPackage {
+        name: "net",
+        in_workspace: true,
+        dependencies: &["text", "log"],
+        targets: &[
+            CargoTarget {
+                id: BuildTargetId::BuildScript,
+                name: "build",
+                tests: &[],
+            },
+            CargoTarget {
+                id: BuildTargetId::Library,
+                name: "net",
+                tests: &["get", "live_get", "live_slow_get"],
+            },
         ],
-    ),
-    (
-        "cli",
-        true,
-        &["net"],
-        &[(BuildTargetId::Test, "whole", &["prints_help"])],
-    ),
-    ("log", false, &[], &[]),
+    },
+    CargoPackage {
+        name: "cli",
+        in_workspace: true,
+        dependencies: &["net"],
+        targets: &[CargoTarget {
+            id: BuildTargetId::Test,
+            name: "whole",
+            tests: &["prints_help"],
+        }],
+    },
+    CargoPackage {
+        name: "log",
+        in_workspace: false,
+        dependencies: &[],
+        targets: &[],
+    },
 ];
 
 /// A test binary: what it was built from, and the tests that it lists.
@@ -82,26 +98,35 @@ fn package_id(alloc: Global, name: &str) -> Result<PackageId, AllocError> {
     Ok(PackageId::new(String::from_str(alloc, name)?))
 }
 
-/// A package as a graph has it.
-fn metadata(alloc: Global, package: &Package) -> Result<PackageMetadata, AllocError> {
-    let (name, in_workspace, dependencies, targets) = *package;
+/// The ids of the packages that a package depends on.
+fn links(alloc: Global, package: &CargoPackage) -> Result<Vec<PackageId>, AllocError> {
     let mut links = Vec::new(alloc);
-    for dependency in dependencies {
+    for dependency in package.dependencies {
         links.push(package_id(alloc, dependency)?)?;
     }
-    let mut build_targets = Vec::new(alloc);
-    for (id, name, _) in targets {
-        build_targets.push(BuildTarget {
-            id: *id,
-            name: String::from_str(alloc, name)?,
+    Ok(links)
+}
+
+/// The targets of a package, as a graph has them.
+fn build_targets(alloc: Global, package: &CargoPackage) -> Result<Vec<BuildTarget>, AllocError> {
+    let mut targets = Vec::new(alloc);
+    for target in package.targets {
+        targets.push(BuildTarget {
+            id: target.id,
+            name: String::from_str(alloc, target.name)?,
         })?;
     }
+    Ok(targets)
+}
+
+/// A package, as a graph has it.
+fn metadata(alloc: Global, package: &CargoPackage) -> Result<PackageMetadata, AllocError> {
     Ok(PackageMetadata {
-        id: package_id(alloc, name)?,
-        name: String::from_str(alloc, name)?,
-        in_workspace,
-        build_targets,
-        links,
+        id: package_id(alloc, package.name)?,
+        name: String::from_str(alloc, package.name)?,
+        in_workspace: package.in_workspace,
+        build_targets: build_targets(alloc, package)?,
+        links: links(alloc, package)?,
     })
 }
 
@@ -114,41 +139,50 @@ pub fn graph(alloc: Global) -> Result<PackageGraph, GraphRefusal> {
     PackageGraph::new(alloc, packages)
 }
 
-/// The binary that is built from a target of the package, with its tests; none from a build script.
-fn test_binary(
-    alloc: Global,
-    package: &str,
-    target: &Target,
-) -> Result<Option<TestBinary>, AllocError> {
-    let (id, name, listed) = *target;
-    let Some(kind) = id.binary_kind() else {
-        return Ok(None);
-    };
+/// The tests that the binary of a target lists.
+fn tests(alloc: Global, target: &CargoTarget) -> Result<Vec<TestCaseName>, AllocError> {
     let mut tests = Vec::new(alloc);
-    for test in listed {
-        tests.push(TestCaseName::new(alloc, test)?)?;
+    for name in target.tests {
+        tests.push(TestCaseName::new(alloc, name)?)?;
     }
-    Ok(Some(TestBinary {
-        package_id: package_id(alloc, package)?,
-        binary_id: RustBinaryId::from_parts(alloc, package, &kind, name)?,
-        name,
-        kind,
-        tests,
-    }))
+    Ok(tests)
+}
+
+/// Adds the test binaries of a package: one for each target that is no build script.
+fn add_test_binaries(
+    alloc: Global,
+    package: &CargoPackage,
+    all: &mut Vec<TestBinary>,
+) -> Result<(), AllocError> {
+    for target in package.targets {
+        if let Some(kind) = target.id.binary_kind() {
+            all.push(TestBinary {
+                package_id: package_id(alloc, package.name)?,
+                binary_id: RustBinaryId::from_parts(alloc, package.name, &kind, target.name)?,
+                name: target.name,
+                kind,
+                tests: tests(alloc, target)?,
+            })?;
+        }
+    }
+    Ok(())
 }
 
 /// The test binaries of the workspace.
 pub fn test_binaries(alloc: Global) -> Result<Vec<TestBinary>, AllocError> {
     let mut all = Vec::new(alloc);
-    for (package, in_workspace, _, targets) in &PACKAGES {
-        for target in *targets {
-            if !in_workspace {
-                continue;
-            }
-            if let Some(binary) = test_binary(alloc, package, target)? {
-                all.push(binary)?;
-            }
+    for package in &PACKAGES {
+        if package.in_workspace {
+            add_test_binaries(alloc, package, &mut all)?;
         }
     }
     Ok(all)
+}
+
+/// The binaries as filtersets are asked about them.
+pub fn binaries(
+    alloc: Global,
+    test_binaries: &[TestBinary],
+) -> Result<Vec<Binary<'_>>, AllocError> {
+    test_binaries.iter().map(TestBinary::binary).collect(alloc)
 }

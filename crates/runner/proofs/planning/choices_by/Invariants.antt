@@ -6,7 +6,7 @@ use Rattle.filterset_grammar.specs.Tree.{Tree}
 use Rattle.filterset_expression.specs.Contexts.{default_of}
 use Rattle.filterset_expression.specs.FlatExpressions.{IsFlatOfTree}
 use Rattle.runner.specs.Planning.{IsChoice}
-use Rattle.runner.proofs.planning.choices_of.Given as goal
+use Rattle.runner.proofs.planning.choices_by.Given as goal
 
 -- the binaries so far have their choices
 abbrev pub invariant-loop-binary : goal.invariant-loop-binary
