@@ -1,0 +1,2 @@
+pub mod FirstOverride
+pub mod AnswersOfAll

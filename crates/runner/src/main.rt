@@ -1,0 +1,121 @@
+//! A small runner: it has packages, a default filter and groups, reads filtersets, skips the binaries of which a
+//! filterset picks no test, and picks tests of the others. `docs/CALLING.md` goes through it.
+#![tactic(auto)]
+
+mod groups;
+mod overrides;
+mod planning;
+mod settings;
+mod workspace;
+
+use groups::Groups;
+use nextest_filtering::{EvalContext, FiltersetParseErrors, ParseContext};
+use planning::{Binary, Choice, Plan, plan_of};
+use settings::{Failure, known_groups, read_default_filter, read_overrides};
+use std::alloc::Global;
+use std::io;
+
+/// Which tests are run where nobody says which.
+const DEFAULT_FILTER: &str = "not test(slow)";
+
+/// Which tests are in which groups: those that the filterset picks are in the group.
+const OVERRIDES: [(&str, &str); 2] = [
+    ("binary_id(net) and test(/^live_/)", "network"),
+    ("test(slow)", "serial"),
+];
+
+/// The filtersets that are asked for. Of the last one the group is not known.
+const FILTERSETS: [&str; 5] = [
+    "default()",
+    "rdeps(net) and default()",
+    "group(network)",
+    "kind(test) or group(=serial) and package(text)",
+    "kind(test) or group(=nobody)",
+];
+
+/// Prints that a binary is skipped, or which of its tests are run.
+fn print_choice(rt: &impl Print, binary: &Binary<'_>, choice: &Choice) -> io::Result<()> {
+    let id = binary.query.binary_id.as_str();
+    let picked = match choice {
+        Choice::Skip => return println!(rt; "  {id}: skipped"),
+        Choice::Pick(picked) => picked,
+    };
+    println!(rt; "  {id}:")?;
+    for (name, is_picked) in binary.tests.iter().zip(picked) {
+        if *is_picked {
+            println!(rt; "    {}", name.as_str())?;
+        }
+    }
+    Ok(())
+}
+
+/// Prints where each fault of a text is, and what it is.
+fn print_faults(rt: &impl Print, refused: &FiltersetParseErrors) -> io::Result<()> {
+    for fault in &refused.errors {
+        if let Some(span) = fault.span() {
+            print!(rt; "  at byte {}: ", span.offset())?;
+        }
+        if let Some(label) = fault.label() {
+            println!(rt; "{label}")?;
+        }
+    }
+    Ok(())
+}
+
+/// Prints what a filterset asks for: what is done with each binary, or why the filterset is refused.
+fn print_plan(rt: &impl Print, binaries: &[Binary<'_>], plan: &Plan) -> io::Result<()> {
+    match plan {
+        Plan::Choices(choices) => {
+            for (binary, choice) in binaries.iter().zip(choices) {
+                print_choice(rt, binary, choice)?;
+            }
+            Ok(())
+        }
+        Plan::Refused(refused) => print_faults(rt, refused),
+    }
+}
+
+/// Reads the settings, and prints the plan of each filterset.
+fn print_plans(rt: &impl Print, alloc: Global) -> Result<(), Failure> {
+    let graph = workspace::graph(alloc)?;
+    let parse_context = ParseContext::new(alloc, &graph)?;
+    let default_filter = read_default_filter(alloc, DEFAULT_FILTER, &parse_context)?;
+    let overrides = read_overrides(alloc, &OVERRIDES, &parse_context)?;
+    let known_groups = known_groups(alloc, &OVERRIDES)?;
+    let groups = Groups {
+        overrides: overrides.as_slice(),
+        eval_context: EvalContext::new(&default_filter.compiled),
+    };
+    let test_binaries = workspace::test_binaries(alloc)?;
+    let binaries = workspace::binaries(alloc, &test_binaries)?;
+    for filterset in FILTERSETS {
+        println!(rt; "{filterset}")?;
+        let text = String::from_str(alloc, filterset)?;
+        let plan = plan_of(
+            alloc,
+            text,
+            &parse_context,
+            &known_groups,
+            &groups,
+            &binaries,
+        )?;
+        print_plan(rt, &binaries, &plan)?;
+    }
+    Ok(())
+}
+
+fn main(rt: HostRuntime) -> io::Result<()> {
+    match print_plans(&rt, rt.alloc()) {
+        Ok(()) => Ok(()),
+        Err(Failure::Io(error)) => Err(error),
+        Err(Failure::Packages(refusal)) => {
+            println!(rt; "the packages make no graph: {refusal:?}")?;
+            Err(io::Error::from(io::ErrorKind::InvalidData))
+        }
+        Err(Failure::Setting(refused)) => {
+            println!(rt; "refused in the settings: {}", refused.input)?;
+            print_faults(&rt, &refused)?;
+            Err(io::Error::from(io::ErrorKind::InvalidData))
+        }
+    }
+}

@@ -1,0 +1,179 @@
+//! Which tests a filterset picks, binary by binary.
+ghost use Rattle.std.specs.Prelude.{◌≡◌, IfOk, IsTrue, List};
+ghost use Rattle.std.specs.List.{AllZip};
+ghost use Rattle.filterset_faults.specs.declared.span.SourceSpan.{SourceSpan};
+ghost use Rattle.filterset_graph.specs.declared.package.PackageMetadata.{PackageMetadata};
+ghost use Rattle.filterset_grammar.specs.Tree.{Tree};
+ghost use Rattle.filterset_expression.specs.Contexts.{default_of};
+ghost use Rattle.filterset_expression.specs.FlatExpressions.{IsFlatOfTree};
+ghost use Rattle.filterset_expression.specs.Meaning.{IsCompiled};
+ghost use Rattle.nextest_filtering.specs.Compiling.{packages_of};
+ghost use Rattle.nextest_filtering.specs.Groups.{IsKnown};
+ghost use Rattle.runner.specs.Planning.{IsChoice, IsPlanned, IsRefused, IsTestOf, PicksNone, Tells};
+
+use crate::groups::Groups;
+use nextest_filtering::{
+    BinaryQuery, Filterset, FiltersetKind, FiltersetParseErrors, FlatExpr, KnownGroups,
+    ParseContext, ParseRefusal, TestCaseName, TestQuery, laws,
+};
+use std::alloc::{AllocError, Global};
+
+/// A test binary, and the names of its tests. A runner starts the binary to learn these.
+#[derive(Clone, Copy, Debug)]
+pub struct Binary<'a> {
+    pub query: BinaryQuery<'a>,
+    pub tests: &'a [TestCaseName],
+}
+
+/// What is to be done with a binary.
+#[derive(Debug, Drop)]
+pub enum Choice {
+    /// No test of the binary is picked, whatever tests it has: it need not be started.
+    Skip,
+    /// For each test of the binary, in their order, whether it is picked.
+    Pick(Vec<bool>),
+}
+
+/// What a filterset asks of a runner.
+#[derive(Debug, Drop)]
+pub enum Plan {
+    /// What is to be done with each binary, in their order.
+    Choices(Vec<Choice>),
+    /// The text, which comes back, and its faults.
+    Refused(FiltersetParseErrors),
+}
+
+/// Reads a filterset, and says for each binary which of its tests it picks. The only error is out of memory.
+pub fn plan_of(
+    alloc: Global,
+    text: String,
+    parse_context: &ParseContext<'_>,
+    known_groups: &KnownGroups,
+    groups: &Groups<'_>,
+    binaries: &[Binary<'_>],
+) -> Result<Plan, AllocError>
+    requires { IsKnown known_groups.now }
+    ensures planned { IfOk result
+        (IsPlanned (packages_of parse_context.now) known_groups.now groups.now text binaries.now) }
+    ensures refused { IfOk result (IsRefused (packages_of parse_context.now) known_groups.now text) }
+{
+    let kind = FiltersetKind::Test;
+    let filterset = match Filterset::parse(alloc, text, parse_context, kind, known_groups) {
+        Ok(filterset) => filterset,
+        Err(ParseRefusal::Faults(refused)) => return Ok(Plan::Refused(refused)),
+        Err(ParseRefusal::OutOfMemory { .. }) => return Err(AllocError),
+    };
+    let choices = choices_of(alloc, &filterset, groups, binaries)?;
+    Ok(Plan::Choices(choices))
+}
+
+/// What is to be done with each binary. The filterset is laid out as steps once for all of them.
+fn choices_of(
+    alloc: Global,
+    filterset: &Filterset,
+    groups: &Groups<'_>,
+    binaries: &[Binary<'_>],
+) -> Result<Vec<Choice>, AllocError>
+    ensures { IfOk result (λ choices. (packages : List PackageMetadata) (e : Tree SourceSpan)
+        → IsCompiled packages e filterset.now.compiled
+        → AllZip (IsChoice packages e groups.now) binaries.now choices.items) }
+{
+    let flat = FlatExpr::new(alloc, &filterset.compiled, &groups.eval_context)?;
+    choices_by(alloc, &flat, groups, binaries)
+}
+
+/// What is to be done with each binary, by the steps of a filterset.
+fn choices_by(
+    alloc: Global,
+    flat: &FlatExpr<'_>,
+    groups: &Groups<'_>,
+    binaries: &[Binary<'_>],
+) -> Result<Vec<Choice>, AllocError>
+    ensures { IfOk result (λ choices. (packages : List PackageMetadata) (e : Tree SourceSpan)
+        → IsFlatOfTree flat.now packages e (default_of groups.now.eval_context)
+        → AllZip (IsChoice packages e groups.now) binaries.now choices.items) }
+{
+    let mut choices = Vec::with_capacity(alloc, binaries.len())?;
+    for binary in binaries {
+        choices.push(choice_of(alloc, flat, groups, binary)?)?;
+    }
+    Ok(choices)
+}
+
+/// What is to be done with a binary. Its tests are looked at only if some of them may be picked.
+fn choice_of(
+    alloc: Global,
+    flat: &FlatExpr<'_>,
+    groups: &Groups<'_>,
+    binary: &Binary<'_>,
+) -> Result<Choice, AllocError>
+    ensures { IfOk result (λ choice. (packages : List PackageMetadata) (e : Tree SourceSpan)
+        → IsFlatOfTree flat.now packages e (default_of groups.now.eval_context)
+        → IsChoice packages e groups.now binary.now choice) }
+{
+    if may_be_skipped(alloc, flat, groups, binary)? {
+        return Ok(Choice::Skip);
+    }
+    let picked = picked_of(alloc, flat, groups, binary)?;
+    Ok(Choice::Pick(picked))
+}
+
+/// Whether the filterset is false of the binary, and so of each of its tests.
+fn may_be_skipped(
+    alloc: Global,
+    flat: &FlatExpr<'_>,
+    groups: &Groups<'_>,
+    binary: &Binary<'_>,
+) -> Result<bool, AllocError>
+    ensures { IfOk result (λ skipped. (packages : List PackageMetadata) (e : Tree SourceSpan)
+        → IsFlatOfTree flat.now packages e (default_of groups.now.eval_context)
+        → IsTrue skipped → PicksNone packages e groups.now binary.now) }
+{
+    laws::skipping_loses_no_test(groups);
+    let answer = flat.matches_binary(alloc, &binary.query)?;
+    Ok(answer == Some(false))
+}
+
+/// For each test of a binary whether it is picked.
+fn picked_of(
+    alloc: Global,
+    flat: &FlatExpr<'_>,
+    groups: &Groups<'_>,
+    binary: &Binary<'_>,
+) -> Result<Vec<bool>, AllocError>
+    ensures { IfOk result (λ picked. (packages : List PackageMetadata) (e : Tree SourceSpan)
+        → IsFlatOfTree flat.now packages e (default_of groups.now.eval_context)
+        → AllZip (Tells packages e groups.now binary.now) binary.now.tests.now picked.items) }
+{
+    let mut picked = Vec::with_capacity(alloc, binary.tests.len())?;
+    for name in binary.tests {
+        picked.push(is_picked(alloc, flat, groups, binary, name)?)?;
+    }
+    Ok(picked)
+}
+
+/// The question about the test of the binary that has this name.
+fn test_of<'a>(binary: &Binary<'a>, name: &'a TestCaseName) -> TestQuery<'a>
+    ensures { IsTestOf binary.now name.now result }
+{
+    TestQuery {
+        binary_query: binary.query,
+        test_name: name,
+    }
+}
+
+/// Whether the test of the binary that has this name is picked.
+fn is_picked(
+    alloc: Global,
+    flat: &FlatExpr<'_>,
+    groups: &Groups<'_>,
+    binary: &Binary<'_>,
+    name: &TestCaseName,
+) -> Result<bool, AllocError>
+    ensures { IfOk result (λ answer. (packages : List PackageMetadata) (e : Tree SourceSpan)
+        → IsFlatOfTree flat.now packages e (default_of groups.now.eval_context)
+        → Tells packages e groups.now binary.now name.now answer) }
+{
+    let test = test_of(binary, name);
+    flat.matches_test_with_groups(alloc, &test, groups)
+}

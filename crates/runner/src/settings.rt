@@ -1,0 +1,105 @@
+//! The texts of a runner's settings: its default filter and its overrides, which are read before any filterset.
+ghost use Rattle.std.specs.Prelude.{◌≡◌, ◌≢◌, false, IfOk};
+ghost use Rattle.filterset_expression.specs.Expression.{has_leaf, is_default, is_group};
+ghost use Rattle.filterset_faults.specs.declared.kind.FiltersetKind.TheVariants as kinds;
+ghost use Rattle.nextest_filtering.specs.Groups.{IsKnown};
+
+use crate::overrides::Override;
+use nextest_filtering::{
+    Filterset, FiltersetKind, FiltersetParseErrors, GraphRefusal, KnownGroups, ParseContext,
+    ParseRefusal,
+};
+use std::alloc::{AllocError, AllocFailed, Global};
+use std::collections::HashSet;
+use std::io;
+
+/// Why a run ends early.
+#[derive(Debug, Drop)]
+pub enum Failure {
+    /// The packages make no graph.
+    Packages(GraphRefusal),
+    /// A text of the settings is refused.
+    Setting(FiltersetParseErrors),
+    /// Out of memory, or a write failed.
+    Io(io::Error),
+}
+
+impl From<AllocError> for Failure {
+    fn from(error: AllocError) -> Failure {
+        Failure::Io(io::Error::from(error))
+    }
+}
+
+impl<T: Drop> From<AllocFailed<T>> for Failure {
+    fn from(error: AllocFailed<T>) -> Failure {
+        Failure::from(AllocError::from(error))
+    }
+}
+
+impl From<io::Error> for Failure {
+    fn from(error: io::Error) -> Failure {
+        Failure::Io(error)
+    }
+}
+
+impl From<GraphRefusal> for Failure {
+    fn from(refusal: GraphRefusal) -> Failure {
+        match refusal {
+            GraphRefusal::OutOfMemory(error) => Failure::from(error),
+            refusal => Failure::Packages(refusal),
+        }
+    }
+}
+
+impl From<ParseRefusal> for Failure {
+    fn from(refusal: ParseRefusal) -> Failure {
+        match refusal {
+            ParseRefusal::Faults(refused) => Failure::Setting(refused),
+            ParseRefusal::OutOfMemory { .. } => Failure::from(AllocError),
+        }
+    }
+}
+
+/// Reads the default filter. No group is needed for it, since it may have no `group(..)`.
+pub fn read_default_filter(
+    alloc: Global,
+    text: &str,
+    parse_context: &ParseContext<'_>,
+) -> Result<Filterset, Failure>
+    ensures no_default { IfOk result (λ made. has_leaf is_default made.compiled ≡ false) }
+    ensures no_group { IfOk result (λ made. has_leaf is_group made.compiled ≡ false) }
+{
+    let text = String::from_str(alloc, text)?;
+    let kind = FiltersetKind::DefaultFilter;
+    let known_groups = KnownGroups::Unavailable;
+    let filterset = Filterset::parse(alloc, text, parse_context, kind, &known_groups)?;
+    Ok(filterset)
+}
+
+/// Reads the overrides, each a filterset and the group of the tests that it picks. Neither may they have `group(..)`.
+pub fn read_overrides(
+    alloc: Global,
+    rows: &[(&str, &str)],
+    parse_context: &ParseContext<'_>,
+) -> Result<Vec<Override>, Failure> {
+    let mut overrides = Vec::with_capacity(alloc, rows.len())?;
+    for (text, group) in rows {
+        let text = String::from_str(alloc, text)?;
+        let group = String::from_str(alloc, group)?;
+        let kind = FiltersetKind::OverrideFilter;
+        let tests = Filterset::parse(alloc, text, parse_context, kind, &KnownGroups::Unavailable)?;
+        overrides.push(Override::new(tests, group))?;
+    }
+    Ok(overrides)
+}
+
+/// The groups of the overrides are the known ones.
+pub fn known_groups(alloc: Global, rows: &[(&str, &str)]) -> Result<KnownGroups, Failure>
+    ensures { IfOk result IsKnown }
+{
+    let mut custom_groups = HashSet::new(alloc);
+    for (_, group) in rows {
+        custom_groups.insert(String::from_str(alloc, group)?)?;
+    }
+    Ok(KnownGroups::Known { custom_groups })
+}
