@@ -18,7 +18,7 @@ use std::alloc::{AllocError, Global};
 use std::io;
 use underlining::underline;
 
-/// The filtersets that are read. The third one needs groups, and those behind it are refused.
+/// The filtersets that are read. The third one needs groups, and those after it are refused.
 const FILTERSETS: [&str; 7] = [
     "test(parse) and not test(slow) or test(=net::get)",
     "test(#parse::*) - test(/_list$/)",

@@ -78,7 +78,7 @@ pub enum ParseSingleError {
         op: &'static str,
         suggest: &'static str,
     },
-    /// Text behind the expression.
+    /// Text after the expression.
     #[error("expected end of expression")]
     ExpectedEndOfExpression(SourceSpan),
     /// A matcher that hits no package of the workspace.

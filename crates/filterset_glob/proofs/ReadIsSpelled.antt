@@ -17,7 +17,7 @@ ClassRest negated ranges (in_item start end) t negated' all =
 ClassRest negated ranges (behind_dash start end) t negated' all =
     (a : List ℕ) × (b : List ℕ) × (last : ℕ) × (more : List (ℕ × ℕ)) × (45 ∷ t ≡ a ++ b) × PairsText start end a last × LaterItems b more × (negated' ≡ negated) × (all ≡ ranges ++ (start, last) ∷ more)
 
--- what the rest of a branch, and the branches behind it, make of the branch so far
+-- what the rest of a branch, and the branches after it, make of the branch so far
 abbrev BranchesRest : Open → List ℕ → Branches → Type 0
 BranchesRest b t branches =
     ((first : Tokens) × (more : List Tokens) × SegmentsText true t (first ∷ more) × (branches ≡ branch (b.tokens ⊕ tokens_behind b.before ((b.last ⊕ first) ∷ more)) no_more))
@@ -54,7 +54,7 @@ completes-with_piece [] {a} {token} one b t tokens (first, more, s, is) =
 completes-with_piece (group ∷ groups) {a} {token} one b t tokens (a', rest, branches, t_is, bs, done) =
     (a ++ a', rest, branches, ap (λ x. a ++ x) t_is ∙ sym (append_assoc a a' (125 ∷ rest)), branches-with_piece one b a' branches bs, done)
 
--- behind a slash the last segment is empty, and the one before it is whole
+-- after a slash the last segment is empty, and the one before it is whole
 slash-tokens_behind : (b : Open) (first : Tokens) (more : List Tokens) → (end_segment b).tokens ⊕ tokens_behind (end_segment b).before (((end_segment b).last ⊕ first) ∷ more) ≡ b.tokens ⊕ tokens_behind b.before ((b.last ⊕ no_token) ∷ first ∷ more)
 slash-tokens_behind b first more =
     ap (λ x. (end_segment b).tokens ⊕ tokens_behind (end_segment b).before ((x.last ⊕ first) ∷ more)) (end_segment-empty b)
@@ -71,7 +71,7 @@ completes-with_slash [] b t tokens (first, more, s, is) = (no_token, first ∷ m
 completes-with_slash (group ∷ groups) b t tokens (a, rest, branches, t_is, bs, done) =
     (slash ∷ a, rest, branches, ap (λ x. slash ∷ x) t_is, branches-with_slash b a branches bs, done)
 
--- the branches behind a fresh one
+-- the branches after a fresh one
 fresh_branch-branches : (t : List ℕ) (branches : Branches) → BranchesRest fresh_branch t branches → BranchesText t branches
 fresh_branch-branches t branches (inl (first, more, s, is)) = subst (BranchesText t) (sym is) (one_branch s)
 fresh_branch-branches t branches (inr (a, rest, first, more, others, t_is, s, o, is)) = subst (λ x. BranchesText x branches) (sym t_is) (subst (BranchesText (a ++ 44 ∷ rest)) (sym is) (next_branch s o))
@@ -133,7 +133,7 @@ run-err (c ∷ t) fault = refl
 no_tokens : {X : Type 0} (t : List ℕ) (fault : GlobConstructError) (tokens : Tokens) → run t (Err fault) ≡ Ok tokens → X
 no_tokens t fault tokens e = let f = run-err t fault in cc
 
--- what the text behind a character completes
+-- what the text after a character completes
 abbrev Rest : List ℕ → Tokens → Type 0
 Rest t tokens = (s : State) → run t (Ok s) ≡ Ok tokens → CompletesState s t tokens
 

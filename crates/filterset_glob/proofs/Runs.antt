@@ -69,7 +69,7 @@ nodes_behind [] (suc n) = omega arith
 nodes_behind (x ∷ xs) zero = omega arith
 nodes_behind (x ∷ xs) (suc n) = omega (arith, nodes_behind xs n)
 
--- behind one token or more there are fewer nodes
+-- after one token or more there are fewer nodes
 pub fewer_nodes : (tokens : List GlobToken) (n : ℕ) → 0 < n → 0 < length tokens → node_count (tokens_of (drop n tokens)) + 1 ≤ node_count (tokens_of tokens)
 fewer_nodes [] n some within = absurd (omega arith)
 fewer_nodes (x ∷ xs) zero some within = absurd (omega arith)
@@ -91,7 +91,7 @@ run_each tokens k x c h is a each piece m =
     let (d, one, _) = (one_matched (token_of x) (admits_one (token_of x) c a) p2).0 m2 in
     omega (arith, ap length cut, length-append p r, each p m1, ap length cut2, length-append p2 r2, ap length one, ap length none)
 
--- a place alone, over tokens that match the characters behind it, and nothing of another length
+-- a place alone, over tokens that match the characters after it, and nothing of another length
 pub moves_alone : (tokens : Tokens) (text : List ℕ) (p q : List Bool) (at n : ℕ) →
     ((i : ℕ) → Holds p i → i ≡ at) → Holds p at → ((i : ℕ) → Holds q i → i ≡ at + n) → Holds q (at + n) →
     Matches tokens (take n (drop at text)) → ((piece : List ℕ) → Matches tokens piece → length piece ≡ n) → Moves (Matches tokens) text p q

@@ -56,20 +56,20 @@ abbrev pub is_word : List ℕ → Bool
 is_word [] = false
 is_word (b ∷ t) = is_word_byte b
 
--- what may stand behind an operator, if it is a word: nothing that goes on with it
+-- what may stand after an operator, if it is a word: nothing that goes on with it
 abbrev pub EndsWord : Bool → List ℕ → Type 0
 EndsWord true rest = IsTrue (ends_word rest)
 EndsWord false rest = Unit {0}
 
--- what may stand behind a negation
+-- what may stand after a negation
 abbrev pub not_ends : NotOperator → List ℕ → Type 0
 not_ends op rest = EndsWord (is_word (not_text op)) rest
 
--- the same behind an operator of the level of `or`
+-- the same after an operator of the level of `or`
 abbrev pub or_ends : OrOperator → List ℕ → Type 0
 or_ends op rest = EndsWord (is_word (or_text op)) rest
 
--- the same behind an operator of the level of `and`
+-- the same after an operator of the level of `and`
 abbrev pub join_ends : Joiner → List ℕ → Type 0
 join_ends op rest = EndsWord (is_word (join_text op)) rest
 
@@ -112,7 +112,7 @@ pub data MatcherText : Predicate → List ℕ → Matcher → Type 0 where
   implicit : {p : Predicate} {raw : List ℕ} {m : Matcher} (value : List ℕ)
       → Spelled raw value → raw ≢ [] → begins_plainly raw → Matches (own_matching p) value true m → MatcherText p raw m
 
--- what may stand behind a matcher: blanks behind a regular expression, nothing behind a text, whose
+-- what may stand after a matcher: blanks after a regular expression, nothing after a text, whose
 -- own blanks belong to it
 abbrev pub BehindMatcher : Matcher → List ℕ → Type 0
 BehindMatcher (Regex pattern) t = Blanks t
@@ -125,9 +125,9 @@ pub record Call (name argument t : List ℕ) (at inside : ℕ) : Type 0 where
   pub text : t ≡ name ++ (blanks ++ (sign "(" ∷ (argument ++ codes ")")))
   pub offset : inside ≡ at + length name + length blanks + 1
 
--- The text, whose first byte has the given offset, is the predicate. The span of a matcher runs from behind the `(` to
+-- The text, whose first byte has the given offset, is the predicate. The span of a matcher runs from after the `(` to
 -- the matcher's end, leading blanks included; that of `platform` over its raw text; that of `default` from the name to
--- behind the `)`.
+-- after the `)`.
 pub data LeafText : List ℕ → ℕ → Leaf SourceSpan → Type 0 where
   matching : {p : Predicate} {t : List ℕ} {at : ℕ} {m : Matcher} {s : SourceSpan}
       (inside : ℕ) (before raw behind : List ℕ)

@@ -42,12 +42,12 @@ hex_value b =
     (cond (is_between b "A" "F") (b - (sign "A" - 10))
     (cond (is_between b "a" "f") (b - (sign "a" - 10)) 16))
 
--- the digits are hexadecimal, and the number is theirs behind the one that stands before
+-- the digits are hexadecimal, and the number is theirs after the one that stands before
 abbrev pub HexDigits : List ℕ → ℕ → ℕ → Type 0
 HexDigits [] before number = number ≡ before
 HexDigits (d ∷ ds) before number = (hex_value d < 16) × HexDigits ds (16 * before + hex_value d) number
 
--- what a letter behind a backslash stands for; U+0008 and U+000C have no sign
+-- what a letter after a backslash stands for; U+0008 and U+000C have no sign
 pub data Letter : ℕ → ℕ → Type 0 where
   line_feed : Letter (sign "n") (sign "\n")
   carriage_return : Letter (sign "r") (sign "\r")
@@ -59,7 +59,7 @@ pub data Letter : ℕ → ℕ → Type 0 where
   close : Letter (sign ")") (sign ")")
   comma : Letter (sign ",") (sign ",")
 
--- what stands behind the backslash of an escape, and the character that the escape names
+-- what stands after the backslash of an escape, and the character that the escape names
 pub data Escape : List ℕ → ℕ → Type 0 where
   letter : {l c : ℕ} → Letter l c → Escape (l ∷ []) c
   hexadecimal : {t : List ℕ} {c : ℕ} (digits : List ℕ)

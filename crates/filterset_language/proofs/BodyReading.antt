@@ -43,7 +43,7 @@ slash_follows b before e is = from (eqb b 47) (eqb before 92) refl refl e
     from true false h i e = absurd cc
     from false w h i e = absurd (eqb-false b 47 h is)
 
--- behind a body, where the text goes on, a `/` stands
+-- after a body, where the text goes on, a `/` stands
 body_stop : (before : ℕ) (t : List ℕ) → body_len before t < length t → get_or t (body_len before t) 0 < 128
 body_stop before [] lt = absurd (omega arith)
 body_stop before (b ∷ t) lt = from (eqb b 47 && not (eqb before 92)) refl lt (λ h. body_stop b t h)
@@ -53,7 +53,7 @@ body_stop before (b ∷ t) lt = from (eqb b 47 && not (eqb before 92)) refl lt (
     from true e lt h = let s = (slash_is b before e).0 in omega arith
     from false e lt h = h (omega arith)
 
--- a text may be cut behind a body
+-- a text may be cut after a body
 pub body_boundary : (n : ℕ) (t : List ℕ) → n ≡ body_len 0 t → IsCharBoundary t n
 body_boundary n t e = rw e (body_within 0 t, λ lt high. let low = body_stop 0 t lt in absurd (omega arith))
 

@@ -34,7 +34,7 @@ close_none (b ∷ t) =
     (λ no. rw no.0 (All-cons (λ (b : ℕ). b ≢ 41) b (take (close_len t) t) (λ e. let f : true ≡ false = sym (rw e refl) ∙ no.0 in cc) (close_none t)))
     (eqb_tells b 41)
 
--- the byte behind, where there is one, is a `)`
+-- the byte after, where there is one, is a `)`
 close_low : (t : List ℕ) → ClosesArgument t → 0 < length t → get_or t 0 0 < 128
 close_low _ at_end lt = absurd (omega arith)
 close_low _ at_close lt = lit_low

@@ -71,7 +71,7 @@ code_again (d ∷ ds) seen code number u h some few is =
     step : (d seen code : ℕ) → eqb d 125 ≡ false → eqb seen 6 ≡ false → digit_at d ≡ Some (hex_value d) → code_from seen code (d ∷ (ds ++ (125 ∷ u))) ≡ code_from (seen + 1) (16 * code + hex_value d) (ds ++ (125 ∷ u))
     step d seen code e1 e2 e3 = rw (e1, e2) (ap (option_and_then (λ (x : ℕ). code_from (seen + 1) (16 * code + x) (ds ++ (125 ∷ u)))) e3)
 
--- the digits between a place behind so many others and a closing brace
+-- the digits between a place after so many others and a closing brace
 pub record CodeTaken (t : List ℕ) (seen code c n : ℕ) : Type 0 where
   pub digits : List ℕ
   pub rest : List ℕ
@@ -196,7 +196,7 @@ escape_again (hexadecimal {t} {c} digits some few number is text) u =
     let read = code_again digits 0 0 c u number (omega arith) (omega arith) is in
     ap escape_at whole ∙ read ∙ ap (λ (x : ℕ). Some (c, x)) (omega arith)
 
--- an escape, and what stands behind it
+-- an escape, and what stands after it
 pub record EscapeTaken (t : List ℕ) (c n : ℕ) : Type 0 where
   pub own : List ℕ
   pub rest : List ℕ
@@ -250,7 +250,7 @@ escape_within t c n e =
     let size = ap length k.parts in
     omega (arith, size, k.size, length-append k.own k.rest)
 
--- a text may be cut behind an escape
+-- a text may be cut after an escape
 pub escape_boundary : (t : List ℕ) (c n : ℕ) → IsUtf8 t → escape_at t ≡ Some (c, n) → IsCharBoundary t n
 escape_boundary t c n utf8 e =
     let k = escape_takes t c n e in

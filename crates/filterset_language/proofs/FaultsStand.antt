@@ -123,7 +123,7 @@ not_stands : (op : NotOperator) (at : ℕ) (u : List ℕ) → not_ends op u → 
 not_stands LiteralNot at u ends e = let f : None ≡ Some (LiteralNot, place (at + 3) u) = e ∙ rw ends refl in cc
 not_stands Exclamation at u ends e = cc
 
--- no operand begins behind the blanks
+-- no operand begins after the blanks
 pub no_operand : (p s : Place) → s ≡ skip p → None ≡ name_at s → None ≡ not_at s → None ≡ after (codes "(") s → (blanks u : List ℕ) → Blanks blanks → p.rest ≡ blanks ++ u → BeginsOperand u → ⊥
 no_operand p s skipped no_name no_not no_open blanks u are is (with_name {t} {name} n begins) =
     let v = begins.rest in

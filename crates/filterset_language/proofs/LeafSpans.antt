@@ -56,7 +56,7 @@ end_part a u n s is place = part a u [] n s (is ∙ ap (λ (x : List ℕ). a ++ 
 left_part : {text t : List ℕ} {at : ℕ} (left more : List ℕ) → StandsAt text t at → t ≡ left ++ more → StandsAt text left at
 left_part {text} {t} {at} left more s is = part [] left more at s is (omega arith)
 
--- the right operand behind an operator
+-- the right operand after an operator
 right_part : {text t : List ℕ} {at : ℕ} (left blanks op right : List ℕ) → StandsAt text t at → t ≡ left ++ (blanks ++ (op ++ right)) → StandsAt text right (at + length left + length blanks + length op)
 right_part {text} {t} {at} left blanks op right s is =
     let long = length-append left (blanks ++ op) in
@@ -69,7 +69,7 @@ right_part {text} {t} {at} left blanks op right s is =
 ends_within : {text t : List ℕ} {at : ℕ} → StandsAt text t at → at + length t ≤ length text
 ends_within {text} {t} {at} s = omega (arith, s.offset, ap length s.parts, length-append s.front (t ++ s.behind), length-append t s.behind)
 
--- the byte behind its beginning
+-- the byte after its beginning
 byte_at : {text t : List ℕ} {at : ℕ} (a : List ℕ) (b : ℕ) (z : List ℕ) → StandsAt text t at → t ≡ a ++ (b ∷ z) → get_or text (at + length a) 0 ≡ b
 byte_at {text} {t} {at} a b z s is =
     let p = end_part a (b ∷ z) (at + length a) s is refl in
@@ -85,7 +85,7 @@ before_byte : {text t : List ℕ} {at : ℕ} (a : List ℕ) (b : ℕ) (z : List 
 before_byte {text} {t} {at} a b z low s is =
     IsCharBoundary-before_ascii text (at + length a) (byte_within a b z s is) (let e = byte_at a b z s is in omega (arith, e, low))
 
--- and behind one
+-- and after one
 behind_byte : {text t : List ℕ} {at : ℕ} (a : List ℕ) (b : ℕ) (z : List ℕ) → b < 128 → IsUtf8 text → StandsAt text t at → t ≡ a ++ (b ∷ z) → IsCharBoundary text (at + length a + 1)
 behind_byte {text} {t} {at} a b z low utf8 s is =
     IsCharBoundary-after_ascii text (at + length a) utf8 (byte_within a b z s is) (let e = byte_at a b z s is in omega (arith, e, low))

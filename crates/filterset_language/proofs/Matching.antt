@@ -92,7 +92,7 @@ text_is_read predicate p q m e =
 pub text_gives : (text : List ℕ) (predicate : Predicate) (p q : Place) (f g : Faults) (v : Option Matcher) → None ≡ after (codes "/") p → Recovers f g (beside q v) (text_matcher_at predicate p) → GivesMatcher text f g v q (matcher_at predicate p)
 text_gives text predicate p q f g v no_slash a = rw (← no_slash) (gives_of MatcherIsRead (LiesOnPattern text q.at) f g v q (text_matcher_at predicate p) a (λ m e. text_is_read predicate p q m e))
 
--- a value is made behind a text that was read
+-- a value is made after a text that was read
 pub text_recovers : (f g h : Faults) (s : (TextMatching × Bool) × Place) (value : List ℕ) (q : Place) (v : Option Matcher) → Recovers f g (Some (value, q)) (raw_at s.1) → Recovers g h v (made s.0 value)
     → Recovers f h (beside q v) (raw_at s.1 >>= λ x. made s.0 x.0 >>= λ m. Some (m, x.1))
 text_recovers f g h s value q v a b = recovers_then f g h (value, q) (beside q v) (raw_at s.1) (λ x. made s.0 x.0 >>= λ m. Some (m, x.1)) a (recovers_beside g h v q (made s.0 value) b)
@@ -166,7 +166,7 @@ platform_found i s e value skipped spelled never =
     let read = subst (λ (x : Place). SpelledTo x value (place_of e)) skipped spelled in
     platform_refused i e value k.are (with_blanks (place_of i) (skip (place_of i)) (place_of e) value k.are k.takes read) never
 
--- what stands behind the opening parenthesis of a predicate
+-- what stands after the opening parenthesis of a predicate
 pub leaf_gives : (t text : List ℕ) (name : PredicateName) (start : ℕ) (p q u : Place) (f g h : Faults) (v : Option (Leaf SourceSpan)) → t ≡ text → Recovers f g (Some u) (after (codes "(") (skip p)) → GivesLeaf t g h v q (argument_at name start u)
     → GivesLeaf text f h v q (leaf_at name start p)
 leaf_gives t text name start p q u f g h v same a b =

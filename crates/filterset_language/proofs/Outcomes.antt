@@ -73,7 +73,7 @@ module _ {Y : Type 0} (Good : Y → Type 0) (On : Judgement Y) where
   pub gives_as : (f g : Faults) (v w : Option Y) (q : Place) (r s : Option (Y × Place)) → Gives Good On f g v q r → w ≡ v → s ≡ r → Gives Good On f g w q s
   gives_as f g v w q r s a e d = rw (e, d) a
 
-  -- behind a step that gave x, or reported a fault and went on at x
+  -- after a step that gave x, or reported a fault and went on at x
   pub gives_then : {X : Type 0} (f g h : Faults) (x : X) (v : Option Y) (q : Place) (r : Option X) (k : X → Option (Y × Place)) → Recovers f g (Some x) r → Gives Good On g h v q (k x) → Gives Good On f h v q (r >>= k)
   gives_then f g h x v q r k a b =
       ⊎_elim
@@ -90,7 +90,7 @@ module _ {Y Z : Type 0} (Good : Y → Type 0) (On : Judgement Y) (GoodTo : Z →
   gives_map change good on f g v q r (fails lt none) = fails lt (bind_none r _ none)
   gives_map change good on f g v q r (reads y c is) = reads (change y) (carried_map Good On GoodTo OnTo change good on f g v y c) (bind_some r (y, q) _ is)
 
-  -- a value, and a step behind it
+  -- a value, and a step after it
   pub gives_pair : (make : Y → Place → Z) (q : Place) → ((y : Y) → Good y → GoodTo (make y q)) → ((y : Y) (x : ParseSingleError) → On y x → OnTo (make y q) x)
       → (f g h : Faults) (v : Option Y) (p : Place) (r : Option (Y × Place)) (s : Place → Option Place) → Gives Good On f g v q r → Recovers g h (Some p) (s q)
       → Gives GoodTo OnTo f h (option_map (λ a. make a q) v) p (r >>= λ x. s x.1 >>= λ u. Some (make x.0 x.1, u))

@@ -79,7 +79,7 @@ skip_stop at (b ∷ c ∷ t) e = two_stop ((eqb b 32) || (eqb b 10)) ((eqb b 13)
     two_stop false true at b c t e = absurd (omega arith)
     two_stop false false at b c t e = refl
 
--- a text may be cut behind a blank
+-- a text may be cut after a blank
 pub blank_boundary : (n : ℕ) (t : List ℕ) → IsUtf8 t → n ≡ blank_len t → IsCharBoundary t n
 blank_boundary n t utf8 e = rw e (at_blank t utf8)
   where
@@ -115,7 +115,7 @@ pub one_newline : (t : List ℕ) → blank_len (10 ∷ t) ≡ 1
 one_newline [] = refl
 one_newline (b ∷ t) = refl
 
--- behind blanks stands what begins with no blank
+-- after blanks stands what begins with no blank
 pub skip_again : {b : List ℕ} → Blanks b → (at : ℕ) (u : List ℕ) → blank_len u ≡ 0 → skip_from at (b ++ u) ≡ place (at + length b) u
 skip_again no_blank at u stop = skip_stop at u stop ∙ ap (λ (n : ℕ). place n u) (omega arith)
 skip_again (space {t} r) at u stop =

@@ -1,4 +1,4 @@
--- The argument of `platform`: blanks, which belong to the raw text, and what is read behind them.
+-- The argument of `platform`: blanks, which belong to the raw text, and what is read after them.
 use Rattle.std.proofs.Common.{◌≡◌, ◌≢◌, ℕ, ◌+◌, ◌-◌, ◌<◌, Bool, true, false, cond, eqb, List, [], ◌∷◌, ◌++◌, length, take, drop, IsUtf8, Some, refl, sym, ap, ◌∙◌, subst, arith, append_assoc, length-append}
 use Rattle.std.specs.Prelude.{All, encode_utf8_all, ◌&&◌, ◌||◌}
 use Rattle.std.specs.Str.{trim, trim_start, trim_end}
@@ -36,7 +36,7 @@ blanks_spelled (space {t} r) raw value x = plain refl (blanks_spelled r raw valu
 blanks_spelled (newline {t} r) raw value x = plain refl (blanks_spelled r raw value x)
 blanks_spelled (return_newline {t} r) raw value x = plain refl (plain refl (blanks_spelled r raw value x))
 
--- a raw text behind one that stands for itself
+-- a raw text after one that stands for itself
 record Behind (front raw value : List ℕ) : Type 0 where
   rest : List ℕ
   parts : value ≡ front ++ rest
@@ -107,7 +107,7 @@ blanks_trimmed {b} r v u =
     in
     ap trim_end started
 
--- a value names a platform just where it does behind blanks
+-- a value names a platform just where it does after blanks
 pub names_behind : {b : List ℕ} → Blanks b → (v : List ℕ) (p : BuildPlatform) → Names (b ++ v) p → Names v p
 names_behind {b} r v p names =
     let u = blanks_past r v (names_utf8 p (b ++ v) names) in
@@ -190,7 +190,7 @@ argument_again p at raw value u x names ends =
     let end : at + length f.blanks + length f.rest ≡ at + length raw = let e = ap length f.parts in omega (arith, e, length-append f.blanks f.rest) in
     (o.rest, ap raw_at skipped ∙ read ∙ ap (λ (k : ℕ). Some (o.rest, place k u)) end, platform_again p o.rest own)
 
--- blanks, and a raw text behind them
+-- blanks, and a raw text after them
 pub with_blanks : {b : List ℕ} (p q r : Place) (v : List ℕ) → Blanks b → Takes p b q → SpelledTo q v r → SpelledTo p (b ++ v) r
 with_blanks {b} p q r v are takes s = record {
   raw = b ++ s.raw;
@@ -209,7 +209,7 @@ piece_spelled a b v s =
     in
     subst (λ (y : List ℕ). Spelled y v) (sym cut) s.spelled
 
--- an argument that names no platform, from behind its parenthesis on
+-- an argument that names no platform, from after its parenthesis on
 pub platform_refused : {blanks : List ℕ} (i b : Input) (v : List ℕ) → Blanks blanks → SpelledTo (place_of i) (blanks ++ v) (place_of b) → ((p : BuildPlatform) → Names v p → ⊥)
     → Found i.text.now (InvalidPlatformArgument (span i.offset (b.offset - i.offset)))
 platform_refused {blanks} i b v are s none = record {

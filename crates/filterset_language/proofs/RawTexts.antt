@@ -17,7 +17,7 @@ use Rattle.filterset_language.proofs.EscapeReading.{and_then_is, map_is, none_so
 
 -- ---- the front of a raw text
 
--- the byte behind the front, where there is one, does not stand for itself
+-- the byte after the front, where there is one, does not stand for itself
 plain_stop : (t : List ℕ) → plain_len t < length t → get_or t (plain_len t) 0 < 128
 plain_stop [] lt = absurd (omega arith)
 plain_stop (b ∷ t) lt = at_test (is_plain b) b t refl lt (λ h. plain_stop t h)
@@ -37,11 +37,11 @@ plain_within (b ∷ t) = with_test (is_plain b) (plain_within t)
     with_test true h = omega arith
     with_test false h = omega arith
 
--- a text may be cut behind the front of a raw text
+-- a text may be cut after the front of a raw text
 pub plain_boundary : (n : ℕ) (t : List ℕ) → n ≡ plain_len t → IsCharBoundary t n
 plain_boundary n t e = rw e (plain_within t, λ lt high. let low = plain_stop t lt in absurd (omega arith))
 
--- behind the front stands nothing more that stands for itself
+-- after the front stands nothing more that stands for itself
 pub plain_rest : (t : List ℕ) → plain_len (drop (plain_len t) t) ≡ 0
 plain_rest [] = refl
 plain_rest (b ∷ t) = at_test (is_plain b) refl (plain_rest t)
@@ -181,7 +181,7 @@ text_again at raw value u x some ends =
 
 -- ---- what is read is spelled
 
--- what is left of a text behind some bytes: a raw text, and what ends it
+-- what is left of a text after some bytes: a raw text, and what ends it
 pub record RawTaken (t value rest : List ℕ) : Type 0 where
   pub raw : List ℕ
   pub spelled : Spelled raw value
@@ -290,7 +290,7 @@ text_start p end front is e =
 pub stops_there : (p end : Place) → end ≡ advanced (plain_len p.rest) p → plain_len end.rest ≡ 0
 stops_there p end e = ap plain_len (ap (λ (x : Place). x.rest) e) ∙ plain_rest p.rest
 
--- one turn: an escape, and what stands for itself behind it
+-- one turn: an escape, and what stands for itself after it
 pub text_turns : (p end b q next : Place) (v run : List ℕ) (c n : ℕ) → SpelledTo p v end → Some b ≡ after (92 ∷ []) end → Some (c, n) ≡ escape_at b.rest
     → q ≡ advanced n b → run ≡ take (plain_len q.rest) q.rest → next ≡ advanced (plain_len q.rest) q → SpelledTo p ((v ++ encode_utf8 c) ++ run) next
 text_turns p end b q next v run c n s stands read past is e =

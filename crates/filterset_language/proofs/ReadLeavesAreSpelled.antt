@@ -43,11 +43,11 @@ use Rattle.filterset_language.proofs.StepsTakeText.{bind_is, choose_is, is_some,
 
 -- ---- what ends a text
 
--- behind a text no blank is skipped
+-- after a text no blank is skipped
 none_skipped : (q : Place) → EndsText q.rest → skip q ≡ q
 none_skipped q ends = skip_stop q.at q.rest (ends_stop q.rest ends)
 
--- so a closing parenthesis stands right behind it
+-- so a closing parenthesis stands right after it
 close_takes : (p q : Place) → EndsText p.rest → after (codes ")") (skip p) ≡ Some q → Takes p (codes ")") q
 close_takes p q ends e = after_takes (codes ")") p q (ap (after (codes ")")) (sym (none_skipped p ends)) ∙ e)
 
@@ -127,7 +127,7 @@ made_short ways.Contains implicit value m e = subst (λ (x : Matcher). BehindMat
 
 -- ---- matchers
 
--- a matcher that is read: its text, and what the blanks behind it may be
+-- a matcher that is read: its text, and what the blanks after it may be
 record MatcherTaken (predicate : Predicate) (p : Place) (m : Matcher) (q : Place) : Type 0 where
   raw : List ℕ
   takes : Takes p raw q
@@ -385,7 +385,7 @@ argument_takes names.Default s i x o e = default_takes s i x o e
 argument_takes names.All s i x o e = bare_leaf_takes (codes "all") tree.All s i x o (λ own white call are. grammar.all i.at white call are) e
 argument_takes names.None s i x o e = bare_leaf_takes (codes "none") tree.None s i x o (λ own white call are. grammar.none i.at white call are) e
 
--- what stands behind a name that was read
+-- what stands after a name that was read
 pub leaf_takes : (s : Place) (n : PredicateName) (q : Place) (x : Leaf SourceSpan × Place) → Takes s (name_text n) q → leaf_at n s.at q ≡ Some x → LeafTaken s x.0 x.1
 leaf_takes s n q x word e =
     let b = bind_is (after (codes "(") (skip q)) (λ i. argument_at n s.at i) x e in

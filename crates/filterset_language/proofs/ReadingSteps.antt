@@ -20,7 +20,7 @@ pub less : (n inner outer : ℕ) → inner < outer → outer ≤ n → Less n in
 less zero inner outer lt le = absurd (omega arith)
 less (suc n) inner outer lt le = record { by = n; is = refl; holds = omega arith }
 
--- the step that the code takes, behind a negation and behind an opening parenthesis
+-- the step that the code takes, after a negation and after an opening parenthesis
 pub negation_step : (n : ℕ) (p s q : Place) (op : NotOperator) → s ≡ skip p → None ≡ name_at s → Some (op, q) ≡ not_at s
     → operand_at (suc n) p ≡ (operand_at n q >>= λ e. Some (Not op e.0, e.1))
 unfolding operand_at

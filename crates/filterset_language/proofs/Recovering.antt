@@ -79,7 +79,7 @@ recovers_along old f x r same e =
 pub keeps_from : (t : List ℕ) (old f g : Faults) → f ≡ old → Keeps t f g → Keeps t old g
 keeps_from t old f g same k = subst (λ (x : Faults). Keeps t x g) same k
 
--- behind what was passed no fault is gone
+-- after what was passed no fault is gone
 pub passes_grows : (p q : Place) (f g : Faults) → Passes p q f g → length f ≤ length g
 passes_grows p q f g passes = from (escape_at p.rest) passes
   where

@@ -26,7 +26,7 @@ none_replaced (b ∷ c ∷ t) h = from (eqb b 92 && eqb c 47) refl (none_replace
     from true e on = absurd (h zero (omega arith) t (front_is b c t e))
     from false e on = ap (λ (x : List ℕ). b ∷ x) on
 
--- the first one, and what stands behind it
+-- the first one, and what stands after it
 first_replaced : (a : ℕ) (s tail : List ℕ) → ((i : ℕ) → i < a → (rest : List ℕ) → drop i s ≢ 92 ∷ 47 ∷ rest) → drop a s ≡ 92 ∷ 47 ∷ tail → with_slashes s ≡ take a s ++ (47 ∷ with_slashes tail)
 first_replaced zero s tail h e = ap with_slashes e
 first_replaced (suc a) [] tail h e = absurd cc

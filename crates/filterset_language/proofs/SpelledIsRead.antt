@@ -121,7 +121,7 @@ and_no_sign (grammar.join {t} {at} {op} left blanks right first b ends second is
 
 -- ---- levels
 
--- what is read from the first operand of a level on is what is read behind the operands so far
+-- what is read from the first operand of a level on is what is read after the operands so far
 pub record LevelRead {O : Type 0} (next : Next O) (make : Make O) (read : Reader) (at : ℕ) (t : List ℕ) (e : Placed) (u : List ℕ) : Type 0 where
   pub m : ℕ
   pub long : length u ≤ m
@@ -137,7 +137,7 @@ level_ends : {O : Type 0} (next : Next O) (make : Make O) (read : Reader) (at : 
     → LevelRead next make read at t e u → next (skip (place (at + length t) u)) ≡ None → level_by next make read (place at (t ++ u)) ≡ Some (e, place (at + length t) u)
 level_ends next make read at t e u so_far none = so_far.same ∙ more_ends next make read so_far.m e (place (at + length t) u) none
 
--- an operator and its right operand behind a level so far
+-- an operator and its right operand after a level so far
 level_grows : {O : Type 0} (next : Next O) (make : Make O) (read : Reader) (op : O) (at : ℕ) (left blanks own right : List ℕ) (l r : Placed) (u : List ℕ)
     → Blanks blanks → ((v : List ℕ) → blank_len (own ++ v) ≡ 0) → 0 < length right
     → next (place (at + length left + length blanks) (own ++ (right ++ u))) ≡ Some (Some op, place (at + length left + length blanks + length own) (right ++ u))
@@ -158,14 +158,14 @@ level_grows next make read op at left blanks own right l r u are stop some stand
       same = ap (λ (x : List ℕ). level_by next make read (place at x)) whole ∙ sym turn.2 ∙ ap (λ (x : ℕ). more next make read turn.0 (make op l r) (place x u)) end;
     }
 
--- an operand behind an operator: the text from the left side on is the whole one, and the right side stands within it
+-- an operand after an operator: the text from the left side on is the whole one, and the right side stands within it
 split_size : (t left blanks own right u : List ℕ) → t ≡ left ++ (blanks ++ (own ++ right)) → (length (left ++ (blanks ++ (own ++ (right ++ u)))) ≡ length (t ++ u)) × (length (right ++ u) ≤ length (t ++ u))
 split_size t left blanks own right u is =
     let whole : t ++ u ≡ left ++ (blanks ++ (own ++ (right ++ u))) = ap (λ (x : List ℕ). x ++ u) is ∙ simp append_assoc in
     let size = ap length whole in
     (sym size, omega (arith, size, length-append left (blanks ++ (own ++ (right ++ u))), length-append blanks (own ++ (right ++ u)), length-append own (right ++ u)))
 
--- no operator of the level of `and` stands behind the blanks of a text
+-- no operator of the level of `and` stands after the blanks of a text
 abbrev NoJoiner : List ℕ → Type 0
 NoJoiner u = (at : ℕ) → joiner_at (skip (place at u)) ≡ None
 
@@ -180,7 +180,7 @@ or_no_joiner op {b} r v at = ap joiner_at (skip_again r at (or_text op ++ v) (or
 close_no_joiner : {b : List ℕ} → Blanks b → (v : List ℕ) → NoJoiner (b ++ 41 ∷ v)
 close_no_joiner r v at = ap joiner_at (skip_again r at (41 ∷ v) (close_stop v))
 
--- behind the blanks at the end of a text stands nothing
+-- after the blanks at the end of a text stands nothing
 end_skipped : {b : List ℕ} → Blanks b → (at : ℕ) → skip (place at b) ≡ place (at + length b) []
 end_skipped {b} r at = ap (skip_from at) (sym (append-nil b)) ∙ skip_again r at [] refl
 

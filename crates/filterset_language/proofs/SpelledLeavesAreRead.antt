@@ -100,13 +100,13 @@ made_again ways.Equal unsigned value m is = ap Some (sym is)
 made_again ways.Contains unsigned value m is = ap Some (sym is)
 made_again ways.Glob unsigned value m is = rw (reading_of_glob is.1, is.2) refl
 
--- and it is no regular expression: nothing stands behind it
+-- and it is no regular expression: nothing stands after it
 stands_alone : (how : TextMatching) (unsigned : Bool) (value : List ℕ) (m : Matcher) (behind : List ℕ) → Matches how value unsigned m → BehindMatcher m behind → behind ≡ []
 stands_alone ways.Equal unsigned value m more is h = subst (λ (x : Matcher). BehindMatcher x more) is h
 stands_alone ways.Contains unsigned value m more is h = subst (λ (x : Matcher). BehindMatcher x more) is h
 stands_alone ways.Glob unsigned value m more is h = subst (λ (x : Matcher). BehindMatcher x more) is.2 h
 
--- behind its sign such a text is read
+-- after its sign such a text is read
 signed_begins : (how : TextMatching) (p : Predicate) (at : ℕ) (t : List ℕ)
     → (blank_len (matching_sign how ∷ t) ≡ 0) × (matcher_at p (place at (matching_sign how ∷ t)) ≡ signed_text ((how, false), place (at + 1) t))
 signed_begins ways.Equal p at t = (byte_stop 61 t refl refl, refl)
@@ -164,7 +164,7 @@ bare_end_again at white u w =
 
 -- ---- predicates
 
--- the text of a call, with what stands behind it
+-- the text of a call, with what stands after it
 pub call_text : {name argument t : List ℕ} {at inside : ℕ} (u : List ℕ) (c : Call name argument t at inside) → t ++ u ≡ name ++ (c.blanks ++ (40 ∷ (argument ++ 41 ∷ u)))
 call_text u c = ap (λ (x : List ℕ). x ++ u) c.text ∙ simp append_assoc
 
@@ -189,7 +189,7 @@ call_again {name} {argument} {t} {at} {inside} l u f c stop named read =
           ∙ ap (λ (x : Option Place). x >>= f) opened ∙ read ∙ ap (λ (n : ℕ). Some (l, place n u)) end;
     }
 
--- behind `binary` stands no `_id`
+-- after `binary` stands no `_id`
 no_id : {b : List ℕ} → Blanks b → (v : List ℕ) → behind (codes "_id") (b ++ 40 ∷ v) ≡ None
 no_id no_blank v = refl
 no_id (space r) v = refl

@@ -48,7 +48,7 @@ Takes-then p q r t u a b = record {
   offset = omega (arith, a.offset, b.offset, length-append t u);
 }
 
--- the blanks between a place and the one behind them
+-- the blanks between a place and the one after them
 pub record Skipped (p q : Place) : Type 0 where
   pub blanks : List ℕ
   pub are : Blanks blanks
@@ -139,7 +139,7 @@ not_takes p x e =
     (choose_is _ _ _ x b.1))
     (choose_is _ _ _ x e)
 
--- an operator of the level of `and`, and what stands behind it
+-- an operator of the level of `and`, and what stands after it
 unfoldable pub JoinerTaken : Place → Option Joiner × Place → Type 0
 JoinerTaken p (None, q) = (w : List ℕ) × InvalidAnd w × Takes p w q
 JoinerTaken p (Some op, q) = Takes p (join_text op) q × join_ends op q.rest
@@ -168,7 +168,7 @@ joiner_takes p x e =
     (choose_is _ _ _ x b.1))
     (choose_is _ _ _ x e)
 
--- an operator of the level of `or`, and what stands behind it
+-- an operator of the level of `or`, and what stands after it
 unfoldable pub OrTaken : Place → Option OrOperator × Place → Type 0
 OrTaken p (None, q) = (w : List ℕ) × InvalidOr w × Takes p w q
 OrTaken p (Some op, q) = Takes p (or_text op) q × or_ends op q.rest

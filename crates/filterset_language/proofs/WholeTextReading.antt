@@ -61,7 +61,7 @@ never_among text s (x ∷ f) [] behind each e =
 never_among text s (x ∷ f) (b ∷ before) behind each e =
     never_among text s f before behind (All-tail (Found text) x f each) (tail_same x b f (before ++ ExpectedEndOfExpression s ∷ behind) e)
 
--- behind them it stands once, and last
+-- after them it stands once, and last
 stands_last : (text : List ℕ) (s : SourceSpan) (one : ParseSingleError) (f before behind : Faults) → All (Found text) f → f ++ (one ∷ []) ≡ before ++ ExpectedEndOfExpression s ∷ behind → behind ≡ []
 stands_last text s one [] [] behind each e = sym (tail_same one (ExpectedEndOfExpression s) [] behind e)
 stands_last text s one [] (b ∷ before) behind each e =
@@ -81,7 +81,7 @@ module _ (text : List ℕ) (tree : Option Placed) (i : Input) (s : Place) (f : F
   read_whole : s.rest ≡ [] → (e : Placed) → or_level_by (operand_at (suc (length text))) (place 0 text) ≡ Some (e, place_of i) → whole_by (length text) text ≡ Some e
   read_whole none e at = let end : skip (place_of i) ≡ s = sym skipped in rw (at, end, none) refl
 
-  -- nothing stands behind the expression
+  -- nothing stands after the expression
   pub whole_read : s.rest ≡ [] → GivesTree text [] f tree (place_of i) (or_level_by (operand_at (suc (length text))) (place 0 text)) → Wholly text tree f
   whole_read none read = record {
     stand = found_stand text f found.each;

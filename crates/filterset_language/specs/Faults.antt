@@ -37,7 +37,7 @@ onward text s = drop s.offset text
 abbrev pub piece : List ℕ → SourceSpan → List ℕ
 piece text s = take s.len (onward text s)
 
--- the text behind a span
+-- the text after a span
 abbrev pub behind : List ℕ → SourceSpan → List ℕ
 behind text s = drop s.len (onward text s)
 
@@ -49,7 +49,7 @@ IsPoint s = s.len ≡ 0
 abbrev pub RunsToEnd : List ℕ → SourceSpan → Type 0
 RunsToEnd text s = s.offset + s.len ≡ std.length text
 
--- ---- what stands before, behind and between
+-- ---- what stands before, after and between
 
 -- the word stands at the end of the text
 pub record EndsWith (t word : List ℕ) : Type 0 where
@@ -61,7 +61,7 @@ pub record BeginsWith (word t : List ℕ) : Type 0 where
   pub rest : List ℕ
   pub parts : t ≡ word ++ rest
 
--- the word stands in the text behind some blanks
+-- the word stands in the text after some blanks
 pub record BehindBlanks (word t : List ℕ) : Type 0 where
   pub blanks : List ℕ
   pub are : Blanks blanks
@@ -96,7 +96,7 @@ pub data InvalidAnd : List ℕ → Type 0 where
   ampersands : InvalidAnd (codes "&&")
   capital_and : InvalidAnd (codes "AND")
 
--- what an operand may stand directly behind
+-- what an operand may stand directly after
 pub data Opener : List ℕ → Type 0 where
   parenthesis : Opener (codes "(")
   negation : (op : NotOperator) → Opener (not_text op)
@@ -105,7 +105,7 @@ pub data Opener : List ℕ → Type 0 where
   invalid_and : {w : List ℕ} → InvalidAnd w → Opener w
   invalid_or : {w : List ℕ} → InvalidOr w → Opener w
 
--- an operand may stand behind this text
+-- an operand may stand after this text
 pub data BeforeOperand : List ℕ → Type 0 where
   at_start : BeforeOperand []
   behind_opener : {t w : List ℕ} → Opener w → EndsWith t w → BeforeOperand t

@@ -23,7 +23,7 @@ pub record Reads (text : List ℕ) (e : Tree SourceSpan) : Type 0 where
   pub patterns : PatternsAreRead e
 
 -- the fault says that the body of one of the tree's regular expressions is refused: it lies on that body, and the
--- span of the predicate ends behind the slash that follows
+-- span of the predicate ends after the slash that follows
 pub record LiesOnBody (text : List ℕ) (e : Tree SourceSpan) (fault : ParseSingleError) : Type 0 where
   pub at : SourceSpan
   pub is : fault ≡ InvalidRegexWithoutMessage at

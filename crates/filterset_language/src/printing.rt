@@ -7,7 +7,7 @@ use crate::tree::{ParsedExpr, ParsedLeaf};
 use std::fmt;
 use std::fmt::Display;
 
-/// Operators with one blank on either side, a negation with one behind it, and parentheses as in the tree.
+/// Operators with one blank on either side, a negation with one after it, and parentheses as in the tree.
 impl<S> fmt::Display for ParsedExpr<S> {
     ghost output = { λ e. Some (printed (tree_of e)) };
 

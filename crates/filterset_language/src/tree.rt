@@ -18,7 +18,7 @@ mod parens;
 
 use nodes::{copied_set, enclosed, joined, negation, union};
 
-/// A predicate of a filterset. Its span is that of its argument without the blanks behind a pattern, and of `default()`
+/// A predicate of a filterset. Its span is that of its argument without the blanks after a pattern, and of `default()`
 /// that of the whole predicate; `all()` and `none()` have none.
 #[derive(Debug, Drop)]
 pub enum ParsedLeaf<S = SourceSpan> {

@@ -32,7 +32,7 @@ printed_implicit (c ∷ cs) = printed_first c ++ flat_map printed_char cs
 abbrev pub printed_value : List ℕ → List ℕ
 printed_value value = flat_map printed_char (chars value)
 
--- a value behind its sign, or without one
+-- a value after its sign, or without one
 abbrev pub signed : ℕ → Bool → List ℕ → List ℕ
 signed own implicit value = cond implicit (printed_implicit (chars value)) (own ∷ printed_value value)
 

@@ -38,7 +38,7 @@ impl fmt::Display for NameMatcher {
     }
 }
 
-/// Writes a value, behind its sign or without one.
+/// Writes a value, after its sign or without one.
 fn write_signed<W: fmt::Write>(
     f: &mut fmt::Formatter<W>,
     sign: &str,

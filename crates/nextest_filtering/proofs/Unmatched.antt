@@ -11,7 +11,7 @@ use Rattle.nextest_filtering.specs.Checks.{IsChecked, SaysUnmatched, AreUnmatche
 use Rattle.nextest_filtering.specs.declared.compile.context.KnownGroups.{KnownGroups}
 
 module _ (packages : List PackageMetadata) (groups : KnownGroups) where
-  -- the faults of predicates, and of more of them behind
+  -- the faults of predicates, and of more of them after
   pub joined : (xs ys : List (Leaf SourceSpan)) (these those : List ParseSingleError) → AreUnmatched packages groups xs these → AreUnmatched packages groups ys those
       → AreUnmatched packages groups (xs ++ ys) (these ++ those)
   joined [] ys these those are more = rw are more

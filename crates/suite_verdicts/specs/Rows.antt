@@ -20,6 +20,6 @@ copies text (suc count) = copies text count ++ text
 abbrev pub piece_text : ℕ → Piece → List ℕ
 piece_text n piece = copies (string_bytes piece.text) (count_of n piece.count)
 
--- the pieces behind one another
+-- the pieces one after another
 abbrev pub written_text : ℕ → Written → List ℕ
 written_text n written = flat_map (piece_text n) written.pieces.items

@@ -66,7 +66,7 @@ impl Lines {
         )
     }
 
-    /// All lines, and behind them how many rows there were. All rows hold where there is no line.
+    /// All lines, and after them how many rows there were. All rows hold where there is no line.
     pub fn counted(self) -> Result<(String, Outcome), AllocError>
         ensures text { IfOk result (λ made. string_bytes made.0 ≡ string_bytes self.text ++ count_line self.place) }
         ensures outcome { IfOk result (λ made. made.1 ≡ outcome_of (string_bytes self.text)) }

@@ -47,12 +47,12 @@ regex_at p = body_at p >>= λ x. Some (Regex x.0.0, x.1)
 abbrev pub seen_sign : Sign → TextMatching × Bool
 seen_sign s = (s.matching, s.implicit)
 
--- a sign that stands here and the place behind it, or the other
+-- a sign that stands here and the place after it, or the other
 abbrev pub signed_or : Option Place → TextMatching → (TextMatching × Bool) × Place → (TextMatching × Bool) × Place
 signed_or (Some q) matching other = ((matching, false), q)
 signed_or None matching other = other
 
--- the sign that stands here, and the place behind it
+-- the sign that stands here, and the place after it
 abbrev pub sign_at : Predicate → Place → (TextMatching × Bool) × Place
 sign_at predicate p =
     signed_or (after (codes "#") p) ways.Glob
@@ -109,7 +109,7 @@ bare_at l p = bare_end_at p >>= λ r. Some (l, r)
 abbrev pub default_at : ℕ → Place → Option (Leaf SourceSpan × Place)
 default_at start p = bare_end_at p >>= λ r. Some (Default (between start r.at), r)
 
--- what stands behind a predicate's opening parenthesis; the predicate begins at the offset
+-- what stands after a predicate's opening parenthesis; the predicate begins at the offset
 abbrev pub argument_at : PredicateName → ℕ → Place → Option (Leaf SourceSpan × Place)
 argument_at (names.Matching name) start p = matching_at name p
 argument_at names.Platform start p = platform_at p
@@ -117,13 +117,13 @@ argument_at names.Default start p = default_at start p
 argument_at names.All start p = bare_at tree.All p
 argument_at names.None start p = bare_at tree.None p
 
--- what stands behind a predicate's name
+-- what stands after a predicate's name
 abbrev pub leaf_at : PredicateName → ℕ → Place → Option (Leaf SourceSpan × Place)
 leaf_at name start p = after (codes "(") (skip p) >>= λ q. argument_at name start q
 
 -- ---- expressions
 
--- what reads an expression: its tree and the place behind it
+-- what reads an expression: its tree and the place after it
 abbrev pub Reader : Type 0
 Reader = Place → Option (Placed × Place)
 
@@ -135,7 +135,7 @@ Next O = Place → Option (Option O × Place)
 abbrev pub Make : Type 0 → Type 0
 Make O = O → Placed → Placed → Placed
 
--- operands of a level behind the first; n is at least the length of what is left
+-- operands of a level after the first; n is at least the length of what is left
 abbrev pub more : {O : Type 0} → Next O → Make O → Reader → ℕ → Placed → Reader
 more next make read zero left p = Some (left, p)
 more next make read (suc n) left p =
@@ -162,11 +162,11 @@ unite op left right = Union op left right
 abbrev pub or_level_by : Reader → Reader
 or_level_by read p = level_by or_at unite (and_level_by read) p
 
--- a predicate behind its name, as a tree; the predicate begins at the offset
+-- a predicate after its name, as a tree; the predicate begins at the offset
 abbrev pub set_at : PredicateName → ℕ → Place → Option (Placed × Place)
 set_at name start p = leaf_at name start p >>= λ l. Some (Set l.0, l.1)
 
--- an operand behind its blanks: a predicate, a negation or parentheses
+-- an operand after its blanks: a predicate, a negation or parentheses
 abbrev pub operand_by : Reader → Reader
 operand_by read p =
     choose (name_at p) (λ x. set_at x.0 p.at x.1)
@@ -179,7 +179,7 @@ unfoldable pub operand_at : ℕ → Reader
 operand_at zero p = None
 operand_at (suc n) p = operand_by (operand_at n) (skip p)
 
--- the whole text: behind the expression and blanks stands nothing
+-- the whole text: after the expression and blanks stands nothing
 abbrev pub nothing_behind : Placed → Place → Option Placed
 nothing_behind e p = if length p.rest == 0 then Some e else None
 

@@ -40,7 +40,7 @@ pub data Gives {Y : Type 0} (Good : Y → Type 0) (On : Y → ParseSingleError �
   reads : (y : Y) → Carried Good On old new value y → read ≡ Some (y, q) → Gives Good On old new value q read
   fails : length old < length new → read ≡ None → Gives Good On old new value q read
 
--- the same from the first operand of a level on, seen behind the operands so far
+-- the same from the first operand of a level on, seen after the operands so far
 pub data Going {O : Type 0} (next : Next O) (make : Make O) (Good : Placed → Type 0)
     (On : Placed → ParseSingleError → Type 0) (old new : Faults) (left : Option Placed) (p : Place) (read : Reader)
     (total : Option (Placed × Place)) : Type 0 where
@@ -56,7 +56,7 @@ RefusesBody at m fault = fault ≡ InvalidRegexWithoutMessage at
 abbrev pub MakesPattern : SourceSpan → Faults → Faults → Option Matcher → Matcher → Type 0
 MakesPattern at old new value m = Carried MatcherIsRead (RefusesBody at) old new value m
 
--- the fault lies on the body of the matcher, which ends with the slash behind it at the offset
+-- the fault lies on the body of the matcher, which ends with the slash after it at the offset
 pub record LiesOnPattern (text : List ℕ) (end : ℕ) (m : Matcher) (fault : ParseSingleError) : Type 0 where
   pub at : SourceSpan
   pub is : fault ≡ InvalidRegexWithoutMessage at
@@ -76,7 +76,7 @@ GivesLeaf text old new value q read = Gives LeafIsRead (λ l. LiesOnBody text (S
 abbrev pub GivesTree : List ℕ → Faults → Faults → Option Placed → Place → Option (Placed × Place) → Type 0
 GivesTree text old new value q read = Gives PatternsAreRead (LiesOnBody text) old new value q read
 
--- The same of a reader's result, with these faults before it and behind it, against what reading gives at the input.
+-- The same of a reader's result, with these faults before it and after it, against what reading gives at the input.
 abbrev pub ReadsMatcher : {E : Type 0}
     → Input → FaultList → FaultList → Result (Read NameMatcher) E → (Place → Option (Matcher × Place)) → Type 0
 ReadsMatcher input old new result read =
@@ -113,7 +113,7 @@ ReadsNegation op input old new result =
     × ((n : ℕ) → length input.rest.now ≤ n
     → GivesTree input.text.now old.items new.items v (place_of r.end) (operand_at (suc n) (place_of input))))
 
--- What reading gives of an expression, in parentheses, of which the closing one was read behind it.
+-- What reading gives of an expression, in parentheses, of which the closing one was read after it.
 abbrev pub ReadsParens : {A E : Type 0}
     → Input → FaultList → FaultList → Result (Read (Box (ParsedExpr SourceSpan) A)) E → Type 0
 ReadsParens input old new result =
@@ -123,7 +123,7 @@ ReadsParens input old new result =
     → GivesTree input.text.now old.items between v q (or_level_by (operand_at (suc n)) (place_of input)))
     × Recovers between new.items (Some (place_of r.end)) (after (codes ")") (skip q)))
 
--- Behind the first operand of a level: what comes is what reading gives from the first one on.
+-- After the first operand of a level: what comes is what reading gives from the first one on.
 abbrev pub ReadsOn : {O A E : Type 0}
     → Next O → Make O → (ℕ → Reader) → Read (Box (ParsedExpr SourceSpan) A) → FaultList → FaultList
     → Result (Read (Box (ParsedExpr SourceSpan) A)) E → Type 0

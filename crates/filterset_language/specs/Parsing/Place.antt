@@ -9,39 +9,39 @@ use Rattle.filterset_language.specs.declared.parsing.input.Input.{Input}
 abbrev pub place_of : Input → Place
 place_of input = place input.offset input.rest.now
 
--- the place behind so many bytes
+-- the place after so many bytes
 abbrev pub advanced : ℕ → Place → Place
 advanced count p = place (p.at + count) (drop count p.rest)
 
--- the place behind all blanks
+-- the place after all blanks
 abbrev pub skip : Place → Place
 skip p = skip_from p.at p.rest
 
--- what stands behind a text
+-- what stands after a text
 abbrev pub behind : List ℕ → List ℕ → Option (List ℕ)
 behind [] t = Some t
 behind (w ∷ ws) [] = None
 behind (w ∷ ws) (b ∷ t) = if w == b then behind ws t else None
 
--- the place behind a text, where it stands there
+-- the place after a text, where it stands there
 abbrev pub after : List ℕ → Place → Option Place
 after text p = option_map (λ t. place (p.at + length text) t) (behind text p.rest)
 
--- what stands behind a word that ends there
+-- what stands after a word that ends there
 abbrev pub if_ends : Place → Option Place
 if_ends p = if ends_word p.rest then Some p else None
 
--- the place behind a word, where it stands there and ends
+-- the place after a word, where it stands there and ends
 abbrev pub after_word : List ℕ → Place → Option Place
 after_word word p = option_and_then if_ends (after word p)
 
--- the second input is behind the first, in one text
+-- the second input is after the first, in one text
 pub record IsBehind (first second : Input) : Type 0 where
   pub text : second.text.now ≡ first.text.now
   pub end : second.offset + length second.rest.now ≡ first.offset + length first.rest.now
   pub shorter : length second.rest.now < length first.rest.now
 
--- the second input is at the first or behind it, in one text
+-- the second input is at the first or after it, in one text
 pub record IsAtOrBehind (first second : Input) : Type 0 where
   pub text : second.text.now ≡ first.text.now
   pub end : second.offset + length second.rest.now ≡ first.offset + length first.rest.now

@@ -14,11 +14,11 @@ abbrev pub plain_len : List ℕ → ℕ
 plain_len [] = 0
 plain_len (b ∷ t) = if is_plain b then suc (plain_len t) else 0
 
--- a value behind another
+-- a value after another
 abbrev pub behind_value : List ℕ → Option (List ℕ × List ℕ) → Option (List ℕ × List ℕ)
 behind_value front o = option_map (λ x. (front ++ x.0, x.1)) o
 
--- the value of the raw text that stands behind the given number of bytes, and what is left behind it
+-- the value of the raw text that stands after the given number of bytes, and what is left after it
 abbrev pub raw_from : List ℕ → ℕ → Option (List ℕ × List ℕ)
 raw_from [] k = Some ([], [])
 raw_from (b ∷ t) (suc k) = raw_from t k
@@ -54,7 +54,7 @@ abbrev pub body_len : ℕ → List ℕ → ℕ
 body_len before [] = 0
 body_len before (b ∷ t) = if (b ∈ "/") && not (before ∈ "\\") then 0 else suc (body_len b t)
 
--- the pattern and the span of a body of so many bytes, and the place behind its `/`
+-- the pattern and the span of a body of so many bytes, and the place after its `/`
 abbrev pub body_by : ℕ → Place → Option ((List ℕ × SourceSpan) × Place)
 body_by n p = option_map (λ q. ((with_slashes (take n p.rest), span p.at n), q)) (after (codes "/") (advanced n p))
 

@@ -41,15 +41,15 @@ pub record AllFound (text : List ℕ) (faults : List ParseSingleError) : Type 0 
 abbrev pub Keeps : List ℕ → List ParseSingleError → List ParseSingleError → Type 0
 Keeps text old new = AllFound text old → AllFound text new
 
--- a value, where there is one, and the place behind it
+-- a value, where there is one, and the place after it
 abbrev pub beside : {Y : Type 0} → Place → Option Y → Option (Y × Place)
 beside q value = option_map (λ y. (y, q)) value
 
--- what a reader carries: the value, seen by a view, and the place behind it
+-- what a reader carries: the value, seen by a view, and the place after it
 abbrev pub carried : {X Y : Type 0} → (X → Y) → Read X → Option (Y × Place)
 carried view r = beside (place_of r.end) (option_map view r.value)
 
--- a step over a text, with these faults before it and behind it: the place behind it is the one that reading gives, or
+-- a step over a text, with these faults before it and after it: the place after it is the one that reading gives, or
 -- a fault was added where reading gives none
 abbrev pub StepsOver : {E : Type 0} → FaultList → FaultList → Result Input E → Option Place → Type 0
 StepsOver old new result read = IfOk result (λ r. Recovers old.items new.items (Some (place_of r)) read)
@@ -59,15 +59,15 @@ abbrev pub ReadsAs : {X Y E : Type 0}
     → (X → Y) → FaultList → FaultList → Result (Read X) E → Option (Y × Place) → Type 0
 ReadsAs view old new result read = IfOk result (λ r. Recovers old.items new.items (carried view r) read)
 
--- where all faults before were found in the text of the input, all faults behind are
+-- where all faults before were found in the text of the input, all faults after are
 abbrev pub StillStand : {X E : Type 0} → Input → FaultList → FaultList → Result X E → Type 0
 StillStand input old new result = IfOk result (λ r. Keeps input.text.now old.items new.items)
 
--- reading goes on at the input or behind it
+-- reading goes on at the input or after it
 abbrev pub GoesOn : {E : Type 0} → Input → Result Input E → Type 0
 GoesOn input result = IfOk result (λ r. IsAtOrBehind input r)
 
--- what is read ends at the input or behind it
+-- what is read ends at the input or after it
 abbrev pub EndsBehind : {X E : Type 0} → Input → Result (Read X) E → Type 0
 EndsBehind input result = IfOk result (λ r. IsAtOrBehind input r.end)
 
@@ -75,7 +75,7 @@ EndsBehind input result = IfOk result (λ r. IsAtOrBehind input r.end)
 abbrev pub joined : {O : Type 0} → Make O → Option O → Option Placed → Option Placed → Option Placed
 joined make op left right = op >>= λ o. left >>= λ l. right >>= λ r. Some (make o l r)
 
--- what stands behind a backslash was passed: an escape, or nothing where none stands there, which is reported
+-- what stands after a backslash was passed: an escape, or nothing where none stands there, which is reported
 abbrev pub Passes : Place → Place → List ParseSingleError → List ParseSingleError → Type 0
 Passes p q old new =
     MatchOption (escape_at p.rest) ((q ≡ p) × (length old < length new)) (λ e. (q ≡ advanced e.1 p) × (new ≡ old))
@@ -93,7 +93,7 @@ pub record AtOperand (input : Input) : Type 0 where
 abbrev pub AtName : PredicateName → Input → Type 0
 AtName name input = EndsWith (take input.offset input.text.now) (name_text name)
 
--- what stands behind the operator, where it stands at the place; a word has to end
+-- what stands after the operator, where it stands at the place; a word has to end
 abbrev pub behind_misplaced : {op suggest : List ℕ} → Misplaced op suggest → Place → Option Place
 behind_misplaced misplaced_and p = after_word (codes "and") p
 behind_misplaced misplaced_or p = after_word (codes "or") p
@@ -125,7 +125,7 @@ pub record IsCapitalNot (p : Place) (op suggest : List ℕ) (q : Place) : Type 0
   pub is : op ≡ codes "NOT"
   pub suggested : suggest ≡ codes "not"
 
--- behind the blanks no operand begins
+-- after the blanks no operand begins
 pub record NoOperand (p s : Place) : Type 0 where
   pub skipped : s ≡ skip p
   pub no_name : None ≡ name_at s

@@ -1,4 +1,4 @@
--- A text, what is left of it, and the place behind its blanks.
+-- A text, what is left of it, and the place after its blanks.
 use Rattle.std.specs.Prelude.{◌≡◌, ℕ, ◌+◌, ◌≤◌, List, [], ◌∷◌, length, drop, Bool, true, ◌&&◌, if◌then◌else◌, IsCharBoundary}
 use Rattle.std.specs.Str.{is_utf8}
 use Rattle.filterset_glob.specs.Signs.{◌∈◌}
@@ -20,7 +20,7 @@ is_blank b = b ∈ " \n"
 abbrev pub is_line_end : ℕ → ℕ → Bool
 is_line_end b c = (b ∈ "\r") && (c ∈ "\n")
 
--- the place behind all blanks
+-- the place after all blanks
 abbrev pub skip_from : ℕ → List ℕ → Place
 skip_from at [] = place at []
 skip_from at (b ∷ []) = if is_blank b then place (at + 1) [] else place at (b ∷ [])
@@ -34,7 +34,7 @@ pub record IsSeam (text rest : List ℕ) (offset : ℕ) : Type 0 where
   pub onward : drop offset text ≡ rest
   pub utf8 : is_utf8 rest ≡ true
 
--- so many bytes further on, behind the same blanks stands the same place
+-- so many bytes further on, after the same blanks stands the same place
 pub record AreBlanks (offset : ℕ) (rest : List ℕ) (count : ℕ) : Type 0 where
   pub boundary : IsCharBoundary rest count
   pub same : skip_from (offset + count) (drop count rest) ≡ skip_from offset rest

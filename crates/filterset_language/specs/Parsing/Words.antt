@@ -25,7 +25,7 @@ name_text names.Default = codes "default"
 name_text names.All = codes "all"
 name_text names.None = codes "none"
 
--- what was read, and the place behind it
+-- what was read, and the place after it
 abbrev pub seen : {X : Type 0} → X × Input → X × Place
 seen x = (x.0, place_of x.1)
 
@@ -34,7 +34,7 @@ abbrev pub choose : {X Y : Type 0} → Option X → (X → Option Y) → Option 
 choose (Some x) f other = f x
 choose None f other = other
 
--- a value, and the place behind it
+-- a value, and the place after it
 abbrev pub with : {X : Type 0} → X → Place → Option (X × Place)
 with x p = Some (x, p)
 

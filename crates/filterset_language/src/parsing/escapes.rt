@@ -3,7 +3,7 @@ ghost use Rattle.std.specs.Prelude.{◌≡◌, ◌<◌, ◌≤◌, length, zero}
 ghost use Rattle.std.specs.Option.{option_map};
 ghost use Rattle.filterset_language.specs.Parsing.Escapes.{letter_at, digit_at, named, code_from, escape_at, seen_escape};
 
-/// What an escape stands for, and how many bytes it has behind its backslash.
+/// What an escape stands for, and how many bytes it has after its backslash.
 #[derive(Clone, Copy)]
 pub struct Escape {
     pub character: char,
@@ -24,7 +24,7 @@ pub fn leading_escape(text: &[u8]) -> Option<Escape>
     }
 }
 
-/// What a letter behind a backslash stands for.
+/// What a letter after a backslash stands for.
 fn letter_character(letter: u8) -> Option<char>
     ensures { result ≡ letter_at letter }
 {

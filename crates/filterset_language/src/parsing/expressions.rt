@@ -47,7 +47,7 @@ fn read_operand<'a>(
     read_nothing(faults, input, start)
 }
 
-/// The negation of the operand behind the operator.
+/// The negation of the operand after the operator.
 #[cycle(parser)]
 #[inline(never)]
 fn read_negation<'a>(
@@ -68,7 +68,7 @@ fn read_negation<'a>(
     })
 }
 
-/// An expression behind an opening parenthesis, and the closing one.
+/// An expression after an opening parenthesis, and the closing one.
 #[cycle(parser)]
 #[inline(never)]
 fn read_parens<'a>(
@@ -109,7 +109,7 @@ fn read_nothing<'a>(
     })
 }
 
-/// Reports what stands in the place of an operand, and goes on behind it.
+/// Reports what stands in the place of an operand, and goes on after it.
 #[inline(never)]
 fn report_no_operand<'a>(
     faults: &mut Vec<ParseSingleError>,
@@ -163,7 +163,7 @@ fn read_and_level<'a>(
     read_and_rest(alloc, faults, first)
 }
 
-/// Operands of the level of `and` behind the first one.
+/// Operands of the level of `and` after the first one.
 #[cycle(parser)]
 #[inline(never)]
 fn read_and_rest<'a>(
@@ -209,7 +209,7 @@ pub fn read_or_level<'a>(
     read_or_rest(alloc, faults, first)
 }
 
-/// Operands of the level of `or` behind the first one.
+/// Operands of the level of `or` after the first one.
 #[cycle(parser)]
 #[inline(never)]
 fn read_or_rest<'a>(
@@ -279,7 +279,7 @@ fn check_or<'a>(
     Ok(())
 }
 
-/// A predicate from `start` on, behind its name, as an expression.
+/// A predicate from `start` on, after its name, as an expression.
 #[inline(never)]
 fn read_set<'a>(
     alloc: Global,

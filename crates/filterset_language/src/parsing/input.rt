@@ -67,7 +67,7 @@ impl<'a> Input<'a> {
         SourceSpan::new(self.offset, end.offset - self.offset)
     }
 
-    /// A backslash that begins no escape: from it on, as many bytes as stand behind it, at most two.
+    /// A backslash that begins no escape: from it on, as many bytes as stand after it, at most two.
     pub fn backslash(self) -> SourceSpan
         requires { 0 < length self.rest.now }
         ensures { result ≡ span self.entry.offset (min 2 (length self.entry.rest.now - 1)) }
@@ -83,7 +83,7 @@ impl<'a> Input<'a> {
         self.advance(close_len(self.rest.as_bytes()))
     }
 
-    /// The input behind its first `count` bytes.
+    /// The input after its first `count` bytes.
     pub fn advance(self, count: usize) -> Input<'a>
         requires within { count ≤ length self.rest.now }
         requires boundary { IsCharBoundary self.rest.now count }
@@ -98,7 +98,7 @@ impl<'a> Input<'a> {
         }
     }
 
-    /// The input behind all blanks.
+    /// The input after all blanks.
     pub fn skip_blanks(self) -> Input<'a>
         ensures value { place_of result ≡ skip (place_of self.entry) }
         ensures behind { IsAtOrBehind self.entry result }
@@ -113,7 +113,7 @@ impl<'a> Input<'a> {
         }
     }
 
-    /// The same place, where the blanks up to `start`, the place behind them, are known and so not looked at again.
+    /// The same place, where the blanks up to `start`, the place after them, are known and so not looked at again.
     pub fn before_blanks(self, start: Input<'a>) -> Input<'a>
         requires skipped { place_of start ≡ skip (place_of self) }
         ensures value { place_of result ≡ place_of self.entry }
@@ -128,7 +128,7 @@ impl<'a> Input<'a> {
         }
     }
 
-    /// The input behind a text, where that text stands here.
+    /// The input after a text, where that text stands here.
     pub fn after(self, text: &str) -> Option<Input<'a>>
         ensures value { option_map place_of result ≡ after text.now (place_of self.entry) }
         ensures behind { IfSome result (λ x. 0 < length text.now → IsBehind self.entry x) }
@@ -144,7 +144,7 @@ impl<'a> Input<'a> {
         }
     }
 
-    /// The input behind a word, where that word stands here and ends.
+    /// The input after a word, where that word stands here and ends.
     pub fn after_word(self, word: &str) -> Option<Input<'a>>
         ensures value { option_map place_of result ≡ after_word word.now (place_of self.entry) }
         ensures behind { IfSome result (λ x. 0 < length word.now → IsBehind self.entry x) }

@@ -44,7 +44,7 @@ pub fn read_matcher<'a>(
     }
 }
 
-/// A regular expression, behind its opening slash.
+/// A regular expression, after its opening slash.
 fn read_regex<'a>(
     alloc: Global,
     faults: &mut Vec<ParseSingleError>,
@@ -104,7 +104,7 @@ fn read_text_matcher<'a>(
     Ok(Read { value, end })
 }
 
-/// The sign that stands here, and the input behind it.
+/// The sign that stands here, and the input after it.
 fn read_sign<'a>(name: Predicate, input: Input<'a>) -> (Sign, Input<'a>)
     ensures value { (seen_sign result.0, place_of result.1) ≡ sign_at name (place_of input.entry) }
     ensures behind { IsAtOrBehind input.entry result.1 }

@@ -58,7 +58,7 @@ fn may_begin_joiner(text: &[u8]) -> bool
     matches!(text, [b'&' | b'A' | b'a' | b'-' | b'^', ..])
 }
 
-/// Whether `^` stands behind the blanks here.
+/// Whether `^` stands after the blanks here.
 #[inline(never)]
 pub fn is_before_caret(input: &Input<'_>) -> bool
     ensures { result ≡ is_some (after (codes "^") (skip (place_of input.now))) }

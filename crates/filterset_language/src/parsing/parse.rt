@@ -79,10 +79,10 @@ impl ParsedExpr {
             → (Comes p e × (p.faults.items ≡ [])) ⊎ HasRefusedBodies input.now e p) }
         // Every fault stands.
         ensures stand { IfOk result (λ p. All (FaultStands input.now) p.faults.items) }
-        // Where the one fault is that the text goes on behind the expression, what is before spells the tree.
+        // Where the one fault is that the text goes on after the expression, what is before spells the tree.
         ensures front { IfOk result (λ p. (s : SourceSpan) → p.faults.items ≡ ExpectedEndOfExpression s ∷ []
             → (e : Tree SourceSpan) × Comes p e × Spells (take (offset_of s) input.now) e) }
-        // That the text goes on behind the expression is said last, and so once at most.
+        // That the text goes on after the expression is said last, and so once at most.
         ensures last { IfOk result (λ p. (s : SourceSpan) (before behind : List ParseSingleError)
             → p.faults.items ≡ before ++ ExpectedEndOfExpression s ∷ behind → behind ≡ []) }
     {
@@ -104,7 +104,7 @@ fn read_whole(alloc: Global, text: &str) -> Result<Parsed, AllocError>
     Ok(Parsed { tree, faults })
 }
 
-/// Reports that the text goes on at `rest`, behind the expression.
+/// Reports that the text goes on at `rest`, after the expression.
 fn report_rest(faults: &mut Vec<ParseSingleError>, rest: Input<'_>) -> Result<(), AllocError>
     ensures { IfOk result (λ u. faults.new.items
         ≡ faults.old.items ++ ExpectedEndOfExpression (span rest.entry.offset (length rest.entry.rest.now)) ∷ []) }

@@ -21,7 +21,7 @@ use filterset_grammar::Predicate;
 use filterset_matchers::NameMatcher;
 use std::alloc::{AllocError, Global};
 
-/// Reads an opening parenthesis behind blanks, or reports its lack and goes on.
+/// Reads an opening parenthesis after blanks, or reports its lack and goes on.
 fn read_open<'a>(
     faults: &mut Vec<ParseSingleError>,
     name: PredicateName,
@@ -41,7 +41,7 @@ fn read_open<'a>(
     }
 }
 
-/// Reads a closing parenthesis behind blanks, or reports its lack and goes on.
+/// Reads a closing parenthesis after blanks, or reports its lack and goes on.
 pub fn read_close<'a>(
     faults: &mut Vec<ParseSingleError>,
     input: Input<'a>,
@@ -136,7 +136,7 @@ fn read_default<'a>(
     })
 }
 
-/// The argument of a predicate that takes a matcher, and the parenthesis behind it.
+/// The argument of a predicate that takes a matcher, and the parenthesis after it.
 fn read_matching<'a>(
     alloc: Global,
     faults: &mut Vec<ParseSingleError>,
@@ -176,7 +176,7 @@ fn matching_leaf(
     })
 }
 
-/// The argument of `platform`, and the parenthesis behind it.
+/// The argument of `platform`, and the parenthesis after it.
 fn read_platform<'a>(
     alloc: Global,
     faults: &mut Vec<ParseSingleError>,
@@ -202,7 +202,7 @@ fn read_platform<'a>(
     })
 }
 
-/// A predicate from `start` on, behind its name.
+/// A predicate from `start` on, after its name.
 pub fn read_predicate<'a>(
     alloc: Global,
     faults: &mut Vec<ParseSingleError>,

@@ -15,7 +15,7 @@ use std::alloc::{AllocError, Global};
 /// Reads a raw text, up to the next `,` or `)` that is not escaped, or to the end.
 ///
 /// Where a backslash begins no escape, that is reported and the text has no value; reading goes on
-/// behind the backslash. An empty text is reported, and is the value.
+/// after the backslash. An empty text is reported, and is the value.
 pub fn read_raw_text<'a>(
     alloc: Global,
     faults: &mut Vec<ParseSingleError>,
@@ -49,7 +49,7 @@ pub fn read_raw_text<'a>(
     })
 }
 
-/// What stands for itself from here on, and the input behind it.
+/// What stands for itself from here on, and the input after it.
 fn read_plain<'a>(input: Input<'a>) -> (&'a str, Input<'a>)
     ensures text { result.0.now ≡ take (plain_len input.entry.rest.now) input.entry.rest.now }
     ensures value { place_of result.1 ≡ advanced (plain_len input.entry.rest.now) (place_of input.entry) }
@@ -98,7 +98,7 @@ fn skip_raw_text<'a>(
     Ok(end)
 }
 
-/// The input behind an escape, or behind a backslash that begins none, which is reported.
+/// The input after an escape, or after a backslash that begins none, which is reported.
 fn skip_escape<'a>(
     faults: &mut Vec<ParseSingleError>,
     backslash: Input<'a>,

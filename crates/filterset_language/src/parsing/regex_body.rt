@@ -18,7 +18,7 @@ pub struct RegexBody {
     pub span: SourceSpan,
 }
 
-/// Reads a body behind its opening `/`, and the closing one.
+/// Reads a body after its opening `/`, and the closing one.
 ///
 /// The body ends before the first `/` that does not directly follow a backslash. Where there is none,
 /// that is reported, the body has no value, and reading goes on at the next `)` or at the end.

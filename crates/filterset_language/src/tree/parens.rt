@@ -17,7 +17,7 @@ use std::alloc::{AllocError, Global};
 /// The level of the grammar that an operand has to be of.
 #[derive(Clone, Copy)]
 enum Level {
-    /// Behind a negation, and on the right at the level of `and`.
+    /// After a negation, and on the right at the level of `and`.
     Basic,
     /// On the left at the level of `and`, and on the right of a union.
     And,

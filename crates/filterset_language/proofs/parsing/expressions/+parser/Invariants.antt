@@ -30,7 +30,7 @@ decreases-read_or_rest l = 6 * length l.first.end.rest.now + 3
 abbrev pub decreases-read_and_rest : goal.decreases-read_and_rest
 decreases-read_and_rest l = 6 * length l.first.end.rest.now + 1
 
--- what is still read behind the operands so far is what is read from the first operand on
+-- what is still read after the operands so far is what is read from the first operand on
 abbrev pub invariant-read_and_rest-loop-joiner : goal.invariant-read_and_rest-loop-joiner
 invariant-read_and_rest-loop-joiner l = record {
   same : (n : ℕ) (before : Faults) (total : Option (Placed × Place)) → length l.fn.first.end.rest.now ≤ n → Going joiner_at join PatternsAreRead (LiesOnBody l.fn.first.end.text.now) before l.fn.faults.items (option_map boxed_tree l.fn.first.value) (place_of l.fn.first.end) (operand_at (suc n)) total → Going joiner_at join PatternsAreRead (LiesOnBody l.fn.first.end.text.now) before l.faults.items (option_map boxed_tree l.level.value) (place_of l.level.end) (operand_at (suc n)) total;

@@ -6,7 +6,7 @@ use Rattle.filterset_language.proofs.Places.{skip_stop}
 use Rattle.filterset_language.proofs.StepsTakeText.{Skipped, skip_takes}
 use Rattle.filterset_language.proofs.parsing.input.Input.before_blanks.Goals as goal
 
--- the blanks between a place and the one behind them
+-- the blanks between a place and the one after them
 between : (at to : ℕ) (t u : List ℕ) → place to u ≡ skip_from at t → Skipped (place at t) (place to u)
 between at to t u e = subst (λ (p : Place). Skipped (place at t) p) (sym e) (skip_takes t at)
 
