@@ -1,5 +1,5 @@
 //! What matchers print.
-ghost use Rattle.std.specs.Prelude.{◌≡◌, ◌≤◌, ◌++◌, All, IsTrue, Some, chars, cond, length, take};
+ghost use Rattle.std.specs.Prelude.{◌≡◌, ◌<◌, ◌≤◌, ◌↔◌, ◌++◌, All, IsTrue, Some, chars, cond, length, slice_index, take};
 ghost use Rattle.std.specs.Fmt.{WritesOnOk};
 ghost use Rattle.std.specs.List.{flat_map};
 ghost use Rattle.filterset_matchers.specs.Matchers.{matcher_of};
@@ -85,10 +85,11 @@ fn split_plain(value: &str) -> (&str, &str)
     (&value[..count], &value[count..])
 }
 
-/// How many bytes at the front are characters that print as they are.
+/// How many bytes at the front are characters that print as they are: all, up to the first that does not.
 fn plain_len(value: &[u8]) -> usize
     ensures within { result ≤ length value.now }
     ensures plain { All IsPlain (take result value.now) }
+    ensures whole { result < length value.now → ¬ IsPlain (slice_index value.now result) }
 {
     for (i, b) in value.iter().enumerate() {
         if !is_plain(*b) {
@@ -100,7 +101,7 @@ fn plain_len(value: &[u8]) -> usize
 
 /// Whether a byte is a character that prints as it is.
 fn is_plain(b: u8) -> bool
-    ensures { IsTrue result → IsPlain b }
+    ensures { IsTrue result ↔ IsPlain b }
 {
     matches!(b, b' '..=b'~') && !matches!(b, b'/' | b')' | b',' | b'\\')
 }
