@@ -15,7 +15,7 @@ holds() {
 
 holds "the list of docs/TRUST.md" scripts/trusted.py --check
 holds "the map of docs/PROOFS.md" scripts/map.py --check
-for check in clauses code calls links paths tables stored; do
+for check in clauses code crates calls links paths tables stored; do
     holds "$check of the pages" scripts/pages.py "$check"
 done
 [ "${1:-}" != --pages ] || finish

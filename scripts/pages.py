@@ -3,6 +3,7 @@
 
     scripts/pages.py clauses          each clause that a page quotes stands so in src/ of some crate
     scripts/pages.py code             each piece of Rust that a page quotes stands so in src/ of some crate
+    scripts/pages.py crates           each line of crates.txt that a page quotes stands there
     scripts/pages.py calls            docs/PROVED.md names each public function and each of its clauses that has a name
     scripts/pages.py links            each link between pages leads to a file, and to a heading of it
     scripts/pages.py paths            each file or folder that a page names is there
@@ -143,6 +144,18 @@ def check_code():
             if block.language == "rust":
                 is_there = any(squeezed(block.text) in source for source in known)
                 check.found(is_there, f"{page}, block at line {block.line}", "no source has this piece")
+    return check
+
+
+def check_crates():
+    """A line of a block that begins with the name of a crate and a colon is that crate's line."""
+    check, listed = Check("lines of crates.txt quoted"), text_of("crates.txt").splitlines()
+    for page in pages():
+        for block in blocks_of(page):
+            for line in block.text.splitlines():
+                name = re.match(r"(\w+): ", line)
+                if name and not block.language and (TOP / "crates" / name[1]).is_dir():
+                    check.found(line in listed, f"{page}, block at line {block.line}", f"crates.txt has no line {line}")
     return check
 
 
@@ -365,8 +378,8 @@ def check_shown(program):
 
 
 CHECKS = {
-    "clauses": check_clauses, "code": check_code, "calls": check_calls, "links": check_links, "paths": check_paths,
-    "tables": check_tables, "stored": check_stored, "shown": check_shown,
+    "clauses": check_clauses, "code": check_code, "crates": check_crates, "calls": check_calls,
+    "links": check_links, "paths": check_paths, "tables": check_tables, "stored": check_stored, "shown": check_shown,
 }
 
 
