@@ -114,13 +114,13 @@ fn known_groups(alloc: Global, names: Vec<String>) -> Result<KnownGroups, AllocE
 
 /// The report of filtersets, over these packages and groups, and about these binaries. It is the refusal of the default
 /// filter where the text is none.
-fn report_filtersets(
+fn report_filtersets<'a>(
     alloc: Global,
-    graph: &PackageGraph,
+    graph: &'a PackageGraph,
     known_groups: KnownGroups,
     default_filter: String,
     filtersets: Vec<FiltersetEntry>,
-    binaries: &[BinaryEntry],
+    binaries: &'a [BinaryEntry],
     command: Command,
 ) -> Result<(String, Outcome), AllocError>
     requires graph { MakeGraph graph.now }
@@ -143,7 +143,7 @@ fn report_filtersets(
                 parse_context,
                 known_groups,
                 eval_context: EvalContext::new(&default_filter.compiled),
-                lookup: RecordLookup { binaries },
+                lookup: RecordLookup::new(alloc, binaries)?,
             };
             report_sections(alloc, &setting, filtersets)
         }
