@@ -114,13 +114,13 @@ fn known_groups(alloc: Global, names: Vec<String>) -> Result<KnownGroups, AllocE
 
 /// The report of filtersets, over these packages and groups, and about these binaries. It is the refusal of the default
 /// filter where the text is none.
-fn report_filtersets<'a>(
+fn report_filtersets(
     alloc: Global,
-    graph: &'a PackageGraph,
+    graph: &PackageGraph,
     known_groups: KnownGroups,
     default_filter: String,
     filtersets: Vec<FiltersetEntry>,
-    binaries: &'a [BinaryEntry],
+    binaries: &[BinaryEntry],
     command: Command,
 ) -> Result<(String, Outcome), AllocError>
     requires graph { MakeGraph graph.now }
@@ -138,12 +138,13 @@ fn report_filtersets<'a>(
     let kind = FiltersetKind::DefaultFilter;
     match Filterset::parse(alloc, default_filter, &parse_context, kind, &known_groups) {
         Ok(default_filter) => {
+            let lookup = RecordLookup::new(alloc, binaries)?;
             let setting = Setting {
                 command,
                 parse_context,
                 known_groups,
                 eval_context: EvalContext::new(&default_filter.compiled),
-                lookup: RecordLookup::new(alloc, binaries)?,
+                lookup,
             };
             report_sections(alloc, &setting, filtersets)
         }
@@ -158,7 +159,7 @@ fn report_filtersets<'a>(
 /// The report of filtersets.
 fn report_sections(
     alloc: Global,
-    setting: &Setting<'_>,
+    setting: &Setting<'_, '_>,
     filtersets: Vec<FiltersetEntry>,
 ) -> Result<(String, Outcome), AllocError>
     requires { IsKnown setting.now.known_groups }

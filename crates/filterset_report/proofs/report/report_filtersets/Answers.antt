@@ -19,10 +19,10 @@ returns-in-Ok c =
     let background : Background = record {
       packages = packages;
       groups = c.args.known_groups;
-      default = default_of c.new-in-Ok.result;
+      default = default_of c.new-in-Ok-2.result;
       binaries = binaries;
     } in
-    let compiled = subst (λ (default : CompiledExpr). IsCompiled packages tree default) (sym c.new-in-Ok.ensures) c.in-Ok.ensures.compiled in
+    let compiled = subst (λ (default : CompiledExpr). IsCompiled packages tree default) (sym c.new-in-Ok-2.ensures) c.in-Ok.ensures.compiled in
     IfOk-weaker c.report_sections.result _ _ (λ made (all, sections, says) names are.
     let row : RecordRow = record {
       filtersets = map filterset_row c.args.filtersets.items;
