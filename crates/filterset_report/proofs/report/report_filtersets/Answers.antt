@@ -1,4 +1,4 @@
-use Rattle.std.proofs.Common.{map, refl, string_bytes, subst, sym}
+use Rattle.std.proofs.Common.{ap, map, string_bytes, subst, sym}
 use Rattle.std.proofs.lemmas.Result.{IfOk-weaker}
 use Rattle.filterset_language.specs.Views.{tree_of}
 use Rattle.nextest_filtering.specs.Compiling.{packages_of}
@@ -20,7 +20,7 @@ returns-in-Ok c =
       packages = packages;
       groups = c.args.known_groups;
       default = default_of c.new-in-Ok-2.result;
-      binaries = binaries;
+      binaries = map binary_row c.in_ok-lookup-in-Ok.lookup.binaries.now;
     } in
     let compiled = subst (λ (default : CompiledExpr). IsCompiled packages tree default) (sym c.new-in-Ok-2.ensures) c.in-Ok.ensures.compiled in
     IfOk-weaker c.report_sections.result _ _ (λ made (all, sections, says) names are.
@@ -36,5 +36,5 @@ returns-in-Ok c =
       packages = c.in_ok-parse_context.ensures;
       groups = are;
       default = (tree, c.in-Ok.ensures.accepted, compiled);
-      binaries = refl;
+      binaries = ap (map binary_row) c.in_ok-lookup-in-Ok.ensures;
     }) sections says) c.report_sections.ensures
