@@ -1,3 +1,4 @@
+pub mod Index
 pub mod Lookup
 pub mod Library
 pub mod Asking

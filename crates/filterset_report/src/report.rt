@@ -138,12 +138,13 @@ fn report_filtersets(
     let kind = FiltersetKind::DefaultFilter;
     match Filterset::parse(alloc, default_filter, &parse_context, kind, &known_groups) {
         Ok(default_filter) => {
+            let lookup = RecordLookup::new(alloc, binaries)?;
             let setting = Setting {
                 command,
                 parse_context,
                 known_groups,
                 eval_context: EvalContext::new(&default_filter.compiled),
-                lookup: RecordLookup { binaries },
+                lookup,
             };
             report_sections(alloc, &setting, filtersets)
         }
@@ -158,7 +159,7 @@ fn report_filtersets(
 /// The report of filtersets.
 fn report_sections(
     alloc: Global,
-    setting: &Setting<'_>,
+    setting: &Setting<'_, '_>,
     filtersets: Vec<FiltersetEntry>,
 ) -> Result<(String, Outcome), AllocError>
     requires { IsKnown setting.now.known_groups }

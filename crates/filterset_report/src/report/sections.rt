@@ -64,7 +64,7 @@ fn push_answers(
 fn push_accepted(
     lines: &mut String,
     alloc: Global,
-    setting: &Setting<'_>,
+    setting: &Setting<'_, '_>,
     index: usize,
     filterset: &Filterset,
 ) -> Result<(), AllocError>
@@ -98,7 +98,7 @@ fn push_formatted(lines: &mut String, index: usize, filterset: &Filterset) -> Re
 fn push_by_command(
     lines: &mut String,
     alloc: Global,
-    setting: &Setting<'_>,
+    setting: &Setting<'_, '_>,
     index: usize,
     filterset: &Filterset,
 ) -> Result<(), AllocError>
@@ -132,7 +132,7 @@ fn push_refused(
 fn push_section(
     lines: &mut String,
     alloc: Global,
-    setting: &Setting<'_>,
+    setting: &Setting<'_, '_>,
     index: usize,
     filterset: FiltersetEntry,
 ) -> Result<bool, AllocError>
@@ -160,7 +160,7 @@ fn push_section(
 pub fn push_sections(
     lines: &mut String,
     alloc: Global,
-    setting: &Setting<'_>,
+    setting: &Setting<'_, '_>,
     filtersets: Vec<FiltersetEntry>,
 ) -> Result<bool, AllocError>
     requires { IsKnown setting.now.known_groups }

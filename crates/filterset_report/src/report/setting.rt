@@ -8,12 +8,12 @@ use nextest_filtering::{BinaryQuery, EvalContext, KnownGroups, ParseContext, Tes
 
 /// What the filtersets of a record are read and asked with, and what is written of those that are accepted.
 #[derive(Debug, Drop)]
-pub struct Setting<'a> {
+pub struct Setting<'a, 'r> {
     pub command: Command,
     pub parse_context: ParseContext<'a>,
     pub known_groups: KnownGroups,
     pub eval_context: EvalContext<'a>,
-    pub lookup: RecordLookup<'a>,
+    pub lookup: RecordLookup<'r>,
 }
 
 /// The question about a binary.

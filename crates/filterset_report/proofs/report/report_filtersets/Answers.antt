@@ -1,4 +1,4 @@
-use Rattle.std.proofs.Common.{map, refl, string_bytes, subst, sym}
+use Rattle.std.proofs.Common.{ap, map, string_bytes, subst, sym}
 use Rattle.std.proofs.lemmas.Result.{IfOk-weaker}
 use Rattle.filterset_language.specs.Views.{tree_of}
 use Rattle.nextest_filtering.specs.Compiling.{packages_of}
@@ -19,10 +19,10 @@ returns-in-Ok c =
     let background : Background = record {
       packages = packages;
       groups = c.args.known_groups;
-      default = default_of c.new-in-Ok.result;
-      binaries = binaries;
+      default = default_of c.new-in-Ok-2.result;
+      binaries = map binary_row c.in_ok-lookup-in-Ok.lookup.binaries.now;
     } in
-    let compiled = subst (λ (default : CompiledExpr). IsCompiled packages tree default) (sym c.new-in-Ok.ensures) c.in-Ok.ensures.compiled in
+    let compiled = subst (λ (default : CompiledExpr). IsCompiled packages tree default) (sym c.new-in-Ok-2.ensures) c.in-Ok.ensures.compiled in
     IfOk-weaker c.report_sections.result _ _ (λ made (all, sections, says) names are.
     let row : RecordRow = record {
       filtersets = map filterset_row c.args.filtersets.items;
@@ -36,5 +36,5 @@ returns-in-Ok c =
       packages = c.in_ok-parse_context.ensures;
       groups = are;
       default = (tree, c.in-Ok.ensures.accepted, compiled);
-      binaries = refl;
+      binaries = ap (map binary_row) c.in_ok-lookup-in-Ok.ensures;
     }) sections says) c.report_sections.ensures
