@@ -5,4 +5,4 @@ use Rattle.filterset_sources.proofs.entry.VecEntry.read.Given as goal
 
 -- an entry for each value so far
 abbrev pub invariant-loop-at : goal.invariant-loop-at
-invariant-loop-at g l = Each g.T.Entry.stands_for (items_view (take l.at l.values.items)) l.all.items
+invariant-loop-at g l = Each g.T.Entry.stands_for (items_view (take l.at l.value-items)) l.all.items
