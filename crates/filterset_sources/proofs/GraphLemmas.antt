@@ -1,10 +1,10 @@
 -- Places of ids, and packages that are linked.
-use Rattle.std.proofs.Common.{◌≡◌, ℕ, zero, suc, ◌+◌, ◌<◌, ◌↔◌, ◌⊎◌, inl, inr, Bool, true, false, cond, List, [], ◌∷◌, length, get_or, map, take, Option, Some, None, is_some, refl, sym, ◌∙◌, ap, subst, arith}
+use Rattle.std.proofs.Common.{◌≡◌, ℕ, zero, suc, ◌+◌, ◌<◌, ◌≤◌, ◌↔◌, ◌⊎◌, inl, inr, Bool, true, false, cond, List, [], ◌∷◌, length, get_or, map, take, Option, Some, None, is_some, refl, sym, ◌∙◌, ap, subst, arith}
 use Rattle.std.specs.Prelude.{All, Contains, IsSome, IsTrue, slice_get}
 use Rattle.std.specs.BTreeMap.{BTreeMap}
 use Rattle.std.specs.Cmp.Lexicographic.{slice_cmp}
 use Rattle.std.specs.Ordering.{is_eq, nat_cmp}
-use Rattle.std.proofs.lemmas.List.{take_more, length-take-le}
+use Rattle.std.proofs.lemmas.List.{take_more, take_all, length-take-le}
 use Rattle.std.proofs.lemmas.List.Elements.{All-more}
 use Rattle.std.proofs.lemmas.Option.{none-some, slice_get-get_or, slice_get_within, get_or_from_slice_get}
 use Rattle.filterset_graph.specs.Index.{PositionsAre, index_of}
@@ -72,16 +72,24 @@ All-at P xs x h (k, lt, is) = subst P is (h k x lt)
 
 -- what holds of each does not hold of one alone
 pub All-not : {X : Type 0} (P : X → Type 0) (xs : List X) (i : ℕ) (x : X) → i < length xs → x ≡ get_or xs i x → (P x → ⊥) → All P xs → ⊥
-All-not P xs i x lt is no all = no (subst P (sym is) (all i x lt))
+All-not P xs i x lt is refuted all = refuted (subst P (sym is) (all i x lt))
 
 -- what holds of the elements so far and of the next
 pub All-next : {X : Type 0} (P : X → Type 0) (xs : List X) (i : ℕ) (x : X) → i < length xs → x ≡ get_or xs i x → All P (take i xs) → P x → All P (take (i + 1) xs)
 All-next P xs i x lt is all p = All-more P xs i x lt all (subst P is p)
 
+-- what holds of all elements holds of the one at a place
+pub All-here : {X : Type 0} (P : X → Type 0) (xs : List X) (i : ℕ) (x : X) → i < length xs → x ≡ get_or xs i x → All P xs → P x
+All-here P xs i x lt is all = subst P (sym is) (all i x lt)
+
+-- what holds of as many elements as there are
+pub All-done : {X : Type 0} (P : X → Type 0) (xs : List X) (i : ℕ) → length xs ≤ i → All P (take i xs) → All P xs
+All-done P xs i le all = subst (All P) (take_all i xs le) all
+
 -- a link that names no package is not among links that do
 pub unknown-link : (ps : List PackageMetadata) (owner link : ℕ) → IsUnknownLink ps owner link → LinksKnown ps → ⊥
-unknown-link ps owner link (p, id, at, here, no) known =
-    no (All-at (Contains (ids ps)) p.links.items id (All-at (λ (q : PackageMetadata). All (Contains (ids ps)) q.links.items) ps p known (Contains-from_place ps p owner at)) (Contains-from_place p.links.items id link here))
+unknown-link ps owner link (p, id, at, here, unknown) known =
+    unknown (All-at (Contains (ids ps)) p.links.items id (All-at (λ (q : PackageMetadata). All (Contains (ids ps)) q.links.items) ps p known (Contains-from_place ps p owner at)) (Contains-from_place p.links.items id link here))
 
 -- members and nodes that are known stand in the list, and the other way round
 pub members-Contained : (places : BTreeMap Text ℕ) (names members : List Text) → PositionsAre places names → All (IsKnown places) members → All (Contains names) members
@@ -154,3 +162,7 @@ whole-graph parts all whole graph =
       rw same whole.0,
       All-if (IsPlaced parts.members.items parts.resolve.nodes.items) (λ p. All (Contains (ids all)) p.links.items) all (λ p placed. rw same (links-known (ids parts.packages.items) parts.resolve.nodes.items p.id p.links.items whole.4 placed.1)) graph.1,
     )
+
+-- an id that was looked up and not found has no place
+pub not_known : (tested : Bool) (place : Option ℕ) → tested ≡ is_some place → tested ≡ false → is_some place ≡ true → ⊥
+not_known tested place looked missing found = absurd (cc (looked, missing, found))

@@ -1,5 +1,6 @@
 -- Lists and objects of entries, and refusals.
-use Rattle.std.proofs.Common.{◌≡◌, ℕ, zero, suc, ◌<◌, List, [], ◌∷◌, ◌++◌, length, get_or, map, arith, refl, string_bytes, Option, Some, None, Global, String, ap}
+use Rattle.std.proofs.Common.{◌≡◌, ℕ, zero, suc, ◌<◌, List, [], ◌∷◌, ◌++◌, length, get_or, map, arith, refl, string_bytes, Option, Some, None, Result, Ok, Err, Global, String, ap, subst, sym}
+use Rattle.std.specs.Prelude.{IfErr, IsErrAnd, OnOk}
 use Rattle.std.specs.Map as maps
 use Rattle.serde_json.specs.Data.{Data, null, boolean, number, string, array, object, Items, no_items, item, Members, no_members, member}
 use Rattle.serde_json.specs.Find.{as_object, as_array, get}
@@ -62,25 +63,39 @@ Refuses-if (OutOfMemory e) f h = tt
 Refuses-if (NotJson e) f h = absurd h
 Refuses-if (NotToml e) f h = absurd h
 
+-- a refusal that a `?` hands on
+pub handed_on : {T A B : Type 0} (r : Result T SourceRefusal) (e : SourceRefusal) → IsErrAnd r (λ y. y ≡ e) → (B → A) → Refuses A e → IfErr r (Refuses B)
+handed_on (Ok v) e same f h = absurd same
+handed_on {B} (Err y) e same f h = subst (Refuses B) (sym same) (Refuses-if e f h)
+
+-- the same of what a call returned
+pub OnOk-if : {T E : Type 0} {A B : Type 0} (r : Result T E) → (A → B) → OnOk r A → OnOk r B
+OnOk-if (Ok v) f h = f h
+OnOk-if (Err e) f h = tt
+
+pub Refused-if : {T A B : Type 0} (r : Result T SourceRefusal) → (B → A) → IfErr r (Refuses A) → IfErr r (Refuses B)
+Refused-if (Ok v) f h = tt
+Refused-if (Err e) f h = Refuses-if e f h
+
 -- what is wrong is refused where the fact does not hold
 pub Refuses-wrong : {A : Type 0} (r : SourceRefusal) (path : Text) (expected : Expected) → IsWrong r path expected → (A → ⊥) → Refuses A r
-Refuses-wrong (WrongValue w) path expected is no = no
-Refuses-wrong (OutOfMemory e) path expected is no = absurd is
-Refuses-wrong (NotJson e) path expected is no = absurd is
-Refuses-wrong (NotToml e) path expected is no = absurd is
+Refuses-wrong (WrongValue w) path expected is refuted = refuted
+Refuses-wrong (OutOfMemory e) path expected is refuted = absurd is
+Refuses-wrong (NotJson e) path expected is refuted = absurd is
+Refuses-wrong (NotToml e) path expected is refuted = absurd is
 
 pub Refuses-wrong_at : {A : Type 0} (r : SourceRefusal) (path : Text) (expected : Expected) → IsWrongOrMemory r path expected → (A → ⊥) → Refuses A r
-Refuses-wrong_at (WrongValue w) path expected is no = no
-Refuses-wrong_at (OutOfMemory e) path expected is no = tt
-Refuses-wrong_at (NotJson e) path expected is no = absurd is
-Refuses-wrong_at (NotToml e) path expected is no = absurd is
+Refuses-wrong_at (WrongValue w) path expected is refuted = refuted
+Refuses-wrong_at (OutOfMemory e) path expected is refuted = tt
+Refuses-wrong_at (NotJson e) path expected is refuted = absurd is
+Refuses-wrong_at (NotToml e) path expected is refuted = absurd is
 
 -- what is out of memory or wrong whatever holds is refused where the fact does not hold
 pub Refuses-no : {A : Type 0} (r : SourceRefusal) → Refuses ⊥ r → (A → ⊥) → Refuses A r
-Refuses-no (WrongValue w) h no = no
-Refuses-no (OutOfMemory e) h no = tt
-Refuses-no (NotJson e) h no = absurd h
-Refuses-no (NotToml e) h no = absurd h
+Refuses-no (WrongValue w) h refuted = refuted
+Refuses-no (OutOfMemory e) h refuted = tt
+Refuses-no (NotJson e) h refuted = absurd h
+Refuses-no (NotToml e) h refuted = absurd h
 
 -- a refusal that was told of the value round it refuses what the first refused
 pub Refuses-after : {A B : Type 0} (step : Step) (inner outer : SourceRefusal) → IsAfter step inner outer → (B → A) → Refuses A inner → Refuses B outer

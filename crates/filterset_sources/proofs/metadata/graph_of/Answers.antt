@@ -1,9 +1,13 @@
+use Rattle.filterset_graph.specs.Packages.{AllDiffer, IsFirstRepeat, IsFirstUnknownLink, ids}
 use Rattle.filterset_sources.proofs.ShapeLemmas.{Refuses-no}
 use Rattle.filterset_sources.proofs.GraphLemmas.{unknown-link}
 use Rattle.filterset_sources.proofs.metadata.graph_of.Goals as goal
 
 pub returns-in-Err-RepeatedId-clause-refused : goal.returns-in-Err-RepeatedId-clause-refused
-returns-in-Err-RepeatedId-clause-refused c = Refuses-no _ c.wrong_item.ensures (λ fact. fact.0 _ c.in-Err-RepeatedId.ensures.refused.0)
+returns-in-Err-RepeatedId-clause-refused c = Refuses-no _ c.wrong_item.ensures
+    (λ fact. let first : IsFirstRepeat (ids c.args.packages.items) c.in-Err-RepeatedId.at = c.in-Err-RepeatedId.ensures.refused in fact.0 _ first.0)
 
 pub returns-in-Err-UnknownLink-clause-refused : goal.returns-in-Err-UnknownLink-clause-refused
-returns-in-Err-UnknownLink-clause-refused c = Refuses-no _ c.wrong_link.ensures (λ fact. unknown-link _ _ _ c.in-Err-UnknownLink.ensures.refused.1.0 fact.1)
+returns-in-Err-UnknownLink-clause-refused c = Refuses-no _ c.wrong_link.ensures
+    (λ fact. let first : AllDiffer (ids c.args.packages.items) × IsFirstUnknownLink c.args.packages.items c.in-Err-UnknownLink.package c.in-Err-UnknownLink.link = c.in-Err-UnknownLink.ensures.refused in
+        unknown-link _ _ _ first.1.0 fact.1)
