@@ -1,11 +1,11 @@
 -- Places of ids, and packages that are linked.
-use Rattle.std.proofs.Common.{◌≡◌, ℕ, zero, suc, ◌+◌, ◌<◌, ◌≤◌, ◌↔◌, ◌⊎◌, inl, inr, Bool, true, false, cond, List, [], ◌∷◌, length, get_or, map, take, Option, Some, None, is_some, refl, sym, ◌∙◌, ap, subst, arith}
+use Rattle.std.proofs.Common.{◌≡◌, ℕ, zero, suc, ◌+◌, ◌<◌, ◌≤◌, ◌↔◌, ◌⊎◌, inl, inr, Bool, true, false, cond, List, [], ◌∷◌, ◌++◌, length, get_or, map, take, Option, Some, None, is_some, refl, sym, ◌∙◌, ap, subst, arith}
 use Rattle.std.specs.Prelude.{All, Contains, IsSome, IsTrue, slice_get}
 use Rattle.std.specs.BTreeMap.{BTreeMap}
 use Rattle.std.specs.Cmp.Lexicographic.{slice_cmp}
 use Rattle.std.specs.Ordering.{is_eq, nat_cmp}
-use Rattle.std.proofs.lemmas.List.{take_more, take_all, length-take-le}
-use Rattle.std.proofs.lemmas.List.Elements.{All-more}
+use Rattle.std.proofs.lemmas.List.{map-append, take_more, take_all, length-take-le}
+use Rattle.std.proofs.lemmas.List.Elements.{All-more, All-push}
 use Rattle.std.proofs.lemmas.Option.{none-some, slice_get-get_or, slice_get_within, get_or_from_slice_get}
 use Rattle.filterset_graph.specs.Index.{PositionsAre, index_of}
 use Rattle.filterset_graph.specs.Packages.{Text, AllDiffer, IsUnknownLink, LinksKnown, ids}
@@ -131,6 +131,13 @@ links-of_node places nodes id at node links placed found read are =
 pub links-of_none : (places : BTreeMap Text ℕ) (nodes : List Node) (id : Text) (links : List Text) → PositionsAre places (node_ids nodes) → index_of places id ≡ None → links ≡ [] → HasLinksOf nodes id links
 links-of_none places nodes id links placed none are =
     inr ((λ found. let k = place_from_Contains (node_ids nodes) id found in none-some k.0 (sym none ∙ (placed id k.0).1 k.1)), are)
+
+-- one more package that is linked
+pub linked_push : (members : BTreeMap Text ℕ) (nodes : List Node) (all yielded : List PackageMetadata) (p q : PackageMetadata) → AreLinked members nodes yielded all → itself q ≡ itself p → IsLinkedAs members nodes q → AreLinked members nodes (yielded ++ p ∷ []) (all ++ q ∷ [])
+linked_push members nodes all yielded p q h same linked = (
+  map-append itself all (q ∷ []) ∙ ap (λ t. t ++ itself q ∷ []) h.0 ∙ ap (λ e. map itself yielded ++ e ∷ []) same ∙ sym (map-append itself yielded (p ∷ [])),
+  All-push (IsLinkedAs members nodes) all q h.1 linked,
+)
 
 -- packages that are linked are a graph of the parts
 linked-placed : (members : BTreeMap Text ℕ) (names : List Text) (nodes : List Node) → PositionsAre members names → (p : PackageMetadata) → IsLinkedAs members nodes p → IsPlaced names nodes p
