@@ -2,7 +2,7 @@ use Rattle.std.proofs.Common.{subst, sym}
 use Rattle.std.proofs.lemmas.Result.{IfOk-weaker}
 use Rattle.filterset_graph.specs.Packages.{ids}
 use Rattle.filterset_graph.proofs.Rows.{PositionsAre-AllDiffer}
-use Rattle.filterset_sources.specs.Metadata.{IsGraphOf}
+use Rattle.filterset_sources.specs.Metadata.{IsGraphOf, IsWhole}
 use Rattle.filterset_sources.proofs.GraphLemmas.{linked-graph, members-Contained, members-Known, nodes-Contained, nodes-Known, whole-graph}
 use Rattle.filterset_sources.proofs.ShapeLemmas.{Refused-if, handed_on}
 use Rattle.filterset_sources.proofs.metadata.joined.Goals as goal
@@ -43,7 +43,7 @@ returns-clause-ok c =
     let placed = rw (c.as_slice-2.ensures.value, c.in_ok-ids.ensures, c.as_slice.ensures.value) at c.in_ok-known.ensures.ok in
     let members = rw c.as_slice-4.ensures.value at c.in_ok-members.ensures.ok in
     let nodes = rw (c.as_slice-5.ensures.value, c.in_ok-ids-2.ensures, c.as_slice-nodes.ensures.value) at c.in_ok-places.ensures.ok in
-    let whole = (
+    let whole : IsWhole parts = (
       PositionsAre-AllDiffer c.in_ok-known.known names placed,
       PositionsAre-AllDiffer c.in_ok-members.members parts.members.items members,
       PositionsAre-AllDiffer c.in_ok-places.places _ nodes,
