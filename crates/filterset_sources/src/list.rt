@@ -7,6 +7,7 @@ ghost use Rattle.filterset_sources.specs.Shape.{EachMember, Optional, keys_of};
 ghost use Rattle.filterset_sources.specs.Suites.{IsOfPackage, IsStatus, IsSuite, IsTestList};
 ghost use Rattle.filterset_sources.specs.declared.list.SuiteStatus as statuses;
 ghost use Rattle.filterset_sources.specs.declared.list.Suite as suites;
+ghost use Rattle.filterset_sources.specs.declared.list.TestList as lists;
 
 use crate::entry::{Entry, required};
 use crate::refusal::{Expected, SourceRefusal, Step};
@@ -178,7 +179,8 @@ pub struct TestList {
 /// The suites of what `cargo nextest list --message-format json` writes. Keys that are not looked at are passed over.
 pub fn read_test_list(alloc: Global, value: &Value) -> Result<TestList, SourceRefusal>
     ensures read { IfOk result (λ list. IsTestList (view value.now) list.suites.items) }
-    ensures refused { IfErr result (Refuses ((all : List suites.Suite) × IsTestList (view value.now) all)) }
+    ensures refused { IfErr result (Refuses ((list : lists.TestList)
+        × IsTestList (view value.now) list.suites.items)) }
 {
     let read: Suites = required(alloc, value, "rust-suites")?;
     Ok(TestList {

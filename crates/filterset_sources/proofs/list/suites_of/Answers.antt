@@ -3,6 +3,7 @@ use Rattle.serde_json.specs.View.{members_view}
 use Rattle.serde_json.proofs.Views.{Entry}
 use Rattle.filterset_sources.specs.Shape.{EachMember}
 use Rattle.filterset_sources.specs.Suites.{IsSuite}
+use Rattle.filterset_sources.specs.declared.refusal.Step.TheVariants.{Key}
 use Rattle.filterset_sources.proofs.ShapeLemmas.{EachMember-at, EachMember-push, Refuses-after}
 use Rattle.filterset_sources.proofs.list.suites_of.Goals as goal
 
@@ -22,6 +23,6 @@ returns-in-Err-clause-refused c =
     let e : Entry = (c.in-Some.key.now, c.in-Some.value.now) in
     let step : c.loop-key.key-iterator ≡ e ∷ c.next.new.self = search (rules, c.in-Some.ensures.steps) in
     let are = c.loop-key.invariant.1 ∙ ap (λ t. done ++ t) step in
-    Refuses-after _ c.in-Err.refusal c.after.result c.after.ensures
+    Refuses-after (Key c.as_str.result) c.in-Err.refusal c.after.result c.after.ensures
     (λ fact. EachMember-at IsSuite done e c.next.new.self fact.0 (subst (λ es. EachMember IsSuite (members_view es) fact.0) are fact.1))
     c.in-Err.ensures.refused
