@@ -1,6 +1,6 @@
 -- Places of ids, and packages that are linked.
 use Rattle.std.proofs.Common.{◌≡◌, ℕ, zero, suc, ◌+◌, ◌<◌, ◌≤◌, ◌↔◌, ◌⊎◌, inl, inr, Bool, true, false, cond, List, [], ◌∷◌, ◌++◌, length, get_or, map, take, Option, Some, None, is_some, refl, sym, ◌∙◌, ap, subst, arith}
-use Rattle.std.specs.Prelude.{All, Contains, IsSome, IsTrue, slice_get}
+use Rattle.std.specs.Prelude.{All, Contains, IsSome, IsTrue, MatchOption, not, slice_get}
 use Rattle.std.specs.BTreeMap.{BTreeMap}
 use Rattle.std.specs.Cmp.Lexicographic.{slice_cmp}
 use Rattle.std.specs.Ordering.{is_eq, nat_cmp}
@@ -173,3 +173,20 @@ whole-graph parts all whole graph =
 -- an id that was looked up and not found has no place
 pub not_known : (tested : Bool) (place : Option ℕ) → tested ≡ is_some place → tested ≡ false → is_some place ≡ true → ⊥
 not_known tested place looked missing found = absurd (cc (looked, missing, found))
+
+-- what an answer that may be missing says
+pub missing_says : {X : Type 0} (o : Option X) (N : Type 0) (P : X → Type 0) (tested : Bool) → MatchOption o N P → is_some o ≡ not tested → tested ≡ true → N
+missing_says None N P tested says looked is = says
+missing_says (Some x) N P true says looked is = absurd (cc looked)
+missing_says (Some x) N P false says looked is = absurd (cc is)
+
+pub found_says : {X : Type 0} (o : Option X) (N : Type 0) (P : X → Type 0) (tested : Bool) → MatchOption o N P → is_some o ≡ not tested → tested ≡ false → (x : X) × P x
+found_says None N P true says looked is = absurd (cc is)
+found_says None N P false says looked is = absurd (cc looked)
+found_says (Some x) N P tested says looked is = (x, says)
+
+-- the id of a package is among the ids
+pub Contains-id : (ps : List PackageMetadata) (p : PackageMetadata) (id : Text) → Contains ps p → p.id ≡ id → Contains (ids ps) id
+Contains-id ps p id found same =
+    let k = place_from_Contains ps p found in
+    Contains-from_place (ids ps) id k.0 (mapped_at (λ (q : PackageMetadata). q.id) ps k.0 p k.1 ∙ ap Some same)
