@@ -2,7 +2,7 @@
 use Rattle.std.specs.Prelude.{◌≡◌, ◌↔◌, ◌⊎◌, ℕ, List, [], ◌∷◌, All, Contains, IsSome, IsTrue, String, Vec, codes, map, string_bytes}
 use Rattle.std.specs.BTreeMap.{BTreeMap}
 use Rattle.std.specs.Global.{Global}
-use Rattle.serde_json.specs.Data.{Data}
+use Rattle.serde_json.specs.Data.{Data, Items, array}
 use Rattle.filterset_graph.specs.Index.{index_of}
 use Rattle.filterset_graph.specs.Packages.{ids, AllDiffer}
 use Rattle.filterset_graph.specs.declared.package.BuildTarget.{BuildTarget}
@@ -10,7 +10,7 @@ use Rattle.filterset_graph.specs.declared.package.BuildTargetId.{BuildTargetId}
 use Rattle.filterset_graph.specs.declared.package.BuildTargetId.TheVariants.{Library, Binary, Example, Test, Benchmark, BuildScript}
 use Rattle.filterset_graph.specs.declared.package.PackageMetadata.{PackageMetadata}
 use Rattle.filterset_sources.specs.Refusals.{Refuses}
-use Rattle.filterset_sources.specs.Shape.{Text, IsText, IsListOf, Required}
+use Rattle.filterset_sources.specs.Shape.{Text, IsText, Each, IsListOf, Required}
 use Rattle.filterset_sources.specs.declared.refusal.SourceRefusal.{SourceRefusal}
 use Rattle.filterset_sources.specs.declared.metadata.parts.Dependency.{Dependency}
 use Rattle.filterset_sources.specs.declared.metadata.parts.Node.{Node}
@@ -32,8 +32,12 @@ IsOfKinds [] id = ⊥
 IsOfKinds (kind ∷ []) id = IsNamed kind id ⊎ ((id ≡ Library) × ((other : BuildTargetId) → ¬ IsNamed kind other))
 IsOfKinds (kind ∷ next ∷ rest) id = id ≡ Library
 
+-- the items are the kinds of such a target
+abbrev pub AreKinds : Items → BuildTargetId → Type 0
+AreKinds ds id = (kinds : List Text) × Each IsText ds kinds × IsOfKinds kinds id
+
 abbrev pub IsTargetKind : Data → BuildTargetId → Type 0
-IsTargetKind d id = (kinds : List Text) × IsListOf IsText d kinds × IsOfKinds kinds id
+IsTargetKind d id = (ds : Items) × (d ≡ array ds) × AreKinds ds id
 
 abbrev pub IsTarget : Data → BuildTarget → Type 0
 IsTarget d target =

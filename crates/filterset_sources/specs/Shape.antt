@@ -11,6 +11,10 @@ Text = List ℕ
 abbrev pub IsText : Data → Text → Type 0
 IsText d text = d ≡ string text
 
+-- the value is a text
+abbrev pub IsAnyText : Data → Type 0
+IsAnyText d = (text : Text) × IsText d text
+
 -- P holds of each item and the entry at its place, and there are as many of both
 abbrev pub Each : {A : Type 0} → (Data → A → Type 0) → Items → List A → Type 0
 Each P no_items [] = Unit {0}

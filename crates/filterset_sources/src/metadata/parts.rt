@@ -1,9 +1,13 @@
 //! The parts of what `cargo metadata` writes.
-ghost use Rattle.std.specs.Prelude.{◌∷◌, []};
-ghost use Rattle.filterset_sources.specs.Metadata.{IsOfKinds};
+ghost use Rattle.std.specs.Prelude.{◌∷◌, [], All, IfErr, IfOk, OnOk};
+ghost use Rattle.serde_json.specs.View.{items_view, view};
+ghost use Rattle.filterset_graph.specs.declared.package.BuildTargetId as targets;
+ghost use Rattle.filterset_sources.specs.Metadata.{AreKinds, IsOfKinds};
+ghost use Rattle.filterset_sources.specs.Refusals.{Refuses};
+ghost use Rattle.filterset_sources.specs.Shape.{IsAnyText};
 
-use crate::entry::{Entry, required};
-use crate::refusal::{Expected, SourceRefusal};
+use crate::entry::{Entry, required, text_of};
+use crate::refusal::{Expected, SourceRefusal, Step};
 use filterset_graph::{BuildTarget, BuildTargetId, PackageId, PackageMetadata};
 use serde_json::Value;
 use std::alloc::Global;
@@ -22,6 +26,39 @@ fn target_of(kind: &str) -> BuildTargetId
     }
 }
 
+/// Refuses a list of which an item is no text.
+fn check_texts(alloc: Global, values: &[Value]) -> Result<(), SourceRefusal>
+    ensures ok { OnOk result (All (λ v. IsAnyText (view v)) values.now) }
+    ensures refused { IfErr result (Refuses (All (λ v. IsAnyText (view v)) values.now)) }
+{
+    for (at, value) in values.iter().enumerate() {
+        match text_of(alloc, value) {
+            Ok(_) => {}
+            Err(refusal) => return Err(refusal.after(alloc, Step::Item(at))),
+        }
+    }
+    Ok(())
+}
+
+/// What a target of these kinds is. Only libraries may have several.
+fn kind_of(alloc: Global, kinds: &[Value]) -> Result<BuildTargetId, SourceRefusal>
+    ensures read { IfOk result (λ id. AreKinds (items_view kinds.now) id) }
+    ensures refused { IfErr result (Refuses ((id : targets.BuildTargetId)
+        × AreKinds (items_view kinds.now) id)) }
+{
+    match kinds {
+        [] => Err(SourceRefusal::wrong(alloc, Expected::Texts)),
+        [kind] => match text_of(alloc, kind) {
+            Ok(text) => Ok(target_of(text)),
+            Err(refusal) => Err(refusal.after(alloc, Step::Item(0))),
+        },
+        _ => {
+            check_texts(alloc, kinds)?;
+            Ok(BuildTargetId::Library)
+        }
+    }
+}
+
 impl Entry for BuildTargetId {
     ghost use Rattle.filterset_sources.specs.Metadata.{IsTargetKind};
 
@@ -32,11 +69,9 @@ impl Entry for BuildTargetId {
     }
 
     fn read(alloc: Global, value: &Value) -> Result<BuildTargetId, SourceRefusal> {
-        let kinds: Vec<String> = Entry::read(alloc, value)?;
-        match kinds.as_slice() {
-            [] => Err(SourceRefusal::wrong(alloc, Expected::Texts)),
-            [kind] => Ok(target_of(kind.as_str())),
-            _ => Ok(BuildTargetId::Library),
+        match value.as_array() {
+            Some(kinds) => kind_of(alloc, kinds.as_slice()),
+            None => Err(SourceRefusal::wrong(alloc, Expected::List)),
         }
     }
 }
