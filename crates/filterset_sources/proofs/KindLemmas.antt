@@ -15,15 +15,10 @@ texts_of [] h = ([], tt)
 texts_of (v ∷ vs) h =
     let first : IsAnyText (view v) = h zero v (omega arith) in
     let rest = texts_of vs (λ j e less. h (suc j) e (omega (arith, less))) in
-    (first.0 ∷ rest.0, first.1, rest.1)
+    (first.0 ∷ rest.0, (first.1, rest.1))
 
 pub all_texts : (vs : List Value) (id : BuildTargetId) → AreKinds (items_view vs) id → All (λ v. IsAnyText (view v)) vs
 all_texts vs id (texts, each, are) = λ k d less. Each-at IsText vs texts k d less each
-
-pub no_kinds : (vs : List Value) → length vs < 1 → ((id : BuildTargetId) × AreKinds (items_view vs) id) → ⊥
-no_kinds [] short (id, [], each, are) = are
-no_kinds [] short (id, t ∷ ts, each, are) = each
-no_kinds (v ∷ vs) short fact = absurd (omega (arith, short))
 
 pub one_kind : (vs : List Value) (k : Value) (text : Text) (id : BuildTargetId) → 1 ≤ length vs → length vs < 2 → k ≡ get_or vs 0 k → IsText (view k) text → IsOfKinds (text ∷ []) id → AreKinds (items_view vs) id
 one_kind [] k text id long short is told of = absurd (omega (arith, long))
@@ -40,4 +35,4 @@ many_kinds (v ∷ w ∷ vs) long all =
     let first : IsAnyText (view v) = all zero v (omega arith) in
     let second : IsAnyText (view w) = all 1 w (omega arith) in
     let rest = texts_of vs (λ j e less. all (suc (suc j)) e (omega (arith, less))) in
-    (first.0 ∷ second.0 ∷ rest.0, (first.1, second.1, rest.1), refl)
+    (first.0 ∷ second.0 ∷ rest.0, (first.1, (second.1, rest.1)), refl)
