@@ -1,4 +1,3 @@
 pub mod ShapeLemmas
 pub mod GraphLemmas
-pub mod ConfigLemmas
 pub mod KindLemmas

@@ -3,4 +3,3 @@ pub mod Paths
 pub mod Refusals
 pub mod Metadata
 pub mod Suites
-pub mod Configured

@@ -31,15 +31,3 @@ joint (b ∷ bs) = if b == 91 then [] else codes "."
 -- the path that begins with a step
 abbrev pub joined : Text → Text → Text
 joined step rest = step ++ (joint rest ++ rest)
-
--- the path that goes on to what stands under a key, and to an item of a list
-abbrev pub under_key : Text → Text → Text
-under_key path key = path ++ (codes "." ++ key_text key)
-
-abbrev pub at_item : Text → ℕ → Text
-at_item path at = path ++ (codes "[" ++ (decimal at ++ codes "]"))
-
--- the path that goes on by a step
-abbrev pub extended : Text → Step → Text
-extended path (Key key) = under_key path key.now
-extended path (Item at) = at_item path at

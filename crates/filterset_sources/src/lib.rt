@@ -1,13 +1,11 @@
-//! Reading what people have: what `cargo metadata` and `cargo nextest list` write, and nextest's configuration.
+//! Reading what people have: what `cargo metadata` and `cargo nextest list` write.
 #![tactic(auto)]
 
-mod config;
 mod entry;
 mod list;
 mod metadata;
 mod refusal;
 
-pub use config::{Configuration, ConfiguredFilterset, read_configuration};
 pub use entry::read_json;
 pub use list::{Suite, SuiteStatus, TestList, check_packages, read_test_list};
 pub use metadata::read_metadata;

@@ -1,7 +1,7 @@
 //! Why a file is refused.
 ghost use Rattle.std.specs.Prelude.{◌≡◌, ◌++◌, IfOk, string_bytes};
 ghost use Rattle.std.specs.List.{list_all};
-ghost use Rattle.filterset_sources.specs.Paths.{extended, is_bare, is_bare_byte, joined, joint, step_text};
+ghost use Rattle.filterset_sources.specs.Paths.{is_bare, is_bare_byte, joined, joint, step_text};
 
 use std::alloc::{AllocError, AllocFailed, Global};
 use std::fmt;
@@ -14,8 +14,6 @@ pub enum Expected {
     /// A list of texts that is not empty.
     Texts,
     Object,
-    /// A table of TOML.
-    Table,
     /// The graph of dependencies, which is null where cargo was told to leave it out.
     Graph,
     /// An id of a package that no package before it has.
@@ -35,7 +33,6 @@ impl fmt::Display for Expected {
             Expected::List => "a list",
             Expected::Texts => "a list of at least one text",
             Expected::Object => "an object",
-            Expected::Table => "a table",
             Expected::Graph => "an object: `cargo metadata` writes it without `--no-deps`",
             Expected::OwnId => "an id that no package before it has",
             Expected::PackageId => "the id of one of the packages",
@@ -70,8 +67,6 @@ impl fmt::Display for WrongValue {
 pub enum SourceRefusal {
     /// The text is no JSON.
     NotJson(serde_json::Error),
-    /// The text is no TOML.
-    NotToml(toml::de::Error),
     /// A value is wrong or missing.
     WrongValue(WrongValue),
     /// Says nothing of the file.
@@ -82,7 +77,6 @@ impl fmt::Display for SourceRefusal {
     fn fmt<W: fmt::Write>(&self, f: &mut fmt::Formatter<W>) -> fmt::Result {
         match self {
             SourceRefusal::NotJson(error) => write!(f, "not JSON: {error}"),
-            SourceRefusal::NotToml(error) => write!(f, "not TOML: {error}"),
             SourceRefusal::WrongValue(wrong) => write!(f, "{wrong}"),
             SourceRefusal::OutOfMemory(_) => f.write_str("out of memory"),
         }
@@ -145,19 +139,6 @@ fn step_text(alloc: Global, step: Step<'_>) -> Result<String, AllocError>
     }
 }
 
-/// The path to which a step is added.
-pub fn extended(alloc: Global, path: &str, step: Step<'_>) -> Result<String, AllocError>
-    ensures { IfOk result (λ longer. string_bytes longer ≡ extended path.now step.entry) }
-{
-    let step_text = step_text(alloc, step)?;
-    let mut longer = String::from_str(alloc, path)?;
-    if matches!(step, Step::Key(_)) {
-        longer.push('.')?;
-    }
-    longer.push_str(step_text.as_str())?;
-    Ok(longer)
-}
-
 /// What stands between a step and the rest of a path.
 fn joint(rest: &str) -> &'static str
     ensures { result.now ≡ joint rest.now }
@@ -180,7 +161,7 @@ fn joined(alloc: Global, step: Step<'_>, rest: &str) -> Result<String, AllocErro
 
 impl SourceRefusal {
     ghost use Rattle.std.specs.Prelude.{[]};
-    ghost use Rattle.filterset_sources.specs.Refusals.{IsAfter, IsWrong, IsWrongOrMemory};
+    ghost use Rattle.filterset_sources.specs.Refusals.{IsAfter, IsWrong};
 
     /// A whole value is wrong.
     pub(crate) fn wrong(alloc: Global, expected: Expected) -> SourceRefusal
@@ -190,16 +171,6 @@ impl SourceRefusal {
             path: String::new(alloc),
             expected,
         })
-    }
-
-    /// The value at this path is wrong.
-    pub(crate) fn wrong_at(alloc: Global, path: &str, expected: Expected) -> SourceRefusal
-        ensures { IsWrongOrMemory result path.now expected }
-    {
-        match String::from_str(alloc, path) {
-            Ok(path) => SourceRefusal::WrongValue(WrongValue { path, expected }),
-            Err(refused) => SourceRefusal::OutOfMemory(refused),
-        }
     }
 
     /// The refusal of a value to which this step leads, told of the value in which it stands.

@@ -2,12 +2,10 @@
 //! Wanted lines are worked out by hand from the files, and none is taken from what the library gives.
 #![tactic(auto)]
 
-mod said;
-#[cfg(test)]
-mod configurations;
 #[cfg(test)]
 mod lists;
 #[cfg(test)]
 mod metadata;
 #[cfg(test)]
 mod rows;
+mod said;

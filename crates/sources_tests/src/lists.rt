@@ -5,7 +5,10 @@ use std::test::Fail;
 
 /// Files, right and wrong.
 const ROWS: &[Row<'static>] = &[
-    (r#"{"rust-build-meta":{},"test-count":0,"rust-suites":{}}"#, ""),
+    (
+        r#"{"rust-build-meta":{},"test-count":0,"rust-suites":{}}"#,
+        "",
+    ),
     (
         r#"{"test-count":2,"rust-suites":{
             "a::t":{"package-name":"a","binary-id":"a::t","binary-name":"t","package-id":"A","kind":"test",
@@ -27,8 +30,14 @@ d D d lib target x\n",
     ("7", "the file must be an object"),
     ("{}", "`rust-suites` must be an object"),
     (r#"{"rust-suites":[]}"#, "`rust-suites` must be an object"),
-    (r#"{"rust-suites":{"a":1}}"#, "`rust-suites.a` must be an object"),
-    (r#"{"rust-suites":{"a::t":{}}}"#, "`rust-suites.\"a::t\".package-id` must be a text"),
+    (
+        r#"{"rust-suites":{"a":1}}"#,
+        "`rust-suites.a` must be an object",
+    ),
+    (
+        r#"{"rust-suites":{"a::t":{}}}"#,
+        "`rust-suites.\"a::t\".package-id` must be a text",
+    ),
     (
         r#"{"rust-suites":{"a":{"package-id":"A","binary-id":7}}}"#,
         "`rust-suites.a.binary-id` must be a text",
@@ -67,15 +76,18 @@ fn reads_lists(rt: HostRuntime) -> Result<(), Fail> {
 }
 
 /// Metadata with the package `A`.
-const METADATA: &str = r#"{"packages":[{"id":"A","name":"a","targets":[]}],"workspace_members":["A"],
+const METADATA: &str =
+    r#"{"packages":[{"id":"A","name":"a","targets":[]}],"workspace_members":["A"],
     "resolve":{"nodes":[{"id":"A","deps":[]}]}}"#;
 
 /// A list with a suite of this package.
-const OF_A: &str = r#"{"rust-suites":{"a":{"package-id":"A","binary-id":"a","binary-name":"a","kind":"lib",
+const OF_A: &str =
+    r#"{"rust-suites":{"a":{"package-id":"A","binary-id":"a","binary-name":"a","kind":"lib",
     "build-platform":"target","testcases":{}}}}"#;
 
 /// A list with a suite of another package.
-const OF_B: &str = r#"{"rust-suites":{"b::t":{"package-id":"B","binary-id":"b::t","binary-name":"t","kind":"test",
+const OF_B: &str =
+    r#"{"rust-suites":{"b::t":{"package-id":"B","binary-id":"b::t","binary-name":"t","kind":"test",
     "build-platform":"target","testcases":{}}}}"#;
 
 #[test]

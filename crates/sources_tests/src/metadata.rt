@@ -33,9 +33,18 @@ z Z\n",
     ("{}", "`packages` must be a list"),
     (r#"{"packages":{}}"#, "`packages` must be a list"),
     (r#"{"packages":[7]}"#, "`packages[0]` must be an object"),
-    (r#"{"packages":[{"id":7}]}"#, "`packages[0].id` must be a text"),
-    (r#"{"packages":[{"id":"A"}]}"#, "`packages[0].name` must be a text"),
-    (r#"{"packages":[{"id":"A","name":"a"}]}"#, "`packages[0].targets` must be a list"),
+    (
+        r#"{"packages":[{"id":7}]}"#,
+        "`packages[0].id` must be a text",
+    ),
+    (
+        r#"{"packages":[{"id":"A"}]}"#,
+        "`packages[0].name` must be a text",
+    ),
+    (
+        r#"{"packages":[{"id":"A","name":"a"}]}"#,
+        "`packages[0].targets` must be a list",
+    ),
     (
         r#"{"packages":[{"id":"A","name":"a","targets":[]},{"id":"B","name":"b","targets":[{"name":"b","kind":"lib"}]}]}"#,
         "`packages[1].targets[0].kind` must be a list",

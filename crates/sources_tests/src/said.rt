@@ -2,8 +2,8 @@
 
 use filterset_graph::{BuildTargetId, PackageGraph, PackageMetadata};
 use filterset_sources::{
-    Configuration, SourceRefusal, Suite, SuiteStatus, TestList, check_packages, read_configuration,
-    read_json, read_metadata, read_test_list,
+    SourceRefusal, Suite, SuiteStatus, TestList, check_packages, read_json, read_metadata,
+    read_test_list,
 };
 use std::alloc::{AllocError, Global};
 use std::fmt::Write;
@@ -62,7 +62,11 @@ pub fn metadata_said(alloc: Global, text: &str) -> Result<String, AllocError> {
 /// Adds a line of a suite.
 fn push_suite(said: &mut String, suite: &Suite) -> Result<(), AllocError> {
     let (id, package) = (suite.binary_id.as_str(), suite.package_id.repr());
-    let (name, kind, platform) = (suite.binary_name.as_str(), suite.kind.as_str(), suite.platform);
+    let (name, kind, platform) = (
+        suite.binary_name.as_str(),
+        suite.kind.as_str(),
+        suite.platform,
+    );
     write!(said, "{id} {package} {name} {kind} {platform}")?;
     if suite.status == SuiteStatus::Skipped {
         said.push_str(" skipped")?;
@@ -97,30 +101,6 @@ pub fn packages_said(
     let mut said = String::new(alloc);
     if let Err(refusal) = check_packages(alloc, list, graph) {
         write!(said, "{refusal}")?;
-    }
-    Ok(said)
-}
-
-/// Adds a line for each filterset, and one for each group.
-fn push_configuration(said: &mut String, read: &Configuration) -> Result<(), AllocError> {
-    for filterset in &read.filtersets {
-        let (path, text) = (filterset.path.as_str(), filterset.text.as_str());
-        let kind = filterset.kind;
-        writeln!(said, "{path} {kind} {text}")?;
-    }
-    for group in &read.groups {
-        let group = group.as_str();
-        writeln!(said, "group {group}")?;
-    }
-    Ok(())
-}
-
-/// A line for each filterset and for each group, or what the file is refused with.
-pub fn configuration_said(alloc: Global, text: &str) -> Result<String, AllocError> {
-    let mut said = String::new(alloc);
-    match read_configuration(alloc, text) {
-        Ok(read) => push_configuration(&mut said, &read)?,
-        Err(refusal) => write!(said, "{refusal}")?,
     }
     Ok(said)
 }

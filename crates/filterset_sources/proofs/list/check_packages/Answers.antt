@@ -8,7 +8,7 @@ use Rattle.filterset_sources.proofs.list.check_packages.Goals as goal
 pub returns-then-is_none-clause-refused : goal.returns-then-is_none-clause-refused
 returns-then-is_none-clause-refused c = Refuses-no _ c.unknown_package.ensures
     (All-not (IsOfPackage (ids c.args.graph.now)) c.args.list.now.suites.items c.loop-suite.suite-index c.suite-item.result (rw c.deref-suite-items.ensures.value at c.loop-suite-test.true) (rw c.deref-suite-items.ensures.value at c.suite-item.is)
-        (missing_says c.metadata.result _ _ c.is_none.result c.metadata.ensures c.is_none.ensures c.if-is_none.true))
+    (missing_says c.metadata.result _ _ c.is_none.result c.metadata.ensures c.is_none.ensures c.if-is_none.true))
 
 pub loop-suite-preserved : goal.loop-suite-preserved
 loop-suite-preserved c =

@@ -11,4 +11,4 @@ returns-in-Err-RepeatedId-clause-refused c = Refuses-no _ c.wrong_item.ensures
 pub returns-in-Err-UnknownLink-clause-refused : goal.returns-in-Err-UnknownLink-clause-refused
 returns-in-Err-UnknownLink-clause-refused c = Refuses-no _ c.wrong_link.ensures
     (λ fact. let first : AllDiffer (ids c.args.packages.items) × IsFirstUnknownLink c.args.packages.items c.in-Err-UnknownLink.package c.in-Err-UnknownLink.link = rw c.in-Err-UnknownLink.field-0-is at c.in-Err-UnknownLink.ensures.refused in
-        unknown-link _ _ _ first.1.0 fact.1)
+    unknown-link _ _ _ first.1.0 fact.1)

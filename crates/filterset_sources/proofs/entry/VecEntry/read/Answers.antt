@@ -16,11 +16,11 @@ returns-in-Err-clause-refused g c =
     let is : get_or values i item ≡ item = search (rules, c.value-item.is) in
     Refuses-after (Item i) c.in-Err.refusal c.after.result c.after.ensures
     (λ fact.
-        let list : IsListOf g.T.Entry.stands_for (view c.args.value.now) fact.0.items = fact.1 in
-        let same : items_view values ≡ list.0 = same_Some _ _ (rw (list.1, ← c.deref-value-items.ensures.value) at c.in-Some.ensures) in
-        let each : Each g.T.Entry.stands_for (items_view values) fact.0.items = rw same list.2 in
-        let found = Each-at g.T.Entry.stands_for values fact.0.items i item lt each in
-        (found.0, rw is at found.1))
+    let list : IsListOf g.T.Entry.stands_for (view c.args.value.now) fact.0.items = fact.1 in
+    let same : items_view values ≡ list.0 = same_Some _ _ (rw (list.1, ← c.deref-value-items.ensures.value) at c.in-Some.ensures) in
+    let each : Each g.T.Entry.stands_for (items_view values) fact.0.items = rw same list.2 in
+    let found = Each-at g.T.Entry.stands_for values fact.0.items i item lt each in
+    (found.0, rw is at found.1))
     c.in-Err.ensures.refused
 
 pub loop-at-preserved : goal.loop-at-preserved
