@@ -1,0 +1,192 @@
+-- Places of ids, and packages that are linked.
+use Rattle.std.proofs.Common.{◌≡◌, ℕ, zero, suc, ◌+◌, ◌<◌, ◌≤◌, ◌↔◌, ◌⊎◌, inl, inr, Bool, true, false, cond, List, [], ◌∷◌, ◌++◌, length, get_or, map, take, Option, Some, None, is_some, refl, sym, ◌∙◌, ap, subst, arith}
+use Rattle.std.specs.Prelude.{All, Contains, IsSome, IsTrue, MatchOption, not, slice_get}
+use Rattle.std.specs.BTreeMap.{BTreeMap}
+use Rattle.std.specs.Cmp.Lexicographic.{slice_cmp}
+use Rattle.std.specs.Ordering.{is_eq, nat_cmp}
+use Rattle.std.proofs.lemmas.List.{map-append, take_more, take_all, length-take-le}
+use Rattle.std.proofs.lemmas.List.Elements.{All-more, All-push}
+use Rattle.std.proofs.lemmas.Option.{none-some, slice_get-get_or, slice_get_within, get_or_from_slice_get}
+use Rattle.filterset_graph.specs.Index.{PositionsAre, index_of}
+use Rattle.filterset_graph.specs.Packages.{Text, AllDiffer, IsUnknownLink, LinksKnown, ids}
+use Rattle.filterset_graph.specs.declared.package.PackageMetadata.{PackageMetadata}
+use Rattle.filterset_graph.proofs.Places.{place_from_Contains, Contains-from_place, element_at, element_from_mapped, mapped_at}
+use Rattle.filterset_graph.proofs.Rows.{PositionsAre-AllDiffer, PositionsAre-IsFirstRepeat, PositionsAre-push}
+use Rattle.filterset_sources.specs.Metadata.{AreLinked, HasLinksOf, IsGraphOf, IsKnown, IsLinkedAs, IsPlaced, IsWhole, NamesKnown, NamesPackages, itself, links_of, node_ids}
+use Rattle.filterset_sources.specs.declared.metadata.parts.Dependency.{Dependency}
+use Rattle.filterset_sources.specs.declared.metadata.parts.Node.{Node}
+use Rattle.filterset_sources.specs.declared.metadata.parts.Parts.{Parts}
+
+some_of : (o : Option ℕ) → is_some o ≡ true → (k : ℕ) × (o ≡ Some k)
+some_of (Some k) e = (k, refl)
+some_of None e = absurd (cc)
+
+none_of : (o : Option ℕ) → is_some o ≡ false → o ≡ None
+none_of (Some k) e = absurd (cc)
+none_of None e = refl
+
+-- an id whose look-up found an earlier place stands twice
+pub repeated_at : (names : List Text) (at : ℕ) (id key : Text) (places : BTreeMap Text ℕ) (earlier : Option ℕ) → at < length names → id ≡ get_or names at id → key ≡ id → PositionsAre places (take at names) → earlier ≡ index_of places key → is_some earlier ≡ true → AllDiffer names → ⊥
+repeated_at names at id key places earlier within read copy placed old found differ =
+    let k = some_of earlier found in
+    let here : slice_get names at ≡ Some id = slice_get-get_or names at id within ∙ ap Some (sym read) in
+    let first = PositionsAre-IsFirstRepeat places names at id k.0 placed here (ap (index_of places) (sym copy) ∙ sym old ∙ k.1) in
+    differ at first.0
+
+-- an id whose look-up found none has its own place now
+pub placed_more : (names : List Text) (at : ℕ) (id key : Text) (old new : BTreeMap Text ℕ) (earlier : Option ℕ) → at < length names → id ≡ get_or names at id → key ≡ id → PositionsAre old (take at names) → earlier ≡ index_of old key → is_some earlier ≡ false → ((q : Text) → index_of new q ≡ cond (is_eq (slice_cmp nat_cmp key q)) (Some at) (index_of old q)) → PositionsAre new (take (at + 1) names)
+placed_more names at id key old new earlier within read copy placed found missing updates =
+    let long : length (take at names) ≡ at = length-take-le at names (omega (arith, within)) in
+    let here : slice_get names at ≡ Some id = slice_get-get_or names at id within ∙ ap Some (sym read) in
+    let named : get_or names at [] ≡ key = get_or_from_slice_get names at key [] (here ∙ ap Some (sym copy)) in
+    rw (take_more names at [] within, named)
+    (PositionsAre-push old new (take at names) key (sym found ∙ none_of earlier missing) (λ q. rw long (updates q)) placed)
+
+-- an id has a place exactly where it stands in the list
+pub IsKnown-Contains : (places : BTreeMap Text ℕ) (names : List Text) (id : Text) → PositionsAre places names → IsKnown places id → Contains names id
+IsKnown-Contains places names id placed known =
+    let k = some_of (index_of places id) known in
+    Contains-from_place names id k.0 ((placed id k.0).0 k.1)
+
+pub Contains-IsKnown : (places : BTreeMap Text ℕ) (names : List Text) (id : Text) → PositionsAre places names → Contains names id → IsKnown places id
+Contains-IsKnown places names id placed found =
+    let k = place_from_Contains names id found in
+    ap is_some ((placed id k.0).1 k.1)
+
+-- what holds of each element, seen through a function
+All-mapped : {X Y : Type 0} (P : Y → Type 0) (f : X → Y) (xs : List X) → All (λ x. P (f x)) xs → All P (map f xs)
+All-mapped P f [] h k d lt = absurd (omega arith)
+All-mapped P f (x ∷ xs) h zero d lt = h zero x (omega arith)
+All-mapped P f (x ∷ xs) h (suc k) d lt = All-mapped P f xs (λ j e less. h (suc j) e (omega arith)) k d (omega arith)
+
+All-unmapped : {X Y : Type 0} (P : Y → Type 0) (f : X → Y) (xs : List X) → All P (map f xs) → All (λ x. P (f x)) xs
+All-unmapped P f [] h k d lt = absurd (omega arith)
+All-unmapped P f (x ∷ xs) h zero d lt = h zero (f d) (omega arith)
+All-unmapped P f (x ∷ xs) h (suc k) d lt = All-unmapped P f xs (λ j e less. h (suc j) e (omega arith)) k d (omega arith)
+
+All-if : {X : Type 0} (P Q : X → Type 0) (xs : List X) → ((x : X) → P x → Q x) → All P xs → All Q xs
+All-if P Q xs f h k d lt = f _ (h k d lt)
+
+All-at : {X : Type 0} (P : X → Type 0) (xs : List X) (x : X) → All P xs → Contains xs x → P x
+All-at P xs x h (k, lt, is) = subst P is (h k x lt)
+
+-- what holds of each does not hold of one alone
+pub All-not : {X : Type 0} (P : X → Type 0) (xs : List X) (i : ℕ) (x : X) → i < length xs → x ≡ get_or xs i x → (P x → ⊥) → All P xs → ⊥
+All-not P xs i x lt is refuted all = refuted (subst P (sym is) (all i x lt))
+
+-- what holds of the elements so far and of the next
+pub All-next : {X : Type 0} (P : X → Type 0) (xs : List X) (i : ℕ) (x : X) → i < length xs → x ≡ get_or xs i x → All P (take i xs) → P x → All P (take (i + 1) xs)
+All-next P xs i x lt is all p = All-more P xs i x lt all (subst P is p)
+
+-- what holds of all elements holds of the one at a place
+pub All-here : {X : Type 0} (P : X → Type 0) (xs : List X) (i : ℕ) (x : X) → i < length xs → x ≡ get_or xs i x → All P xs → P x
+All-here P xs i x lt is all = subst P (sym is) (all i x lt)
+
+-- what holds of as many elements as there are
+pub All-done : {X : Type 0} (P : X → Type 0) (xs : List X) (i : ℕ) → length xs ≤ i → All P (take i xs) → All P xs
+All-done P xs i le all = subst (All P) (take_all i xs le) all
+
+-- a link that names no package is not among links that do
+pub unknown-link : (ps : List PackageMetadata) (owner link : ℕ) → IsUnknownLink ps owner link → LinksKnown ps → ⊥
+unknown-link ps owner link (p, id, at, here, unknown) known =
+    unknown (All-at (Contains (ids ps)) p.links.items id (All-at (λ (q : PackageMetadata). All (Contains (ids ps)) q.links.items) ps p known (Contains-from_place ps p owner at)) (Contains-from_place p.links.items id link here))
+
+-- members and nodes that are known stand in the list, and the other way round
+pub members-Contained : (places : BTreeMap Text ℕ) (names members : List Text) → PositionsAre places names → All (IsKnown places) members → All (Contains names) members
+members-Contained places names members placed h = All-if (IsKnown places) (Contains names) members (λ id. IsKnown-Contains places names id placed) h
+
+pub members-Known : (places : BTreeMap Text ℕ) (names members : List Text) → PositionsAre places names → All (Contains names) members → All (IsKnown places) members
+members-Known places names members placed h = All-if (Contains names) (IsKnown places) members (λ id. Contains-IsKnown places names id placed) h
+
+node-Contained : (places : BTreeMap Text ℕ) (names : List Text) → PositionsAre places names → (node : Node) → NamesKnown places node → NamesPackages names node
+node-Contained places names placed node h = (
+  IsKnown-Contains places names node.id placed h.0,
+  All-mapped (Contains names) (λ (d : Dependency). d.package) node.dependencies.items (All-if (λ (d : Dependency). IsKnown places d.package) (λ (d : Dependency). Contains names d.package) node.dependencies.items (λ d. IsKnown-Contains places names d.package placed) h.1),
+)
+
+node-Known : (places : BTreeMap Text ℕ) (names : List Text) → PositionsAre places names → (node : Node) → NamesPackages names node → NamesKnown places node
+node-Known places names placed node h = (
+  Contains-IsKnown places names node.id placed h.0,
+  All-if (λ (d : Dependency). Contains names d.package) (λ (d : Dependency). IsKnown places d.package) node.dependencies.items (λ d. Contains-IsKnown places names d.package placed) (All-unmapped (Contains names) (λ (d : Dependency). d.package) node.dependencies.items h.1),
+)
+
+pub nodes-Contained : (places : BTreeMap Text ℕ) (names : List Text) (nodes : List Node) → PositionsAre places names → All (NamesKnown places) nodes → All (NamesPackages names) nodes
+nodes-Contained places names nodes placed h = All-if (NamesKnown places) (NamesPackages names) nodes (node-Contained places names placed) h
+
+pub nodes-Known : (places : BTreeMap Text ℕ) (names : List Text) (nodes : List Node) → PositionsAre places names → All (NamesPackages names) nodes → All (NamesKnown places) nodes
+nodes-Known places names nodes placed h = All-if (NamesPackages names) (NamesKnown places) nodes (node-Known places names placed) h
+
+-- the links of an id with a place are those of the node there
+pub links-found : (places : BTreeMap Text ℕ) (nodes : List Node) (id : Text) (at : ℕ) → PositionsAre places (node_ids nodes) → index_of places id ≡ Some at → at < length nodes
+links-found places nodes id at placed found =
+    let e = element_from_mapped (λ (node : Node). node.id) nodes at id ((placed id at).0 found) in
+    slice_get_within nodes at e.0 e.1
+
+pub links-of_node : (places : BTreeMap Text ℕ) (nodes : List Node) (id : Text) (at : ℕ) (node : Node) (links : List Text) → PositionsAre places (node_ids nodes) → index_of places id ≡ Some at → node ≡ get_or nodes at node → links ≡ links_of node → HasLinksOf nodes id links
+links-of_node places nodes id at node links placed found read are =
+    let e = element_from_mapped (λ (n : Node). n.id) nodes at id ((placed id at).0 found) in
+    let same : node ≡ e.0 = read ∙ get_or_from_slice_get nodes at e.0 node e.1 in
+    inl (node, subst (Contains nodes) (sym same) (Contains-from_place nodes e.0 at e.1), ap (λ (n : Node). n.id) same ∙ e.2, are)
+
+pub links-of_none : (places : BTreeMap Text ℕ) (nodes : List Node) (id : Text) (links : List Text) → PositionsAre places (node_ids nodes) → index_of places id ≡ None → links ≡ [] → HasLinksOf nodes id links
+links-of_none places nodes id links placed none are =
+    inr ((λ found. let k = place_from_Contains (node_ids nodes) id found in none-some k.0 (sym none ∙ (placed id k.0).1 k.1)), are)
+
+-- one more package that is linked
+pub linked_push : (members : BTreeMap Text ℕ) (nodes : List Node) (all yielded : List PackageMetadata) (p q : PackageMetadata) → AreLinked members nodes yielded all → itself q ≡ itself p → IsLinkedAs members nodes q → AreLinked members nodes (yielded ++ p ∷ []) (all ++ q ∷ [])
+linked_push members nodes all yielded p q h same linked = (
+  map-append itself all (q ∷ []) ∙ ap (λ t. t ++ itself q ∷ []) h.0 ∙ ap (λ e. map itself yielded ++ e ∷ []) same ∙ sym (map-append itself yielded (p ∷ [])),
+  All-push (IsLinkedAs members nodes) all q h.1 linked,
+)
+
+-- packages that are linked are a graph of the parts
+linked-placed : (members : BTreeMap Text ℕ) (names : List Text) (nodes : List Node) → PositionsAre members names → (p : PackageMetadata) → IsLinkedAs members nodes p → IsPlaced names nodes p
+linked-placed members names nodes placed p h = (
+  ((λ yes. IsKnown-Contains members names p.id placed (h.0.0 yes)), (λ found. h.0.1 (Contains-IsKnown members names p.id placed found))),
+  h.1,
+)
+
+pub linked-graph : (members : BTreeMap Text ℕ) (parts : Parts) (all : List PackageMetadata) → PositionsAre members parts.members.items → AreLinked members parts.resolve.nodes.items parts.packages.items all → IsGraphOf parts all
+linked-graph members parts all placed h =
+    (h.0, All-if (IsLinkedAs members parts.resolve.nodes.items) (IsPlaced parts.members.items parts.resolve.nodes.items) all (linked-placed members parts.members.items parts.resolve.nodes.items placed) h.1)
+
+-- the same packages have the same ids
+ids-itself : (ps : List PackageMetadata) → ids ps ≡ map (λ p. p.0) (map itself ps)
+ids-itself [] = refl
+ids-itself (p ∷ ps) = ap (λ t. p.id ∷ t) (ids-itself ps)
+
+pub same_ids : (ps qs : List PackageMetadata) → map itself ps ≡ map itself qs → ids ps ≡ ids qs
+same_ids ps qs h = ids-itself ps ∙ ap (map (λ p. p.0)) h ∙ sym (ids-itself qs)
+
+-- all links of a graph of whole parts name packages
+links-known : (known : List Text) (nodes : List Node) (id : Text) (links : List Text) → All (NamesPackages known) nodes → HasLinksOf nodes id links → All (Contains known) links
+links-known known nodes id links named (inl (node, found, same, are)) = rw are (All-at (NamesPackages known) nodes node named found).1
+links-known known nodes id links named (inr (none, are)) = rw are (λ k d lt. absurd (omega arith))
+
+pub whole-graph : (parts : Parts) (all : List PackageMetadata) → IsWhole parts → IsGraphOf parts all → AllDiffer (ids all) × LinksKnown all
+whole-graph parts all whole graph =
+    let same : ids all ≡ ids parts.packages.items = same_ids all parts.packages.items graph.0 in (
+      rw same whole.0,
+      All-if (IsPlaced parts.members.items parts.resolve.nodes.items) (λ p. All (Contains (ids all)) p.links.items) all (λ p placed. rw same (links-known (ids parts.packages.items) parts.resolve.nodes.items p.id p.links.items whole.4 placed.1)) graph.1,
+    )
+
+-- an id that was looked up and not found has no place
+pub not_known : (tested : Bool) (place : Option ℕ) → tested ≡ is_some place → tested ≡ false → is_some place ≡ true → ⊥
+not_known tested place looked missing found = absurd (cc (looked, missing, found))
+
+-- what an answer that may be missing says
+pub missing_says : {X : Type 0} (o : Option X) (N : Type 0) (P : X → Type 0) (tested : Bool) → MatchOption o N P → is_some o ≡ not tested → tested ≡ true → N
+missing_says None N P tested says looked is = says
+missing_says (Some x) N P true says looked is = absurd (cc looked)
+missing_says (Some x) N P false says looked is = absurd (cc is)
+
+pub found_says : {X : Type 0} (o : Option X) (N : Type 0) (P : X → Type 0) (tested : Bool) → MatchOption o N P → is_some o ≡ not tested → tested ≡ false → (x : X) × P x
+found_says None N P true says looked is = absurd (cc is)
+found_says None N P false says looked is = absurd (cc looked)
+found_says (Some x) N P tested says looked is = (x, says)
+
+-- the id of a package is among the ids
+pub Contains-id : (ps : List PackageMetadata) (p : PackageMetadata) (id : Text) → Contains ps p → p.id ≡ id → Contains (ids ps) id
+Contains-id ps p id found same =
+    let k = place_from_Contains ps p found in
+    Contains-from_place (ids ps) id k.0 (mapped_at (λ (q : PackageMetadata). q.id) ps k.0 p k.1 ∙ ap Some same)

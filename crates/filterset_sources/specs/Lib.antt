@@ -1,0 +1,5 @@
+pub mod Shape
+pub mod Paths
+pub mod Refusals
+pub mod Metadata
+pub mod Suites

@@ -1,0 +1,266 @@
+//! What `cargo metadata --format-version 1` writes.
+ghost use Rattle.std.specs.Prelude.{◌≡◌, All, IfErr, IfOk, OnOk, is_some};
+ghost use Rattle.serde_json.specs.View.{view};
+ghost use Rattle.filterset_graph.specs.Index.{PositionsAre, index_of};
+ghost use Rattle.filterset_graph.specs.Packages.{AllDiffer, LinksKnown, ids};
+ghost use Rattle.filterset_sources.specs.Metadata.{AreLinked, HasLinksOf, IsGraphOf, IsKnown, IsMetadata, IsWhole, NamesKnown, RefusesMetadata, links_of, node_ids};
+ghost use Rattle.filterset_sources.specs.Refusals.{Refuses};
+
+use crate::entry::Entry;
+use crate::refusal::{Expected, SourceRefusal, WrongValue};
+use filterset_graph::{GraphRefusal, PackageGraph, PackageId, PackageMetadata};
+use serde_json::Value;
+use std::alloc::{AllocError, Global};
+use std::collections::BTreeMap;
+
+mod parts;
+
+use parts::{Dependency, Node, Parts};
+
+/// The refusal of a value at a path.
+fn wrong(path: Result<String, AllocError>, expected: Expected) -> SourceRefusal
+    ensures { Refuses ⊥ result }
+{
+    match path {
+        Ok(path) => SourceRefusal::WrongValue(WrongValue { path, expected }),
+        Err(refused) => SourceRefusal::OutOfMemory(refused),
+    }
+}
+
+/// The refusal of what stands at a place of a list, below it at `key`.
+fn wrong_item(alloc: Global, list: &str, at: usize, key: &str, expected: Expected) -> SourceRefusal
+    ensures { Refuses ⊥ result }
+{
+    wrong(format!(in alloc; "{list}[{at}]{key}"), expected)
+}
+
+/// The refusal of a dependency of a node.
+fn wrong_link(alloc: Global, node: usize, link: usize) -> SourceRefusal
+    ensures { Refuses ⊥ result }
+{
+    let path = format!(in alloc; "resolve.nodes[{node}].deps[{link}].pkg");
+    wrong(path, Expected::PackageId)
+}
+
+/// Where each id stands. The id at a place stands in the file at that place of the list, below it at `key`.
+fn places_of(
+    alloc: Global,
+    ids: &[PackageId],
+    list: &str,
+    key: &str,
+) -> Result<BTreeMap<PackageId, usize>, SourceRefusal>
+    ensures ok { IfOk result (λ places. PositionsAre places ids.now) }
+    ensures refused { IfErr result (Refuses (AllDiffer ids.now)) }
+{
+    let mut places = BTreeMap::new(alloc);
+    for (at, id) in ids.iter().enumerate() {
+        let earlier = places.insert(id.try_clone(alloc)?, at)?;
+        if earlier.is_some() {
+            return Err(wrong_item(alloc, list, at, key, Expected::OwnId));
+        }
+    }
+    Ok(places)
+}
+
+/// The packages that a node depends on.
+fn node_links(alloc: Global, node: &Node) -> Result<Vec<PackageId>, AllocError>
+    ensures { IfOk result (λ links. links.items ≡ links_of node.now) }
+{
+    let mut links = Vec::with_capacity(alloc, node.dependencies.len())?;
+    for dependency in &node.dependencies {
+        links.push(dependency.package.try_clone(alloc)?)?;
+    }
+    Ok(links)
+}
+
+/// The ids of packages.
+fn package_ids(alloc: Global, packages: &[PackageMetadata]) -> Result<Vec<PackageId>, AllocError>
+    ensures { IfOk result (λ all. all.items ≡ ids packages.now) }
+{
+    let mut all = Vec::with_capacity(alloc, packages.len())?;
+    for package in packages {
+        all.push(package.id.try_clone(alloc)?)?;
+    }
+    Ok(all)
+}
+
+/// The ids of nodes.
+fn node_ids(alloc: Global, nodes: &[Node]) -> Result<Vec<PackageId>, AllocError>
+    ensures { IfOk result (λ all. all.items ≡ node_ids nodes.now) }
+{
+    let mut all = Vec::with_capacity(alloc, nodes.len())?;
+    for node in nodes {
+        all.push(node.id.try_clone(alloc)?)?;
+    }
+    Ok(all)
+}
+
+/// Where an id stands.
+fn place_of(places: &BTreeMap<PackageId, usize>, id: &PackageId) -> Option<usize>
+    ensures { result ≡ index_of places.now id.now }
+{
+    places.get(id).copied()
+}
+
+/// Whether an id stands somewhere.
+fn is_known(known: &BTreeMap<PackageId, usize>, id: &PackageId) -> bool
+    ensures { result ≡ is_some (index_of known.now id.now) }
+{
+    place_of(known, id).is_some()
+}
+
+/// Refuses a member of the workspace that is no package.
+fn check_members(
+    alloc: Global,
+    known: &BTreeMap<PackageId, usize>,
+    members: &[PackageId],
+) -> Result<(), SourceRefusal>
+    ensures ok { OnOk result (All (IsKnown known.now) members.now) }
+    ensures refused { IfErr result (Refuses (All (IsKnown known.now) members.now)) }
+{
+    for (at, member) in members.iter().enumerate() {
+        if !is_known(known, member) {
+            return Err(wrong_item(alloc, "workspace_members", at, "", Expected::PackageId));
+        }
+    }
+    Ok(())
+}
+
+/// Refuses a dependency of the node at a place that is no package.
+fn check_dependencies(
+    alloc: Global,
+    known: &BTreeMap<PackageId, usize>,
+    at: usize,
+    dependencies: &[Dependency],
+) -> Result<(), SourceRefusal>
+    ensures ok { OnOk result (All (λ d. IsKnown known.now d.package) dependencies.now) }
+    ensures refused { IfErr result (Refuses (All (λ d. IsKnown known.now d.package) dependencies.now)) }
+{
+    for (link, dependency) in dependencies.iter().enumerate() {
+        if !is_known(known, &dependency.package) {
+            return Err(wrong_link(alloc, at, link));
+        }
+    }
+    Ok(())
+}
+
+/// Refuses a node that is no package, or depends on what is none.
+fn check_node(
+    alloc: Global,
+    known: &BTreeMap<PackageId, usize>,
+    at: usize,
+    node: &Node,
+) -> Result<(), SourceRefusal>
+    ensures ok { OnOk result (NamesKnown known.now node.now) }
+    ensures refused { IfErr result (Refuses (NamesKnown known.now node.now)) }
+{
+    if !is_known(known, &node.id) {
+        return Err(wrong_item(alloc, "resolve.nodes", at, ".id", Expected::PackageId));
+    }
+    check_dependencies(alloc, known, at, node.dependencies.as_slice())
+}
+
+/// Refuses nodes of which one is no package, or depends on what is none.
+fn check_nodes(
+    alloc: Global,
+    known: &BTreeMap<PackageId, usize>,
+    nodes: &[Node],
+) -> Result<(), SourceRefusal>
+    ensures ok { OnOk result (All (NamesKnown known.now) nodes.now) }
+    ensures refused { IfErr result (Refuses (All (NamesKnown known.now) nodes.now)) }
+{
+    for (at, node) in nodes.iter().enumerate() {
+        check_node(alloc, known, at, node)?;
+    }
+    Ok(())
+}
+
+/// The links of the package with this id: those of its node, none where it has no node.
+fn links_from(
+    alloc: Global,
+    places: &BTreeMap<PackageId, usize>,
+    nodes: &[Node],
+    id: &PackageId,
+) -> Result<Vec<PackageId>, AllocError>
+    requires { PositionsAre places.now (node_ids nodes.now) }
+    ensures { IfOk result (λ links. HasLinksOf nodes.now id.now links.items) }
+{
+    match place_of(places, id) {
+        Some(at) => node_links(alloc, &nodes[at]),
+        None => Ok(Vec::new(alloc)),
+    }
+}
+
+/// The packages, each with its links, and told whether it is in the workspace.
+fn linked(
+    alloc: Global,
+    packages: Vec<PackageMetadata>,
+    members: &BTreeMap<PackageId, usize>,
+    places: &BTreeMap<PackageId, usize>,
+    nodes: &[Node],
+) -> Result<Vec<PackageMetadata>, AllocError>
+    requires { PositionsAre places.now (node_ids nodes.now) }
+    ensures { IfOk result (λ all. AreLinked members.now nodes.now packages.items all.items) }
+{
+    let mut all = Vec::with_capacity(alloc, packages.len())?;
+    for package in packages {
+        all.push(PackageMetadata {
+            in_workspace: is_known(members, &package.id),
+            links: links_from(alloc, places, nodes, &package.id)?,
+            ..package
+        })?;
+    }
+    Ok(all)
+}
+
+/// The graph of the packages.
+fn graph_of(alloc: Global, packages: Vec<PackageMetadata>) -> Result<PackageGraph, SourceRefusal>
+    ensures ok { IfOk result (λ graph. graph ≡ packages.items) }
+    ensures refused { IfErr result (Refuses (AllDiffer (ids packages.items) × LinksKnown packages.items)) }
+{
+    match PackageGraph::new(alloc, packages) {
+        Ok(graph) => Ok(graph),
+        Err(GraphRefusal::OutOfMemory(refused)) => Err(SourceRefusal::OutOfMemory(refused)),
+        Err(GraphRefusal::RepeatedId { at }) => {
+            Err(wrong_item(alloc, "packages", at, ".id", Expected::OwnId))
+        }
+        Err(GraphRefusal::UnknownLink { package, link }) => {
+            Err(wrong_link(alloc, package, link))
+        }
+    }
+}
+
+/// The graph of the packages of the file.
+fn joined(alloc: Global, parts: Parts) -> Result<PackageGraph, SourceRefusal>
+    ensures ok { IfOk result (λ graph. IsWhole parts × IsGraphOf parts graph) }
+    ensures refused { IfErr result (Refuses (IsWhole parts)) }
+{
+    let Parts {
+        packages,
+        members,
+        resolve,
+    } = parts;
+    let nodes = resolve.nodes.as_slice();
+    let ids = package_ids(alloc, packages.as_slice())?;
+    let known = places_of(alloc, ids.as_slice(), "packages", ".id")?;
+    check_members(alloc, &known, members.as_slice())?;
+    check_nodes(alloc, &known, nodes)?;
+    let members = places_of(alloc, members.as_slice(), "workspace_members", "")?;
+    let ids = node_ids(alloc, nodes)?;
+    let places = places_of(alloc, ids.as_slice(), "resolve.nodes", ".id")?;
+    let packages = linked(alloc, packages, &members, &places, nodes)?;
+    graph_of(alloc, packages)
+}
+
+/// The packages of what `cargo metadata --format-version 1` writes, in its order. All kinds of dependencies count. Keys
+/// that are not looked at are passed over.
+///
+/// Cargo leaves the dependencies out where it is called with `--no-deps`. That is refused, since answers on them would
+/// be wrong.
+pub fn read_metadata(alloc: Global, value: &Value) -> Result<PackageGraph, SourceRefusal>
+    ensures read { IfOk result (IsMetadata (view value.now)) }
+    ensures refused { IfErr result (RefusesMetadata (view value.now)) }
+{
+    let parts = Parts::read(alloc, value)?;
+    joined(alloc, parts)
+}

@@ -1,0 +1,106 @@
+//! What was read of a file, in lines.
+
+use filterset_graph::{BuildTargetId, PackageGraph, PackageMetadata};
+use filterset_sources::{
+    SourceRefusal, Suite, SuiteStatus, TestList, check_packages, read_json, read_metadata,
+    read_test_list,
+};
+use std::alloc::{AllocError, Global};
+use std::fmt::Write;
+
+/// The graph of a file that cargo wrote.
+pub fn graph_of(alloc: Global, text: &str) -> Result<PackageGraph, SourceRefusal> {
+    read_metadata(alloc, &read_json(alloc, text)?)
+}
+
+/// The list of a file that nextest wrote.
+pub fn list_of(alloc: Global, text: &str) -> Result<TestList, SourceRefusal> {
+    read_test_list(alloc, &read_json(alloc, text)?)
+}
+
+fn kind_text(id: BuildTargetId) -> &'static str {
+    match id {
+        BuildTargetId::Library => "library",
+        BuildTargetId::Binary => "program",
+        BuildTargetId::Example => "example",
+        BuildTargetId::Test => "test",
+        BuildTargetId::Benchmark => "benchmark",
+        BuildTargetId::BuildScript => "script",
+    }
+}
+
+/// Adds a line of a package: its name and id, a star where it is in the workspace, its targets and its links.
+fn push_package(said: &mut String, package: &PackageMetadata) -> Result<(), AllocError> {
+    let (name, id) = (package.name(), package.id.repr());
+    let star = if package.in_workspace { "*" } else { "" };
+    write!(said, "{name} {id}{star}")?;
+    for target in &package.build_targets {
+        let (kind, name) = (kind_text(target.id), target.name.as_str());
+        write!(said, " {kind}:{name}")?;
+    }
+    for link in &package.links {
+        let link = link.repr();
+        write!(said, " ->{link}")?;
+    }
+    said.push_str("\n")
+}
+
+/// A line for each package, or what the file is refused with.
+pub fn metadata_said(alloc: Global, text: &str) -> Result<String, AllocError> {
+    let mut said = String::new(alloc);
+    match graph_of(alloc, text) {
+        Ok(graph) => {
+            for package in graph.packages() {
+                push_package(&mut said, package)?;
+            }
+        }
+        Err(refusal) => write!(said, "{refusal}")?,
+    }
+    Ok(said)
+}
+
+/// Adds a line of a suite.
+fn push_suite(said: &mut String, suite: &Suite) -> Result<(), AllocError> {
+    let (id, package) = (suite.binary_id.as_str(), suite.package_id.repr());
+    let (name, kind, platform) = (
+        suite.binary_name.as_str(),
+        suite.kind.as_str(),
+        suite.platform,
+    );
+    write!(said, "{id} {package} {name} {kind} {platform}")?;
+    if suite.status == SuiteStatus::Skipped {
+        said.push_str(" skipped")?;
+    }
+    for test in &suite.tests {
+        let test = test.as_str();
+        write!(said, " {test}")?;
+    }
+    said.push_str("\n")
+}
+
+/// A line for each suite, or what the file is refused with.
+pub fn list_said(alloc: Global, text: &str) -> Result<String, AllocError> {
+    let mut said = String::new(alloc);
+    match list_of(alloc, text) {
+        Ok(list) => {
+            for suite in &list.suites {
+                push_suite(&mut said, suite)?;
+            }
+        }
+        Err(refusal) => write!(said, "{refusal}")?,
+    }
+    Ok(said)
+}
+
+/// What a list is refused with for its packages, empty where it is not.
+pub fn packages_said(
+    alloc: Global,
+    list: &TestList,
+    graph: &PackageGraph,
+) -> Result<String, AllocError> {
+    let mut said = String::new(alloc);
+    if let Err(refusal) = check_packages(alloc, list, graph) {
+        write!(said, "{refusal}")?;
+    }
+    Ok(said)
+}
