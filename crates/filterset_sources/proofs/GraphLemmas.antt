@@ -1,6 +1,6 @@
 -- Places of ids, and packages that are linked.
-use Rattle.std.proofs.Common.{◌≡◌, ℕ, zero, suc, ◌+◌, ◌<◌, ◌≤◌, ◌↔◌, ◌⊎◌, inl, inr, Bool, true, false, cond, List, [], ◌∷◌, ◌++◌, length, get_or, map, take, Option, Some, None, is_some, refl, sym, ◌∙◌, ap, subst, arith}
-use Rattle.std.specs.Prelude.{All, Contains, IsSome, IsTrue, MatchOption, not, slice_get}
+use Rattle.std.proofs.Common.{◌≡◌, ℕ, zero, suc, ◌+◌, ◌<◌, ◌≤◌, inl, inr, Bool, true, false, cond, List, [], ◌∷◌, ◌++◌, length, get_or, map, take, Option, Some, None, is_some, refl, sym, ◌∙◌, ap, subst, arith}
+use Rattle.std.specs.Prelude.{All, Contains, MatchOption, not, slice_get}
 use Rattle.std.specs.BTreeMap.{BTreeMap}
 use Rattle.std.specs.Cmp.Lexicographic.{slice_cmp}
 use Rattle.std.specs.Ordering.{is_eq, nat_cmp}
@@ -10,8 +10,8 @@ use Rattle.std.proofs.lemmas.Option.{none-some, slice_get-get_or, slice_get_with
 use Rattle.filterset_graph.specs.Index.{PositionsAre, index_of}
 use Rattle.filterset_graph.specs.Packages.{Text, AllDiffer, IsUnknownLink, LinksKnown, ids}
 use Rattle.filterset_graph.specs.declared.package.PackageMetadata.{PackageMetadata}
-use Rattle.filterset_graph.proofs.Places.{place_from_Contains, Contains-from_place, element_at, element_from_mapped, mapped_at}
-use Rattle.filterset_graph.proofs.Rows.{PositionsAre-AllDiffer, PositionsAre-IsFirstRepeat, PositionsAre-push}
+use Rattle.filterset_graph.proofs.Places.{place_from_Contains, Contains-from_place, element_from_mapped, mapped_at}
+use Rattle.filterset_graph.proofs.Rows.{PositionsAre-IsFirstRepeat, PositionsAre-push}
 use Rattle.filterset_sources.specs.Metadata.{AreLinked, HasLinksOf, IsGraphOf, IsKnown, IsLinkedAs, IsPlaced, IsWhole, NamesKnown, NamesPackages, itself, links_of, node_ids}
 use Rattle.filterset_sources.specs.declared.metadata.parts.Dependency.{Dependency}
 use Rattle.filterset_sources.specs.declared.metadata.parts.Node.{Node}

@@ -1,6 +1,5 @@
 -- What a refusal says.
-use Rattle.std.specs.Prelude.{◌≡◌, ℕ, List, Option, None, string_bytes}
-use Rattle.serde_json.specs.Data.{Data}
+use Rattle.std.specs.Prelude.{◌≡◌, None, string_bytes}
 use Rattle.serde_json.specs.Read.{read}
 use Rattle.filterset_sources.specs.Paths.{joined, step_text}
 use Rattle.filterset_sources.specs.Shape.{Text}

@@ -1,5 +1,5 @@
 -- What nextest writes of test binaries.
-use Rattle.std.specs.Prelude.{◌≡◌, ◌⊎◌, Contains, List, codes, string_bytes}
+use Rattle.std.specs.Prelude.{◌⊎◌, Contains, List, codes, string_bytes}
 use Rattle.serde_json.specs.Data.{Data}
 use Rattle.filterset_graph.specs.Platforms.{platform_text}
 use Rattle.filterset_graph.specs.declared.package.BuildPlatform.{BuildPlatform}

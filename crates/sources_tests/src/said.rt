@@ -1,4 +1,9 @@
 //! What was read of a file, in lines.
+ghost use Rattle.std.specs.Prelude.{◌≡◌, IfOk, Some};
+ghost use Rattle.serde_json.specs.Data.{Data};
+ghost use Rattle.serde_json.specs.Read.{read};
+ghost use Rattle.filterset_sources.specs.Metadata.{IsMetadata};
+ghost use Rattle.filterset_sources.specs.Suites.{IsTestList};
 
 use filterset_graph::{BuildTargetId, PackageGraph, PackageMetadata};
 use filterset_sources::{
@@ -9,12 +14,16 @@ use std::alloc::{AllocError, Global};
 use std::fmt::Write;
 
 /// The graph of a file that cargo wrote.
-pub fn graph_of(alloc: Global, text: &str) -> Result<PackageGraph, SourceRefusal> {
+pub fn graph_of(alloc: Global, text: &str) -> Result<PackageGraph, SourceRefusal>
+    ensures { IfOk result (λ graph. (d : Data) × (read text.now ≡ Some d) × IsMetadata d graph) }
+{
     read_metadata(alloc, &read_json(alloc, text)?)
 }
 
 /// The list of a file that nextest wrote.
-pub fn list_of(alloc: Global, text: &str) -> Result<TestList, SourceRefusal> {
+pub fn list_of(alloc: Global, text: &str) -> Result<TestList, SourceRefusal>
+    ensures { IfOk result (λ list. (d : Data) × (read text.now ≡ Some d) × IsTestList d list.suites.items) }
+{
     read_test_list(alloc, &read_json(alloc, text)?)
 }
 

@@ -1,5 +1,4 @@
 use Rattle.filterset_graph.specs.Packages.{AllDiffer, IsFirstRepeat, IsFirstUnknownLink, ids}
-use Rattle.filterset_graph.specs.Refusals.{IsRefusalOf}
 use Rattle.filterset_sources.proofs.ShapeLemmas.{Refuses-no}
 use Rattle.filterset_sources.proofs.GraphLemmas.{unknown-link}
 use Rattle.filterset_sources.proofs.metadata.graph_of.Goals as goal

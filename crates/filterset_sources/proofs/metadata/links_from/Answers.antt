@@ -1,4 +1,4 @@
-use Rattle.std.proofs.Common.{rules, arith, ◌<◌, length, sym, ◌∙◌}
+use Rattle.std.proofs.Common.{rules, ◌<◌, length, sym, ◌∙◌}
 use Rattle.std.proofs.lemmas.Result.{IfOk-weaker}
 use Rattle.filterset_sources.proofs.GraphLemmas.{links-found, links-of_node, links-of_none}
 use Rattle.filterset_sources.proofs.metadata.links_from.Goals as goal
