@@ -17,14 +17,14 @@ ghost use Rattle.filterset_record.specs.Shape.{Text};
 
 use crate::lookup::RecordLookup;
 use crate::report::faults::push_faults;
-use crate::report::lines::{push_binary_line, push_test_line};
+use crate::report::lines::{push_binary_line, push_test_line, told_of_binary};
 use crate::report::setting::Setting;
 use filterset_record::{BinaryEntry, Command, FiltersetEntry};
 use nextest_filtering::{Filterset, FlatExpr, ParseRefusal, ParseSingleError, laws};
 use std::alloc::{AllocError, Global};
 use std::fmt::Write;
 
-/// Adds the lines of a binary: its own, and one for each of its tests.
+/// Adds the lines of a binary: its own, and one for each of its tests. It is asked about once.
 fn push_binary(
     lines: &mut String,
     alloc: Global,
@@ -36,9 +36,10 @@ fn push_binary(
         × ForItsTree flat.now (λ background tree. IsLookupOf background.binaries lookup.now
         → BinaryLines background tree (binary_row binary.now) text)) }
 {
-    push_binary_line(lines, alloc, flat, binary)?;
+    let told = told_of_binary(alloc, flat, binary)?;
+    push_binary_line(lines, binary, told)?;
     for test in &binary.tests {
-        push_test_line(lines, alloc, flat, lookup, binary, test)?;
+        push_test_line(lines, alloc, flat, lookup, binary, told, test)?;
     }
     Ok(())
 }

@@ -1,24 +1,25 @@
-use Rattle.std.proofs.Common.{rules, arith, ◌≡◌, ◌<◌, ◌++◌, List, length, get_or, refl, subst}
+use Rattle.std.proofs.Common.{rules, arith, ◌≡◌, ◌<◌, ◌++◌, List, codes, length, get_or, refl, subst}
 use Rattle.filterset_record.specs.Record.{TestRow}
-use Rattle.filterset_report.specs.Report.{Pieces, TestLine}
+use Rattle.filterset_report.specs.Report.{Pieces, TestLine, binary_answer_text}
 use Rattle.filterset_record.specs.Rows.{binary_row, test_row}
 use Rattle.filterset_report.proofs.ReportLemmas.{Pieces-more, added_twice, taken_all}
 use Rattle.filterset_report.proofs.report.sections.push_binary.Goals as goal
 
 pub returns : goal.returns
 returns c =
-    let own = c.in_ok-push_binary_line.ensures in
+    let told = c.in_ok-told.told in
+    let own = codes "  binary " ++ (c.args.binary.now.id ++ (codes ": " ++ (binary_answer_text told ++ codes "\n"))) in
     let others = c.loop-test.invariant in
     let tests = c.args.binary.now.tests.items in
     let end : c.loop-test.test-index ≡ length tests = omega (arith, c.loop-test-test.false, c.loop-test.auto.test-index-end) in
     let all = taken_all test_row tests c.loop-test.test-index end in (
-      own.0 ++ others.0,
-      added_twice _ _ _ _ _ own.1 others.1,
+      own ++ others.0,
+      added_twice _ _ _ _ _ c.in_ok-push_binary_line.ensures others.1,
       λ background tree is of_binaries. (
-        own.0,
+        own,
         others.0,
         refl,
-        own.2 background tree is,
+        (told, c.in_ok-told.ensures.told background tree is, refl),
         subst (λ (rows : List TestRow). Pieces (TestLine background tree (binary_row c.args.binary.now)) rows others.0) all (others.2 background tree is of_binaries),
       ),
     )
