@@ -4,9 +4,9 @@
     rt ci 2>&1 | scripts/gate_times.py TABLE
 
 passes on each line that the gate prints, and looks every two seconds at the checks that run. At the end it writes to the
-file TABLE a line for each crate: the minutes of processor time that its proof took, the proof of its tests, the check
-that its must-fail edits begin with, and those edits; and when its proof and its last check ended, in minutes since the
-start. What a check took in its last two seconds is not seen.
+file TABLE a line for each crate: the minutes of processor time that its proof took, the proof of its tests, the first of
+its must-fail edits, which proves the crate anew, and the other edits; and when its proof and its last check ended, in
+minutes since the start. What a check took in its last two seconds is not seen.
 """
 
 import os
@@ -21,16 +21,17 @@ PERIOD = 2
 
 
 def check_of(pid):
-    """Returns the crate and the part that the process checks, or None where it is no check."""
+    """Returns the crate and the part that the process checks, and the folder of the copy that an edit is tried on; or None
+    where it is no check."""
     with open(f"/proc/{pid}/cmdline", "rb") as file:
         words = file.read().decode(errors="replace").split("\0")
     if os.path.basename(words[0]) != "rattle" or "--crate-name" not in words:
         return None
     crate = words[words.index("--crate-name") + 1]
-    if os.path.basename(os.readlink(f"/proc/{pid}/cwd")).startswith("rt-edit-"):
-        seed = any(word.endswith("/seed") for word in words)
-        return crate, "seed" if seed else "edits"
-    return crate, "tests" if "--test" in words else "proof"
+    folder = os.path.basename(os.readlink(f"/proc/{pid}/cwd"))
+    if folder.startswith("rt-edit-"):
+        return crate, "edits", folder
+    return crate, "tests" if "--test" in words else "proof", ""
 
 
 def sample(checks, since):
@@ -42,7 +43,7 @@ def sample(checks, since):
                 with open(f"/proc/{pid}/stat", encoding="utf-8", errors="replace") as file:
                     fields = file.read().rpartition(")")[2].split()
                 minutes = (int(fields[11]) + int(fields[12])) / TICKS
-                checks[pid, fields[19]] = *check, minutes, (time.monotonic() - since) / 60
+                checks[int(fields[19]), pid] = *check, minutes, (time.monotonic() - since) / 60
         except (OSError, IndexError):
             # it has ended
             pass
@@ -50,8 +51,11 @@ def sample(checks, since):
 
 def table(checks, minutes):
     """Returns the table of the checks seen, the crates in the order in which their proofs ended."""
-    spent, ends = {}, {}
-    for crate, part, took, end in checks.values():
+    spent, ends, seeds = {}, {}, {}
+    # in the order in which they began: the first of a crate's edits is tried over nothing, so it proves the crate anew
+    for _, (crate, part, folder, took, end) in sorted(checks.items()):
+        if part == "edits" and seeds.setdefault(crate, folder) == folder:
+            part = "seed"
         spent.setdefault(crate, dict.fromkeys(PARTS, 0.0))[part] += took
         proof, last = ends.get(crate, (0.0, 0.0))
         ends[crate] = max(proof, end if part == "proof" else 0.0), max(last, end)
