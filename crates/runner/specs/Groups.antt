@@ -3,7 +3,7 @@ use Rattle.std.specs.Prelude.{◌≡◌, ◌⊎◌, ℕ, List, [], ◌∷◌, co
 use Rattle.filterset_expression.specs.Expression.{Holds, Lookup, no_groups}
 use Rattle.filterset_expression.specs.declared.expression.CompiledExpr.{CompiledExpr}
 use Rattle.filterset_expression.specs.declared.query.TestQuery.{TestQuery}
-use Rattle.filterset_matchers.specs.Matcher.{Matcher, Hits}
+use Rattle.filterset_matchers.specs.Matcher.{Hits}
 use Rattle.runner.specs.declared.overrides.Override.{Override}
 
 -- the override's filterset picks the test

@@ -2,6 +2,8 @@
 //! filterset picks no test, and picks tests of the others. `docs/CALLING.md` goes through it.
 #![tactic(auto)]
 
+ghost use Rattle.nextest_filtering.specs.Groups.{IsKnown};
+
 mod groups;
 mod overrides;
 mod planning;
@@ -9,7 +11,7 @@ mod settings;
 mod workspace;
 
 use groups::Groups;
-use nextest_filtering::{EvalContext, FiltersetParseErrors, ParseContext};
+use nextest_filtering::{EvalContext, FiltersetParseErrors, KnownGroups, ParseContext};
 use planning::{Binary, Choice, Plan, plan_of};
 use settings::{Failure, known_groups, read_default_filter, read_overrides};
 use std::alloc::Global;
@@ -75,8 +77,28 @@ fn print_plan(rt: &impl Print, binaries: &[Binary<'_>], plan: &Plan) -> io::Resu
     }
 }
 
-/// Reads the settings, and prints the plan of each filterset.
-fn print_plans(rt: &impl Print, alloc: Global) -> Result<(), Failure> {
+/// Prints each filterset, and what it asks for.
+fn print_plans(
+    rt: &impl Print,
+    alloc: Global,
+    parse_context: &ParseContext<'_>,
+    known_groups: &KnownGroups,
+    groups: &Groups<'_>,
+    binaries: &[Binary<'_>],
+) -> io::Result<()>
+    requires { IsKnown known_groups.now }
+{
+    for filterset in FILTERSETS {
+        println!(rt; "{filterset}")?;
+        let text = String::from_str(alloc, filterset)?;
+        let plan = plan_of(alloc, text, parse_context, known_groups, groups, binaries)?;
+        print_plan(rt, binaries, &plan)?;
+    }
+    Ok(())
+}
+
+/// Reads the settings, and prints the plans of the filtersets.
+fn run(rt: &impl Print, alloc: Global) -> Result<(), Failure> {
     let graph = workspace::graph(alloc)?;
     let parse_context = ParseContext::new(alloc, &graph)?;
     let default_filter = read_default_filter(alloc, DEFAULT_FILTER, &parse_context)?;
@@ -84,28 +106,16 @@ fn print_plans(rt: &impl Print, alloc: Global) -> Result<(), Failure> {
     let known_groups = known_groups(alloc, &OVERRIDES)?;
     let groups = Groups {
         overrides: overrides.as_slice(),
-        eval_context: EvalContext::new(&default_filter.compiled),
+        eval_context: EvalContext::new(&default_filter),
     };
     let test_binaries = workspace::test_binaries(alloc)?;
     let binaries = workspace::binaries(alloc, &test_binaries)?;
-    for filterset in FILTERSETS {
-        println!(rt; "{filterset}")?;
-        let text = String::from_str(alloc, filterset)?;
-        let plan = plan_of(
-            alloc,
-            text,
-            &parse_context,
-            &known_groups,
-            &groups,
-            &binaries,
-        )?;
-        print_plan(rt, &binaries, &plan)?;
-    }
+    print_plans(rt, alloc, &parse_context, &known_groups, &groups, &binaries)?;
     Ok(())
 }
 
 fn main(rt: HostRuntime) -> io::Result<()> {
-    match print_plans(&rt, rt.alloc()) {
+    match run(&rt, rt.alloc()) {
         Ok(()) => Ok(()),
         Err(Failure::Io(error)) => Err(error),
         Err(Failure::Packages(refusal)) => {

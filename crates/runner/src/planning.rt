@@ -19,14 +19,14 @@ use nextest_filtering::{
 use std::alloc::{AllocError, Global};
 
 /// A test binary, and the names of its tests. A runner starts the binary to learn these.
-#[derive(Clone, Copy, Debug)]
+#[derive(Clone, Copy)]
 pub struct Binary<'a> {
     pub query: BinaryQuery<'a>,
     pub tests: &'a [TestCaseName],
 }
 
 /// What is to be done with a binary.
-#[derive(Debug, Drop)]
+#[derive(Drop)]
 pub enum Choice {
     /// No test of the binary is picked, whatever tests it has: it need not be started.
     Skip,
@@ -35,7 +35,7 @@ pub enum Choice {
 }
 
 /// What a filterset asks of a runner.
-#[derive(Debug, Drop)]
+#[derive(Drop)]
 pub enum Plan {
     /// What is to be done with each binary, in their order.
     Choices(Vec<Choice>),

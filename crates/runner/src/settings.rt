@@ -6,15 +6,15 @@ ghost use Rattle.nextest_filtering.specs.Groups.{IsKnown};
 
 use crate::overrides::Override;
 use nextest_filtering::{
-    Filterset, FiltersetKind, FiltersetParseErrors, GraphRefusal, KnownGroups, ParseContext,
-    ParseRefusal,
+    CompiledExpr, Filterset, FiltersetKind, FiltersetParseErrors, GraphRefusal, KnownGroups,
+    ParseContext, ParseRefusal,
 };
 use std::alloc::{AllocError, AllocFailed, Global};
 use std::collections::HashSet;
 use std::io;
 
 /// Why a run ends early.
-#[derive(Debug, Drop)]
+#[derive(Drop)]
 pub enum Failure {
     /// The packages make no graph.
     Packages(GraphRefusal),
@@ -60,23 +60,38 @@ impl From<ParseRefusal> for Failure {
     }
 }
 
-/// Reads the default filter. No group is needed for it, since it may have no `group(..)`.
-pub fn read_default_filter(
+/// Reads a filterset of the settings. No group is known for it: it is of a kind that bans `group(..)`.
+fn read_setting(
     alloc: Global,
     text: &str,
+    kind: FiltersetKind,
     parse_context: &ParseContext<'_>,
 ) -> Result<Filterset, Failure>
-    ensures no_default { IfOk result (λ made. has_leaf is_default made.compiled ≡ false) }
+    requires { kind ≢ kinds.Test }
+    ensures no_default { kind ≡ kinds.DefaultFilter →
+        IfOk result (λ made. has_leaf is_default made.compiled ≡ false) }
     ensures no_group { IfOk result (λ made. has_leaf is_group made.compiled ≡ false) }
 {
     let text = String::from_str(alloc, text)?;
-    let kind = FiltersetKind::DefaultFilter;
     let known_groups = KnownGroups::Unavailable;
     let filterset = Filterset::parse(alloc, text, parse_context, kind, &known_groups)?;
     Ok(filterset)
 }
 
-/// Reads the overrides, each a filterset and the group of the tests that it picks. Neither may they have `group(..)`.
+/// Reads the default filter.
+pub fn read_default_filter(
+    alloc: Global,
+    text: &str,
+    parse_context: &ParseContext<'_>,
+) -> Result<CompiledExpr, Failure>
+    ensures no_default { IfOk result (λ filter. has_leaf is_default filter ≡ false) }
+    ensures no_group { IfOk result (λ filter. has_leaf is_group filter ≡ false) }
+{
+    let filterset = read_setting(alloc, text, FiltersetKind::DefaultFilter, parse_context)?;
+    Ok(filterset.compiled)
+}
+
+/// Reads the overrides, each a filterset and the group of the tests that it picks.
 pub fn read_overrides(
     alloc: Global,
     rows: &[(&str, &str)],
@@ -84,10 +99,8 @@ pub fn read_overrides(
 ) -> Result<Vec<Override>, Failure> {
     let mut overrides = Vec::with_capacity(alloc, rows.len())?;
     for (text, group) in rows {
-        let text = String::from_str(alloc, text)?;
         let group = String::from_str(alloc, group)?;
-        let kind = FiltersetKind::OverrideFilter;
-        let tests = Filterset::parse(alloc, text, parse_context, kind, &KnownGroups::Unavailable)?;
+        let tests = read_setting(alloc, text, FiltersetKind::OverrideFilter, parse_context)?;
         overrides.push(Override::new(tests, group))?;
     }
     Ok(overrides)

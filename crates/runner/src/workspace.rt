@@ -69,7 +69,7 @@ const PACKAGES: [CargoPackage; 4] = [
 ];
 
 /// A test binary: what it was built from, and the tests that it lists.
-#[derive(Debug, Drop)]
+#[derive(Drop)]
 pub struct TestBinary {
     package_id: PackageId,
     binary_id: RustBinaryId,
@@ -184,5 +184,9 @@ pub fn binaries(
     alloc: Global,
     test_binaries: &[TestBinary],
 ) -> Result<Vec<Binary<'_>>, AllocError> {
-    test_binaries.iter().map(TestBinary::binary).collect(alloc)
+    let mut binaries = Vec::with_capacity(alloc, test_binaries.len())?;
+    for test_binary in test_binaries {
+        binaries.push(test_binary.binary())?;
+    }
+    Ok(binaries)
 }

@@ -1,6 +1,6 @@
 use Rattle.std.proofs.Common.{rules, arith, ◌≡◌, ◌∙◌, ◌<◌, false, true, length, get_or, sym, refl}
 use Rattle.filterset_expression.specs.Contexts.{default_of}
-use Rattle.runner.specs.Groups.{IsInGroup, PutsTest}
+use Rattle.runner.specs.Groups.{PutsTest}
 use Rattle.runner.proofs.FirstOverride.{none_left, not_picked, picked}
 use Rattle.runner.proofs.groups.Groups.group_of.Goals as goal
 
