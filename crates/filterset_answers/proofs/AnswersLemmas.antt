@@ -1,14 +1,21 @@
 -- Answers that are made piece by piece.
-use Rattle.std.proofs.Common.{◌≡◌, ◌≢◌, ℕ, suc, Bool, add-zero, arith, ◌+◌, ◌<◌, ◌≤◌, List, [], ◌∷◌, ◌++◌, length, map, take, get_or, ◌∙◌, sym, ap, subst, append_assoc, refl, true, false, ◌||◌}
+use Rattle.std.proofs.Common.{◌≡◌, ◌≢◌, ℕ, suc, Bool, add-zero, arith, ◌+◌, ◌<◌, List, [], ◌∷◌, ◌++◌, length, map, take, get_or, ◌∙◌, sym, ap, subst, append_assoc, refl, true, false, inl, inr}
 use Rattle.std.proofs.lemmas.List.{append-nil, map-append, take_more, length-map, length-take-le}
 use Rattle.serde_json.specs.Data.{Data}
 use Rattle.serde_json.specs.Written.{has_float}
 use Rattle.filterset_drawing.specs.Columns.{Text}
 use Rattle.filterset_drawing.specs.Json.{number_data, text_data, FaultData}
 use Rattle.std.specs.Prelude.{Option, Some, None}
+use Rattle.std.specs.List.{AllZip}
+use Rattle.filterset_expression.specs.declared.expression.CompiledExpr.{CompiledExpr}
+use Rattle.filterset_faults.specs.declared.kind.FiltersetKind.{FiltersetKind}
+use Rattle.filterset_graph.specs.declared.package.PackageMetadata.{PackageMetadata}
+use Rattle.nextest_filtering.specs.Compiling.{IsRefusedWith, found, rejected, banned, unmatched}
+use Rattle.nextest_filtering.specs.declared.compile.context.KnownGroups.{KnownGroups}
 use Rattle.filterset_faults.specs.declared.error.ParseSingleError.{ParseSingleError}
 use Rattle.filterset_answers.specs.Answers.{FaultsOf, FormatsTexts, FormattedLine, FormattedLines, FormattedPart, TextFaults, has_some}
 use Rattle.filterset_answers.specs.Checked.{HasReadingFaults, TextRow}
+use Rattle.filterset_answers.specs.Compiled.{AddsExpression, HasRefusal, IsExpressionOf}
 use Rattle.filterset_answers.specs.Counts.{one_if}
 use Rattle.filterset_answers.specs.Forms.{FaultPiece, FaultPieces}
 use Rattle.filterset_answers.specs.declared.form.Form.{Form}
@@ -115,3 +122,40 @@ FaultPieces-of form number piece origin origin' text text' faults faults' same_o
     subst (λ o. FaultPieces form o text' number faults' piece) same_origin
     (subst (λ t. FaultPieces form origin t number faults' piece) same_text
     (subst (λ fs. FaultPieces form origin text number fs piece) same_faults pieces))
+
+-- one more pair
+pub AllZip-push : {A B : Type 0} (R : A → B → Type 0) (xs : List A) (ys : List B) (x : A) (y : B) → AllZip R xs ys → R x y → AllZip R (xs ++ x ∷ []) (ys ++ y ∷ [])
+AllZip-push R [] [] x y all one = (one, tt)
+AllZip-push R [] (b ∷ ys) x y all one = absurd all
+AllZip-push R (a ∷ xs) [] x y all one = absurd all
+AllZip-push R (a ∷ xs) (b ∷ ys) x y all one = (all.0, AllZip-push R xs ys x y all.1 one)
+
+-- what one more text compiles to, as long as none has faults
+pub expressions_next : (packages : List PackageMetadata) (groups : KnownGroups) (rows : List TextRow) (row : TextRow) (old new : List CompiledExpr) (faulty : ℕ) (has : Bool)
+    → (faulty ≡ 0 → AllZip (IsExpressionOf packages groups) rows old) → AddsExpression packages groups row has old new
+    → (faulty + one_if has ≡ 0 → AllZip (IsExpressionOf packages groups) (rows ++ row ∷ []) new)
+expressions_next packages groups rows row old new faulty true are adds none = absurd (omega (arith, none))
+expressions_next packages groups rows row old new faulty false are (expression, added, is) none =
+    subst (AllZip (IsExpressionOf packages groups) (rows ++ row ∷ [])) (sym added) (AllZip-push (IsExpressionOf packages groups) rows old row expression (are (omega (arith, none))) is)
+
+-- the faults that refuse a text are some
+pub refusal_some : (text : Text) (kind : FiltersetKind) (packages : List PackageMetadata) (groups : KnownGroups) (faults : List ParseSingleError)
+    → IsRefusedWith text kind packages groups faults → faults ≢ []
+refusal_some text kind packages groups faults (found unread) = unread.some
+refusal_some text kind packages groups faults (rejected e reads (banned are some)) = some
+refusal_some text kind packages groups faults (rejected e reads (unmatched allowed are some)) = some
+
+-- what becomes of a text that is a filterset
+pub filterset_outcome : (packages : List PackageMetadata) (groups : KnownGroups) (row : TextRow) (form : Form) (number : ℕ) (expression : CompiledExpr) (output old : Text) (before after : List CompiledExpr)
+    → IsExpressionOf packages groups row expression → output ≡ old → after ≡ before ++ expression ∷ []
+    → (piece : Text) × (output ≡ old ++ piece) × TextFaults (HasRefusal packages groups) form number row false piece × AddsExpression packages groups row false before after
+filterset_outcome packages groups row form number expression output old before after is same added =
+    ([], same ∙ sym (append-nil old), ([], inl (is.tree, is.accepted, refl), refl, refl), (expression, added, is))
+
+-- what becomes of a text with faults
+pub fault_outcome : (packages : List PackageMetadata) (groups : KnownGroups) (row : TextRow) (form : Form) (number : ℕ) (faults : List ParseSingleError) (output old : Text) (before after : List CompiledExpr)
+    → IsRefusedWith row.text row.kind packages groups faults → after ≡ before
+    → ((piece : Text) × (output ≡ old ++ piece) × FaultPieces form row.origin row.text number faults piece)
+    → (piece : Text) × (output ≡ old ++ piece) × TextFaults (HasRefusal packages groups) form number row true piece × AddsExpression packages groups row true before after
+fault_outcome packages groups row form number faults output old before after refused same (piece, added, is) =
+    (piece, added, (faults, inr refused, some_is faults (refusal_some _ _ _ _ faults refused), is), same)

@@ -4,3 +4,4 @@ pub mod Checked
 pub mod Forms
 pub mod Answers
 pub mod Readings
+pub mod Compiled

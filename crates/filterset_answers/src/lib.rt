@@ -2,6 +2,7 @@
 #![tactic(auto)]
 
 mod checking;
+mod compiling;
 mod form;
 mod formatting;
 mod names;
@@ -9,6 +10,7 @@ mod reading;
 mod text;
 
 pub use checking::check;
+pub use compiling::{Compiled, compile_texts};
 pub use form::Form;
 pub use formatting::format_texts;
 pub use names::Names;

@@ -33,6 +33,7 @@ Divides One Other (test ∷ tests) first second both =
 -- how the two filtersets differ on the binary
 abbrev pub IsComparison : CompiledExpr → CompiledExpr → CompiledExpr → AskedBinary → Compared → Type 0
 IsComparison one other default binary compared =
-    Divides (Tells one default binary.query) (Tells other default binary.query) binary.tests.now
+    (compared.binary ≡ binary)
+    × Divides (Tells one default binary.query) (Tells other default binary.query) binary.tests.now
     (map (λ t. t.now) compared.first.items) (map (λ t. t.now) compared.second.items)
     (map (λ t. t.now) compared.both.items)

@@ -1,3 +1,6 @@
 pub mod Asking
 pub mod Listing
 pub mod Comparing
+pub mod Writing
+pub mod Comparison
+pub mod Union

@@ -25,8 +25,8 @@ tests_of section = map (λ t. t.now) section.tests.items
 -- What is picked of the binary: where it is left out, nothing, since it alone tells that the filterset holds of none of
 -- its tests, whatever their names and groups are; else exactly the tests that the filterset holds of.
 pub data IsSection (expr default : CompiledExpr) (binary : AskedBinary) (section : Section) : Type 0 where
-  left_out : section.is_left_out ≡ true → tests_of section ≡ [] → IsDefinite expr binary.query default false
+  left_out : section.binary ≡ binary → section.is_left_out ≡ true → tests_of section ≡ [] → IsDefinite expr binary.query default false
       → ((query : TestQuery) → query.binary_query ≡ binary.query → ¬ Holds expr query default in_global)
       → IsSection expr default binary section
-  asked : section.is_left_out ≡ false → Picked (Tells expr default binary.query) binary.tests.now (tests_of section)
+  asked : section.binary ≡ binary → section.is_left_out ≡ false → Picked (Tells expr default binary.query) binary.tests.now (tests_of section)
       → IsSection expr default binary section

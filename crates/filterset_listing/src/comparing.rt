@@ -1,23 +1,23 @@
 //! How two filtersets differ on a list.
-ghost use Rattle.std.specs.Prelude.{◌≡◌, IfOk, map};
+ghost use Rattle.std.specs.Prelude.{◌≡◌, IfOk};
 ghost use Rattle.std.specs.List.{AllZip};
 ghost use Rattle.filterset_expression.specs.Contexts.{default_of};
 ghost use Rattle.filterset_expression.specs.FlatExpressions.{IsFlat};
 ghost use Rattle.filterset_expression.specs.declared.expression.CompiledExpr.{CompiledExpr};
-ghost use Rattle.filterset_listing.specs.Asking.{Tells};
-ghost use Rattle.filterset_listing.specs.Comparing.{Divides, IsComparison, both_of, only};
+ghost use Rattle.filterset_listing.specs.Comparing.{IsComparison, both_of, only};
 
 use crate::asking::picks;
 use crate::binary::AskedBinary;
 use crate::global::GlobalLookup;
 use crate::listing::push_if;
-use filterset_expression::{BinaryQuery, CompiledExpr, EvalContext, FlatExpr};
+use filterset_expression::{CompiledExpr, EvalContext, FlatExpr};
 use filterset_graph::TestCaseName;
 use std::alloc::{AllocError, Global};
 
 /// The tests of a binary that one of two filtersets picks, or both, in the order of the list.
 #[derive(Debug, Drop)]
 pub struct Compared<'s> {
+    pub binary: AskedBinary<'s>,
     /// Those that only the first one picks.
     pub first: Vec<&'s TestCaseName>,
     /// Those that only the second one picks.
@@ -40,32 +40,29 @@ fn both_of(one: bool, other: bool) -> bool
     one && other
 }
 
-/// What two filtersets pick of these tests of a binary.
+/// What two filtersets pick of a binary.
 fn divided<'s>(
     alloc: Global,
     first: &FlatExpr<'_>,
     second: &FlatExpr<'_>,
-    query: &BinaryQuery<'_>,
-    tests: &'s [TestCaseName],
+    binary: &AskedBinary<'s>,
 ) -> Result<Compared<'s>, AllocError>
     ensures { IfOk result (λ compared. (one other default : CompiledExpr) → IsFlat first.now one default
-        → IsFlat second.now other default
-        → Divides (Tells one default query.now) (Tells other default query.now) tests.now
-        (map (λ t. t.now) compared.first.items) (map (λ t. t.now) compared.second.items)
-        (map (λ t. t.now) compared.both.items)) }
+        → IsFlat second.now other default → IsComparison one other default binary.now compared) }
 {
     let lookup = GlobalLookup;
     let mut only_first = Vec::new(alloc);
     let mut only_second = Vec::new(alloc);
     let mut both = Vec::new(alloc);
-    for test in tests {
-        let is_first = picks(alloc, first, &lookup, query, test)?;
-        let is_second = picks(alloc, second, &lookup, query, test)?;
+    for test in binary.tests {
+        let is_first = picks(alloc, first, &lookup, &binary.query, test)?;
+        let is_second = picks(alloc, second, &lookup, &binary.query, test)?;
         push_if(&mut only_first, test, only(is_first, is_second))?;
         push_if(&mut only_second, test, only(is_second, is_first))?;
         push_if(&mut both, test, both_of(is_first, is_second))?;
     }
     Ok(Compared {
+        binary: *binary,
         first: only_first,
         second: only_second,
         both,
@@ -85,7 +82,7 @@ fn comparisons_of<'s>(
 {
     let mut all = Vec::with_capacity(alloc, binaries.len())?;
     for binary in binaries {
-        all.push(divided(alloc, first, second, &binary.query, binary.tests)?)?;
+        all.push(divided(alloc, first, second, binary)?)?;
     }
     Ok(all)
 }

@@ -4,10 +4,17 @@
 mod asking;
 mod binary;
 mod comparing;
+mod comparison;
+mod counting;
 mod global;
 mod listing;
+mod union;
+mod writing;
 
 pub use binary::AskedBinary;
 pub use comparing::{Compared, compare};
+pub use comparison::{comparison_text, differ};
 pub use global::GlobalLookup;
 pub use listing::{Section, list};
+pub use union::union_of;
+pub use writing::list_text;

@@ -17,6 +17,7 @@ use std::alloc::{AllocError, Global};
 /// What a filterset picks of a binary.
 #[derive(Debug, Drop)]
 pub struct Section<'s> {
+    pub binary: AskedBinary<'s>,
     /// Whether the binary alone told that none of its tests is picked, so that they were not asked about.
     pub is_left_out: bool,
     /// The tests that are picked, in the order of the list.
@@ -68,11 +69,13 @@ fn section_of<'s>(
 {
     if leaves_out(alloc, flat, &binary.query)? {
         return Ok(Section {
+            binary: *binary,
             is_left_out: true,
             tests: Vec::new(alloc),
         });
     }
     Ok(Section {
+        binary: *binary,
         is_left_out: false,
         tests: picked(alloc, flat, &binary.query, binary.tests)?,
     })

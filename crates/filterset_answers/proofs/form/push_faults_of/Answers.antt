@@ -1,4 +1,4 @@
-use Rattle.std.proofs.Common.{rules, arith, ◌≡◌, ◌<◌, ◌++◌, length, get_or, take}
+use Rattle.std.proofs.Common.{arith, ◌<◌, ◌++◌, length}
 use Rattle.std.proofs.lemmas.List.{take_all}
 use Rattle.filterset_answers.proofs.AnswersLemmas.{FaultPieces-next, added_twice}
 use Rattle.filterset_answers.proofs.form.push_faults_of.Goals as goal

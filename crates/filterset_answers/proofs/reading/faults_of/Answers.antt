@@ -1,4 +1,4 @@
-use Rattle.std.proofs.Common.{rules, ◌≡◌, [], List, string_bytes, subst}
+use Rattle.std.proofs.Common.{rules, string_bytes}
 use Rattle.std.proofs.lemmas.Result.{IfOk-weaker}
 use Rattle.filterset_language.specs.Views.{tree_of}
 use Rattle.nextest_filtering.specs.Compiling.{IsFiltersetOf, IsRefusedWith, packages_of}

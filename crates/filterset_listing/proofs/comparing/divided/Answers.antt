@@ -1,4 +1,4 @@
-use Rattle.std.proofs.Common.{rules, arith, ◌≡◌, ◌<◌, length, get_or, take}
+use Rattle.std.proofs.Common.{rules, arith, ◌≡◌, ◌<◌, length, get_or, refl, take}
 use Rattle.std.proofs.lemmas.List.{take_all}
 use Rattle.filterset_listing.proofs.ListingLemmas.{Divides-push, one_more}
 use Rattle.filterset_listing.proofs.comparing.divided.Goals as goal
@@ -6,11 +6,11 @@ use Rattle.filterset_listing.proofs.comparing.divided.Goals as goal
 pub returns : goal.returns
 returns c one other default is_one is_other =
     let tests = c.loop-test.invariant one other default is_one is_other in
-    rw (take_all c.loop-test.test-index c.args.tests.now c.loop-test-test.false) at tests
+    (refl, rw (take_all c.loop-test.test-index c.args.binary.now.tests.now c.loop-test-test.false) at tests)
 
 pub loop-test-preserved : goal.loop-test-preserved
 loop-test-preserved c one other default is_one is_other =
-    let tests = c.args.tests.now in
+    let tests = c.args.binary.now.tests.now in
     let i = c.loop-test.test-index in
     let test = c.test-item.result in
     let lt : i < length tests = omega (arith, c.loop-test-test.true) in

@@ -9,5 +9,5 @@ use Rattle.filterset_listing.proofs.comparing.divided.Given as goal
 abbrev pub invariant-loop-test : goal.invariant-loop-test
 invariant-loop-test l =
     (one other default : CompiledExpr) → IsFlat l.first one default → IsFlat l.second other default
-    → Divides (Tells one default l.query) (Tells other default l.query) (take l.test-index l.tests)
+    → Divides (Tells one default l.binary.query) (Tells other default l.binary.query) (take l.test-index l.binary.tests.now)
     (map (λ t. t.now) l.only_first.items) (map (λ t. t.now) l.only_second.items) (map (λ t. t.now) l.both.items)

@@ -9,8 +9,8 @@ pub returns-then-branch : goal.returns-then-branch
 returns-then-branch c expr default flat =
     let told = c.in_ok-leaves_out.ensures expr default flat in
     let definite = told.0 c.if-branch.true in
-    left_out refl (rw c.new.ensures.items refl) definite
+    left_out refl refl (rw c.new.ensures.items refl) definite
     (λ query is. none_holds expr default query (subst (λ (binary : BinaryQuery). IsDefinite expr binary default false) (sym is) definite))
 
 pub returns : goal.returns
-returns c expr default flat = asked refl (c.in_ok-picked.ensures expr default flat)
+returns c expr default flat = asked refl refl (c.in_ok-picked.ensures expr default flat)

@@ -1,0 +1,43 @@
+//! The union of filtersets.
+ghost use Rattle.std.specs.Prelude.{◌≡◌, IfOk, MatchOption};
+ghost use Rattle.filterset_expression.specs.declared.logic.Connective.TheVariants.{Disjunction};
+ghost use Rattle.filterset_expression.specs.Expression.{formula};
+ghost use Rattle.filterset_expression.specs.Formula.{Compound};
+ghost use Rattle.filterset_listing.specs.Union.{IsUnion};
+
+use filterset_expression::nodes::compound;
+use filterset_expression::{CompiledExpr, Connective, FiltersetLeaf};
+use std::alloc::{AllocError, Global};
+
+/// The union of the sets before a set, if there are any, and that set.
+fn union_with(
+    alloc: Global,
+    before: Option<Box<CompiledExpr>>,
+    expr: CompiledExpr,
+) -> Result<Box<CompiledExpr>, AllocError>
+    ensures { IfOk result (λ union. MatchOption before (formula union.value ≡ formula expr)
+        (λ b. formula union.value ≡ Compound Disjunction (formula b.value) (formula expr))) }
+{
+    let expr = Box::new(alloc, expr)?;
+    match before {
+        Some(before) => compound(alloc, Connective::Disjunction, before, expr),
+        None => Ok(expr),
+    }
+}
+
+/// The tests that are in one of the sets at least, as where a runner is given several filtersets. Where there is none,
+/// the tests of the default filter.
+///
+/// The only error is out of memory.
+pub fn union_of(alloc: Global, exprs: Vec<CompiledExpr>) -> Result<CompiledExpr, AllocError>
+    ensures { IfOk result (IsUnion exprs.items) }
+{
+    let mut union = None;
+    for expr in exprs {
+        union = Some(union_with(alloc, union, expr)?);
+    }
+    match union {
+        Some(union) => Ok(Box::into_inner(union)),
+        None => Ok(CompiledExpr::Set(FiltersetLeaf::Default)),
+    }
+}
