@@ -1,7 +1,7 @@
 #!/bin/bash
 # Checks that the pages are true, as far as a script can: the lists that scripts write are current, quoted clauses and
-# code stand in the sources, links, headings and paths lead somewhere, and, with the program that `rt ci` built, the
-# examples have the reports that are stored beside them, and so have the records that pages show.
+# code stand in the sources, links, headings and paths lead somewhere, and, with the programs that `rt ci` built, the
+# examples have the reports that are stored beside them, and so have the records and the commands that pages show.
 # `scripts/docs.sh --pages` needs no program, and leaves out what does. The last line is 'N passed, M failed'.
 set -uo pipefail
 source "$(dirname "${BASH_SOURCE[0]}")/lib.sh"
@@ -38,11 +38,14 @@ example() {
     pass
 }
 
+people=crates/filterset_command/out/filterset_command
 need "$program"
+need "$people"
 for record in examples/*.json; do example "$record"; done
 for report in examples/*.report; do
     [ -f "${report%.report}.json" ] || fail "$report" "there is no record of it"
 done
 holds "reports that pages show" scripts/pages.py shown "$program"
+holds "answers that pages show" scripts/pages.py answers "$people"
 
 finish

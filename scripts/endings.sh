@@ -44,7 +44,7 @@ ends "another kind" "$room/lines" "$room/wrote" 2 "error: invalid value 'other' 
 
 For more information, try '--help'." "$people" check --kind other 'all()'
 ends "no command" "$room/lines" "$room/wrote" 2 "error: 'filterset_command' requires a subcommand but one was not provided
-  [subcommands: check, format, help]
+  [subcommands: check, format, list, compare, help]
 
 Usage: filterset_command <COMMAND>
 
@@ -53,5 +53,18 @@ ends "words that are no text" "$room/lines" "$room/wrote" 2 "error: the command 
 ends "no text" "$room/bytes" "$room/wrote" 2 "error: standard input is not UTF-8" "$people" check -
 ends "texts that cannot be read" . "$room/wrote" 3 "read failed" "$people" check -
 ends "faults that cannot be written" "$room/lines" /dev/full 3 "write failed" "$people" check 'and(a, b)'
+
+data=crates/filterset_command/data
+workspace=(--cargo-metadata "$data/cargo-metadata.json" --nextest-list "$data/nextest-list.json")
+printf '{"rust-suites":{"lexer":{"package-id":"path+file:///w/lexer#0.1.0","binary-id":"lexer","binary-name":"lexer","kind":1}}}' > "$room/list"
+ends "listed" "$room/lines" "$room/wrote" 0 "" "$people" list "${workspace[@]}" -E 'deps(parser)' -E 'test(~slow)'
+ends "listed, with faults" "$room/lines" "$room/wrote" 1 "" "$people" list "${workspace[@]}" -E 'package(none)'
+ends "compared, the same" "$room/lines" "$room/wrote" 0 "" "$people" compare "${workspace[@]}" 'all()' 'default()'
+ends "compared, another" "$room/lines" "$room/wrote" 1 "" "$people" compare "${workspace[@]}" 'all()' 'package(parser)'
+ends "compared, with faults" "$room/lines" "$room/wrote" 1 "" "$people" compare "${workspace[@]}" 'all()' 'and(a, b)'
+ends "a list with a wrong value" "$room/lines" "$room/wrote" 2 "error: $room/list: \`rust-suites.lexer.kind\` must be a text" "$people" list --cargo-metadata "$data/cargo-metadata.json" --nextest-list "$room/list"
+ends "a file that is no text" "$room/lines" "$room/wrote" 2 "error: $room/bytes: not UTF-8" "$people" list --cargo-metadata "$room/bytes" --nextest-list "$data/nextest-list.json"
+ends "a file that is not there" "$room/lines" "$room/wrote" 3 "error: $room/none: cannot be read: No such file or directory (os error 2)" "$people" list --cargo-metadata "$room/none" --nextest-list "$data/nextest-list.json"
+ends "a list that cannot be written" "$room/lines" /dev/full 3 "write failed" "$people" list "${workspace[@]}"
 
 finish

@@ -10,6 +10,7 @@
     scripts/pages.py tables           the tables of filtersets agree with examples/answers.* and examples/faults.*
     scripts/pages.py stored           what pages show of a crate's stored run is its file stdout
     scripts/pages.py shown PROGRAM    what pages show of the program's reports is what it writes
+    scripts/pages.py answers PROGRAM  what pages show of the answers to commands is what the program for people writes
 
 Each prints what it finds wrong, and how many things it looked at; the status is 1 where something is wrong, or where
 there was nothing to look at.
@@ -17,6 +18,7 @@ there was nothing to look at.
 
 import json
 import re
+import shlex
 import subprocess
 import sys
 from dataclasses import dataclass
@@ -377,14 +379,44 @@ def check_shown(program):
     return check
 
 
+def commands_on(page):
+    """The commands that a page shows, by their places, each with the answer that it shows: after a command in a block
+    the next block, and after one in code what it `gives`, code or the next block."""
+    blocks = list(blocks_of(page))
+    for block, after in zip(blocks, blocks[1:]):
+        if re.match(r"\./filterset [^<]", block.text):
+            yield block.line, block.text, after.text
+    text = text_of(page)
+    for code in re.finditer(r"`(\./filterset [^`<]+)`\s+gives(?:\s+`([^`]+)`|$)", text, re.MULTILINE):
+        line = text.count("\n", 0, code.start()) + 1
+        yield line, unwrapped(code[1]), code[2] or next((block.text for block in blocks if block.line > line), "")
+
+
+def answered(program, command):
+    words = shlex.split(command.replace("\\\n", " "))[1:]
+    ran = subprocess.run([program, *words], cwd=TOP, capture_output=True, timeout=60, check=False)
+    return "\n".join(line.rstrip() for line in ran.stdout.decode().splitlines()).strip("\n")
+
+
+def check_answers_to_commands(program):
+    check = Check("answers shown")
+    for page in pages():
+        for line, command, answer in commands_on(page):
+            is_right = answered(program, command) == answer
+            check.found(is_right, f"{page}:{line}", f"another answer is written to {command}")
+    return check
+
+
 CHECKS = {
     "clauses": check_clauses, "code": check_code, "crates": check_crates, "calls": check_calls,
     "links": check_links, "paths": check_paths, "tables": check_tables, "stored": check_stored, "shown": check_shown,
+    "answers": check_answers_to_commands,
 }
+ON_PROGRAMS = {"shown", "answers"}
 
 
 def main(arguments):
-    if not arguments or arguments[0] not in CHECKS or len(arguments) != (2 if arguments[0] == "shown" else 1):
+    if not arguments or arguments[0] not in CHECKS or len(arguments) != (2 if arguments[0] in ON_PROGRAMS else 1):
         print(__doc__, file=sys.stderr)
         return 2
     return CHECKS[arguments[0]](*arguments[1:]).status()

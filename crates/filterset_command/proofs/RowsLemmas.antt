@@ -7,7 +7,7 @@ use Rattle.filterset_drawing.specs.Columns.{Text}
 use Rattle.filterset_faults.specs.declared.kind.FiltersetKind.{FiltersetKind}
 use Rattle.filterset_answers.specs.Checked.{TextRow, text_row}
 use Rattle.filterset_answers.specs.declared.text.TextEntry.{TextEntry}
-use Rattle.filterset_command.specs.Requests.{HaveTexts}
+use Rattle.filterset_command.specs.Entries.{HaveTexts}
 
 -- one more text
 pub HaveTexts-push : (kind : FiltersetKind) (texts : List Text) (rows : List TextRow) (text : Text) (row : TextRow)

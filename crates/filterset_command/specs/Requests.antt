@@ -1,5 +1,5 @@
 -- What is asked for, and its answers.
-use Rattle.std.specs.Prelude.{◌≡◌, ◌⊎◌, ℕ, Bool, false, List, [], Option, IfSome, map, string_bytes}
+use Rattle.std.specs.Prelude.{◌≡◌, ◌⊎◌, ℕ, false, List, [], Option, IfSome, map, string_bytes}
 use Rattle.std.specs.Str.Lines.{lines}
 use Rattle.clap.specs.declared.error.Error.{Error}
 use Rattle.clap.specs.declared.error.kind.ErrorKind.{ErrorKind}
@@ -12,18 +12,17 @@ use Rattle.nextest_filtering.specs.Compiling.{packages_of}
 use Rattle.filterset_answers.specs.Answers.{ChecksTexts, FormatsTexts}
 use Rattle.filterset_answers.specs.Checked.{TextRow}
 use Rattle.filterset_answers.specs.declared.names.Names.{Names}
+use Rattle.filterset_command.specs.Ending.{ending_of}
+use Rattle.filterset_command.specs.Entries.{HaveTexts}
+use Rattle.filterset_command.specs.Picking.{AnswersAsked}
+use Rattle.filterset_command.specs.declared.ending.Ending.{Ending}
+use Rattle.filterset_command.specs.declared.ending.Ending.TheVariants.{Fine}
 use Rattle.filterset_command.specs.declared.fault.CommandFault.{CommandFault}
 use Rattle.filterset_command.specs.declared.fault.CommandFault.TheVariants.{Words, Run}
 use Rattle.filterset_command.specs.declared.request.Request.{Request}
-use Rattle.filterset_command.specs.declared.request.Request.TheVariants.{Check, Format, Show}
+use Rattle.filterset_command.specs.declared.request.Request.TheVariants.{Ask, Check, Format, Show}
 use Rattle.filterset_command.specs.declared.request.Texts.{Texts}
 use Rattle.filterset_command.specs.declared.request.Texts.TheVariants.{Given, StandardInput}
-
--- the rows have these texts, in their order, and are to be filtersets of this kind
-abbrev pub HaveTexts : FiltersetKind → List Text → List TextRow → Type 0
-HaveTexts kind texts rows =
-    map {B = FiltersetKind × Text} (λ (row : TextRow). (row.kind, row.text)) rows
-    ≡ map {B = FiltersetKind × Text} (λ text. (kind, text)) texts
 
 -- the rows have the texts that are asked about: those given, or the lines of the bytes that standard input has left,
 -- where these are known
@@ -46,11 +45,14 @@ IsTold error (Words own) = own ≡ error
 IsTold error (Run (Memory refused)) = Unit {0}
 IsTold error _ = ⊥
 
--- what a request may be answered, where this is left of standard input, and how many of its filtersets have faults
-abbrev pub IsAnswered : Request → Option Text → ℕ → Text → Type 0
-IsAnswered (Check kind form texts) left faulty text =
-    (rows : List TextRow) × (names : Names) × AreRows kind texts left rows × KnowsNoName names
-    × ChecksTexts names form rows faulty text
-IsAnswered (Format form texts) left faulty text =
-    (rows : List TextRow) × AreRows kinds.Test texts left rows × FormatsTexts form rows faulty text
-IsAnswered (Show shown) left faulty text = (faulty ≡ 0) × (text ≡ string_bytes shown)
+-- What a request may be answered, where files have these contents and this is left of standard input, and how the
+-- command fares.
+abbrev pub IsAnswered : (Text → Option Text) → Request → Option Text → Ending → Text → Type 0
+IsAnswered content (Check kind form texts) left ending text =
+    (rows : List TextRow) × (names : Names) × (faulty : ℕ) × AreRows kind texts left rows × KnowsNoName names
+    × ChecksTexts names form rows faulty text × (ending ≡ ending_of faulty)
+IsAnswered content (Format form texts) left ending text =
+    (rows : List TextRow) × (faulty : ℕ) × AreRows kinds.Test texts left rows × FormatsTexts form rows faulty text
+    × (ending ≡ ending_of faulty)
+IsAnswered content (Ask asked) left ending text = AnswersAsked content asked ending text
+IsAnswered content (Show shown) left ending text = (ending ≡ Fine) × (text ≡ string_bytes shown)

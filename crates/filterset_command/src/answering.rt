@@ -1,13 +1,17 @@
 //! Answering a request.
-ghost use Rattle.std.specs.Prelude.{◌≡◌, ◌≢◌, IfErr, IfOk, [], map, string_bytes};
-ghost use Rattle.std.specs.Str.Lines.{lines};
-ghost use Rattle.records.specs.declared.fault.RunFault.TheVariants.{Write};
+ghost use Rattle.std.specs.Prelude.{◌≡◌, IfErr, IfOk, [], map, string_bytes};
 ghost use Rattle.nextest_filtering.specs.Groups.{IsKnown};
 ghost use Rattle.filterset_answers.specs.Checked.{text_row};
-ghost use Rattle.filterset_command.specs.Requests.{AreRows, HaveTexts, IsAnswered, KnowsNoName};
-ghost use Rattle.filterset_command.specs.declared.fault.CommandFault.TheVariants.{Run};
+ghost use Rattle.filterset_command.specs.Ending.{ending_of};
+ghost use Rattle.filterset_command.specs.Files.{NotWrite};
+ghost use Rattle.filterset_command.specs.Requests.{AreRows, IsAnswered, KnowsNoName};
 
+use crate::ending::{Ending, ending_of};
+use crate::entries::{given_entries, line_entries};
 use crate::fault::CommandFault;
+use crate::files::FileSource;
+use crate::outcome::Outcome;
+use crate::picking::ask;
 use crate::request::{Request, Texts};
 use filterset_answers::{Answer, Names, TextEntry, check, format_texts};
 use nextest_filtering::{FiltersetKind, GraphRefusal, KnownGroups, PackageGraph, ParseContext};
@@ -15,28 +19,44 @@ use records::{Source, read_all};
 use std::alloc::{AllocError, Global};
 use std::collections::HashSet;
 
-/// Answers a request, for which standard input may be read.
-pub fn answer<R: Source>(
+/// Answers a request, for which standard input and files may be read.
+pub fn answer<F: FileSource, R: Source>(
     alloc: Global,
     request: Request,
+    files: &F,
     input: &mut R,
-) -> Result<Answer, CommandFault>
-    ensures answered { IfOk result (λ answer.
-        IsAnswered request (R.left input.old) answer.faulty (string_bytes answer.text)) }
-    ensures no_write { IfErr result (λ fault. fault ≢ Run Write) }
+) -> Result<Outcome, CommandFault>
+    ensures answered { IfOk result (λ outcome. IsAnswered (F.content files.now) request (R.left input.old)
+        outcome.ending (string_bytes outcome.text)) }
+    ensures no_write { IfErr result NotWrite }
 {
     match request {
         Request::Check { kind, form, texts } => {
             let entries = entries_of(alloc, kind, texts, input)?;
             let graph = no_packages(alloc)?;
             let names = no_names(alloc, &graph)?;
-            Ok(check(alloc, &names, form, entries.as_slice())?)
+            Ok(outcome(check(alloc, &names, form, entries.as_slice())?))
         }
         Request::Format { form, texts } => {
             let entries = entries_of(alloc, FiltersetKind::Test, texts, input)?;
-            Ok(format_texts(alloc, form, entries.as_slice())?)
+            Ok(outcome(format_texts(alloc, form, entries.as_slice())?))
         }
-        Request::Show(text) => Ok(Answer { text, faulty: 0 }),
+        Request::Ask(asked) => ask(alloc, files, &asked),
+        Request::Show(text) => Ok(Outcome {
+            text,
+            ending: Ending::Fine,
+        }),
+    }
+}
+
+/// What an answer about texts comes to.
+fn outcome(answer: Answer) -> Outcome
+    ensures text { result.text ≡ answer.text }
+    ensures ending { result.ending ≡ ending_of answer.faulty }
+{
+    Outcome {
+        text: answer.text,
+        ending: ending_of(answer.faulty),
     }
 }
 
@@ -48,10 +68,10 @@ fn entries_of<R: Source>(
     input: &mut R,
 ) -> Result<Vec<TextEntry>, CommandFault>
     ensures rows { IfOk result (λ entries. AreRows kind texts (R.left input.old) (map text_row entries.items)) }
-    ensures no_write { IfErr result (λ fault. fault ≢ Run Write) }
+    ensures no_write { IfErr result NotWrite }
 {
     match texts {
-        Texts::Given(texts) => Ok(given_entries(alloc, kind, texts.as_slice())?),
+        Texts::Given(texts) => Ok(given_entries(alloc, "argument", kind, texts.as_slice())?),
         Texts::StandardInput => {
             let bytes = read_all(alloc, input)?;
             let Ok(text) = String::from_utf8(bytes) else {
@@ -60,47 +80,6 @@ fn entries_of<R: Source>(
             Ok(line_entries(alloc, kind, text.as_str())?)
         }
     }
-}
-
-/// The texts of the command line.
-fn given_entries(
-    alloc: Global,
-    kind: FiltersetKind,
-    texts: &[String],
-) -> Result<Vec<TextEntry>, AllocError>
-    ensures { IfOk result (λ entries.
-        HaveTexts kind (map (λ s. string_bytes s) texts.now) (map text_row entries.items)) }
-{
-    let mut entries = Vec::new(alloc);
-    for (i, text) in texts.iter().enumerate() {
-        let number = i + 1;
-        entries.push(TextEntry {
-            origin: format!(in alloc; "argument {number}")?,
-            kind,
-            text: String::from_str(alloc, text.as_str())?,
-        })?;
-    }
-    Ok(entries)
-}
-
-/// The lines of standard input.
-fn line_entries(
-    alloc: Global,
-    kind: FiltersetKind,
-    text: &str,
-) -> Result<Vec<TextEntry>, AllocError>
-    ensures { IfOk result (λ entries. HaveTexts kind (lines text.now) (map text_row entries.items)) }
-{
-    let mut entries = Vec::new(alloc);
-    for line in text.lines() {
-        let number = entries.len() + 1;
-        entries.push(TextEntry {
-            origin: format!(in alloc; "line {number}")?,
-            kind,
-            text: String::from_str(alloc, line)?,
-        })?;
-    }
-    Ok(entries)
 }
 
 /// The workspace without packages.

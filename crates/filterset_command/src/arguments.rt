@@ -61,12 +61,73 @@ fn format<'a>(alloc: Global) -> Result<Command<'a>, AllocError> {
         .arg(texts(alloc))
 }
 
+/// The options that tell what the workspace is, and what its default filter is.
+fn with_workspace<'a>(alloc: Global, command: Command<'a>) -> Result<Command<'a>, AllocError> {
+    let metadata = Arg::new(alloc, "metadata")
+        .long("cargo-metadata")
+        .value_name("FILE")
+        .required(true)
+        .help("what `cargo metadata --format-version 1` wrote");
+    let list = Arg::new(alloc, "list")
+        .long("nextest-list")
+        .value_name("FILE")
+        .required(true)
+        .help("what `cargo nextest list --message-format json` wrote");
+    let default = Arg::new(alloc, "default")
+        .long("default-filter")
+        .value_name("TEXT")
+        .default_value("all()")
+        .help("the filterset that stands for `default()`");
+    command
+        .arg(metadata)?
+        .arg(list)?
+        .arg(default)?
+        .arg(color(alloc))
+}
+
+/// The command `list`.
+fn list<'a>(alloc: Global) -> Result<Command<'a>, AllocError> {
+    let filterset = Arg::new(alloc, "filterset")
+        .short('E')
+        .long("filterset")
+        .value_name("TEXT")
+        .action(ArgAction::Append)
+        .help("a filterset; of several the union is taken, and without any the default filter");
+    let command = Command::new(alloc, "list").about("Lists the tests that filtersets pick");
+    with_workspace(alloc, command)?.arg(filterset)
+}
+
+/// The command `compare`.
+fn compare<'a>(alloc: Global) -> Result<Command<'a>, AllocError> {
+    let tests = Arg::new(alloc, "tests")
+        .long("tests")
+        .action(ArgAction::SetTrue)
+        .help("writes the tests by name");
+    let first = Arg::new(alloc, "first")
+        .value_name("A")
+        .required(true)
+        .help("a filterset");
+    let second = Arg::new(alloc, "second")
+        .value_name("B")
+        .required(true)
+        .help("another filterset");
+    let command = Command::new(alloc, "compare").about("Tells how two filtersets differ");
+    with_workspace(alloc, command)?
+        .arg(tests)?
+        .arg(first)?
+        .arg(second)
+}
+
 /// The command line.
 pub fn arguments<'a>(alloc: Global) -> Result<Command<'a>, AllocError> {
     Command::new(alloc, "filterset")
         .version("0.1.0")
-        .about("Checks and formats the filtersets of cargo-nextest")
+        .about(
+            "Checks and formats the filtersets of cargo-nextest, and tells which tests they pick",
+        )
         .subcommand_required(true)
         .subcommand(check(alloc)?)?
-        .subcommand(format(alloc)?)
+        .subcommand(format(alloc)?)?
+        .subcommand(list(alloc)?)?
+        .subcommand(compare(alloc)?)
 }

@@ -1,8 +1,32 @@
 //! Why a command gives no answer.
+ghost use Rattle.filterset_command.specs.Files.{NotWrite};
+
 use clap::Error;
+use filterset_sources::SourceRefusal;
 use records::RunFault;
-use std::alloc::AllocError;
-use std::fmt;
+use std::alloc::{AllocError, Global};
+use std::{fmt, io};
+
+/// What is wrong with a file.
+#[derive(Debug, Drop)]
+pub enum FileFault {
+    /// It could not be read.
+    Unread(io::Error),
+    /// It is no text.
+    NotText,
+    /// It is not what it must be.
+    Refused(SourceRefusal),
+}
+
+impl fmt::Display for FileFault {
+    fn fmt<W: fmt::Write>(&self, f: &mut fmt::Formatter<W>) -> fmt::Result {
+        match self {
+            FileFault::Unread(error) => write!(f, "cannot be read: {error}"),
+            FileFault::NotText => f.write_str("not UTF-8"),
+            FileFault::Refused(refusal) => write!(f, "{refusal}"),
+        }
+    }
+}
 
 /// Why a command gave no answer.
 #[derive(Debug, Drop)]
@@ -13,8 +37,32 @@ pub enum CommandFault {
     NoWords,
     /// Standard input is no text.
     NotText,
+    /// A file of this path has a fault.
+    File { path: String, fault: FileFault },
     /// There was not enough memory, or a read or a write failed.
     Run(RunFault),
+}
+
+impl CommandFault {
+    /// The fault of the file at a path.
+    pub fn in_file(alloc: Global, path: &str, fault: FileFault) -> CommandFault
+        ensures { NotWrite result }
+    {
+        match String::from_str(alloc, path) {
+            Ok(path) => CommandFault::File { path, fault },
+            Err(refused) => CommandFault::Run(RunFault::Memory(refused)),
+        }
+    }
+
+    /// The file at a path is refused.
+    pub fn refused(alloc: Global, path: &str, refusal: SourceRefusal) -> CommandFault
+        ensures { NotWrite result }
+    {
+        match refusal {
+            SourceRefusal::OutOfMemory(refused) => CommandFault::Run(RunFault::Memory(refused)),
+            other => CommandFault::in_file(alloc, path, FileFault::Refused(other)),
+        }
+    }
 }
 
 impl fmt::Display for CommandFault {
@@ -23,6 +71,7 @@ impl fmt::Display for CommandFault {
             CommandFault::Words(error) => error.fmt(f),
             CommandFault::NoWords => f.write_str("error: the command line is not UTF-8"),
             CommandFault::NotText => f.write_str("error: standard input is not UTF-8"),
+            CommandFault::File { path, fault } => write!(f, "error: {path}: {fault}"),
             CommandFault::Run(fault) => fault.fmt(f),
         }
     }

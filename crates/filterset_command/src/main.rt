@@ -1,15 +1,22 @@
-//! The program for people: checks filtersets, and draws their faults; and writes them as they print.
+//! The program for people: checks filtersets, and draws their faults; writes them as they print; and tells which tests
+//! of a workspace they pick.
 #![tactic(auto)]
 
 mod answering;
 mod arguments;
 mod ending;
+mod entries;
 mod fault;
+mod files;
+mod outcome;
+mod picking;
 mod request;
 mod run;
+mod workspace;
 
 use ending::{Ending, status};
 use fault::CommandFault;
+use files::HostFiles;
 use records::{FromReader, RunFault, ToWriter};
 use request::request_of;
 use run::run;
@@ -35,7 +42,13 @@ fn command(rt: &HostRuntime) -> Result<Ending, CommandFault> {
     let request = request_of(alloc, words.as_slice())?;
     let mut input = FromReader::new(rt.stdin());
     let mut output = ToWriter::new(rt.stdout());
-    run(alloc, request, &mut input, &mut output)
+    run(
+        alloc,
+        request,
+        &HostFiles { runtime: rt },
+        &mut input,
+        &mut output,
+    )
 }
 
 /// Writes a fault on standard error.

@@ -5,6 +5,7 @@ ghost use Rattle.filterset_command.specs.Requests.{IsShown, IsTold};
 
 use crate::arguments::arguments;
 use crate::fault::CommandFault;
+use crate::workspace::WorkspacePaths;
 use clap::error::ErrorKind;
 use clap::{ArgMatches, Error};
 use filterset_answers::Form;
@@ -22,6 +23,31 @@ pub enum Texts {
     StandardInput,
 }
 
+/// What filtersets are asked.
+#[derive(Debug, Drop)]
+pub enum Question {
+    /// Which tests one of them picks.
+    List {
+        filters: Vec<String>,
+    },
+    /// How two of them differ, with the names of the tests or without.
+    Compare {
+        first: String,
+        second: String,
+        has_names: bool,
+    },
+}
+
+/// What filtersets are asked of a workspace.
+#[derive(Debug, Drop)]
+pub struct Asked {
+    pub paths: WorkspacePaths,
+    pub form: Form,
+    /// The filterset that stands for `default()`.
+    pub default_filter: String,
+    pub question: Question,
+}
+
 /// What is asked for.
 #[derive(Debug, Drop)]
 pub enum Request {
@@ -34,6 +60,7 @@ pub enum Request {
         form: Form,
         texts: Texts,
     },
+    Ask(Asked),
     /// Writing this text: the help, or the version.
     Show(String),
 }
@@ -67,6 +94,8 @@ fn requested(alloc: Global, matches: &ArgMatches<'_>) -> Result<Request, AllocEr
             form: Form::Drawn(color_of(own)),
             texts: texts_of(alloc, own)?,
         }),
+        Some(("list", own)) => asked_of(alloc, own, list_question(alloc, own)?),
+        Some(("compare", own)) => asked_of(alloc, own, compare_question(alloc, own)?),
         Some((_, own)) => check_of(alloc, own),
         // A command is required.
         None => check_of(alloc, matches),
@@ -84,6 +113,46 @@ fn check_of(alloc: Global, matches: &ArgMatches<'_>) -> Result<Request, AllocErr
         form,
         texts: texts_of(alloc, matches)?,
     })
+}
+
+/// The text of an option, or no text where it is not given.
+fn text_of(alloc: Global, matches: &ArgMatches<'_>, id: &str) -> Result<String, AllocError> {
+    String::from_str(alloc, matches.get_str(id).unwrap_or(""))
+}
+
+/// Which tests are to be listed.
+fn list_question(alloc: Global, matches: &ArgMatches<'_>) -> Result<Question, AllocError> {
+    let mut filters = Vec::new(alloc);
+    for text in matches.get_strs("filterset").unwrap_or(&[]) {
+        filters.push(String::from_str(alloc, *text)?)?;
+    }
+    Ok(Question::List { filters })
+}
+
+/// What is to be compared.
+fn compare_question(alloc: Global, matches: &ArgMatches<'_>) -> Result<Question, AllocError> {
+    Ok(Question::Compare {
+        first: text_of(alloc, matches, "first")?,
+        second: text_of(alloc, matches, "second")?,
+        has_names: matches.get_flag("tests"),
+    })
+}
+
+/// What a question asks of the workspace that is given.
+fn asked_of(
+    alloc: Global,
+    matches: &ArgMatches<'_>,
+    question: Question,
+) -> Result<Request, AllocError> {
+    Ok(Request::Ask(Asked {
+        paths: WorkspacePaths {
+            metadata: text_of(alloc, matches, "metadata")?,
+            list: text_of(alloc, matches, "list")?,
+        },
+        form: Form::Drawn(color_of(matches)),
+        default_filter: text_of(alloc, matches, "default")?,
+        question,
+    }))
 }
 
 /// Whether colours are asked for.

@@ -7,6 +7,13 @@ pub returns-in_ok-check-in-Check-clause-answered : goal.returns-in_ok-check-in-C
 returns-in_ok-check-in-Check-clause-answered g c =
     let answer = c.in_ok-check-in-Check.field-0 in
     let checked = c.in_ok-check-in-Check.ensures in
-    let checks = rw c.as_slice.ensures.value at checked in
-    subst (λ request. IsAnswered request (g.R.Source.left c.args.input.now) answer.faulty (string_bytes answer.text)) (sym c.in-Check.is)
-    (map text_row c.in_ok-entries-in-Check.entries.items, c.in_ok-names-in-Check.names, c.in_ok-entries-in-Check.ensures.rows, c.in_ok-names-in-Check.ensures.nothing, checks)
+    let checks = rw (c.as_slice.ensures.value, sym c.outcome.ensures.text) at checked in
+    subst (λ request. IsAnswered (g.F.FileSource.content c.args.files.now) request (g.R.Source.left c.args.input.now) c.outcome.result.ending (string_bytes c.outcome.result.text)) (sym c.in-Check.is) (
+      map text_row c.in_ok-entries-in-Check.entries.items,
+      c.in_ok-names-in-Check.names,
+      answer.faulty,
+      c.in_ok-entries-in-Check.ensures.rows,
+      c.in_ok-names-in-Check.ensures.nothing,
+      checks,
+      c.outcome.ensures.ending,
+    )

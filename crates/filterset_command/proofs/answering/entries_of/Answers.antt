@@ -1,6 +1,6 @@
 use Rattle.std.proofs.Common.{map, subst, sym}
 use Rattle.filterset_answers.specs.Checked.{text_row}
-use Rattle.filterset_command.specs.Requests.{AreRows, HaveTexts}
+use Rattle.filterset_command.specs.Requests.{AreRows}
 use Rattle.filterset_command.proofs.answering.entries_of.Goals as goal
 
 pub returns-in_ok-given_entries-in-Given-clause-rows : goal.returns-in_ok-given_entries-in-Given-clause-rows

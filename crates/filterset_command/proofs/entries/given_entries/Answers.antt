@@ -1,6 +1,6 @@
 use Rattle.std.proofs.Common.{rules, arith, ◌≡◌, ◌<◌, length, get_or, refl, string_bytes}
 use Rattle.filterset_command.proofs.RowsLemmas.{HaveTexts-entry, texts_more}
-use Rattle.filterset_command.proofs.answering.given_entries.Goals as goal
+use Rattle.filterset_command.proofs.entries.given_entries.Goals as goal
 
 pub loop-i-preserved : goal.loop-i-preserved
 loop-i-preserved c =

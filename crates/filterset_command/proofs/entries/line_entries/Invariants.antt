@@ -1,7 +1,7 @@
 use Rattle.std.proofs.Common.{map}
 use Rattle.filterset_answers.specs.Checked.{text_row}
-use Rattle.filterset_command.specs.Requests.{HaveTexts}
-use Rattle.filterset_command.proofs.answering.line_entries.Given as goal
+use Rattle.filterset_command.specs.Entries.{HaveTexts}
+use Rattle.filterset_command.proofs.entries.line_entries.Given as goal
 
 -- the lines so far have their entries
 abbrev pub invariant-loop-line : goal.invariant-loop-line

@@ -3,7 +3,7 @@ use Rattle.std.proofs.lemmas.Iterator.Consumers.{YieldsList-end}
 use Rattle.std.proofs.lemmas.Iterator.Splits.{YieldsList-from_lines}
 use Rattle.std.proofs.lemmas.List.{map-append}
 use Rattle.filterset_command.proofs.RowsLemmas.{HaveTexts-entry}
-use Rattle.filterset_command.proofs.answering.line_entries.Goals as goal
+use Rattle.filterset_command.proofs.entries.line_entries.Goals as goal
 
 pub returns : goal.returns
 returns c =
