@@ -314,12 +314,16 @@ class Sources:
             raise LookupError(f"{PROGRAM} has no impl of {PROGRAM_TRAIT}")
         yield from found
 
+    def parts(self):
+        """What is relied on, each part with its public clauses: who relies on one relies on those before it."""
+        library = [public for crate in self.library for public in self.public(crate)]
+        yield f"the library: `{LIBRARY_ROOT}` and the crates below it", library
+        yield f"and the program that reads a record, `{PROGRAM}`", [*self.promised(PROGRAMS), *self.own_program()]
+        yield f"and the program for people, `{COMMAND}`", [*self.promised(COMMAND)]
+
     def roots(self):
-        for crate in self.library:
-            yield from self.public(crate)
-        yield from self.promised(PROGRAMS)
-        yield from self.own_program()
-        yield from self.promised(COMMAND)
+        for _, publics in self.parts():
+            yield from publics
 
     def refs_of(self, public):
         """What a public function reaches directly: by its types, and by its clauses."""

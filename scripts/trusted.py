@@ -127,7 +127,8 @@ class Trusted:
                 rows.append((f"`{short(path)}`", counted(path, [(d.first, d.last) for d in left]), names))
         rows.append(("together", sum(row[1] for row in rows), ""))
         said = ["### What stands in `specs/` and is reached by no public clause", ""]
-        said += ["Tools and lemmas: what contracts of private functions cite, and what ghost members are proved by.", ""]
+        said += ["Tools and lemmas, which no caller has to read: they are cited by contracts of private functions, or prove"]
+        said += ["ghost members.", ""]
         return said + table(["file of `specs/`", "lines:", "definitions"], rows)
 
     def total(self):
@@ -141,7 +142,15 @@ class Trusted:
             "types, views and traits of `src/`. A line counts where it holds more than a comment. With their comments",
             f"the definitions have {sum(node.lines for node in specs)} lines, and their files in whole {whole}.",
             "",
+            *self.of_parts(),
         ]
+
+    def of_parts(self):
+        rows, roots = [], []
+        for what, publics in self.sources.parts():
+            roots += publics
+            rows.append((what, sum(map(lines_of, self.sources.reached(roots)))))
+        return table(["who relies on", "reads lines:"], rows)
 
     def block(self):
         parts = [self.total(), self.clauses(), self.definitions(), self.types(), self.elsewhere(), self.unreached()]
