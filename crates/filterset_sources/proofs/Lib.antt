@@ -1,3 +1,4 @@
 pub mod ShapeLemmas
 pub mod GraphLemmas
 pub mod KindLemmas
+pub mod ConfigurationLemmas

@@ -11,7 +11,7 @@ use Rattle.filterset_sources.specs.Refusals.{Refuses, IsAfter, IsWrong}
 use Rattle.filterset_sources.specs.Shape.{Each, EachMember, Text, keys_of}
 use Rattle.filterset_sources.specs.declared.refusal.Expected.{Expected}
 use Rattle.filterset_sources.specs.declared.refusal.SourceRefusal.{SourceRefusal}
-use Rattle.filterset_sources.specs.declared.refusal.SourceRefusal.TheVariants.{NotJson, WrongValue, OutOfMemory}
+use Rattle.filterset_sources.specs.declared.refusal.SourceRefusal.TheVariants.{NotJson, NotToml, WrongValue, OutOfMemory}
 use Rattle.filterset_sources.specs.declared.refusal.Step.{Step}
 
 -- one more item, and one more entry
@@ -61,6 +61,7 @@ pub Refuses-if : {A B : Type 0} (r : SourceRefusal) → (B → A) → Refuses A 
 Refuses-if (WrongValue w) f h = λ b. h (f b)
 Refuses-if (OutOfMemory e) f h = tt
 Refuses-if (NotJson e) f h = absurd h
+Refuses-if (NotToml e line) f h = absurd h
 
 -- a refusal that a `?` hands on
 pub handed_on : {T A B : Type 0} (r : Result T SourceRefusal) (e : SourceRefusal) → IsErrAnd r (λ y. y ≡ e) → (B → A) → Refuses A e → IfErr r (Refuses B)
@@ -81,20 +82,24 @@ pub Refuses-wrong : {A : Type 0} (r : SourceRefusal) (path : Text) (expected : E
 Refuses-wrong (WrongValue w) path expected is refuted = refuted
 Refuses-wrong (OutOfMemory e) path expected is refuted = absurd is
 Refuses-wrong (NotJson e) path expected is refuted = absurd is
+Refuses-wrong (NotToml e line) path expected is refuted = absurd is
 
 -- what is out of memory or wrong whatever holds is refused where the fact does not hold
 pub Refuses-no : {A : Type 0} (r : SourceRefusal) → Refuses ⊥ r → (A → ⊥) → Refuses A r
 Refuses-no (WrongValue w) h refuted = refuted
 Refuses-no (OutOfMemory e) h refuted = tt
 Refuses-no (NotJson e) h refuted = absurd h
+Refuses-no (NotToml e line) h refuted = absurd h
 
 -- a refusal that was told of the value round it refuses what the first refused
 pub Refuses-after : {A B : Type 0} (step : Step) (inner outer : SourceRefusal) → IsAfter step inner outer → (B → A) → Refuses A inner → Refuses B outer
 Refuses-after step (WrongValue v) (WrongValue w) is f h = λ b. h (f b)
 Refuses-after step (WrongValue v) (OutOfMemory e) is f h = tt
 Refuses-after step (WrongValue v) (NotJson e) is f h = absurd is
+Refuses-after step (WrongValue v) (NotToml e line) is f h = absurd is
 Refuses-after step (OutOfMemory e) outer is f h = rw is tt
 Refuses-after step (NotJson e) outer is f h = absurd h
+Refuses-after step (NotToml e line) outer is f h = absurd h
 
 -- a value with members is the object of them, and one with items the array of them
 pub as_object-Some : (d : Data) (ms : Members) → Some ms ≡ as_object d → d ≡ object ms

@@ -14,6 +14,7 @@ pub enum Expected {
     /// A list of texts that is not empty.
     Texts,
     Object,
+    Table,
     /// The graph of dependencies, which is null where cargo was told to leave it out.
     Graph,
     /// An id of a package that no package before it has.
@@ -33,6 +34,7 @@ impl fmt::Display for Expected {
             Expected::List => "a list",
             Expected::Texts => "a list of at least one text",
             Expected::Object => "an object",
+            Expected::Table => "a table",
             Expected::Graph => "an object: `cargo metadata` writes it without `--no-deps`",
             Expected::OwnId => "an id that no package before it has",
             Expected::PackageId => "the id of one of the packages",
@@ -67,6 +69,8 @@ impl fmt::Display for WrongValue {
 pub enum SourceRefusal {
     /// The text is no JSON.
     NotJson(serde_json::Error),
+    /// The text is no TOML, from this line on.
+    NotToml { error: toml::de::Error, line: usize },
     /// A value is wrong or missing.
     WrongValue(WrongValue),
     /// Says nothing of the file.
@@ -77,6 +81,10 @@ impl fmt::Display for SourceRefusal {
     fn fmt<W: fmt::Write>(&self, f: &mut fmt::Formatter<W>) -> fmt::Result {
         match self {
             SourceRefusal::NotJson(error) => write!(f, "not JSON: {error}"),
+            SourceRefusal::NotToml { error, line } => {
+                let message = error.message();
+                write!(f, "not TOML: {message} at line {line}")
+            }
             SourceRefusal::WrongValue(wrong) => write!(f, "{wrong}"),
             SourceRefusal::OutOfMemory(_) => f.write_str("out of memory"),
         }
@@ -129,7 +137,7 @@ fn is_bare(key: &str) -> bool
 }
 
 /// A step as it stands in a path.
-fn step_text(alloc: Global, step: Step<'_>) -> Result<String, AllocError>
+pub(crate) fn step_text(alloc: Global, step: Step<'_>) -> Result<String, AllocError>
     ensures { IfOk result (λ text. string_bytes text ≡ step_text step.entry) }
 {
     match step {
@@ -167,10 +175,14 @@ impl SourceRefusal {
     pub(crate) fn wrong(alloc: Global, expected: Expected) -> SourceRefusal
         ensures { IsWrong result [] expected }
     {
-        SourceRefusal::WrongValue(WrongValue {
-            path: String::new(alloc),
-            expected,
-        })
+        SourceRefusal::at(String::new(alloc), expected)
+    }
+
+    /// The value at a path is wrong.
+    pub(crate) fn at(path: String, expected: Expected) -> SourceRefusal
+        ensures { IsWrong result (string_bytes path) expected }
+    {
+        SourceRefusal::WrongValue(WrongValue { path, expected })
     }
 
     /// The refusal of a value to which this step leads, told of the value in which it stands.

@@ -7,8 +7,8 @@ ghost use Rattle.filterset_sources.specs.Suites.{IsTestList};
 
 use filterset_graph::{BuildTargetId, PackageGraph, PackageMetadata};
 use filterset_sources::{
-    SourceRefusal, Suite, SuiteStatus, TestList, check_packages, read_json, read_metadata,
-    read_test_list,
+    Configuration, SourceRefusal, Suite, SuiteStatus, TestList, check_packages, read_configuration,
+    read_json, read_metadata, read_test_list,
 };
 use std::alloc::{AllocError, Global};
 use std::fmt::Write;
@@ -110,6 +110,34 @@ pub fn packages_said(
     let mut said = String::new(alloc);
     if let Err(refusal) = check_packages(alloc, list, graph) {
         write!(said, "{refusal}")?;
+    }
+    Ok(said)
+}
+
+/// Adds a line for each filterset of a configuration, and one for its groups, if it has some.
+fn push_configuration(said: &mut String, configuration: &Configuration) -> Result<(), AllocError> {
+    for filterset in &configuration.filtersets {
+        let (path, kind) = (filterset.path.as_str(), filterset.kind);
+        let text = filterset.text.as_str();
+        writeln!(said, "{path} {kind} {text}")?;
+    }
+    for (i, name) in configuration.groups.iter().enumerate() {
+        let name = name.as_str();
+        said.push_str(if i == 0 { "groups " } else { " " })?;
+        said.push_str(name)?;
+    }
+    if !configuration.groups.is_empty() {
+        said.push_str("\n")?;
+    }
+    Ok(())
+}
+
+/// What a configuration says, or what it is refused with.
+pub fn configuration_said(alloc: Global, text: &str) -> Result<String, AllocError> {
+    let mut said = String::new(alloc);
+    match read_configuration(alloc, text) {
+        Ok(configuration) => push_configuration(&mut said, &configuration)?,
+        Err(refusal) => write!(said, "{refusal}")?,
     }
     Ok(said)
 }

@@ -1,0 +1,306 @@
+//! The filtersets and the groups of nextest's configuration.
+ghost use Rattle.std.specs.Prelude.{◌≡◌, IfErr, IfOk, List, OnOk, codes, map, string_bytes};
+ghost use Rattle.toml.specs.Data.{table};
+ghost use Rattle.toml.specs.Parse.{parse_document};
+ghost use Rattle.toml.specs.View.{items_view, table_view, view};
+ghost use Rattle.filterset_faults.specs.declared.kind.FiltersetKind.TheVariants as kinds;
+ghost use Rattle.filterset_sources.specs.Configurations.{Adds, FilterUnder, GroupsUnder, HasKeys, IsConfiguration, IsConfigured, IsTable, ItemRows, MemberRows, OverrideRows, ProfileRows, RefusesConfiguration, Rows, SectionRows, SectionsUnder, Under, TableRows, configured_rows};
+ghost use Rattle.filterset_sources.specs.Refusals.{Refuses};
+ghost use Rattle.filterset_sources.specs.Shape.{Text};
+ghost use Rattle.filterset_sources.specs.declared.configuration.Configuration as configurations;
+
+use crate::refusal::{Expected, SourceRefusal, Step, step_text};
+use filterset_faults::FiltersetKind;
+use std::alloc::{AllocError, Global};
+use toml::{Table, Value};
+
+/// A filterset of a configuration.
+#[derive(Debug, Drop)]
+pub struct ConfiguredFilterset {
+    /// Where it stands, as `profile.ci.overrides[2].filter`.
+    pub path: String,
+    pub kind: FiltersetKind,
+    pub text: String,
+}
+
+/// What nextest's configuration says of filtersets and groups.
+#[derive(Debug, Drop)]
+pub struct Configuration {
+    /// Those of each profile, by its name: its default filter, those of its overrides, and those of its scripts.
+    pub filtersets: Vec<ConfiguredFilterset>,
+    /// The names of the groups of tests.
+    pub groups: Vec<String>,
+}
+
+/// A part of a profile that is for some tests.
+#[derive(Clone, Copy)]
+enum Section {
+    /// Settings of these tests, which may have a default filter of their own.
+    Override,
+    /// Scripts that run before these tests.
+    Script,
+}
+
+/// Refuses a value at a path that is no table.
+fn check_table(alloc: Global, path: &str, value: &Value) -> Result<(), SourceRefusal>
+    ensures ok { OnOk result (IsTable (view value.now)) }
+    ensures refused { IfErr result (Refuses (IsTable (view value.now))) }
+{
+    if value.is_table() {
+        return Ok(());
+    }
+    Err(SourceRefusal::at(String::from_str(alloc, path)?, Expected::Table))
+}
+
+/// Adds the filterset under a key of what stands at a path, if there is one.
+fn push_filter(
+    output: &mut Vec<ConfiguredFilterset>,
+    alloc: Global,
+    path: &str,
+    value: &Value,
+    key: &str,
+    kind: FiltersetKind,
+) -> Result<(), SourceRefusal>
+    ensures read { OnOk result (Adds (configured_rows output.old.items) (configured_rows output.new.items)
+        (FilterUnder path.now key.now kind (view value.now))) }
+    ensures refused { IfErr result (Refuses ((rows : Rows) × FilterUnder path.now key.now kind (view value.now) rows)) }
+{
+    let Some(found) = value.get(key) else {
+        return Ok(());
+    };
+    let path = format!(in alloc; "{path}.{key}")?;
+    let Some(text) = found.as_str() else {
+        return Err(SourceRefusal::at(path, Expected::Text));
+    };
+    let text = String::from_str(alloc, text)?;
+    output.push(ConfiguredFilterset { path, kind, text })?;
+    Ok(())
+}
+
+/// Adds the filtersets of an override.
+fn push_override(
+    output: &mut Vec<ConfiguredFilterset>,
+    alloc: Global,
+    path: &str,
+    value: &Value,
+) -> Result<(), SourceRefusal>
+    ensures read { OnOk result (Adds (configured_rows output.old.items) (configured_rows output.new.items)
+        (OverrideRows path.now (view value.now))) }
+    ensures refused { IfErr result (Refuses ((rows : Rows) × OverrideRows path.now (view value.now) rows)) }
+{
+    push_filter(
+        output,
+        alloc,
+        path,
+        value,
+        "default-filter",
+        FiltersetKind::DefaultFilter,
+    )?;
+    push_filter(
+        output,
+        alloc,
+        path,
+        value,
+        "filter",
+        FiltersetKind::OverrideFilter,
+    )
+}
+
+/// Adds the filtersets of a section.
+fn push_section(
+    output: &mut Vec<ConfiguredFilterset>,
+    alloc: Global,
+    section: Section,
+    path: &str,
+    value: &Value,
+) -> Result<(), SourceRefusal>
+    ensures read { OnOk result (Adds (configured_rows output.old.items) (configured_rows output.new.items)
+        (SectionRows section path.now (view value.now))) }
+    ensures refused { IfErr result (Refuses ((rows : Rows) × SectionRows section path.now (view value.now) rows)) }
+{
+    check_table(alloc, path, value)?;
+    match section {
+        Section::Override => push_override(output, alloc, path, value),
+        Section::Script => {
+            push_filter(
+                output,
+                alloc,
+                path,
+                value,
+                "filter",
+                FiltersetKind::OverrideFilter,
+            )
+        }
+    }
+}
+
+/// Adds the filtersets of the sections of a list.
+fn push_items(
+    output: &mut Vec<ConfiguredFilterset>,
+    alloc: Global,
+    section: Section,
+    path: &str,
+    values: &[Value],
+) -> Result<(), SourceRefusal>
+    ensures read { OnOk result (Adds (configured_rows output.old.items) (configured_rows output.new.items)
+        (ItemRows section path.now 0 (items_view values.now))) }
+    ensures refused { IfErr result (Refuses ((rows : Rows) × ItemRows section path.now 0 (items_view values.now) rows)) }
+{
+    for (at, value) in values.iter().enumerate() {
+        let path = format!(in alloc; "{path}[{at}]")?;
+        push_section(output, alloc, section, path.as_str(), value)?;
+    }
+    Ok(())
+}
+
+/// Adds the filtersets of the list of sections under a key of what stands at a path, if there is one.
+fn push_sections(
+    output: &mut Vec<ConfiguredFilterset>,
+    alloc: Global,
+    section: Section,
+    path: &str,
+    value: &Value,
+    key: &str,
+) -> Result<(), SourceRefusal>
+    ensures read { OnOk result (Adds (configured_rows output.old.items) (configured_rows output.new.items)
+        (SectionsUnder path.now key.now section (view value.now))) }
+    ensures refused { IfErr result (Refuses ((rows : Rows)
+        × SectionsUnder path.now key.now section (view value.now) rows)) }
+{
+    let Some(found) = value.get(key) else {
+        return Ok(());
+    };
+    let path = format!(in alloc; "{path}.{key}")?;
+    let Some(values) = found.as_array() else {
+        return Err(SourceRefusal::at(path, Expected::List));
+    };
+    push_items(output, alloc, section, path.as_str(), values.as_slice())
+}
+
+/// Adds the filtersets of a profile.
+fn push_profile(
+    output: &mut Vec<ConfiguredFilterset>,
+    alloc: Global,
+    path: &str,
+    value: &Value,
+) -> Result<(), SourceRefusal>
+    ensures read { OnOk result (Adds (configured_rows output.old.items) (configured_rows output.new.items)
+        (ProfileRows path.now (view value.now))) }
+    ensures refused { IfErr result (Refuses ((rows : Rows) × ProfileRows path.now (view value.now) rows)) }
+{
+    check_table(alloc, path, value)?;
+    push_filter(
+        output,
+        alloc,
+        path,
+        value,
+        "default-filter",
+        FiltersetKind::DefaultFilter,
+    )?;
+    push_sections(output, alloc, Section::Override, path, value, "overrides")?;
+    push_sections(output, alloc, Section::Script, path, value, "scripts")
+}
+
+/// Adds the filtersets of profiles.
+fn push_profiles(
+    output: &mut Vec<ConfiguredFilterset>,
+    alloc: Global,
+    profiles: &Table,
+) -> Result<(), SourceRefusal>
+    ensures read { OnOk result (Adds (configured_rows output.old.items) (configured_rows output.new.items)
+        (MemberRows (table_view profiles.now))) }
+    ensures refused { IfErr result (Refuses ((rows : Rows) × MemberRows (table_view profiles.now) rows)) }
+{
+    for (name, value) in profiles.iter() {
+        let name = step_text(alloc, Step::Key(name.as_str()))?;
+        let path = format!(in alloc; "profile.{name}")?;
+        push_profile(output, alloc, path.as_str(), value)?;
+    }
+    Ok(())
+}
+
+/// The filtersets of a file.
+fn filtersets_of(alloc: Global, file: &Value) -> Result<Vec<ConfiguredFilterset>, SourceRefusal>
+    ensures read { IfOk result (λ filtersets.
+        Under (codes "profile") (view file.now) TableRows (configured_rows filtersets.items)) }
+    ensures refused { IfErr result (Refuses ((rows : Rows) × Under (codes "profile") (view file.now) TableRows rows)) }
+{
+    let mut filtersets = Vec::new(alloc);
+    let Some(found) = file.get("profile") else {
+        return Ok(filtersets);
+    };
+    let Some(profiles) = found.as_table() else {
+        return Err(SourceRefusal::at(String::from_str(alloc, "profile")?, Expected::Table));
+    };
+    push_profiles(&mut filtersets, alloc, profiles)?;
+    Ok(filtersets)
+}
+
+/// The keys of a table.
+fn keys_of(alloc: Global, entries: &Table) -> Result<Vec<String>, AllocError>
+    ensures { IfOk result (λ keys. HasKeys (table (table_view entries.now)) (map (λ s. string_bytes s) keys.items)) }
+{
+    let mut keys = Vec::with_capacity(alloc, entries.len())?;
+    for key in entries.keys() {
+        keys.push(String::from_str(alloc, key.as_str())?)?;
+    }
+    Ok(keys)
+}
+
+/// The names of the groups of a file.
+fn groups_of(alloc: Global, file: &Value) -> Result<Vec<String>, SourceRefusal>
+    ensures read { IfOk result (λ names. GroupsUnder (view file.now) (map (λ s. string_bytes s) names.items)) }
+    ensures refused { IfErr result (Refuses ((names : List Text) × GroupsUnder (view file.now) names)) }
+{
+    let Some(found) = file.get("test-groups") else {
+        return Ok(Vec::new(alloc));
+    };
+    match found.as_table() {
+        Some(groups) => Ok(keys_of(alloc, groups)?),
+        None => Err(SourceRefusal::at(String::from_str(alloc, "test-groups")?, Expected::Table)),
+    }
+}
+
+/// What a file says.
+fn configured(alloc: Global, file: &Value) -> Result<Configuration, SourceRefusal>
+    ensures read { IfOk result (IsConfigured (view file.now)) }
+    ensures refused { IfErr result (Refuses ((all : configurations.Configuration) × IsConfigured (view file.now) all)) }
+{
+    Ok(Configuration {
+        filtersets: filtersets_of(alloc, file)?,
+        groups: groups_of(alloc, file)?,
+    })
+}
+
+/// The line of a text in which this place is, from 1 on.
+fn line_of(text: &str, at: usize) -> usize {
+    let before = text.bytes().take(at);
+    before.filter(|b| *b == b'\n').count().saturating_add(1)
+}
+
+/// The table that a text is.
+fn read_toml(alloc: Global, text: &str) -> Result<Table, SourceRefusal>
+    ensures read { IfOk result (λ file. parse_document text.now ≡ Some (table_view file)) }
+    ensures refused { IfErr result (RefusesConfiguration text.now) }
+{
+    match toml::table_from_str(alloc, text) {
+        Ok(file) => Ok(file),
+        Err(error) => match error.span() {
+            Some(span) => Err(SourceRefusal::NotToml {
+                error,
+                line: line_of(text, span.start),
+            }),
+            None => Err(SourceRefusal::OutOfMemory(AllocError)),
+        },
+    }
+}
+
+/// The filtersets and the groups of nextest's configuration, as it stands in `.config/nextest.toml`. Keys that are not
+/// looked at are passed over.
+pub fn read_configuration(alloc: Global, text: &str) -> Result<Configuration, SourceRefusal>
+    ensures read { IfOk result (IsConfiguration text.now) }
+    ensures refused { IfErr result (RefusesConfiguration text.now) }
+{
+    let file = Value::Table(read_toml(alloc, text)?);
+    configured(alloc, &file)
+}
