@@ -5,7 +5,7 @@ use Rattle.std.proofs.lemmas.List.{append-nil, map-append, take_more}
 use Rattle.std.proofs.lemmas.List.FromFn.{get_or-enumerate_from, length-enumerate_from}
 use Rattle.filterset_record.specs.Shape.{Text}
 use Rattle.filterset_report.specs.Library.{Background}
-use Rattle.filterset_report.specs.Report.{IsBackgroundOf, MakeGraph, Pieces, RecordReport, Section, Sections, outcome_of}
+use Rattle.filterset_report.specs.Report.{IsBackgroundOf, MakeGraph, Pieces, no_pieces, next_piece, RecordReport, Section, Sections, no_sections, next_section, outcome_of}
 use Rattle.filterset_record.specs.Record.{FiltersetRow, RecordRow}
 use Rattle.filterset_record.specs.declared.record.commands.Command.{Command}
 use Rattle.filterset_report.specs.declared.outcome.Outcome.{Outcome}
@@ -18,10 +18,10 @@ both_ok (Ok x) P Q R more p q = more x p q
 both_ok (Err e) P Q R more p q = tt
 
 -- one more piece
-pub Pieces-push : {A : Type 0} (P : A → Text → Type 0) (xs : List A) (x : A) (text piece : Text) → Pieces P xs text → P x piece → Pieces P (xs ++ x ∷ []) (text ++ piece)
-Pieces-push P [] x text piece none is = (piece, [], ap (λ t. t ++ piece) none ∙ sym (append-nil piece), is, refl)
-Pieces-push P (y ∷ ys) x text piece (first, others, whole, is_first, are) is =
-    (first, others ++ piece, ap (λ t. t ++ piece) whole ∙ append_assoc first others piece, is_first, Pieces-push P ys x others piece are is)
+pub Pieces-push : {A : Type 0} (P : A → Text → Type 0) (xs : List A) (x : A) (text added : Text) → Pieces P xs text → P x added → Pieces P (xs ++ x ∷ []) (text ++ added)
+Pieces-push P xs x text added no_pieces is = subst (Pieces P (x ∷ [])) (append-nil added) (next_piece is no_pieces)
+Pieces-push P xs x text added (next_piece {x = y} {xs = ys} {front} {rest} is_first are) is =
+    subst (Pieces P (y ∷ (ys ++ x ∷ []))) (sym (append_assoc front rest added)) (next_piece is_first (Pieces-push P ys x rest added are is))
 
 -- the piece of the next element of a list
 pub Pieces-more : {A B : Type 0} (P : B → Text → Type 0) (f : A → B) (xs : List A) (i : ℕ) (x : A) (text piece : Text) →
@@ -40,23 +40,20 @@ pub added_twice : (old mid new text piece : Text) → mid ≡ old ++ text → ne
 added_twice old mid new text piece first second = second ∙ ap (λ t. t ++ piece) first ∙ append_assoc old text piece
 
 -- the section of one more filterset
-pub Sections-push : (command : Command) (background : Background) (i : ℕ) (ts : List FiltersetRow) (t : FiltersetRow) (all accepted : Bool) (text section : Text) →
-    Sections command background i ts all text → Section command background (i + length ts) t accepted section →
-    Sections command background i (ts ++ t ∷ []) (all && accepted) (text ++ section)
-Sections-push command background i [] t all accepted text section (is_true, none) is =
-    (accepted, true, section, [], ap (λ b. b && accepted) is_true ∙ sym (and-true accepted), ap (λ x. x ++ section) none ∙ sym (append-nil section), rw add-zero at is, (refl, refl))
-Sections-push command background i (u ∷ us) t all accepted text section (first, others, front, rest, both, whole, is_first, are) is =
+pub Sections-push : (command : Command) (background : Background) (i : ℕ) (ts : List FiltersetRow) (t : FiltersetRow) (all accepted : Bool) (text added : Text) →
+    Sections command background i ts all text → Section command background (i + length ts) t accepted added →
+    Sections command background i (ts ++ t ∷ []) (all && accepted) (text ++ added)
+Sections-push command background i ts t all accepted text added no_sections is =
+    let one : Section command background i t accepted added = rw add-zero at is in
+    let alone : Sections command background i (t ∷ []) (accepted && true) (added ++ []) = next_section accepted true added one no_sections in
+    let texted = subst (Sections command background i (t ∷ []) (accepted && true)) (append-nil added) alone in
+    subst (λ (all : Bool). Sections command background i (t ∷ []) all added) (and-true accepted) texted
+Sections-push command background i ts t all accepted text added (next_section {filterset = u} {filtersets = us} {rest} first others front is_first are) is =
     let shifted : i + length (u ∷ us) ≡ suc i + length us = omega arith in
-    let further : Section command background (suc i + length us) t accepted section = rw shifted at is in (
-      first,
-      others && accepted,
-      front,
-      rest ++ section,
-      ap (λ b. b && accepted) both ∙ and_assoc first others accepted,
-      ap (λ x. x ++ section) whole ∙ append_assoc front rest section,
-      is_first,
-      Sections-push command background (suc i) us t others accepted rest section are further,
-    )
+    let further : Section command background (suc i + length us) t accepted added = rw shifted at is in
+    let longer = next_section first (others && accepted) front is_first (Sections-push command background (suc i) us t others accepted rest added are further) in
+    let texted = subst (Sections command background i (u ∷ (us ++ t ∷ [])) (first && (others && accepted))) (sym (append_assoc front rest added)) longer in
+    subst (λ (all : Bool). Sections command background i (u ∷ (us ++ t ∷ [])) all ((front ++ rest) ++ added)) (sym (and_assoc first others accepted)) texted
 
 -- the texts of numbered texts
 pub map-enumerate_from : {A B : Type 0} (f : A → B) (n : ℕ) (xs : List A) → map (λ (p : ℕ × A). f p.1) (enumerate_from n xs) ≡ map f xs

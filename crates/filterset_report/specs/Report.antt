@@ -24,10 +24,11 @@ use Rattle.filterset_record.specs.declared.record.commands.Command.TheVariants a
 use Rattle.filterset_report.specs.declared.outcome.Outcome.{Outcome}
 use Rattle.filterset_report.specs.declared.outcome.Outcome.TheVariants.{AllAccepted, SomeRefused, RecordRefused}
 
--- a piece for each element, in their order
-abbrev pub Pieces : {A : Type 0} → (A → Text → Type 0) → List A → Text → Type 0
-Pieces P [] text = text ≡ []
-Pieces P (x ∷ xs) text = (piece : Text) × (others : Text) × (text ≡ piece ++ others) × P x piece × Pieces P xs others
+-- a text that is made of a piece for each element of a list, in their order
+pub data Pieces {A : Type 0} (IsPiece : A → Text → Type 0) : List A → Text → Type 0 where
+  no_pieces : Pieces IsPiece [] []
+  next_piece : {x : A} {xs : List A} {front rest : Text}
+      → IsPiece x front → Pieces IsPiece xs rest → Pieces IsPiece (x ∷ xs) (front ++ rest)
 
 -- ---- an accepted filterset
 
@@ -50,10 +51,11 @@ abbrev pub BinaryLine : Background → Tree SourceSpan → BinaryRow → Text �
 BinaryLine background tree binary line = (answer : Option Bool) × TellsOfBinary background tree binary answer
     × (line ≡ codes "  binary " ++ (binary.id ++ (codes ": " ++ (binary_answer_text answer ++ codes "\n"))))
 
--- the line of a binary, and those of its tests
-abbrev pub BinaryLines : Background → Tree SourceSpan → BinaryRow → Text → Type 0
-BinaryLines background tree binary lines = (first : Text) × (others : Text) × (lines ≡ first ++ others)
-    × BinaryLine background tree binary first × Pieces (TestLine background tree binary) binary.tests others
+-- the line of a binary, and after it those of its tests
+pub data BinaryLines (background : Background) (tree : Tree SourceSpan) (binary : BinaryRow) : Text → Type 0 where
+  lines_of_binary : {own tests : Text}
+      → BinaryLine background tree binary own → Pieces (TestLine background tree binary) binary.tests tests
+      → BinaryLines background tree binary (own ++ tests)
 
 -- the lines of all binaries
 abbrev pub AnswerLines : Background → Tree SourceSpan → Text → Type 0
@@ -108,7 +110,7 @@ refused_text index faults = codes "filterset " ++ (decimal index ++ (codes " ref
 
 -- ---- all filtersets
 
--- what is written of the filterset at this place, and whether it is accepted
+-- what is written of the filterset at this position, and whether it is accepted
 abbrev pub Section : Command → Background → ℕ → FiltersetRow → Bool → Text → Type 0
 Section command background index filterset true section =
     (tree : Tree SourceSpan)
@@ -119,13 +121,14 @@ Section command background index filterset false section =
     × IsRefusedWith filterset.text filterset.kind background.packages background.groups faults
     × (section ≡ refused_text index faults)
 
--- what is written of the filtersets from this place on, and whether all of them are accepted
-abbrev pub Sections : Command → Background → ℕ → List FiltersetRow → Bool → Text → Type 0
-Sections command background index [] all text = (all ≡ true) × (text ≡ [])
-Sections command background index (t ∷ ts) all text =
-    (accepted : Bool) × (others : Bool) × (front : Text) × (rest : Text)
-    × (all ≡ (accepted && others)) × (text ≡ front ++ rest)
-    × Section command background index t accepted front × Sections command background (suc index) ts others rest
+-- what is written of filtersets, of which the first has this position, and whether all of them are accepted
+pub data Sections (command : Command) (background : Background) : ℕ → List FiltersetRow → Bool → Text → Type 0 where
+  no_sections : {index : ℕ} → Sections command background index [] true []
+  next_section : {index : ℕ} {filterset : FiltersetRow} {filtersets : List FiltersetRow} {rest : Text}
+      (accepted others : Bool) (front : Text)
+      → Section command background index filterset accepted front
+      → Sections command background (suc index) filtersets others rest
+      → Sections command background index (filterset ∷ filtersets) (accepted && others) (front ++ rest)
 
 -- ---- the record
 
@@ -141,8 +144,8 @@ abbrev pub unknown_line : ℕ → ℕ → Text
 unknown_line owner link =
     codes "record refused: unknown link " ++ (decimal link ++ (codes " of package " ++ (decimal owner ++ codes "\n")))
 
--- The line that refuses these packages. It names the first place whose id stands at an earlier place; or, where no id is
--- repeated, the first place of a package, and in it the first place of a link, that names no package.
+-- The line that refuses these packages. It names the first position whose id is at an earlier position too; or, where
+-- no id is repeated, the first position of a package, and in it the first position of a link, that names no package.
 abbrev pub PackagesLine : List PackageMetadata → Text → Type 0
 PackagesLine packages output =
     ((at : ℕ) × IsFirstRepeat (ids packages) at × (output ≡ repeated_line at))

@@ -1,6 +1,7 @@
-use Rattle.std.proofs.Common.{rules, arith, ◌≡◌, ◌<◌, ◌++◌, ◌∙◌, List, length, get_or, subst, sym}
+use Rattle.std.proofs.Common.{rules, arith, ◌≡◌, ◌<◌, ◌++◌, ◌∙◌, List, [], length, get_or, subst, sym}
+use Rattle.std.proofs.lemmas.List.{append-nil}
 use Rattle.filterset_record.specs.Record.{BinaryRow}
-use Rattle.filterset_report.specs.Report.{BinaryLines, Pieces}
+use Rattle.filterset_report.specs.Report.{BinaryLines, Pieces, no_pieces}
 use Rattle.filterset_record.specs.Rows.{binary_row}
 use Rattle.filterset_report.proofs.ReportLemmas.{Pieces-more, added_twice, taken_all}
 use Rattle.filterset_report.proofs.report.sections.push_answers.Goals as goal
@@ -15,6 +16,9 @@ returns c =
       lines.1,
       λ background tree is of_binaries. subst (λ (rows : List BinaryRow). Pieces (BinaryLines background tree) rows lines.0) (all ∙ sym of_binaries) (lines.2 background tree is of_binaries),
     )
+
+pub loop-binary-init : goal.loop-binary-init
+loop-binary-init c = ([], sym (append-nil _), λ background tree is of_binaries. no_pieces)
 
 pub loop-binary-preserved : goal.loop-binary-preserved
 loop-binary-preserved c =

@@ -1,6 +1,7 @@
-use Rattle.std.proofs.Common.{rules, arith, ◌≡◌, ◌<◌, ◌++◌, List, codes, length, get_or, refl, subst}
+use Rattle.std.proofs.Common.{rules, arith, ◌≡◌, ◌<◌, ◌++◌, List, codes, length, get_or, refl, subst, sym, []}
+use Rattle.std.proofs.lemmas.List.{append-nil}
 use Rattle.filterset_record.specs.Record.{TestRow}
-use Rattle.filterset_report.specs.Report.{Pieces, TestLine, binary_answer_text}
+use Rattle.filterset_report.specs.Report.{Pieces, TestLine, binary_answer_text, lines_of_binary, no_pieces}
 use Rattle.filterset_record.specs.Rows.{binary_row, test_row}
 use Rattle.filterset_report.proofs.ReportLemmas.{Pieces-more, added_twice, taken_all}
 use Rattle.filterset_report.proofs.report.sections.push_binary.Goals as goal
@@ -15,14 +16,13 @@ returns c =
     let all = taken_all test_row tests c.loop-test.test-index end in (
       own ++ others.0,
       added_twice _ _ _ _ _ c.in_ok-push_binary_line.ensures others.1,
-      λ background tree is of_binaries. (
-        own,
-        others.0,
-        refl,
-        (told, c.in_ok-told.ensures.told background tree is, refl),
-        subst (λ (rows : List TestRow). Pieces (TestLine background tree (binary_row c.args.binary.now)) rows others.0) all (others.2 background tree is of_binaries),
-      ),
+      λ background tree is of_binaries. lines_of_binary
+          (told, c.in_ok-told.ensures.told background tree is, refl)
+          (subst (λ (rows : List TestRow). Pieces (TestLine background tree (binary_row c.args.binary.now)) rows others.0) all (others.2 background tree is of_binaries)),
     )
+
+pub loop-test-init : goal.loop-test-init
+loop-test-init c = ([], sym (append-nil _), λ background tree is of_binaries. no_pieces)
 
 pub loop-test-preserved : goal.loop-test-preserved
 loop-test-preserved c =

@@ -1,8 +1,9 @@
 use Rattle.std.proofs.Common.{◌≡◌, ℕ, ◌+◌, zero-add, ◌++◌, ◌∷◌, [], ◌∙◌, sym, length, map}
 use Rattle.std.proofs.lemmas.Iterator.Adapters.{YieldsList-from_vec}
 use Rattle.std.proofs.lemmas.Iterator.Consumers.{YieldsList-end, YieldsList-from_enumerate, YieldsList-turn}
-use Rattle.std.proofs.lemmas.List.{length-map, map-append}
+use Rattle.std.proofs.lemmas.List.{append-nil, length-map, map-append}
 use Rattle.filterset_report.specs.Library.{background_of}
+use Rattle.filterset_report.specs.Report.{no_sections}
 use Rattle.filterset_record.specs.Rows.{filterset_row}
 use Rattle.filterset_record.specs.declared.record.filtersets.FiltersetEntry.{FiltersetEntry}
 use Rattle.filterset_report.proofs.ReportLemmas.{Sections-push, added_twice, map-pairs, number_is_place}
@@ -15,6 +16,9 @@ returns c =
     let whole = YieldsList-end chain c.loop-index.yielded c.loop-index.index-iterator c.loop-index.yielded_by c.next.result c.next.new.self c.in-None.is c.next.ensures.steps in
     let rows : map (λ p. filterset_row p.1) c.loop-index.yielded ≡ map filterset_row items = map-pairs filterset_row c.loop-index.yielded items whole.0 in
     rw rows at c.loop-index.invariant
+
+pub loop-index-init : goal.loop-index-init
+loop-index-init c = ([], no_sections, sym (append-nil _))
 
 pub loop-index-preserved : goal.loop-index-preserved
 loop-index-preserved c =
