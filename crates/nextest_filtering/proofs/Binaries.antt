@@ -7,14 +7,14 @@ use Rattle.filterset_graph.specs.declared.package.BuildTargetId.{BuildTargetId}
 use Rattle.filterset_graph.specs.declared.package.BuildTargetId.TheVariants.{Library, Binary, Example, Test, Benchmark, BuildScript}
 use Rattle.filterset_graph.specs.declared.package.PackageMetadata.{PackageMetadata}
 use Rattle.filterset_matchers.specs.Matcher.{Matcher, Hits}
-use Rattle.nextest_filtering.specs.Binaries.{BinaryRow, binary_row, binary_with, binary_of, binaries_of, members_of, test_binaries}
+use Rattle.nextest_filtering.specs.Binaries.{NameAndId, name_and_id, binary_with, binary_of, binaries_of, members_of, test_binaries}
 use Rattle.nextest_filtering.specs.Checks.{HitsSome}
 use Rattle.nextest_filtering.proofs.Members.{kept, from_filter, chosen, from_chosen, joined, from_joined, mapped, from_mapped}
 use Rattle.nextest_filtering.specs.declared.compile.context.TestBinary.{TestBinary}
 use Rattle.std.proofs.lemmas.List.Elements.{All-contains}
 
 -- a target of a workspace package that a test binary is made of
-pub record Made (packages : List PackageMetadata) (row : BinaryRow) : Type 0 where
+pub record Made (packages : List PackageMetadata) (row : NameAndId) : Type 0 where
   pub p : PackageMetadata
   pub target : BuildTarget
   pub kind : List ℕ
@@ -26,16 +26,16 @@ pub record Made (packages : List PackageMetadata) (row : BinaryRow) : Type 0 whe
 row_of : (p : PackageMetadata) (target : BuildTarget) (kind : List ℕ) → kind_of target.id ≡ Some kind → binary_of p target ≡ Some (binary_with p target kind)
 row_of p target kind e = ap (option_map (binary_with p target)) e
 
-made_of : (packages : List PackageMetadata) (row : BinaryRow) (p : PackageMetadata) (target : BuildTarget) → IsWorkspaceTarget packages p target → binary_of p target ≡ Some row → Made packages row
+made_of : (packages : List PackageMetadata) (row : NameAndId) (p : PackageMetadata) (target : BuildTarget) → IsWorkspaceTarget packages p target → binary_of p target ≡ Some row → Made packages row
 made_of packages row p target stands is = by (kind_of target.id) refl
   where
     by : (o : Option (List ℕ)) → kind_of target.id ≡ o → Made packages row
     by (Some kind) e = let same : binary_with p target kind ≡ row = (let h = sym (row_of p target kind e) ∙ is in cc) in
-        record { p = p; target = target; kind = kind; stands = stands; is_kind = e; name = ap (λ (r : BinaryRow). r.name) (sym same); id = ap (λ (r : BinaryRow). r.id) (sym same) }
+        record { p = p; target = target; kind = kind; stands = stands; is_kind = e; name = ap (λ (r : NameAndId). r.name) (sym same); id = ap (λ (r : NameAndId). r.id) (sym same) }
     by None e = absurd (let h : option_map (binary_with p target) None ≡ Some row = ap (option_map (binary_with p target)) (sym e) ∙ is in cc)
 
 -- each binary that is kept is made of such a target
-pub made : (packages : List PackageMetadata) (row : BinaryRow) → Contains (test_binaries packages) row → Made packages row
+pub made : (packages : List PackageMetadata) (row : NameAndId) → Contains (test_binaries packages) row → Made packages row
 made packages row c =
     let owner = from_joined binaries_of (members_of packages) row c in
     let member = from_filter (λ (p : PackageMetadata). p.in_workspace) packages owner.0 owner.1 in
@@ -62,28 +62,28 @@ has_kind Benchmark apart = (_, refl)
 has_kind BuildScript apart = absurd (apart refl)
 
 module _ (packages : List PackageMetadata) (matcher : Matcher) where
-  pub hits_name : (row : BinaryRow) → Contains (test_binaries packages) row → Hits matcher row.name → HitsSome matcher (IsBinaryName packages)
+  pub hits_name : (row : NameAndId) → Contains (test_binaries packages) row → Hits matcher row.name → HitsSome matcher (IsBinaryName packages)
   hits_name row c hit = let m = made packages row c in (row.name, (m.p, m.target, m.stands, no_script m.target m.kind m.is_kind, sym m.name), hit)
 
-  pub hits_no_name : ((row : BinaryRow) → Contains (test_binaries packages) row → ¬ Hits matcher row.name) → ¬ HitsSome matcher (IsBinaryName packages)
+  pub hits_no_name : ((row : NameAndId) → Contains (test_binaries packages) row → ¬ Hits matcher row.name) → ¬ HitsSome matcher (IsBinaryName packages)
   hits_no_name none h =
       let is = h.1 in let kind = has_kind is.1.id is.3 in
       none (binary_with is.0 is.1 kind.0) (stands_for packages is.0 is.1 kind.0 is.2 kind.1) (subst (Hits matcher) (sym is.4) h.2)
 
-  pub hits_id : (row : BinaryRow) → Contains (test_binaries packages) row → Hits matcher row.id → HitsSome matcher (IsBinaryId packages)
+  pub hits_id : (row : NameAndId) → Contains (test_binaries packages) row → Hits matcher row.id → HitsSome matcher (IsBinaryId packages)
   hits_id row c hit = let m = made packages row c in (row.id, (m.p, m.target, m.kind, m.stands, m.is_kind, m.id), hit)
 
-  pub hits_no_id : ((row : BinaryRow) → Contains (test_binaries packages) row → ¬ Hits matcher row.id) → ¬ HitsSome matcher (IsBinaryId packages)
+  pub hits_no_id : ((row : NameAndId) → Contains (test_binaries packages) row → ¬ Hits matcher row.id) → ¬ HitsSome matcher (IsBinaryId packages)
   hits_no_id none h =
       let is = h.1 in none (binary_with is.0 is.1 is.2) (stands_for packages is.0 is.1 is.2 is.3 is.4) (subst (Hits matcher) is.5 h.2)
 
 -- ---- binaries as they are kept
 
-module _ (packages : List PackageMetadata) (binaries : List TestBinary) (are : map binary_row binaries ≡ test_binaries packages) where
-  pub is_kept : (b : TestBinary) → Contains binaries b → Contains (test_binaries packages) (binary_row b)
-  is_kept b c = subst (λ (rows : List BinaryRow). Contains rows (binary_row b)) are (mapped binary_row binaries b c)
+module _ (packages : List PackageMetadata) (binaries : List TestBinary) (are : map name_and_id binaries ≡ test_binaries packages) where
+  pub is_kept : (b : TestBinary) → Contains binaries b → Contains (test_binaries packages) (name_and_id b)
+  is_kept b c = subst (λ (rows : List NameAndId). Contains rows (name_and_id b)) are (mapped name_and_id binaries b c)
 
-  pub of_kept : (P : BinaryRow → Type 0) → All (λ b. P (binary_row b)) binaries → (row : BinaryRow) → Contains (test_binaries packages) row → P row
+  pub of_kept : (P : NameAndId → Type 0) → All (λ b. P (name_and_id b)) binaries → (row : NameAndId) → Contains (test_binaries packages) row → P row
   of_kept P all row c =
-      let b = from_mapped binary_row binaries row (subst (λ (rows : List BinaryRow). Contains rows row) (sym are) c) in
-      subst P b.2 (All-contains (λ (b : TestBinary). P (binary_row b)) binaries b.0 all b.1)
+      let b = from_mapped name_and_id binaries row (subst (λ (rows : List NameAndId). Contains rows row) (sym are) c) in
+      subst P b.2 (All-contains (λ (b : TestBinary). P (name_and_id b)) binaries b.0 all b.1)

@@ -1,5 +1,5 @@
 -- The predicates of a tree that a filterset of some kind may not hold, and their faults.
-use Rattle.std.specs.Prelude.{◌≡◌, Bool, List, All, Option, Some, None, option_map}
+use Rattle.std.specs.Prelude.{◌≡◌, Bool, List, All, Option, None, option_map}
 use Rattle.std.specs.List.{filter_map}
 use Rattle.std.specs.Option.{is_some, option_and_then}
 use Rattle.filterset_faults.specs.declared.error.ParseSingleError.{ParseSingleError}

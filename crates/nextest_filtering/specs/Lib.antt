@@ -3,7 +3,7 @@ pub mod Groups
 pub mod Bans
 pub mod Binaries
 pub mod PackageMarks
-pub mod Asking
+pub mod ReadyMatchers
 pub mod Checks
 pub mod Compiling
 pub mod Refusals

@@ -16,12 +16,12 @@ use filterset_faults::{FiltersetKind, ParseSingleError};
 use filterset_language::{ParseStop, ParsedExpr, ParsedLeaf};
 use std::alloc::{AllocError, Global};
 
-mod asking;
 mod bans;
 mod checks;
 mod context;
 mod leaves;
 mod packages;
+mod ready;
 
 use bans::{banned_leaves, bans};
 pub use context::{KnownGroups, ParseContext};

@@ -4,13 +4,13 @@ ghost use Rattle.std.specs.HashSet.{keys};
 ghost use Rattle.filterset_graph.specs.Binaries.{IsBinaryId, IsBinaryName};
 ghost use Rattle.filterset_matchers.specs.Matcher.{Hits};
 ghost use Rattle.filterset_matchers.specs.Matchers.{matcher_of};
-ghost use Rattle.nextest_filtering.specs.Asking.{asked_matcher};
+ghost use Rattle.nextest_filtering.specs.ReadyMatchers.{ready_matcher};
 ghost use Rattle.nextest_filtering.specs.Checks.{HitsSome};
 ghost use Rattle.nextest_filtering.specs.Compiling.{packages_of};
 ghost use Rattle.nextest_filtering.specs.Groups.{IsGroupName};
 
-use crate::compile::asking::Asked;
 use crate::compile::context::{KnownGroups, ParseContext};
+use crate::compile::ready::ReadyMatcher;
 use filterset_graph::GLOBAL_TEST_GROUP;
 use filterset_matchers::NameMatcher;
 use std::alloc::{AllocError, Global};
@@ -25,10 +25,10 @@ pub(super) fn hits_binary_name(
     ensures { IfOk result (λ hit.
         IsTrue hit ↔ HitsSome (matcher_of matcher.now) (IsBinaryName (packages_of cx.now))) }
 {
-    let mut asked = Asked::new(alloc, matcher)?;
+    let mut ready = ReadyMatcher::new(alloc, matcher)?;
     let binaries = cx.binaries();
     for binary in binaries {
-        if asked.hits(alloc, binary.name)? {
+        if ready.hits(alloc, binary.name)? {
             return Ok(true);
         }
     }
@@ -44,10 +44,10 @@ pub(super) fn hits_binary_id(
     ensures { IfOk result (λ hit.
         IsTrue hit ↔ HitsSome (matcher_of matcher.now) (IsBinaryId (packages_of cx.now))) }
 {
-    let mut asked = Asked::new(alloc, matcher)?;
+    let mut ready = ReadyMatcher::new(alloc, matcher)?;
     let binaries = cx.binaries();
     for binary in binaries {
-        if asked.hits(alloc, binary.id.as_str())? {
+        if ready.hits(alloc, binary.id.as_str())? {
             return Ok(true);
         }
     }
@@ -65,24 +65,24 @@ pub(super) fn hits_group(
     let KnownGroups::Known { custom_groups } = known_groups else {
         return Ok(false);
     };
-    let mut asked = Asked::new(alloc, matcher)?;
-    if asked.hits(alloc, GLOBAL_TEST_GROUP)? {
+    let mut ready = ReadyMatcher::new(alloc, matcher)?;
+    if ready.hits(alloc, GLOBAL_TEST_GROUP)? {
         return Ok(true);
     }
-    hits_custom_group(alloc, custom_groups, &mut asked)
+    hits_custom_group(alloc, custom_groups, &mut ready)
 }
 
 /// Whether the matcher hits the name of a custom group.
 fn hits_custom_group(
     alloc: Global,
     custom_groups: &HashSet<String>,
-    asked: &mut Asked<'_>,
+    ready: &mut ReadyMatcher<'_>,
 ) -> Result<bool, AllocError>
     ensures { IfOk result (λ hit.
-        IsTrue hit ↔ Any (λ name. Hits (asked_matcher asked.old) (string_bytes name)) (keys custom_groups.now)) }
+        IsTrue hit ↔ Any (λ name. Hits (ready_matcher ready.old) (string_bytes name)) (keys custom_groups.now)) }
 {
     for name in custom_groups {
-        if asked.hits(alloc, name.as_str())? {
+        if ready.hits(alloc, name.as_str())? {
             return Ok(true);
         }
     }

@@ -1,7 +1,7 @@
 //! What filtersets are read against.
 ghost use Rattle.std.specs.Prelude.{◌≡◌, ◌++◌, IfOk, OnOk, map};
 ghost use Rattle.std.specs.List.{flat_map};
-ghost use Rattle.nextest_filtering.specs.Binaries.{binaries_of, binary_row, binary_with, members_of, test_binaries};
+ghost use Rattle.nextest_filtering.specs.Binaries.{binaries_of, name_and_id, binary_with, members_of, test_binaries};
 
 use filterset_graph::{
     BuildTarget, PackageGraph, PackageMetadata, RustBinaryId, RustTestBinaryKind,
@@ -25,7 +25,7 @@ pub struct ParseContext<'g> {
     /// Their test binaries.
     binaries: Vec<TestBinary<'g>>,
     ghost members_are: { map (λ p. p.now) members.items ≡ members_of graph.now },
-    ghost binaries_are: { map binary_row binaries.items ≡ test_binaries graph.now },
+    ghost binaries_are: { map name_and_id binaries.items ≡ test_binaries graph.now },
 }
 
 impl<'g> ParseContext<'g> {
@@ -61,7 +61,7 @@ impl<'g> ParseContext<'g> {
 
     /// The test binaries of the workspace.
     pub(super) fn binaries(&self) -> &[TestBinary<'g>]
-        ensures { map binary_row result.now ≡ test_binaries (packages_of self.now) }
+        ensures { map name_and_id result.now ≡ test_binaries (packages_of self.now) }
     {
         &self.binaries
     }
@@ -86,7 +86,7 @@ fn test_binaries<'g>(
     packages: &[&'g PackageMetadata],
 ) -> Result<Vec<TestBinary<'g>>, AllocError>
     ensures { IfOk result (λ binaries.
-        map binary_row binaries.items ≡ flat_map binaries_of (map (λ p. p.now) packages.now)) }
+        map name_and_id binaries.items ≡ flat_map binaries_of (map (λ p. p.now) packages.now)) }
 {
     let mut binaries = Vec::new(alloc);
     for package in packages {
@@ -102,7 +102,7 @@ fn push_binaries<'g>(
     binaries: &mut Vec<TestBinary<'g>>,
 ) -> Result<(), AllocError>
     ensures { OnOk result
-        (map binary_row binaries.new.items ≡ map binary_row binaries.old.items ++ binaries_of owner.now) }
+        (map name_and_id binaries.new.items ≡ map name_and_id binaries.old.items ++ binaries_of owner.now) }
 {
     for target in &owner.build_targets {
         if let Some(kind) = target.id.binary_kind() {
@@ -119,7 +119,7 @@ fn test_binary<'g>(
     target: &'g BuildTarget,
     kind: RustTestBinaryKind,
 ) -> Result<TestBinary<'g>, AllocError>
-    ensures { IfOk result (λ binary. binary_row binary ≡ binary_with owner.now target.now kind) }
+    ensures { IfOk result (λ binary. name_and_id binary ≡ binary_with owner.now target.now kind) }
 {
     let name = target.name.as_str();
     let id = RustBinaryId::from_parts(alloc, owner.name(), &kind, name)?;

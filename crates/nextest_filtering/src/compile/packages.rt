@@ -5,8 +5,8 @@ ghost use Rattle.filterset_expression.specs.Meaning.{IsDependency, IsDependent, 
 ghost use Rattle.nextest_filtering.specs.PackageMarks.{IsMarkedMember, MarksNamed};
 ghost use Rattle.nextest_filtering.specs.Compiling.{packages_of};
 
-use crate::compile::asking::Asked;
 use crate::compile::context::ParseContext;
+use crate::compile::ready::ReadyMatcher;
 use filterset_graph::{PackageId, PackageMetadata};
 use filterset_matchers::NameMatcher;
 use std::alloc::{AllocError, Global};
@@ -21,11 +21,11 @@ pub(super) fn named(
     ensures { IfOk result (λ ids. (id : List ℕ) → Contains ids.keys id
         ↔ IsPackage (packages_of cx.now) (matcher_of matcher.now) id) }
 {
-    let mut asked = Asked::new(alloc, matcher)?;
+    let mut ready = ReadyMatcher::new(alloc, matcher)?;
     let mut ids = BTreeSet::new(alloc);
     let members = cx.members();
     for package in members {
-        if asked.hits(alloc, package.name())? {
+        if ready.hits(alloc, package.name())? {
             ids.insert(package.id.try_clone(alloc)?)?;
         }
     }
@@ -71,10 +71,10 @@ fn marked_by_name(
     ensures len { IfOk result (λ marks. vec_len marks ≡ length packages.now) }
     ensures marks { IfOk result (λ marks. MarksNamed packages.now (matcher_of matcher.now) marks.items) }
 {
-    let mut asked = Asked::new(alloc, matcher)?;
+    let mut ready = ReadyMatcher::new(alloc, matcher)?;
     let mut marks = Vec::with_capacity(alloc, packages.len())?;
     for package in packages {
-        let is_named = package.in_workspace && asked.hits(alloc, package.name())?;
+        let is_named = package.in_workspace && ready.hits(alloc, package.name())?;
         marks.push(is_named)?;
     }
     Ok(marks)

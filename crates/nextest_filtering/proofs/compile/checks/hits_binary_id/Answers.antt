@@ -4,7 +4,7 @@ use Rattle.std.proofs.Math.Seq.{take-length}
 use Rattle.std.proofs.lemmas.List.Elements.{All-nil, All-more, All-same}
 use Rattle.filterset_matchers.specs.Matcher.{Matcher, Hits}
 use Rattle.filterset_matchers.specs.Matchers.{matcher_of}
-use Rattle.nextest_filtering.specs.Binaries.{BinaryRow, binary_row}
+use Rattle.nextest_filtering.specs.Binaries.{NameAndId, name_and_id}
 use Rattle.nextest_filtering.specs.Compiling.{packages_of}
 use Rattle.nextest_filtering.specs.declared.compile.context.TestBinary.{TestBinary}
 use Rattle.nextest_filtering.proofs.Binaries.{is_kept, of_kept, hits_id, hits_no_id}
@@ -16,7 +16,7 @@ abbrev Missed : Matcher → TestBinary → Type 0
 Missed matcher binary = ¬ Hits matcher binary.id
 
 pub loop-binary-init : goal.loop-binary-init
-loop-binary-init c = (c.in_ok-asked.ensures, All-nil (Missed (matcher_of c.args.matcher.now)))
+loop-binary-init c = (c.in_ok-ready.ensures, All-nil (Missed (matcher_of c.args.matcher.now)))
 
 pub loop-binary-preserved : goal.loop-binary-preserved
 loop-binary-preserved c =
@@ -33,7 +33,7 @@ returns-then-branch c =
     let binary = c.binary-item.result in
     let row = is_kept packages c.binaries-binaries.result.now c.binaries-binaries.ensures binary (here c.binaries-binaries.result.now c.loop-binary.binary-index binary c.loop-binary-test.true c.binary-item.is) in
     let hit = subst (Hits matcher) c.as_str.ensures (subst (λ (m : Matcher). Hits m c.as_str.result.now) c.loop-binary.invariant.0 (c.in_ok-hits.ensures.hits.0 c.if-branch.true)) in
-    ((λ yes. hits_id packages matcher (binary_row binary) row hit), (λ some. refl))
+    ((λ yes. hits_id packages matcher (name_and_id binary) row hit), (λ some. refl))
 
 pub returns : goal.returns
 returns c =
@@ -42,4 +42,4 @@ returns c =
     let binaries = c.binaries-binaries.result.now in
     let end : c.loop-binary.binary-index ≡ length binaries = omega (arith, c.loop-binary-test.false, c.loop-binary.auto.binary-index-end) in
     let all : All (Missed matcher) binaries = All-same (Missed matcher) binaries (take c.loop-binary.binary-index binaries) (sym (ap (λ (n : ℕ). take n binaries) end ∙ take-length binaries)) c.loop-binary.invariant.1 in
-    ((λ yes. absurd (cc)), (λ some. absurd (hits_no_id packages matcher (of_kept packages binaries c.binaries-binaries.ensures (λ (row : BinaryRow). ¬ Hits matcher row.id) all) some)))
+    ((λ yes. absurd (cc)), (λ some. absurd (hits_no_id packages matcher (of_kept packages binaries c.binaries-binaries.ensures (λ (row : NameAndId). ¬ Hits matcher row.id) all) some)))

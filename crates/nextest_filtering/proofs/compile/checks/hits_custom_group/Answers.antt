@@ -7,7 +7,7 @@ use Rattle.std.proofs.lemmas.List.Elements.{All-nil, All-push, All-map, All-cont
 use Rattle.std.proofs.lemmas.Map.Iter.{iter_turn, iter_end}
 use Rattle.std.proofs.lemmas.Option.{get_or_from_slice_get}
 use Rattle.filterset_matchers.specs.Matcher.{Matcher, Hits}
-use Rattle.nextest_filtering.specs.Asking.{asked_matcher}
+use Rattle.nextest_filtering.specs.ReadyMatchers.{ready_matcher}
 use Rattle.nextest_filtering.proofs.compile.checks.hits_custom_group.Goals as goal
 
 -- not hit
@@ -15,17 +15,17 @@ abbrev Missed : Matcher → String Global → Type 0
 Missed matcher name = ¬ Hits matcher (string_bytes name)
 
 pub loop-name-init : goal.loop-name-init
-loop-name-init c = (refl, All-nil (λ (name : Bor (String Global)). Missed (asked_matcher c.args.asked.now) name.now))
+loop-name-init c = (refl, All-nil (λ (name : Bor (String Global)). Missed (ready_matcher c.args.ready.now) name.now))
 
 pub loop-name-preserved : goal.loop-name-preserved
 loop-name-preserved c =
-    let matcher = asked_matcher c.args.asked.now in
+    let matcher = ready_matcher c.args.ready.now in
     let missed : Missed matcher c.in-Some.name.now = λ hit. false≢true (sym c.if-branch.false ∙ c.in_ok-hits.ensures.hits.1 (subst (λ (m : Matcher). Hits m c.as_str.result.now) (sym c.loop-name.invariant.0) (subst (Hits matcher) (sym c.as_str.ensures.value) hit))) in
     (c.hits.ensures.same ∙ c.loop-name.invariant.0, All-push (λ (name : Bor (String Global)). Missed matcher name.now) c.loop-name.yielded c.in-Some.name c.loop-name.invariant.1 missed)
 
 pub returns-then-branch : goal.returns-then-branch
 returns-then-branch c =
-    let matcher = asked_matcher c.args.asked.now in
+    let matcher = ready_matcher c.args.ready.now in
     let names = keys c.args.custom_groups.now in
     let name = c.in-Some.name.now in
     let start : c.into_iter-name-iterator.result ≡ names = search rules in
@@ -35,7 +35,7 @@ returns-then-branch c =
 
 pub returns : goal.returns
 returns c =
-    let matcher = asked_matcher c.args.asked.now in
+    let matcher = ready_matcher c.args.ready.now in
     let names = keys c.args.custom_groups.now in
     let start : c.into_iter-name-iterator.result ≡ names = search rules in
     let end = iter_end deref names c.loop-name.yielded c.into_iter-name-iterator.result c.loop-name.name-iterator c.next.new.self c.next.result start c.loop-name.yielded_by c.in-None.is c.next.ensures.steps in

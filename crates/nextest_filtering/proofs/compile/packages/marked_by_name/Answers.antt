@@ -6,7 +6,7 @@ use Rattle.filterset_graph.specs.declared.package.PackageMetadata.{PackageMetada
 use Rattle.filterset_matchers.specs.Matcher.{Matcher, Hits}
 use Rattle.filterset_matchers.specs.Matchers.{matcher_of}
 use Rattle.std.proofs.lemmas.Bool.{false≢true}
-use Rattle.nextest_filtering.specs.Asking.{asked_matcher}
+use Rattle.nextest_filtering.specs.ReadyMatchers.{ready_matcher}
 use Rattle.nextest_filtering.specs.PackageMarks.{IsNamedAt}
 use Rattle.nextest_filtering.proofs.PackageSets.{marked_one_more}
 use Rattle.nextest_filtering.proofs.compile.packages.marked_by_name.Goals as goal
@@ -17,7 +17,7 @@ loop-package-init c =
     let packages = c.args.packages.now in
     let matcher = matcher_of c.args.matcher.now in
     let none = c.in_ok-marks.ensures.items in (
-      c.in_ok-asked.ensures,
+      c.in_ok-ready.ensures,
       ap (λ (marks : List Bool). length marks) none,
       λ k. ((λ marked. absurd (let within : k < 0 = slice_get_within [] k true (subst (λ (marks : List Bool). IsMarked marks k) none marked) in omega (arith, within))), (λ is. absurd (omega (arith, is.0)))),
     )
@@ -42,9 +42,9 @@ loop-package-preserved c =
         (λ is. absurd (let same : p ≡ is.0 = same_Some p is.0 (sym at ∙ is.1) in let h = ap (λ (q : PackageMetadata). q.in_workspace) same ∙ is.2 in false≢true (sym w.if-package.false ∙ h))),
       )
     ] in
-    let same : asked_matcher c.if-package.asked ≡ asked_matcher c.loop-package.asked = elim c.if-package.branch [
-      | then-package+in_ok-is_named w ↦ rw w.asked-is w.hits.ensures.same
-      | else-package w ↦ rw w.asked-is refl
+    let same : ready_matcher c.if-package.ready ≡ ready_matcher c.loop-package.ready = elim c.if-package.branch [
+      | then-package+in_ok-is_named w ↦ rw w.ready-is w.hits.ensures.same
+      | else-package w ↦ rw w.ready-is refl
     ] in (
       same ∙ so_far.0,
       rw c.in_ok-push.ensures.items (length-append c.loop-package.marks.items _ ∙ ap (λ (size : ℕ). size + 1) so_far.1),

@@ -11,7 +11,7 @@ use Rattle.nextest_filtering.proofs.compile.packages.named.Goals.{then-branch+in
 
 pub loop-package-init : goal.loop-package-init
 loop-package-init c =
-    (c.in_ok-asked.ensures, none_given (IsHitAt c.members-members.result.now (matcher_of c.args.matcher.now)) c.new-ids.result.keys c.new-ids.ensures.empty)
+    (c.in_ok-ready.ensures, none_given (IsHitAt c.members-members.result.now (matcher_of c.args.matcher.now)) c.new-ids.result.keys c.new-ids.ensures.empty)
 
 pub loop-package-preserved : goal.loop-package-preserved
 loop-package-preserved c =

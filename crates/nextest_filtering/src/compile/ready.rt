@@ -1,0 +1,38 @@
+//! A matcher that is made ready for many names.
+ghost use Rattle.std.specs.Prelude.{◌≡◌, ◌↔◌, IsTrue, IfOk};
+ghost use Rattle.nextest_filtering.specs.ReadyMatchers.{ready_matcher};
+ghost use Rattle.filterset_matchers.specs.Matcher.{Hits};
+ghost use Rattle.filterset_matchers.specs.Matchers.{matcher_of};
+
+use filterset_matchers::{NameMatcher, PatternMatcher};
+use std::alloc::{AllocError, Global};
+
+/// A matcher that is made ready for many names: what searches for a pattern is made once.
+#[derive(Drop)]
+pub(super) enum ReadyMatcher<'m> {
+    Pattern(PatternMatcher<'m>),
+    Other(&'m NameMatcher),
+}
+
+impl<'m> ReadyMatcher<'m> {
+    /// Makes this matcher ready. The only error is out of memory.
+    pub fn new(alloc: Global, matcher: &'m NameMatcher) -> Result<ReadyMatcher<'m>, AllocError>
+        ensures { IfOk result (λ ready. ready_matcher ready ≡ matcher_of matcher.now) }
+    {
+        Ok(match matcher {
+            NameMatcher::Regex(pattern) => ReadyMatcher::Pattern(pattern.matcher(alloc)?),
+            _ => ReadyMatcher::Other(matcher),
+        })
+    }
+
+    /// Whether the matcher hits the name. The only error is out of memory.
+    pub fn hits(&mut self, alloc: Global, name: &str) -> Result<bool, AllocError>
+        ensures hits { IfOk result (λ hit. IsTrue hit ↔ Hits (ready_matcher self.old) name.now) }
+        ensures same { ready_matcher self.new ≡ ready_matcher self.old }
+    {
+        match self {
+            ReadyMatcher::Pattern(pattern) => Ok(pattern.is_match(name)),
+            ReadyMatcher::Other(matcher) => matcher.is_match(alloc, name),
+        }
+    }
+}
