@@ -1,3 +1,4 @@
 pub mod Chars
 pub mod PatternLemmas
 pub mod Runs
+pub mod Substrings

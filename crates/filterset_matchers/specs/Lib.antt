@@ -4,3 +4,4 @@ pub mod Matchers
 pub mod PrintedMatcher
 pub mod Runs
 pub mod Equality
+pub mod Substring

@@ -6,6 +6,7 @@ use std::alloc::{AllocError, Global};
 use std::rc::Rc;
 
 mod pattern;
+mod substring;
 
 pub use pattern::{PatternMatcher, PatternRefusal, PatternRegex};
 
@@ -94,7 +95,10 @@ impl NameMatcher {
     {
         match self {
             NameMatcher::Equal { value, implicit: _ } => Ok(input == value.as_str()),
-            NameMatcher::Contains { value, implicit: _ } => Ok(input.contains(value.as_str())),
+            NameMatcher::Contains { value, implicit: _ } => Ok(substring::contains(
+                input,
+                value.as_str(),
+            )),
             NameMatcher::Glob { glob, implicit: _ } => glob.is_match(alloc, input),
             NameMatcher::Regex(pattern) => pattern.is_match(alloc, input),
         }
