@@ -67,4 +67,12 @@ ends "a file that is no text" "$room/lines" "$room/wrote" 2 "error: $room/bytes:
 ends "a file that is not there" "$room/lines" "$room/wrote" 3 "error: $room/none: cannot be read: No such file or directory (os error 2)" "$people" list --cargo-metadata "$room/none" --nextest-list "$data/nextest-list.json"
 ends "a list that cannot be written" "$room/lines" /dev/full 3 "write failed" "$people" list "${workspace[@]}"
 
+printf '[profile.ci]\ndefault-filter = 1' > "$room/config"
+printf '[test-groups]\nserial = {}' > "$room/groups"
+ends "checked, with packages" "$room/lines" "$room/wrote" 1 "" "$people" check --cargo-metadata "$data/cargo-metadata.json" 'package(none)'
+ends "a configuration, with faults" "$room/lines" "$room/wrote" 1 "" "$people" check --config "$data/nextest.toml"
+ends "a group that is known" "$room/lines" "$room/wrote" 0 "" "$people" check --config "$room/groups" 'group(serial)'
+ends "a configuration with a wrong value" "$room/lines" "$room/wrote" 2 "error: $room/config: \`profile.ci.default-filter\` must be a text" "$people" check --config "$room/config"
+ends "a configuration that is no TOML" "$room/lines" "$room/wrote" 2 "error: $room/lines: not TOML: key with no value, expected \`=\` at line 1" "$people" check --config "$room/lines"
+
 finish

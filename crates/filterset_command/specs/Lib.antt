@@ -3,4 +3,5 @@ pub mod Entries
 pub mod Files
 pub mod Workspaces
 pub mod Picking
+pub mod Checking
 pub mod Requests

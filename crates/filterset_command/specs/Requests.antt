@@ -1,5 +1,5 @@
 -- What is asked for, and its answers.
-use Rattle.std.specs.Prelude.{◌≡◌, ◌⊎◌, ℕ, false, List, [], Option, IfSome, map, string_bytes}
+use Rattle.std.specs.Prelude.{◌≡◌, ◌⊎◌, ℕ, List, Option, IfSome, map, string_bytes}
 use Rattle.std.specs.Str.Lines.{lines}
 use Rattle.clap.specs.declared.error.Error.{Error}
 use Rattle.clap.specs.declared.error.kind.ErrorKind.{ErrorKind}
@@ -8,10 +8,9 @@ use Rattle.filterset_drawing.specs.Columns.{Text}
 use Rattle.filterset_faults.specs.declared.kind.FiltersetKind.{FiltersetKind}
 use Rattle.filterset_faults.specs.declared.kind.FiltersetKind.TheVariants as kinds
 use Rattle.records.specs.declared.fault.RunFault.TheVariants.{Memory}
-use Rattle.nextest_filtering.specs.Compiling.{packages_of}
-use Rattle.filterset_answers.specs.Answers.{ChecksTexts, FormatsTexts}
+use Rattle.filterset_answers.specs.Answers.{FormatsTexts}
 use Rattle.filterset_answers.specs.Checked.{TextRow}
-use Rattle.filterset_answers.specs.declared.names.Names.{Names}
+use Rattle.filterset_command.specs.Checking.{AnswersCheck}
 use Rattle.filterset_command.specs.Ending.{ending_of}
 use Rattle.filterset_command.specs.Entries.{HaveTexts}
 use Rattle.filterset_command.specs.Picking.{AnswersAsked}
@@ -30,11 +29,6 @@ abbrev pub AreRows : FiltersetKind → Texts → Option Text → List TextRow �
 AreRows kind (Given texts) left rows = HaveTexts kind (map (λ s. string_bytes s) texts.items) rows
 AreRows kind StandardInput left rows = IfSome left (λ bytes. HaveTexts kind (lines bytes) rows)
 
--- no name is known
-abbrev pub KnowsNoName : Names → Type 0
-KnowsNoName names =
-    (packages_of names.parse_context ≡ []) × (names.has_packages ≡ false) × (names.has_groups ≡ false)
-
 -- the words of the command line ask for the help or the version
 abbrev pub IsShown : ErrorKind → Type 0
 IsShown kind = (kind ≡ DisplayHelp) ⊎ (kind ≡ DisplayVersion)
@@ -48,9 +42,9 @@ IsTold error _ = ⊥
 -- What a request may be answered, where files have these contents and this is left of standard input, and how the
 -- command fares.
 abbrev pub IsAnswered : (Text → Option Text) → Request → Option Text → Ending → Text → Type 0
-IsAnswered content (Check kind form texts) left ending text =
-    (rows : List TextRow) × (names : Names) × (faulty : ℕ) × AreRows kind texts left rows × KnowsNoName names
-    × ChecksTexts names form rows faulty text × (ending ≡ ending_of faulty)
+IsAnswered content (Check kind form texts paths) left ending text =
+    (given : List TextRow) × (faulty : ℕ) × AreRows kind texts left given
+    × AnswersCheck content form paths given faulty text × (ending ≡ ending_of faulty)
 IsAnswered content (Format form texts) left ending text =
     (rows : List TextRow) × (faulty : ℕ) × AreRows kinds.Test texts left rows × FormatsTexts form rows faulty text
     × (ending ≡ ending_of faulty)

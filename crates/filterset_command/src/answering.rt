@@ -1,11 +1,11 @@
 //! Answering a request.
-ghost use Rattle.std.specs.Prelude.{◌≡◌, IfErr, IfOk, [], map, string_bytes};
-ghost use Rattle.nextest_filtering.specs.Groups.{IsKnown};
+ghost use Rattle.std.specs.Prelude.{◌≡◌, IfErr, IfOk, map, string_bytes};
 ghost use Rattle.filterset_answers.specs.Checked.{text_row};
 ghost use Rattle.filterset_command.specs.Ending.{ending_of};
 ghost use Rattle.filterset_command.specs.Files.{NotWrite};
-ghost use Rattle.filterset_command.specs.Requests.{AreRows, IsAnswered, KnowsNoName};
+ghost use Rattle.filterset_command.specs.Requests.{AreRows, IsAnswered};
 
+use crate::checking::check_texts;
 use crate::ending::{Ending, ending_of};
 use crate::entries::{given_entries, line_entries};
 use crate::fault::CommandFault;
@@ -13,11 +13,10 @@ use crate::files::FileSource;
 use crate::outcome::Outcome;
 use crate::picking::ask;
 use crate::request::{Request, Texts};
-use filterset_answers::{Answer, Names, TextEntry, check, format_texts};
-use nextest_filtering::{FiltersetKind, GraphRefusal, KnownGroups, PackageGraph, ParseContext};
+use filterset_answers::{Answer, TextEntry, format_texts};
+use nextest_filtering::FiltersetKind;
 use records::{Source, read_all};
-use std::alloc::{AllocError, Global};
-use std::collections::HashSet;
+use std::alloc::Global;
 
 /// Answers a request, for which standard input and files may be read.
 pub fn answer<F: FileSource, R: Source>(
@@ -31,11 +30,14 @@ pub fn answer<F: FileSource, R: Source>(
     ensures no_write { IfErr result NotWrite }
 {
     match request {
-        Request::Check { kind, form, texts } => {
-            let entries = entries_of(alloc, kind, texts, input)?;
-            let graph = no_packages(alloc)?;
-            let names = no_names(alloc, &graph)?;
-            Ok(outcome(check(alloc, &names, form, entries.as_slice())?))
+        Request::Check {
+            kind,
+            form,
+            texts,
+            paths,
+        } => {
+            let given = entries_of(alloc, kind, texts, input)?;
+            Ok(outcome(check_texts(alloc, files, form, &paths, given)?))
         }
         Request::Format { form, texts } => {
             let entries = entries_of(alloc, FiltersetKind::Test, texts, input)?;
@@ -80,31 +82,4 @@ fn entries_of<R: Source>(
             Ok(line_entries(alloc, kind, text.as_str())?)
         }
     }
-}
-
-/// The workspace without packages.
-fn no_packages(alloc: Global) -> Result<PackageGraph, AllocError>
-    ensures { IfOk result (λ graph. graph ≡ []) }
-{
-    match PackageGraph::new(alloc, Vec::new(alloc)) {
-        Ok(graph) => Ok(graph),
-        Err(GraphRefusal::OutOfMemory(refused)) => Err(refused),
-        Err(_) => unreachable!(),
-    }
-}
-
-/// Nothing is known of names.
-fn no_names(alloc: Global, graph: &PackageGraph) -> Result<Names<'_>, AllocError>
-    requires { graph.now ≡ [] }
-    ensures nothing { IfOk result KnowsNoName }
-    ensures known { IfOk result (λ names. IsKnown names.known_groups) }
-{
-    Ok(Names {
-        parse_context: ParseContext::new(alloc, graph)?,
-        known_groups: KnownGroups::Known {
-            custom_groups: HashSet::new(alloc),
-        },
-        has_packages: false,
-        has_groups: false,
-    })
 }

@@ -15,7 +15,6 @@ const COLORS: [&str; 2] = ["never", "always"];
 fn texts<'a>(alloc: Global) -> Arg<'a> {
     Arg::new(alloc, "text")
         .value_name("TEXT")
-        .required(true)
         .num_args(1..)
         .action(ArgAction::Append)
         .help("filtersets, or `-` for one in each line of standard input")
@@ -29,6 +28,14 @@ fn color<'a>(alloc: Global) -> Arg<'a> {
         .value_parser(COLORS.as_slice())
         .default_value("never")
         .help("whether what is written has colours")
+}
+
+/// The file of the packages.
+fn metadata<'a>(alloc: Global) -> Arg<'a> {
+    Arg::new(alloc, "metadata")
+        .long("cargo-metadata")
+        .value_name("FILE")
+        .help("what `cargo metadata --format-version 1` wrote")
 }
 
 /// The command `check`.
@@ -45,12 +52,19 @@ fn check<'a>(alloc: Global) -> Result<Command<'a>, AllocError> {
         .value_parser(FORMATS.as_slice())
         .default_value("human")
         .help("how faults are written");
+    let config = Arg::new(alloc, "config")
+        .long("config")
+        .value_name("FILE")
+        .help("nextest's configuration, whose filtersets are checked first");
+    let texts = texts(alloc).required_unless_present("config")?;
     Command::new(alloc, "check")
         .about("Draws the faults of filtersets")
         .arg(kind)?
         .arg(format)?
+        .arg(metadata(alloc))?
+        .arg(config)?
         .arg(color(alloc))?
-        .arg(texts(alloc))
+        .arg(texts)
 }
 
 /// The command `format`.
@@ -58,16 +72,11 @@ fn format<'a>(alloc: Global) -> Result<Command<'a>, AllocError> {
     Command::new(alloc, "format")
         .about("Writes filtersets as they print")
         .arg(color(alloc))?
-        .arg(texts(alloc))
+        .arg(texts(alloc).required(true))
 }
 
 /// The options that tell what the workspace is, and what its default filter is.
 fn with_workspace<'a>(alloc: Global, command: Command<'a>) -> Result<Command<'a>, AllocError> {
-    let metadata = Arg::new(alloc, "metadata")
-        .long("cargo-metadata")
-        .value_name("FILE")
-        .required(true)
-        .help("what `cargo metadata --format-version 1` wrote");
     let list = Arg::new(alloc, "list")
         .long("nextest-list")
         .value_name("FILE")
@@ -79,7 +88,7 @@ fn with_workspace<'a>(alloc: Global, command: Command<'a>) -> Result<Command<'a>
         .default_value("all()")
         .help("the filterset that stands for `default()`");
     command
-        .arg(metadata)?
+        .arg(metadata(alloc).required(true))?
         .arg(list)?
         .arg(default)?
         .arg(color(alloc))

@@ -4,6 +4,7 @@
 
 mod answering;
 mod arguments;
+mod checking;
 mod ending;
 mod entries;
 mod fault;

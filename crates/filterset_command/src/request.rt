@@ -4,6 +4,7 @@ ghost use Rattle.clap.specs.Words.{kind_of};
 ghost use Rattle.filterset_command.specs.Requests.{IsShown, IsTold};
 
 use crate::arguments::arguments;
+use crate::checking::CheckPaths;
 use crate::fault::CommandFault;
 use crate::workspace::WorkspacePaths;
 use clap::error::ErrorKind;
@@ -55,6 +56,7 @@ pub enum Request {
         kind: FiltersetKind,
         form: Form,
         texts: Texts,
+        paths: CheckPaths,
     },
     Format {
         form: Form,
@@ -112,7 +114,23 @@ fn check_of(alloc: Global, matches: &ArgMatches<'_>) -> Result<Request, AllocErr
         kind: kind_of(matches),
         form,
         texts: texts_of(alloc, matches)?,
+        paths: CheckPaths {
+            metadata: given_of(alloc, matches, "metadata")?,
+            configuration: given_of(alloc, matches, "config")?,
+        },
     })
+}
+
+/// The text of an option, if it is given.
+fn given_of(
+    alloc: Global,
+    matches: &ArgMatches<'_>,
+    id: &str,
+) -> Result<Option<String>, AllocError> {
+    match matches.get_str(id) {
+        Some(text) => Ok(Some(String::from_str(alloc, text)?)),
+        None => Ok(None),
+    }
 }
 
 /// The text of an option, or no text where it is not given.

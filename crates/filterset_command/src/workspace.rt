@@ -48,7 +48,7 @@ fn read_value<F: FileSource>(alloc: Global, files: &F, path: &str) -> Result<Val
 }
 
 /// The packages of a workspace.
-fn read_graph<F: FileSource>(
+pub fn read_graph<F: FileSource>(
     alloc: Global,
     files: &F,
     path: &str,
