@@ -36,15 +36,15 @@ module _ {A : Type 0} (is_asked : A → Bool) (holds : A → Type 0) where
   cut_back n xs ys h = subst (λ k. drop k (xs ++ ys) ≡ ys) h (drop-append_seam xs ys)
 
   -- a compound formula takes what its connective makes of values that its operands take
-  compound_can_be : (c : Connective) (f g : Formula A) (a b : Bool) → CanBe is_asked holds f a → CanBe is_asked holds g b → CanBe is_asked holds (Compound c f g) (connected c a b)
+  pub compound_can_be : (c : Connective) (f g : Formula A) (a b : Bool) → CanBe is_asked holds f a → CanBe is_asked holds g b → CanBe is_asked holds (Compound c f g) (connected c a b)
   compound_can_be c f g a b p q =
       (p.0 ++ q.0, both_lengths f g p.0 q.0 p.1 q.1, rw (cut_front _ p.0 q.0 p.1, cut_back _ p.0 q.0 p.1) (connected_decides c a b _ _ p.2 q.2))
 
   -- the answers to the two sides
-  front_length : (f g : Formula A) (answers : List Bool) → length answers ≡ occurrences is_asked f + occurrences is_asked g → length (take (occurrences is_asked f) answers) ≡ occurrences is_asked f
+  pub front_length : (f g : Formula A) (answers : List Bool) → length answers ≡ occurrences is_asked f + occurrences is_asked g → length (take (occurrences is_asked f) answers) ≡ occurrences is_asked f
   front_length f g answers h = omega (arith, length-take (occurrences is_asked f) answers)
 
-  back_length : (f g : Formula A) (answers : List Bool) → length answers ≡ occurrences is_asked f + occurrences is_asked g → length (drop (occurrences is_asked f) answers) ≡ occurrences is_asked g
+  pub back_length : (f g : Formula A) (answers : List Bool) → length answers ≡ occurrences is_asked f + occurrences is_asked g → length (drop (occurrences is_asked f) answers) ≡ occurrences is_asked g
   back_length f g answers h = omega (arith, length-drop (occurrences is_asked f) answers)
 
   -- where the operands of a connective may change places, the answers to them change places with them
@@ -132,7 +132,7 @@ module _ {A : Type 0} (is_asked : A → Bool) (holds : A → Type 0) where
   fold_open f x h = says_open f x (fold_says f x h)
 
 -- values that cannot differ are the same
-same_unless : (a b : Bool) → ¬ (¬ (a ≡ b)) → a ≡ b
+pub same_unless : (a b : Bool) → ¬ (¬ (a ≡ b)) → a ≡ b
 same_unless true true h = refl
 same_unless false false h = refl
 same_unless true false h = absurd (h (λ e. let clash : true ≡ false = e in cc))

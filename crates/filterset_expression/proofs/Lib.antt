@@ -6,5 +6,6 @@ pub mod AddedParens
 pub mod BinaryMeanings
 pub mod Folding
 pub mod Exact
+pub mod Operands
 pub mod FlatSteps
 pub mod LeafAnswers

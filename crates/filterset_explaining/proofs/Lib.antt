@@ -1,0 +1,4 @@
+pub mod Defaults
+pub mod NamedLemmas
+pub mod ValueLemmas
+pub mod NodeLemmas

@@ -1,0 +1,6 @@
+pub mod Nodes
+pub mod Operands
+pub mod Packages
+pub mod Values
+pub mod Explaining
+pub mod Writing

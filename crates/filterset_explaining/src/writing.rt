@@ -1,0 +1,103 @@
+//! Explanations as text.
+ghost use Rattle.std.specs.Prelude.{◌≡◌, ◌++◌, IfOk, OnOk, codes, string_bytes};
+ghost use Rattle.std.specs.List.{flat_map, join_by};
+ghost use Rattle.filterset_language.specs.Views.{tree_of};
+ghost use Rattle.filterset_explaining.specs.Writing.{behind, explained_line, head, others_text, packages_text, value_text};
+
+use crate::explaining::ExplainedNode;
+use crate::packages::NamedPackages;
+use filterset_language::ParsedExpr;
+use std::alloc::{AllocError, Global};
+use std::fmt::Write;
+
+/// The word for a value.
+fn value_text(value: Option<bool>) -> &'static str
+    ensures { result.now ≡ value_text value }
+{
+    match value {
+        Some(true) => "yes",
+        Some(false) => "no",
+        None => "unknown",
+    }
+}
+
+/// A node without its operands: an operator as it is written, or a predicate as it prints.
+fn head(alloc: Global, node: &ParsedExpr) -> Result<String, AllocError>
+    ensures { IfOk result (λ text. string_bytes text ≡ head (tree_of node.now)) }
+{
+    match node {
+        ParsedExpr::Not(operator, _) => format!(in alloc; "{operator}"),
+        ParsedExpr::Union(operator, _, _) => format!(in alloc; "{operator}"),
+        ParsedExpr::Intersection(operator, _, _) => format!(in alloc; "{operator}"),
+        ParsedExpr::Difference(operator, _, _) => format!(in alloc; "{operator}"),
+        ParsedExpr::SymmetricDifference(operator, _, _) => format!(in alloc; "{operator}"),
+        ParsedExpr::Parens(inner) => head(alloc, inner),
+        ParsedExpr::Set(leaf) => format!(in alloc; "{leaf}"),
+    }
+}
+
+/// How many packages are not named, if there are any.
+fn others_text(alloc: Global, others: usize) -> Result<String, AllocError>
+    ensures { IfOk result (λ text. string_bytes text ≡ others_text others) }
+{
+    if others == 0 {
+        return Ok(String::new(alloc));
+    }
+    format!(in alloc; " and {others} more")
+}
+
+/// The names, with commas between them.
+fn joined(alloc: Global, names: &[&str]) -> Result<String, AllocError>
+    ensures { IfOk result (λ text. string_bytes text ≡ join_by (λ n. n.now) (codes ", ") names.now) }
+{
+    names.join(alloc, ", ")
+}
+
+/// The packages that a predicate stands for.
+fn packages_text(alloc: Global, packages: &NamedPackages<'_>) -> Result<String, AllocError>
+    ensures { IfOk result (λ text. string_bytes text ≡ packages_text packages.now) }
+{
+    let names = joined(alloc, packages.names.as_slice())?;
+    let others = others_text(alloc, packages.others)?;
+    format!(in alloc; " (packages: {names}{others})")
+}
+
+/// What stands behind the value of a node.
+fn behind(alloc: Global, packages: &Option<NamedPackages<'_>>) -> Result<String, AllocError>
+    ensures { IfOk result (λ text. string_bytes text ≡ behind packages.now) }
+{
+    match packages {
+        Some(packages) => packages_text(alloc, packages),
+        None => Ok(String::new(alloc)),
+    }
+}
+
+/// Writes the line of a node.
+fn push_explained(
+    output: &mut String,
+    alloc: Global,
+    explained: &ExplainedNode<'_>,
+) -> Result<(), AllocError>
+    ensures { OnOk result (string_bytes output.new ≡ string_bytes output.old ++ explained_line explained.now) }
+{
+    let indentation = "  ".repeat(alloc, explained.depth)?;
+    let head = head(alloc, explained.node)?;
+    let value = value_text(explained.value);
+    let behind = behind(alloc, &explained.packages)?;
+    writeln!(output, "{indentation}{head}: {value}{behind}")
+}
+
+/// The explanation as text, a line a node: two blanks for each operator that the node stands under, the operator as it is
+/// written or the predicate as it prints, and its value, `yes`, `no` or `unknown`. Behind a predicate of packages stand
+/// the names of the first ten that it stands for, and how many others there are.
+///
+/// The only error is out of memory.
+pub fn explain_text(alloc: Global, nodes: &[ExplainedNode<'_>]) -> Result<String, AllocError>
+    ensures { IfOk result (λ text. string_bytes text ≡ flat_map explained_line nodes.now) }
+{
+    let mut text = String::new(alloc);
+    for explained in nodes {
+        push_explained(&mut text, alloc, explained)?;
+    }
+    Ok(text)
+}
