@@ -2,24 +2,15 @@
 //! that was found otherwise than its row says, and then how many rows there were.
 #![tactic(auto)]
 
-mod ending;
+mod program;
 mod report;
-mod run;
 #[cfg(test)]
 mod tests;
 
-use ending::status;
-use records::{FromReader, ToWriter};
-use run::run;
+use program::Rows;
+use records::execute;
 use std::process::ExitCode;
 
 fn main(rt: HostRuntime) -> ExitCode {
-    let mut input = FromReader::new(rt.stdin());
-    let mut output = ToWriter::new(rt.stdout());
-    let ended = run(rt.alloc(), &mut input, &mut output);
-    if let Err(fault) = ended {
-        // A line that cannot be written changes nothing.
-        let _ = eprintln!(rt; "{fault}");
-    }
-    ExitCode::from(status(ended))
+    execute::<Rows>(rt)
 }
