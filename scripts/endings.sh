@@ -44,7 +44,7 @@ ends "another kind" "$room/lines" "$room/wrote" 2 "error: invalid value 'other' 
 
 For more information, try '--help'." "$people" check --kind other 'all()'
 ends "no command" "$room/lines" "$room/wrote" 2 "error: 'filterset_command' requires a subcommand but one was not provided
-  [subcommands: check, format, list, compare, help]
+  [subcommands: check, format, list, compare, explain, help]
 
 Usage: filterset_command <COMMAND>
 
@@ -62,6 +62,10 @@ ends "listed, with faults" "$room/lines" "$room/wrote" 1 "" "$people" list "${wo
 ends "compared, the same" "$room/lines" "$room/wrote" 0 "" "$people" compare "${workspace[@]}" 'all()' 'default()'
 ends "compared, another" "$room/lines" "$room/wrote" 1 "" "$people" compare "${workspace[@]}" 'all()' 'package(parser)'
 ends "compared, with faults" "$room/lines" "$room/wrote" 1 "" "$people" compare "${workspace[@]}" 'all()' 'and(a, b)'
+ends "explained" "$room/lines" "$room/wrote" 0 "" "$people" explain "${workspace[@]}" -E 'test(~slow)' lexer tests::slow_text
+ends "explained, with faults" "$room/lines" "$room/wrote" 1 "" "$people" explain "${workspace[@]}" -E 'package(none)' lexer
+ends "explained of no binary" "$room/lines" "$room/wrote" 2 "error: the list has no test binary \`none\`" "$people" explain "${workspace[@]}" -E 'all()' none
+ends "explained of no test" "$room/lines" "$room/wrote" 2 "error: the list has no test \`none\` of the binary \`lexer\`" "$people" explain "${workspace[@]}" -E 'all()' lexer none
 ends "a list with a wrong value" "$room/lines" "$room/wrote" 2 "error: $room/list: \`rust-suites.lexer.kind\` must be a text" "$people" list --cargo-metadata "$data/cargo-metadata.json" --nextest-list "$room/list"
 ends "a file that is no text" "$room/lines" "$room/wrote" 2 "error: $room/bytes: not UTF-8" "$people" list --cargo-metadata "$room/bytes" --nextest-list "$data/nextest-list.json"
 ends "a file that is not there" "$room/lines" "$room/wrote" 3 "error: $room/none: cannot be read: No such file or directory (os error 2)" "$people" list --cargo-metadata "$room/none" --nextest-list "$data/nextest-list.json"

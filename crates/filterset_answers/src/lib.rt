@@ -11,7 +11,7 @@ mod text;
 
 pub use checking::check;
 pub use compiling::{Compiled, compile_texts};
-pub use form::Form;
+pub use form::{Form, push_faults};
 pub use formatting::format_texts;
 pub use names::Names;
 pub use text::{Answer, TextEntry};

@@ -1,7 +1,7 @@
 -- How the program ends.
 use Rattle.std.specs.Prelude.{ℕ, zero, suc, Bool, true, false, Result, Ok, Err}
 use Rattle.filterset_command.specs.declared.fault.CommandFault.{CommandFault}
-use Rattle.filterset_command.specs.declared.fault.CommandFault.TheVariants.{Words, NoWords, NotText, File, Run}
+use Rattle.filterset_command.specs.declared.fault.CommandFault.TheVariants.{Words, NoWords, NotText, File, NoBinary, NoTest, Run}
 use Rattle.filterset_command.specs.declared.fault.FileFault.{FileFault}
 use Rattle.filterset_command.specs.declared.fault.FileFault.TheVariants as files
 use Rattle.filterset_command.specs.declared.ending.Ending.{Ending}
@@ -32,4 +32,6 @@ status_of (Err (Words error)) = 2
 status_of (Err NoWords) = 2
 status_of (Err NotText) = 2
 status_of (Err (File path fault)) = file_status fault
+status_of (Err (NoBinary id)) = 2
+status_of (Err (NoTest binary test)) = 2
 status_of (Err (Run fault)) = 3

@@ -4,4 +4,5 @@ pub mod Files
 pub mod Workspaces
 pub mod Picking
 pub mod Checking
+pub mod ExplainingAsked
 pub mod Requests

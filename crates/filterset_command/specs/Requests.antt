@@ -13,13 +13,14 @@ use Rattle.filterset_answers.specs.Checked.{TextRow}
 use Rattle.filterset_command.specs.Checking.{AnswersCheck}
 use Rattle.filterset_command.specs.Ending.{ending_of}
 use Rattle.filterset_command.specs.Entries.{HaveTexts}
+use Rattle.filterset_command.specs.ExplainingAsked.{AnswersExplained}
 use Rattle.filterset_command.specs.Picking.{AnswersAsked}
 use Rattle.filterset_command.specs.declared.ending.Ending.{Ending}
 use Rattle.filterset_command.specs.declared.ending.Ending.TheVariants.{Fine}
 use Rattle.filterset_command.specs.declared.fault.CommandFault.{CommandFault}
 use Rattle.filterset_command.specs.declared.fault.CommandFault.TheVariants.{Words, Run}
 use Rattle.filterset_command.specs.declared.request.Request.{Request}
-use Rattle.filterset_command.specs.declared.request.Request.TheVariants.{Ask, Check, Format, Show}
+use Rattle.filterset_command.specs.declared.request.Request.TheVariants.{Ask, Check, Explain, Format, Show}
 use Rattle.filterset_command.specs.declared.request.Texts.{Texts}
 use Rattle.filterset_command.specs.declared.request.Texts.TheVariants.{Given, StandardInput}
 
@@ -49,4 +50,5 @@ IsAnswered content (Format form texts) left ending text =
     (rows : List TextRow) × (faulty : ℕ) × AreRows kinds.Test texts left rows × FormatsTexts form rows faulty text
     × (ending ≡ ending_of faulty)
 IsAnswered content (Ask asked) left ending text = AnswersAsked content asked ending text
+IsAnswered content (Explain asked) left ending text = AnswersExplained content asked ending text
 IsAnswered content (Show shown) left ending text = (ending ≡ Fine) × (text ≡ string_bytes shown)

@@ -8,6 +8,7 @@ ghost use Rattle.filterset_command.specs.Requests.{AreRows, IsAnswered};
 use crate::checking::check_texts;
 use crate::ending::{Ending, ending_of};
 use crate::entries::{given_entries, line_entries};
+use crate::explaining::explain_asked;
 use crate::fault::CommandFault;
 use crate::files::FileSource;
 use crate::outcome::Outcome;
@@ -44,6 +45,7 @@ pub fn answer<F: FileSource, R: Source>(
             Ok(outcome(format_texts(alloc, form, entries.as_slice())?))
         }
         Request::Ask(asked) => ask(alloc, files, &asked),
+        Request::Explain(asked) => explain_asked(alloc, files, &asked),
         Request::Show(text) => Ok(Outcome {
             text,
             ending: Ending::Fine,

@@ -127,6 +127,30 @@ fn compare<'a>(alloc: Global) -> Result<Command<'a>, AllocError> {
         .arg(second)
 }
 
+/// The command `explain`.
+fn explain<'a>(alloc: Global) -> Result<Command<'a>, AllocError> {
+    let filterset = Arg::new(alloc, "filterset")
+        .short('E')
+        .long("filterset")
+        .value_name("TEXT")
+        .required(true)
+        .help("a filterset");
+    let binary = Arg::new(alloc, "binary")
+        .value_name("BINARY_ID")
+        .required(true)
+        .help("the id of a test binary");
+    let test = Arg::new(alloc, "test")
+        .value_name("TEST")
+        .help("the name of a test of the binary");
+    let command = Command::new(alloc, "explain").about(
+        "Tells why a filterset picks a test or not, or what hangs on a binary's tests",
+    );
+    with_workspace(alloc, command)?
+        .arg(filterset)?
+        .arg(binary)?
+        .arg(test)
+}
+
 /// The command line.
 pub fn arguments<'a>(alloc: Global) -> Result<Command<'a>, AllocError> {
     Command::new(alloc, "filterset")
@@ -138,5 +162,6 @@ pub fn arguments<'a>(alloc: Global) -> Result<Command<'a>, AllocError> {
         .subcommand(check(alloc)?)?
         .subcommand(format(alloc)?)?
         .subcommand(list(alloc)?)?
-        .subcommand(compare(alloc)?)
+        .subcommand(compare(alloc)?)?
+        .subcommand(explain(alloc)?)
 }

@@ -39,6 +39,10 @@ pub enum CommandFault {
     NotText,
     /// A file of this path has a fault.
     File { path: String, fault: FileFault },
+    /// The list has no test binary of this id.
+    NoBinary(String),
+    /// The list has no such test of the binary of this id.
+    NoTest { binary: String, test: String },
     /// There was not enough memory, or a read or a write failed.
     Run(RunFault),
 }
@@ -72,6 +76,13 @@ impl fmt::Display for CommandFault {
             CommandFault::NoWords => f.write_str("error: the command line is not UTF-8"),
             CommandFault::NotText => f.write_str("error: standard input is not UTF-8"),
             CommandFault::File { path, fault } => write!(f, "error: {path}: {fault}"),
+            CommandFault::NoBinary(id) => write!(f, "error: the list has no test binary `{id}`"),
+            CommandFault::NoTest { binary, test } => {
+                write!(
+                    f,
+                    "error: the list has no test `{test}` of the binary `{binary}`"
+                )
+            }
             CommandFault::Run(fault) => fault.fmt(f),
         }
     }

@@ -7,6 +7,7 @@ mod arguments;
 mod checking;
 mod ending;
 mod entries;
+mod explaining;
 mod fault;
 mod files;
 mod outcome;

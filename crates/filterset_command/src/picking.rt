@@ -18,7 +18,7 @@ use std::alloc::{AllocError, Global};
 use std::collections::HashSet;
 
 /// The only group that filtersets can name is `@global`, in which every test is.
-fn global_group(alloc: Global) -> KnownGroups
+pub fn global_group(alloc: Global) -> KnownGroups
     ensures { IsGlobalOnly result }
 {
     KnownGroups::Known {

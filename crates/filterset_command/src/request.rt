@@ -5,6 +5,7 @@ ghost use Rattle.filterset_command.specs.Requests.{IsShown, IsTold};
 
 use crate::arguments::arguments;
 use crate::checking::CheckPaths;
+use crate::explaining::Explanation;
 use crate::fault::CommandFault;
 use crate::workspace::WorkspacePaths;
 use clap::error::ErrorKind;
@@ -63,6 +64,7 @@ pub enum Request {
         texts: Texts,
     },
     Ask(Asked),
+    Explain(Explanation),
     /// Writing this text: the help, or the version.
     Show(String),
 }
@@ -98,6 +100,7 @@ fn requested(alloc: Global, matches: &ArgMatches<'_>) -> Result<Request, AllocEr
         }),
         Some(("list", own)) => asked_of(alloc, own, list_question(alloc, own)?),
         Some(("compare", own)) => asked_of(alloc, own, compare_question(alloc, own)?),
+        Some(("explain", own)) => Ok(Request::Explain(explanation_of(alloc, own)?)),
         Some((_, own)) => check_of(alloc, own),
         // A command is required.
         None => check_of(alloc, matches),
@@ -156,6 +159,26 @@ fn compare_question(alloc: Global, matches: &ArgMatches<'_>) -> Result<Question,
     })
 }
 
+/// Where the files are that say what the workspace is.
+fn paths_of(alloc: Global, matches: &ArgMatches<'_>) -> Result<WorkspacePaths, AllocError> {
+    Ok(WorkspacePaths {
+        metadata: text_of(alloc, matches, "metadata")?,
+        list: text_of(alloc, matches, "list")?,
+    })
+}
+
+/// What is to be explained.
+fn explanation_of(alloc: Global, matches: &ArgMatches<'_>) -> Result<Explanation, AllocError> {
+    Ok(Explanation {
+        paths: paths_of(alloc, matches)?,
+        form: Form::Drawn(color_of(matches)),
+        default_filter: text_of(alloc, matches, "default")?,
+        filter: text_of(alloc, matches, "filterset")?,
+        binary: text_of(alloc, matches, "binary")?,
+        test: given_of(alloc, matches, "test")?,
+    })
+}
+
 /// What a question asks of the workspace that is given.
 fn asked_of(
     alloc: Global,
@@ -163,10 +186,7 @@ fn asked_of(
     question: Question,
 ) -> Result<Request, AllocError> {
     Ok(Request::Ask(Asked {
-        paths: WorkspacePaths {
-            metadata: text_of(alloc, matches, "metadata")?,
-            list: text_of(alloc, matches, "list")?,
-        },
+        paths: paths_of(alloc, matches)?,
         form: Form::Drawn(color_of(matches)),
         default_filter: text_of(alloc, matches, "default")?,
         question,

@@ -1,0 +1,199 @@
+//! Explaining why a filterset picks a test or not, or what a binary's answer hangs on.
+ghost use Rattle.std.specs.Prelude.{◌≡◌, ◌++◌, IfErr, IfOk, false, option_map, string_bytes};
+ghost use Rattle.filterset_answers.specs.Checked.{text_row};
+ghost use Rattle.filterset_drawing.specs.Columns.{Text};
+ghost use Rattle.filterset_expression.specs.Expression.{has_leaf, is_default, is_group};
+ghost use Rattle.filterset_expression.specs.Meaning.{IsCompiled};
+ghost use Rattle.filterset_language.specs.Views.{tree_of};
+ghost use Rattle.nextest_filtering.specs.Compiling.{packages_of};
+ghost use Rattle.nextest_filtering.specs.Groups.{IsKnown};
+ghost use Rattle.filterset_command.specs.ExplainingAsked.{AnswersExplained, AnswersExplanation, IsCandidate, IsExplanation, IsMissing, IsReadAs};
+ghost use Rattle.filterset_command.specs.ExplainingAsked.{binary_called, name_called};
+ghost use Rattle.filterset_command.specs.Files.{NotWrite};
+
+use crate::ending::Ending;
+use crate::entries::entry;
+use crate::fault::CommandFault;
+use crate::files::FileSource;
+use crate::outcome::Outcome;
+use crate::picking::global_group;
+use crate::workspace::{WorkspacePaths, asked_binaries, read_workspace};
+use filterset_answers::{Form, TextEntry, push_faults};
+use filterset_explaining::{Candidate, explain, explain_text};
+use filterset_listing::AskedBinary;
+use nextest_filtering::{
+    EvalContext, Filterset, FiltersetKind, KnownGroups, PackageGraph, ParseContext, ParseRefusal,
+    TestCaseName, TestQuery,
+};
+use std::alloc::{AllocError, Global};
+
+/// What is to be explained.
+#[derive(Debug, Drop)]
+pub struct Explanation {
+    pub paths: WorkspacePaths,
+    pub form: Form,
+    /// The filterset that stands for `default()`.
+    pub default_filter: String,
+    pub filter: String,
+    /// The id of the binary that the filterset is explained of.
+    pub binary: String,
+    /// The name of the test, where it is explained of a test of the binary.
+    pub test: Option<String>,
+}
+
+/// The first binary with this id.
+fn binary_called<'b, 's>(binaries: &'b [AskedBinary<'s>], id: &str) -> Option<&'b AskedBinary<'s>>
+    ensures { option_map (λ b. b.now) result ≡ binary_called id.now binaries.now }
+{
+    binaries
+        .iter()
+        .find(|binary| binary.query.binary_id.as_str() == id)
+}
+
+/// The first test with this name.
+fn test_called<'s>(tests: &'s [TestCaseName], name: &str) -> Option<&'s TestCaseName>
+    ensures { option_map (λ t. t.now) result ≡ name_called name.now tests.now }
+{
+    tests.iter().find(|test| test.as_str() == name)
+}
+
+/// The binary with this id, or the test of it with this name.
+fn candidate_of<'s>(
+    alloc: Global,
+    binaries: &[AskedBinary<'s>],
+    id: &str,
+    test: &Option<String>,
+) -> Result<Candidate<'s>, CommandFault>
+    ensures found { IfOk result (IsCandidate binaries.now id.now test.now) }
+    ensures missing { IfErr result (IsMissing binaries.now id.now test.now) }
+{
+    let Some(binary) = binary_called(binaries, id) else {
+        return Err(CommandFault::NoBinary(String::from_str(alloc, id)?));
+    };
+    let Some(test) = test else {
+        return Ok(Candidate::Binary(binary.query));
+    };
+    let Some(test_name) = test_called(binary.tests, test.as_str()) else {
+        return Err(CommandFault::NoTest {
+            binary: String::from_str(alloc, id)?,
+            test: String::from_str(alloc, test.as_str())?,
+        });
+    };
+    Ok(Candidate::Test(TestQuery {
+        binary_query: binary.query,
+        test_name,
+    }))
+}
+
+/// Reads a text as a filterset, or writes its faults.
+fn read_filterset(
+    output: &mut String,
+    alloc: Global,
+    context: &ParseContext<'_>,
+    groups: &KnownGroups,
+    form: Form,
+    number: usize,
+    entry: &TextEntry,
+) -> Result<Option<Filterset>, AllocError>
+    requires { IsKnown groups.now }
+    ensures { IfOk result (λ made. (piece : Text) × (string_bytes output.new ≡ string_bytes output.old ++ piece)
+        × IsReadAs (packages_of context.now) groups.now form number (text_row entry.now) made piece) }
+{
+    let text = String::from_str(alloc, entry.text.as_str())?;
+    match Filterset::parse(alloc, text, context, entry.kind, groups) {
+        Ok(filterset) => Ok(Some(filterset)),
+        Err(ParseRefusal::Faults(refused)) => {
+            let (origin, text) = (entry.origin.as_str(), entry.text.as_str());
+            let faults = refused.errors.as_slice();
+            push_faults(output, alloc, form, origin, text, number, faults)?;
+            Ok(None)
+        }
+        Err(ParseRefusal::OutOfMemory { .. }) => Err(AllocError),
+    }
+}
+
+/// The values of a filterset's nodes, where the first filterset stands for `default()`.
+fn explained(
+    alloc: Global,
+    graph: &PackageGraph,
+    candidate: Candidate<'_>,
+    default: &Filterset,
+    filter: &Filterset,
+) -> Result<Outcome, AllocError>
+    requires no_default { has_leaf is_default default.now.compiled ≡ false }
+    requires no_group { has_leaf is_group default.now.compiled ≡ false }
+    requires compiled { IsCompiled graph.now (tree_of filter.now.parsed) filter.now.compiled }
+    ensures { IfOk result (λ outcome. IsExplanation candidate.entry graph.now default.now filter.now
+        outcome.ending (string_bytes outcome.text)) }
+{
+    let context = EvalContext::new(&default.compiled);
+    let nodes = explain(
+        alloc,
+        graph,
+        &filter.parsed,
+        &filter.compiled,
+        &context,
+        candidate,
+    )?;
+    Ok(Outcome {
+        text: explain_text(alloc, nodes.as_slice())?,
+        ending: Ending::Fine,
+    })
+}
+
+/// The explanation of a filterset, or the faults of the texts.
+fn outcome_for(
+    alloc: Global,
+    asked: &Explanation,
+    graph: &PackageGraph,
+    candidate: Candidate<'_>,
+) -> Result<Outcome, AllocError>
+    ensures { IfOk result (λ outcome. AnswersExplanation asked.now graph.now candidate.entry
+        outcome.ending (string_bytes outcome.text)) }
+{
+    let (form, default, filter) = (
+        asked.form,
+        asked.default_filter.as_str(),
+        asked.filter.as_str(),
+    );
+    let first = entry(
+        alloc,
+        "--default-filter",
+        FiltersetKind::DefaultFilter,
+        default,
+    )?;
+    let second = entry(alloc, "-E", FiltersetKind::Test, filter)?;
+    let context = ParseContext::new(alloc, graph)?;
+    let groups = global_group(alloc);
+    let mut text = String::new(alloc);
+    let default = read_filterset(&mut text, alloc, &context, &groups, form, 1, &first)?;
+    let filter = read_filterset(&mut text, alloc, &context, &groups, form, 2, &second)?;
+    match (&default, &filter) {
+        (Some(default), Some(filter)) => explained(alloc, graph, candidate, default, filter),
+        _ => Ok(Outcome {
+            text,
+            ending: Ending::Faulty,
+        }),
+    }
+}
+
+/// Explains a filterset of a binary or a test of the workspace that the files tell of.
+pub fn explain_asked<F: FileSource>(
+    alloc: Global,
+    files: &F,
+    asked: &Explanation,
+) -> Result<Outcome, CommandFault>
+    ensures answered { IfOk result (λ outcome. AnswersExplained (F.content files.now) asked.now
+        outcome.ending (string_bytes outcome.text)) }
+    ensures no_write { IfErr result NotWrite }
+{
+    let workspace = read_workspace(alloc, files, &asked.paths)?;
+    let binaries = asked_binaries(alloc, workspace.list.suites.as_slice())?;
+    let candidate = candidate_of(
+        alloc,
+        binaries.as_slice(),
+        asked.binary.as_str(),
+        &asked.test,
+    )?;
+    Ok(outcome_for(alloc, asked, &workspace.graph, candidate)?)
+}
