@@ -118,53 +118,6 @@ fn want_of_memory_of_a_lookup_is_the_answer(rt: HostRuntime) -> Result<(), Fail>
     Ok(())
 }
 
-/// A side of a symmetric difference: all tests, none, those that are in a group, and those of them that are in none.
-fn side(alloc: Global, name: &str) -> Result<Box<CompiledExpr>, AllocError> {
-    let none = CompiledExpr::Set(FiltersetLeaf::None);
-    let expr = match name {
-        "all" => CompiledExpr::ALL,
-        "none" => none,
-        "group" => group(alloc, "serial")?,
-        _ => {
-            let member = Box::new(alloc, group(alloc, "serial")?)?;
-            CompiledExpr::Intersection(member, Box::new(alloc, none)?)
-        }
-    };
-    Ok(Box::new(alloc, expr)?)
-}
-
-/// What a binary tells of an expression, by its own call and by its steps.
-fn told(alloc: Global, expr: &CompiledExpr) -> Result<[Option<bool>; 2], AllocError> {
-    let all = CompiledExpr::ALL;
-    let cx = EvalContext::new(&all);
-    let asked = Asked::new(alloc, "x")?;
-    let query = asked.query();
-    let flat = FlatExpr::new(alloc, expr, &cx)?;
-    let own = expr.matches_binary(alloc, &query.binary_query, &cx)?;
-    Ok([own, flat.matches_binary(alloc, &query.binary_query)?])
-}
-
-#[test]
-fn symmetric_differences_are_known_where_both_sides_are(rt: HostRuntime) -> Result<(), Fail> {
-    let alloc = rt.alloc();
-    for (left, right, answer) in [
-        ("all", "none", Some(true)),
-        ("none", "none", Some(false)),
-        ("all", "all", Some(false)),
-        ("group", "all", None),
-        ("none", "group", None),
-        ("group", "group", None),
-        ("settled", "all", Some(true)),
-        ("none", "settled", Some(false)),
-        ("settled", "group", None),
-    ] {
-        let left_side = side(alloc, left)?;
-        let expr = CompiledExpr::SymmetricDifference(left_side, side(alloc, right)?);
-        assert!(rt; told(alloc, &expr)? == [answer, answer], "{left} ^ {right}");
-    }
-    Ok(())
-}
-
 #[test]
 fn evaluation_or_wants_memory(rt: HostRuntime) {
     let alloc = rt.alloc();
