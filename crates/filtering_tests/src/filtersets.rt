@@ -1,4 +1,5 @@
 //! What filtersets and compiled expressions say of tests.
+use crate::judging::filtersets_agree;
 use nextest_filtering::{
     BinaryQuery, BuildPlatform, CompiledExpr, EvalContext, Filterset, FiltersetKind, FiltersetLeaf,
     FiltersetParseErrors, KnownGroups, NameMatcher, PackageGraph, PackageId, ParseContext,
@@ -151,6 +152,14 @@ fn leaves(alloc: Global) -> Result<Vec<(FiltersetLeaf, bool)>, AllocError> {
 }
 
 #[test]
+fn default_is_told_apart(rt: HostRuntime) {
+    let (all, default) = (CompiledExpr::ALL, CompiledExpr::Set(FiltersetLeaf::Default));
+    assert!(rt; default.has_default_leaf() && !all.has_default_leaf());
+    assert!(rt; FiltersetLeaf::Default.is_runtime_only() && !FiltersetLeaf::All.is_runtime_only());
+    assert!(rt; *EvalContext::new(&all).default_filter() == all);
+}
+
+#[test]
 fn deps_is_looked_for_in_the_text(rt: HostRuntime) {
     for (text, answer) in [
         ("deps(a)", true),
@@ -221,17 +230,27 @@ fn leaves_or_wants_memory(rt: HostRuntime) {
     }
 }
 
+/// Whether a copy is equal to the filterset, or wants memory.
+fn is_copied(alloc: Global, filterset: &Filterset) -> bool {
+    match filterset.try_clone(alloc) {
+        Ok(copy) => filtersets_agree(&copy, filterset),
+        Err(AllocError) => true,
+    }
+}
+
+/// Whether there is a filterset with a copy that is equal to it, or memory is wanting.
+fn is_read_and_copied(alloc: Global, read: &Result<Filterset, ParseRefusal>) -> bool {
+    match read {
+        Ok(filterset) => is_copied(alloc, filterset),
+        Err(refusal) => matches!(refusal, ParseRefusal::OutOfMemory { .. }),
+    }
+}
+
 #[test]
 fn try_clone_or_wants_memory(rt: HostRuntime) {
     let alloc = rt.alloc();
-    let Ok(read) = read(alloc, "all() - test(=x)") else {
-        return;
-    };
-    assert!(rt; !has_faults(&read));
-    if let Ok(filterset) = &read {
-        if let Ok(copy) = filterset.try_clone(alloc) {
-            assert!(rt; copy == *filterset);
-        }
+    if let Ok(read) = read(alloc, "all() - test(=x)") {
+        assert!(rt; is_read_and_copied(alloc, &read));
     }
 }
 
