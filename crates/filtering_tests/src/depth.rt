@@ -1,5 +1,6 @@
 //! Deep filtersets are read, compiled, copied, compared, asked and dropped on the stack that a program is given.
 use crate::filtersets::{Asked, read};
+use crate::judging::filtersets_agree;
 use nextest_filtering::{CompiledExpr, EvalContext, Filterset};
 use std::alloc::{AllocError, Global};
 use std::process::Abort;
@@ -16,46 +17,50 @@ struct Deep<'a> {
     test: bool,
 }
 
+/// Puts a part at the end of a text, so many times.
+fn push_times(text: &mut String, part: &str, times: usize) -> Result<(), AllocError> {
+    for _ in 0..times {
+        text.push_str(part)?;
+    }
+    Ok(())
+}
+
 /// As many openings as closings with the middle between them.
 fn text_of(alloc: Global, deep: &Deep<'_>) -> Result<String, AllocError> {
     let mut text = String::new(alloc);
-    for _ in 0..deep.depth {
-        text.push_str(deep.opening)?;
-    }
+    push_times(&mut text, deep.opening, deep.depth)?;
     text.push_str(deep.middle)?;
-    for _ in 0..deep.depth {
-        text.push_str(deep.closing)?;
-    }
+    push_times(&mut text, deep.closing, deep.depth)?;
     Ok(text)
 }
 
-/// The filterset says what is wanted, and a copy is equal to it.
-fn answers(
-    rt: &(impl AllocGlobal + Abort),
-    filterset: &Filterset,
-    deep: &Deep<'_>,
-) -> Result<(), Fail> {
-    let alloc = rt.alloc();
+/// Whether the filterset says what is wanted.
+fn says(alloc: Global, filterset: &Filterset, deep: &Deep<'_>) -> Result<bool, AllocError> {
+    let compiled = &filterset.compiled;
+    if compiled.has_default_leaf() || compiled.has_group_matchers() {
+        return Ok(false);
+    }
     let all = CompiledExpr::ALL;
     let cx = EvalContext::new(&all);
     let asked = Asked::new(alloc, "a")?;
     let query = asked.query();
-    assert!(rt; !filterset.compiled.has_default_leaf());
-    assert!(rt; !filterset.compiled.has_group_matchers());
-    let binary = filterset.matches_binary(alloc, &query.binary_query, &cx)?;
-    assert_eq!(rt; binary, deep.binary);
-    assert_eq!(rt; filterset.matches_test(alloc, &query, &cx)?, deep.test);
-    let copy = filterset.try_clone(alloc)?;
-    assert!(rt; copy == *filterset);
-    Ok(())
+    let of_binary = filterset.matches_binary(alloc, &query.binary_query, &cx)?;
+    let of_test = filterset.matches_test(alloc, &query, &cx)?;
+    Ok(of_binary == deep.binary && of_test == deep.test)
 }
 
-fn stands(rt: &(impl AllocGlobal + Abort), deep: &Deep<'_>) -> Result<(), Fail> {
-    let alloc = rt.alloc();
+/// Whether a copy is equal to the filterset.
+fn is_copied(alloc: Global, filterset: &Filterset) -> Result<bool, AllocError> {
+    let copy = filterset.try_clone(alloc)?;
+    Ok(filtersets_agree(&copy, filterset))
+}
+
+/// Whether the text is read, the filterset says what is wanted, and a copy is equal to it.
+fn stands(alloc: Global, deep: &Deep<'_>) -> Result<bool, AllocError> {
     let text = text_of(alloc, deep)?;
-    match read(alloc, text.as_str())? {
-        Ok(filterset) => answers(rt, &filterset, deep),
-        Err(_) => panic!(rt; "refused"),
+    match &read(alloc, text.as_str())? {
+        Ok(filterset) => Ok(says(alloc, filterset, deep)? && is_copied(alloc, filterset)?),
+        Err(_) => Ok(false),
     }
 }
 
@@ -67,17 +72,15 @@ fn deep_levels_stand(rt: HostRuntime) -> Result<(), Fail> {
         ("all()", " - none()", Some(true), true),
         ("all()", " ^ test(a)", None, false),
     ] {
-        stands(
-            &rt,
-            &Deep {
-                depth: 19_999,
-                opening: "",
-                middle,
-                closing,
-                binary,
-                test,
-            },
-        )?;
+        let deep = Deep {
+            depth: 19_999,
+            opening: "",
+            middle,
+            closing,
+            binary,
+            test,
+        };
+        assert!(rt; stands(rt.alloc(), &deep)?, "{middle}{closing}");
     }
     Ok(())
 }
@@ -89,17 +92,15 @@ fn deep_operands_stand(rt: HostRuntime) -> Result<(), Fail> {
         (4_000, "(", "all()", ")", Some(true), true),
         (3_000, "all() and (", "test(b)", ")", None, false),
     ] {
-        stands(
-            &rt,
-            &Deep {
-                depth,
-                opening,
-                middle,
-                closing,
-                binary,
-                test,
-            },
-        )?;
+        let deep = Deep {
+            depth,
+            opening,
+            middle,
+            closing,
+            binary,
+            test,
+        };
+        assert!(rt; stands(rt.alloc(), &deep)?, "{opening}{middle}");
     }
     Ok(())
 }

@@ -66,31 +66,33 @@ fn group(alloc: Global, name: &str) -> Result<CompiledExpr, AllocError> {
     Ok(CompiledExpr::Set(FiltersetLeaf::Group(matcher, SourceSpan::new(0, 1))))
 }
 
-/// Whether an expression holds of the test `name`, by its own call and by its steps. Each answers by itself.
-fn answers(
+/// Whether an expression's own call and that of its steps both answer this of the test `name`.
+fn both_answer(
     alloc: Global,
     expr: &CompiledExpr,
     name: &str,
     groups: &dyn GroupLookup,
-) -> Result<[Result<bool, AllocError>; 2], AllocError> {
+    wanted: Result<bool, AllocError>,
+) -> Result<bool, AllocError> {
     let all = CompiledExpr::ALL;
     let cx = EvalContext::new(&all);
     let asked = Asked::new(alloc, name)?;
     let query = asked.query();
     let flat = FlatExpr::new(alloc, expr, &cx)?;
-    Ok([
-        expr.matches_test_with_groups(alloc, &query, &cx, groups),
-        flat.matches_test_with_groups(alloc, &query, groups),
-    ])
+    let own = expr.matches_test_with_groups(alloc, &query, &cx, groups);
+    let kept = flat.matches_test_with_groups(alloc, &query, groups);
+    Ok(own == wanted && kept == wanted)
 }
+
+/// The test `x` is in the group `serial`, and no other test is in a group.
+const KNOWN: OneMember = OneMember {
+    test: "x",
+    group: "serial",
+};
 
 #[test]
 fn lookups_tell_the_groups(rt: HostRuntime) -> Result<(), Fail> {
     let alloc = rt.alloc();
-    let known = OneMember {
-        test: "x",
-        group: "serial",
-    };
     for (name, of_group, answer) in [
         ("x", "serial", true),
         ("x", "db", false),
@@ -99,11 +101,15 @@ fn lookups_tell_the_groups(rt: HostRuntime) -> Result<(), Fail> {
     ] {
         let expr = group(alloc, of_group)?;
         assert!(rt;
-            answers(alloc, &expr, name, &known)? == [Ok(answer), Ok(answer)],
+            both_answer(alloc, &expr, name, &KNOWN, Ok(answer))?,
             "{name} in {of_group}"
         );
-        let all = answers(alloc, &CompiledExpr::ALL, name, &known)?;
-        assert!(rt; all == [Ok(true), Ok(true)], "{name}");
+    }
+    for name in ["x", "y"] {
+        assert!(rt;
+            both_answer(alloc, &CompiledExpr::ALL, name, &KNOWN, Ok(true))?,
+            "{name}"
+        );
     }
     Ok(())
 }
@@ -111,87 +117,51 @@ fn lookups_tell_the_groups(rt: HostRuntime) -> Result<(), Fail> {
 #[test]
 fn want_of_memory_of_a_lookup_is_the_answer(rt: HostRuntime) -> Result<(), Fail> {
     let alloc = rt.alloc();
-    let of_group = answers(alloc, &group(alloc, "a")?, "x", &Refusing)?;
-    assert!(rt; of_group == [Err(AllocError), Err(AllocError)]);
-    let of_all = answers(alloc, &CompiledExpr::ALL, "x", &Refusing)?;
-    assert!(rt; of_all == [Ok(true), Ok(true)]);
+    let of_group = group(alloc, "a")?;
+    assert!(rt; both_answer(alloc, &of_group, "x", &Refusing, Err(AllocError))?);
+    assert!(rt; both_answer(alloc, &CompiledExpr::ALL, "x", &Refusing, Ok(true))?);
     Ok(())
 }
 
-/// A side of a symmetric difference: all tests, none, those that are in a group, and those of them that are in none.
-fn side(alloc: Global, name: &str) -> Result<Box<CompiledExpr>, AllocError> {
-    let none = CompiledExpr::Set(FiltersetLeaf::None);
-    let expr = match name {
-        "all" => CompiledExpr::ALL,
-        "none" => none,
-        "group" => group(alloc, "serial")?,
-        _ => {
-            let member = Box::new(alloc, group(alloc, "serial")?)?;
-            CompiledExpr::Intersection(member, Box::new(alloc, none)?)
-        }
-    };
-    Ok(Box::new(alloc, expr)?)
+/// Whether each call of the expression answers that the test is in the group and the binary may have it, or wants
+/// memory.
+fn own_calls_tell(
+    alloc: Global,
+    expr: &CompiledExpr,
+    query: &TestQuery<'_>,
+    cx: &EvalContext<'_>,
+) -> bool {
+    let of_test = expr.matches_test_with_groups(alloc, query, cx, &KNOWN);
+    let of_binary = expr.matches_binary(alloc, &query.binary_query, cx);
+    !matches!(of_test, Ok(false)) && !matches!(of_binary, Ok(Some(_)))
 }
 
-/// What a binary tells of an expression, by its own call and by its steps.
-fn told(alloc: Global, expr: &CompiledExpr) -> Result<[Option<bool>; 2], AllocError> {
+/// The same of the steps.
+fn kept_calls_tell(alloc: Global, flat: &FlatExpr<'_>, query: &TestQuery<'_>) -> bool {
+    let of_test = flat.matches_test_with_groups(alloc, query, &KNOWN);
+    let of_binary = flat.matches_binary(alloc, &query.binary_query);
+    let is_whole = flat.has_group_matchers() && flat.steps().len() == 1;
+    is_whole && !matches!(of_test, Ok(false)) && !matches!(of_binary, Ok(Some(_)))
+}
+
+/// Whether all these calls tell it of the test `x` and the expression, or want memory.
+fn all_calls_tell(alloc: Global, expr: &CompiledExpr) -> Result<bool, AllocError> {
     let all = CompiledExpr::ALL;
     let cx = EvalContext::new(&all);
     let asked = Asked::new(alloc, "x")?;
     let query = asked.query();
-    let flat = FlatExpr::new(alloc, expr, &cx)?;
-    let own = expr.matches_binary(alloc, &query.binary_query, &cx)?;
-    Ok([own, flat.matches_binary(alloc, &query.binary_query)?])
-}
-
-#[test]
-fn symmetric_differences_are_known_where_both_sides_are(rt: HostRuntime) -> Result<(), Fail> {
-    let alloc = rt.alloc();
-    for (left, right, answer) in [
-        ("all", "none", Some(true)),
-        ("none", "none", Some(false)),
-        ("all", "all", Some(false)),
-        ("group", "all", None),
-        ("none", "group", None),
-        ("group", "group", None),
-        ("settled", "all", Some(true)),
-        ("none", "settled", Some(false)),
-        ("settled", "group", None),
-    ] {
-        let left_side = side(alloc, left)?;
-        let expr = CompiledExpr::SymmetricDifference(left_side, side(alloc, right)?);
-        assert!(rt; told(alloc, &expr)? == [answer, answer], "{left} ^ {right}");
+    if !own_calls_tell(alloc, expr, &query, &cx) {
+        return Ok(false);
     }
-    Ok(())
+    let flat = FlatExpr::new(alloc, expr, &cx)?;
+    Ok(kept_calls_tell(alloc, &flat, &query))
 }
 
 #[test]
 fn evaluation_or_wants_memory(rt: HostRuntime) {
     let alloc = rt.alloc();
-    let all = CompiledExpr::ALL;
-    let cx = EvalContext::new(&all);
-    let known = OneMember {
-        test: "x",
-        group: "serial",
-    };
-    let (Ok(asked), Ok(expr)) = (Asked::new(alloc, "x"), group(alloc, "serial")) else {
-        return;
-    };
-    let query = asked.query();
-    if let Ok(said) = expr.matches_test_with_groups(alloc, &query, &cx, &known) {
-        assert!(rt; said);
-    }
-    if let Ok(said) = expr.matches_binary(alloc, &query.binary_query, &cx) {
-        assert!(rt; said.is_none());
-    }
-    let Ok(flat) = FlatExpr::new(alloc, &expr, &cx) else {
-        return;
-    };
-    assert!(rt; flat.has_group_matchers() && flat.steps().len() == 1);
-    if let Ok(said) = flat.matches_test_with_groups(alloc, &query, &known) {
-        assert!(rt; said);
-    }
-    if let Ok(said) = flat.matches_binary(alloc, &query.binary_query) {
-        assert!(rt; said.is_none());
+    if let Ok(expr) = group(alloc, "serial") {
+        let told = all_calls_tell(alloc, &expr);
+        assert!(rt; !matches!(told, Ok(false)));
     }
 }

@@ -1,14 +1,13 @@
 //! What filtersets and compiled expressions say of tests.
+use crate::judging::filtersets_agree;
 use nextest_filtering::{
     BinaryQuery, BuildPlatform, CompiledExpr, EvalContext, Filterset, FiltersetKind, FiltersetLeaf,
-    FiltersetParseErrors, FlatExpr, KnownGroups, NameMatcher, PackageGraph, PackageId,
-    ParseContext, ParseRefusal, RustBinaryId, RustTestBinaryKind, SourceSpan, TestCaseName,
-    TestQuery,
+    FiltersetParseErrors, KnownGroups, NameMatcher, PackageGraph, PackageId, ParseContext,
+    ParseRefusal, RustBinaryId, RustTestBinaryKind, SourceSpan, TestCaseName, TestQuery,
 };
 use std::alloc::{AllocError, Global};
 use std::collections::{BTreeSet, HashSet};
 use std::process::Abort;
-use std::test::Fail;
 
 /// The test `name` of the binary `cli` of the package `p`, with the id `p::bin/cli`, built for the host.
 #[derive(Drop)]
@@ -82,26 +81,6 @@ pub fn read(alloc: Global, text: &str) -> Result<Result<Filterset, ParseRefusal>
     Ok(Filterset::parse(alloc, input, &cx, FiltersetKind::Test, &known))
 }
 
-/// Whether an expression holds of the test `name`, under this default filter. Its steps say the same.
-fn holds(
-    rt: &impl Abort,
-    alloc: Global,
-    expr: &CompiledExpr,
-    name: &str,
-    default_filter: &CompiledExpr,
-) -> Result<bool, Fail> {
-    assert!(rt; !expr.has_group_matchers());
-    assert!(rt; !default_filter.has_default_leaf());
-    assert!(rt; !default_filter.has_group_matchers());
-    let asked = Asked::new(alloc, name)?;
-    let cx = EvalContext::new(default_filter);
-    let said = expr.matches_test(alloc, &asked.query(), &cx)?;
-    let flat = FlatExpr::new(alloc, expr, &cx)?;
-    assert!(rt; !flat.has_group_matchers());
-    assert_eq!(rt; flat.matches_test(alloc, &asked.query())?, said);
-    Ok(said)
-}
-
 fn has_faults(read: &Result<Filterset, ParseRefusal>) -> bool {
     matches!(read, Err(ParseRefusal::Faults(_)))
 }
@@ -126,34 +105,6 @@ fn input_of(read: Result<Filterset, ParseRefusal>) -> String {
         }
         Err(ParseRefusal::OutOfMemory { input }) => input,
     }
-}
-
-/// A refused text comes back, with faults that a copy repeats.
-fn comes_back(rt: &(impl AllocGlobal + Abort), text: &str) -> Result<(), Fail> {
-    let alloc = rt.alloc();
-    let refused = read(alloc, text)?;
-    assert!(rt; has_faults(&refused));
-    if let Err(ParseRefusal::Faults(found)) = &refused {
-        assert!(rt; !found.errors.is_empty());
-        let copy = found.try_clone(alloc)?;
-        assert!(rt; copy.input.as_str() == text);
-        assert!(rt; copy.errors == found.errors);
-    }
-    let input = input_of(refused);
-    assert!(rt; input.as_str() == text);
-    Ok(())
-}
-
-#[test]
-fn refused_texts_come_back(rt: HostRuntime) -> Result<(), Fail> {
-    comes_back(&rt, "")?;
-    comes_back(&rt, "test()")?;
-    comes_back(&rt, "all() andall()")?;
-    comes_back(&rt, "notall()")?;
-    comes_back(&rt, "all()\rand none()")?;
-    comes_back(&rt, "all() && none()")?;
-    comes_back(&rt, "(all()")?;
-    Ok(())
 }
 
 /// A leaf of each kind, and whether it holds of the test `a::quick`.
@@ -201,150 +152,11 @@ fn leaves(alloc: Global) -> Result<Vec<(FiltersetLeaf, bool)>, AllocError> {
 }
 
 #[test]
-fn leaves_answer_by_their_texts(rt: HostRuntime) -> Result<(), Fail> {
-    let alloc = rt.alloc();
-    for (leaf, answer) in leaves(alloc)? {
-        let copy = leaf.try_clone(alloc)?;
-        assert!(rt; copy == leaf);
-        let shown = format!(in alloc; "{leaf:?}")?;
-        let expr = CompiledExpr::Set(leaf);
-        assert_eq!(rt;
-            holds(&rt, alloc, &expr, "a::quick", &CompiledExpr::ALL)?,
-            answer,
-            "{shown}"
-        );
-        let denied = CompiledExpr::Not(Box::new(alloc, expr)?);
-        assert_eq!(rt;
-            holds(&rt, alloc, &denied, "a::quick", &CompiledExpr::ALL)?,
-            !answer,
-            "not {shown}"
-        );
-        assert_eq!(rt;
-            holds(
-                &rt,
-                alloc,
-                &CompiledExpr::Set(copy),
-                "a::quick",
-                &CompiledExpr::ALL
-            )?,
-            answer,
-            "{shown}"
-        );
-    }
-    Ok(())
-}
-
-/// The set of all tests, or of none.
-fn constant(value: bool) -> CompiledExpr {
-    CompiledExpr::Set(if value {
-        FiltersetLeaf::All
-    } else {
-        FiltersetLeaf::None
-    })
-}
-
-fn either(alloc: Global, a: bool, b: bool) -> Result<CompiledExpr, Fail> {
-    let left = Box::new(alloc, constant(a))?;
-    Ok(CompiledExpr::Union(left, Box::new(alloc, constant(b))?))
-}
-
-fn both(alloc: Global, a: bool, b: bool) -> Result<CompiledExpr, Fail> {
-    let left = Box::new(alloc, constant(a))?;
-    Ok(CompiledExpr::Intersection(left, Box::new(alloc, constant(b))?))
-}
-
-fn exactly_one(alloc: Global, a: bool, b: bool) -> Result<CompiledExpr, Fail> {
-    let left = Box::new(alloc, constant(a))?;
-    Ok(CompiledExpr::SymmetricDifference(left, Box::new(alloc, constant(b))?))
-}
-
-#[test]
-fn connectives_answer_by_their_tables(rt: HostRuntime) -> Result<(), Fail> {
-    let alloc = rt.alloc();
-    let all = CompiledExpr::ALL;
-    for (a, b) in [(false, false), (false, true), (true, false), (true, true)] {
-        let said = holds(&rt, alloc, &either(alloc, a, b)?, "x", &all)?;
-        assert!(rt; said == (a || b), "{a} or {b}");
-        let said = holds(&rt, alloc, &both(alloc, a, b)?, "x", &all)?;
-        assert!(rt; said == (a && b), "{a} and {b}");
-        let said = holds(&rt, alloc, &exactly_one(alloc, a, b)?, "x", &all)?;
-        assert!(rt; said == (a != b), "{a} or {b}, and not both");
-        let expr = both(alloc, a, b)?;
-        let copy = expr.try_clone(alloc)?;
-        assert!(rt; copy == expr, "{a} and {b}");
-    }
-    Ok(())
-}
-
-#[test]
-fn default_is_the_default_filter(rt: HostRuntime) -> Result<(), Fail> {
-    let alloc = rt.alloc();
-    let filters = [
-        (CompiledExpr::ALL, true),
-        (CompiledExpr::Set(FiltersetLeaf::None), false),
-        (
-            CompiledExpr::Set(FiltersetLeaf::Test(contains(alloc, "quick")?, span())),
-            true,
-        ),
-        (
-            CompiledExpr::Not(Box::new(
-                alloc,
-                CompiledExpr::Set(FiltersetLeaf::Test(contains(alloc, "quick")?, span())),
-            )?),
-            false,
-        ),
-    ];
-    for (filter, answer) in &filters {
-        let default = CompiledExpr::Set(FiltersetLeaf::Default);
-        assert_eq!(rt;
-            holds(&rt, alloc, &default, "quick", filter)?,
-            *answer,
-            "{filter:?}"
-        );
-        assert_eq!(rt;
-            holds(&rt, alloc, filter, "quick", &CompiledExpr::ALL)?,
-            *answer,
-            "{filter:?}"
-        );
-        let and_none = CompiledExpr::Intersection(
-            Box::new(alloc, default)?,
-            Box::new(alloc, constant(false))?,
-        );
-        assert!(rt; and_none.has_default_leaf());
-        assert_eq!(rt;
-            holds(&rt, alloc, &and_none, "quick", filter)?,
-            false,
-            "{filter:?}"
-        );
-    }
-    Ok(())
-}
-
-#[test]
-fn leaves_are_told_apart(rt: HostRuntime) -> Result<(), Fail> {
-    let alloc = rt.alloc();
-    let group = FiltersetLeaf::Group(equal(alloc, "serial")?, span());
-    let test = FiltersetLeaf::Test(equal(alloc, "a")?, span());
-    let kind = FiltersetLeaf::Kind(equal(alloc, "lib")?, span());
-    for (leaf, runtime_only, is_default, is_group) in [
-        (group, true, false, true),
-        (test, true, false, false),
-        (FiltersetLeaf::Default, true, true, false),
-        (kind, false, false, false),
-        (FiltersetLeaf::All, false, false, false),
-        (FiltersetLeaf::None, false, false, false),
-    ] {
-        assert_eq!(rt; leaf.is_runtime_only(), runtime_only, "{leaf:?}");
-        let expr = CompiledExpr::Union(
-            Box::new(alloc, CompiledExpr::ALL)?,
-            Box::new(alloc, CompiledExpr::Set(leaf))?,
-        );
-        assert_eq!(rt; expr.has_default_leaf(), is_default, "{expr:?}");
-        assert_eq!(rt; expr.has_group_matchers(), is_group, "{expr:?}");
-    }
-    let all = CompiledExpr::ALL;
+fn default_is_told_apart(rt: HostRuntime) {
+    let (all, default) = (CompiledExpr::ALL, CompiledExpr::Set(FiltersetLeaf::Default));
+    assert!(rt; default.has_default_leaf() && !all.has_default_leaf());
+    assert!(rt; FiltersetLeaf::Default.is_runtime_only() && !FiltersetLeaf::All.is_runtime_only());
     assert!(rt; *EvalContext::new(&all).default_filter() == all);
-    Ok(())
 }
 
 #[test]
@@ -418,17 +230,27 @@ fn leaves_or_wants_memory(rt: HostRuntime) {
     }
 }
 
+/// Whether a copy is equal to the filterset, or wants memory.
+fn is_copied(alloc: Global, filterset: &Filterset) -> bool {
+    match filterset.try_clone(alloc) {
+        Ok(copy) => filtersets_agree(&copy, filterset),
+        Err(AllocError) => true,
+    }
+}
+
+/// Whether there is a filterset with a copy that is equal to it, or memory is wanting.
+fn is_read_and_copied(alloc: Global, read: &Result<Filterset, ParseRefusal>) -> bool {
+    match read {
+        Ok(filterset) => is_copied(alloc, filterset),
+        Err(refusal) => matches!(refusal, ParseRefusal::OutOfMemory { .. }),
+    }
+}
+
 #[test]
 fn try_clone_or_wants_memory(rt: HostRuntime) {
     let alloc = rt.alloc();
-    let Ok(read) = read(alloc, "all() - test(=x)") else {
-        return;
-    };
-    assert!(rt; !has_faults(&read));
-    if let Ok(filterset) = &read {
-        if let Ok(copy) = filterset.try_clone(alloc) {
-            assert!(rt; copy == *filterset);
-        }
+    if let Ok(read) = read(alloc, "all() - test(=x)") {
+        assert!(rt; is_read_and_copied(alloc, &read));
     }
 }
 

@@ -1,11 +1,11 @@
 //! Tests of `filterset_graph`.
 use filterset_graph::{
-    BuildPlatform, BuildTarget, BuildTargetId, DependsRefusal, GLOBAL_TEST_GROUP, GraphRefusal,
-    PackageGraph, RustBinaryId, RustTestBinaryKind, TestCaseName,
+    BuildTarget, BuildTargetId, DependsRefusal, GraphRefusal, PackageGraph, RustBinaryId,
+    RustTestBinaryKind,
 };
 use std::alloc::{AllocError, Global};
 use std::process::Abort;
-use test_parts::{FOUR, Failure, graph, id, package};
+use test_parts::{FOUR, Failure, graph, id};
 
 #[test]
 fn keeps_the_list_of_packages(rt: HostRuntime) -> Result<(), Failure> {
@@ -70,24 +70,6 @@ fn gives_targets_their_kinds(rt: HostRuntime) -> Result<(), Failure> {
         let kind = target.id.binary_kind();
         assert!(rt; kind.as_ref().map(|kind| kind.as_str()) == want);
     }
-    Ok(())
-}
-
-#[test]
-fn values_are_their_texts(rt: HostRuntime) -> Result<(), Failure> {
-    let alloc = rt.alloc();
-    let lib = RustTestBinaryKind::new(String::from_str(alloc, "lib")?);
-    assert!(rt; lib == RustTestBinaryKind::LIB && lib != RustTestBinaryKind::BIN);
-    assert!(rt; lib.as_str() == "lib" && RustTestBinaryKind::PROC_MACRO.as_str() == "proc-macro");
-    let name = TestCaseName::new(alloc, "slow_sum")?;
-    assert!(rt; name == TestCaseName::new(alloc, "slow_sum")? && name.as_str() == "slow_sum");
-    assert!(rt; name != TestCaseName::new(alloc, "quick")?);
-    let (a, b) = (id(alloc, "a")?, id(alloc, "b")?);
-    assert!(rt; a < b && a == a.try_clone(alloc)? && a != b && a.repr() == "a");
-    let host = format!(in alloc; "{}", BuildPlatform::Host)?;
-    let target = format!(in alloc; "{}", BuildPlatform::Target)?;
-    assert!(rt; host.as_str() == "host" && target.as_str() == "target");
-    assert!(rt; GLOBAL_TEST_GROUP == "@global");
     Ok(())
 }
 
