@@ -61,7 +61,29 @@ fn push_answers(
     Ok(())
 }
 
-/// Adds what is said of an accepted filterset. It is made ready once for all questions.
+/// Adds what an accepted filterset says of the binaries. It is made ready once for all questions, and not at all where
+/// there are no binaries.
+fn push_asked(
+    lines: &mut String,
+    alloc: Global,
+    setting: &Setting<'_, '_>,
+    filterset: &Filterset,
+) -> Result<(), AllocError>
+    requires { let background = background_of setting.now in
+        IsCompiled background.packages (tree_of filterset.now.parsed) filterset.now.compiled }
+    ensures { let tree = tree_of filterset.now.parsed in
+        OnOk result ((text : Text) × AnswerLines (background_of setting.now) tree text
+        × (string_bytes lines.new ≡ string_bytes lines.old ++ text)) }
+{
+    let binaries = setting.lookup.binaries;
+    if binaries.is_empty() {
+        return Ok(());
+    }
+    let flat = FlatExpr::new(alloc, &filterset.compiled, &setting.eval_context)?;
+    push_answers(lines, alloc, &flat, &setting.lookup)
+}
+
+/// Adds what is said of an accepted filterset.
 fn push_accepted(
     lines: &mut String,
     alloc: Global,
@@ -77,8 +99,7 @@ fn push_accepted(
 {
     let printed = &filterset.parsed;
     writeln!(lines, "filterset {index} accepted: {printed}")?;
-    let flat = FlatExpr::new(alloc, &filterset.compiled, &setting.eval_context)?;
-    push_answers(lines, alloc, &flat, &setting.lookup)
+    push_asked(lines, alloc, setting, filterset)
 }
 
 /// Adds an accepted filterset as it prints. What it prints is a filterset of the same kind, by the same tree.

@@ -1,0 +1,22 @@
+use Rattle.std.proofs.Common.{rules, ◌≡◌, ◌∙◌, List, [], refl, sym, ap, subst}
+use Rattle.std.proofs.lemmas.Result.{on_ok_weaker}
+use Rattle.std.proofs.lemmas.List.{append-nil, nil_from_length}
+use Rattle.filterset_language.specs.Views.{tree_of}
+use Rattle.filterset_record.specs.Record.{BinaryRow}
+use Rattle.filterset_record.specs.Rows.{binary_row}
+use Rattle.filterset_report.specs.Library.{background_of}
+use Rattle.filterset_report.specs.Report.{BinaryLines, Pieces, no_pieces}
+use Rattle.filterset_report.proofs.report.sections.push_asked.Goals as goal
+
+pub returns-then-is_empty : goal.returns-then-is_empty
+returns-then-is_empty c = ?
+
+pub returns : goal.returns
+returns c =
+    let filterset = c.args.filterset.now in
+    let tree = tree_of filterset.parsed in
+    on_ok_weaker c.push_answers.result (λ (text, more, told). (
+      text,
+      told (background_of c.args.setting.now) tree (filterset.compiled, c.requires, c.in_ok-flat.ensures.flat) refl,
+      more,
+    )) c.push_answers.ensures
