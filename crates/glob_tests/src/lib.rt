@@ -8,7 +8,6 @@
 mod bounds;
 #[cfg(test)]
 mod depth;
-mod judging;
 #[cfg(test)]
 mod memory;
 #[cfg(test)]

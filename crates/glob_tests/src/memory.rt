@@ -1,8 +1,8 @@
 //! Refused memory: each call answers the row or says that it is out of memory.
-use crate::judging::is_answer;
 use filterset_glob::{GenericGlob, GlobConstructError, GlobRefusal};
 use std::alloc::{AllocError, Global};
 use std::process::Abort;
+use suite_verdicts::is_answer;
 
 /// Whether a copy of the glob gives the wanted answer for a text of so many copies of the piece. The copy and the glob
 /// are equal afterwards, whatever the answer was.

@@ -1,6 +1,5 @@
 //! Lists of a tree's predicates, and the reference text, which names each predicate.
-use crate::support::{compare, tree_of};
-use filterset_language::{Predicate, TextMatching};
+use crate::support::{is_tree_of, tree_of};
 use nextest_filtering::{FILTERSET_REFERENCE_MD, ParsedExpr, ParsedLeaf};
 use std::alloc::{AllocError, Global};
 use std::fmt::Write;
@@ -31,61 +30,36 @@ fn is_of_packages(leaf: &ParsedLeaf) -> bool {
 fn lists_what_a_test_of_leaves_keeps(rt: HostRuntime) -> Result<(), Fail> {
     let alloc = rt.alloc();
     let text = "rdeps(a) - (test(b) or !package(c)) & deps(d) | package(c) + all()";
-    let parsed = ParsedExpr::parse_with_faults(alloc, text)?;
-    let tree = parsed.tree.ok_or("no tree")?;
-    let of_packages = tree.leaves_where(alloc, is_of_packages)?;
-    let found = written(alloc, &of_packages)?;
-    compare(&rt, text, &found, "rdeps(a) package(c) deps(d) package(c)");
-    let every = tree.leaves_where(alloc, |_| true)?;
-    let found = written(alloc, &every)?;
-    let wanted = "rdeps(a) test(b) package(c) deps(d) package(c) all()";
-    compare(&rt, text, &found, wanted);
-    assert!(rt; tree.leaves_where(alloc, |_| false)?.is_empty());
+    let tree = tree_of(&rt, text).ok_or("out of memory")?;
+    let of_packages = written(alloc, &tree.leaves_where(alloc, is_of_packages)?)?;
+    assert!(rt;
+        of_packages.as_str() == "rdeps(a) package(c) deps(d) package(c)",
+        "{of_packages}"
+    );
     Ok(())
 }
 
-#[test]
-fn predicates_match_by_a_text_of_their_own(rt: HostRuntime) {
-    assert!(rt; Predicate::Kind.own_matching() == TextMatching::Equal);
-    assert!(rt; Predicate::Test.own_matching() == TextMatching::Contains);
-    for predicate in [
-        Predicate::Package,
-        Predicate::Deps,
-        Predicate::Rdeps,
-        Predicate::Binary,
-        Predicate::BinaryId,
-        Predicate::Group,
-    ] {
-        assert!(rt; predicate.own_matching() == TextMatching::Glob);
-    }
+/// What the predicates of a tree print that only a test decides.
+fn runtime_only(alloc: Global, tree: &ParsedExpr) -> Result<String, AllocError> {
+    written(alloc, &tree.runtime_only_leaves(alloc)?)
 }
+
+/// A text, two of whose predicates only a test decides.
+const TEXT: &str = "default() and group(x) and package(nope)";
 
 /// Whether the calls answered that read a tree and list the predicates of it that only a test decides. The tree is then
 /// what it was.
 fn lists_runtime_only_leaves(rt: &(impl AllocGlobal + Abort)) -> bool {
-    let text = "default() and group(x) and package(nope)";
-    let (Some(tree), Some(again)) = (tree_of(rt, text), tree_of(rt, text)) else {
+    let Some(tree) = tree_of(rt, TEXT) else {
         return false;
     };
-    let whole = match tree.runtime_only_leaves(rt.alloc()) {
-        Ok(leaves) => {
-            assert!(rt; leaves.len() == 2);
-            assert!(rt;
-                leaves
-                    .first()
-                    .is_some_and(|leaf| matches!(leaf, ParsedLeaf::Default(_)))
-            );
-            assert!(rt;
-                leaves
-                    .last()
-                    .is_some_and(|leaf| matches!(leaf, ParsedLeaf::Group(..)))
-            );
-            true
+    match runtime_only(rt.alloc(), &tree) {
+        Ok(found) => {
+            assert!(rt; found.as_str() == "default() group(x)", "{found}");
+            is_tree_of(rt, &tree, TEXT)
         }
         Err(AllocError) => false,
-    };
-    assert!(rt; tree == again);
-    whole
+    }
 }
 
 #[test]
@@ -98,59 +72,25 @@ fn runtime_only_leaves_are_listed(rt: HostRuntime) {
     assert!(rt; lists_runtime_only_leaves(&rt));
 }
 
-/// What the reference text holds of a predicate.
-fn reference_of(leaf: &ParsedLeaf) -> &'static str {
-    match leaf {
-        ParsedLeaf::Package(..) => "`package(",
-        ParsedLeaf::Deps(..) => "`deps(",
-        ParsedLeaf::Rdeps(..) => "`rdeps(",
-        ParsedLeaf::Kind(..) => "`kind(",
-        ParsedLeaf::Binary(..) => "`binary(",
-        ParsedLeaf::BinaryId(..) => "`binary_id(",
-        ParsedLeaf::Platform(..) => "`platform(",
-        ParsedLeaf::Test(..) => "`test(",
-        ParsedLeaf::Group(..) => "`group(",
-        ParsedLeaf::Default(_) => "`default(",
-        ParsedLeaf::All => "`all(",
-        ParsedLeaf::None => "`none(",
-    }
-}
-
-/// What the reference text is to hold of the one predicate of a text.
-fn wanted_of(alloc: Global, text: &str) -> Result<&'static str, AllocError> {
-    let parsed = ParsedExpr::parse_with_faults(alloc, text)?;
-    Ok(match &parsed.tree {
-        Some(ParsedExpr::Set(leaf)) => reference_of(leaf),
-        _ => "no predicate",
-    })
-}
-
-/// The reference text names the predicate of each text.
-fn names(rt: &(impl AllocGlobal + Abort), texts: &[&str]) -> Result<(), Fail> {
-    for text in texts {
-        let wanted = wanted_of(rt.alloc(), text)?;
-        assert!(rt; FILTERSET_REFERENCE_MD.contains(wanted), "{text}");
-    }
-    Ok(())
-}
+/// What the reference text names.
+const REFERENCE: [&str; 12] = [
+    "`all(",
+    "`none(",
+    "`test(",
+    "`group(",
+    "`package(",
+    "`deps(",
+    "`rdeps(",
+    "`binary_id(",
+    "`kind(",
+    "`binary(",
+    "`platform(",
+    "`default(",
+];
 
 #[test]
-fn reference_names_each_predicate(rt: HostRuntime) -> Result<(), Fail> {
-    names(
-        &rt,
-        &[
-            "all()",
-            "none()",
-            "test(a)",
-            "group(a)",
-            "package(a)",
-            "deps(a)",
-            "rdeps(a)",
-            "binary_id(a)",
-            "kind(a)",
-            "binary(a)",
-            "platform(host)",
-            "default()",
-        ],
-    )
+fn reference_names_each_predicate(rt: HostRuntime) {
+    for name in REFERENCE {
+        assert!(rt; FILTERSET_REFERENCE_MD.contains(name), "{name}");
+    }
 }

@@ -1,13 +1,49 @@
 //! Parentheses that are added to trees: where operands ask for them, and nowhere else.
-use crate::support::made::made;
-use crate::support::{compare, described, outline, tree_of};
+use crate::support::{becomes, is_tree_of, prints, tree_of};
 use nextest_filtering::ParsedExpr;
 use std::alloc::{AllocError, Global};
 use std::process::Abort;
 use std::test::Fail;
 
-/// A text that has parentheses exactly where its tree needs them, at each place where an operand may stand.
-const NEEDED: &str =
+/// Texts that have parentheses exactly where their trees need them, and what these trees print without any.
+const NEEDED: [(&str, &str); 18] = [
+    ("not (all() and none())", "not all() and none()"),
+    ("not (all() | none())", "not all() | none()"),
+    ("! (all() ^ none())", "! all() ^ none()"),
+    ("all() - (all() - none())", "all() - all() - none()"),
+    ("all() - (all() ^ none())", "all() - all() ^ none()"),
+    ("all() ^ (all() and none())", "all() ^ all() and none()"),
+    ("all() and (none() + all())", "all() and none() + all()"),
+    (
+        "(all() or none()) and ! all()",
+        "all() or none() and ! all()",
+    ),
+    ("(all() + none()) - all()", "all() + none() - all()"),
+    (
+        "(all() | none()) ^ (all() ^ none())",
+        "all() | none() ^ all() ^ none()",
+    ),
+    ("all() | (none() + all())", "all() | none() + all()"),
+    (
+        "not (not (all() or none()) & all() - ! platform(host))",
+        "not not all() or none() & all() - ! platform(host)",
+    ),
+    ("all() + none() | all()", "all() + none() | all()"),
+    ("all() - none() & all()", "all() - none() & all()"),
+    (
+        "all() & none() ^ all() - none()",
+        "all() & none() ^ all() - none()",
+    ),
+    ("all() | none() ^ all()", "all() | none() ^ all()"),
+    (
+        "all() and none() or all() - none()",
+        "all() and none() or all() - none()",
+    ),
+    ("not ! all() and not none()", "not ! all() and not none()"),
+];
+
+/// A text with each predicate that needs its parentheses at each place where an operand may stand.
+const WHOLE: &str =
     "not (test(a) or binary(#b*)) - (deps(=c) - default()) & !(kind(d) and all()) | (platform(host) + none() | (group(/e/) or rdeps(f)) and package(g) | (all() + none()) ^ (all() ^ none()))";
 
 /// A copy of the tree without its parentheses.
@@ -38,108 +74,51 @@ fn bare(alloc: Global, tree: &ParsedExpr) -> Result<ParsedExpr, AllocError> {
     })
 }
 
-/// The tree of a line with parentheses added prints so, comes back from that without a fault, and needs no more.
-fn prints_one(rt: &(impl AllocGlobal + Abort), line: &str, wanted: &str) -> Result<(), Fail> {
+/// The tree of a text without its parentheses prints so, and gets them back. With them, it needs no more.
+fn come_back(rt: &(impl AllocGlobal + Abort), text: &str, wanted_bare: &str) -> Result<(), Fail> {
     let alloc = rt.alloc();
-    let added = made(alloc, line)?.with_parens(alloc)?;
-    let print = format!(in alloc; "{added}")?;
-    compare(rt, line, &print, wanted);
-    let again = ParsedExpr::parse_with_faults(alloc, print.as_str())?;
-    compare(rt, line, &described(alloc, again.faults.as_slice())?, "");
-    assert!(rt; added.with_parens(alloc)? == added, "{line}");
-    let wanted_outline = outline(alloc, &Some(added))?;
-    compare(
-        rt,
-        line,
-        &outline(alloc, &again.tree)?,
-        wanted_outline.as_str(),
+    let tree = tree_of(rt, text).ok_or("out of memory")?;
+    let without = bare(alloc, &tree)?;
+    assert!(rt;
+        prints(alloc, &tree, text)? && prints(alloc, &without, wanted_bare)?,
+        "{text}"
+    );
+    assert!(rt;
+        becomes(alloc, &without, &tree)? && becomes(alloc, &tree, &tree)?,
+        "{text}"
     );
     Ok(())
 }
 
-/// Trees, and what they print with parentheses added.
-fn print_so(rt: &(impl AllocGlobal + Abort), rows: &[(&str, &str)]) -> Result<(), Fail> {
-    for (line, wanted) in rows {
-        prints_one(rt, line, wanted)?;
+#[test]
+fn needed_parentheses_come_back(rt: HostRuntime) -> Result<(), Fail> {
+    for (text, wanted_bare) in NEEDED {
+        come_back(&rt, text, wanted_bare)?;
     }
     Ok(())
 }
 
-#[test]
-fn operands_of_another_level_get_parentheses(rt: HostRuntime) -> Result<(), Fail> {
-    print_so(
-        &rt,
-        &[
-            ("all none | not", "not (all() | none())"),
-            ("all none and !", "! (all() and none())"),
-            ("all all none - -", "all() - (all() - none())"),
-            ("all none all + and", "all() and (none() + all())"),
-            ("all none or all ! and", "(all() or none()) and ! all()"),
-            ("all none + all -", "(all() + none()) - all()"),
-            ("all none all + |", "all() | (none() + all())"),
-            ("all all none and ^", "all() ^ (all() and none())"),
-            (
-                "all none | all none ^ ^",
-                "(all() | none()) ^ (all() ^ none())",
-            ),
-            ("all none ^ !", "! (all() ^ none())"),
-            ("all all none ^ -", "all() - (all() ^ none())"),
-            (
-                "all none or not all & host ! - not",
-                "not (not (all() or none()) & all() - ! platform(host))",
-            ),
-        ],
-    )
-}
-
-#[test]
-fn operands_of_their_level_stay(rt: HostRuntime) -> Result<(), Fail> {
-    print_so(
-        &rt,
-        &[
-            ("all none + all |", "all() + none() | all()"),
-            ("all none - all &", "all() - none() & all()"),
-            ("all none & all ^ none -", "all() & none() ^ all() - none()"),
-            ("all none all ^ |", "all() | none() ^ all()"),
-            (
-                "all none and all none - or",
-                "all() and none() or all() - none()",
-            ),
-            ("all ! not none not and", "not ! all() and not none()"),
-            ("all none or () not", "not (all() or none())"),
-            ("all none or () ()", "((all() or none()))"),
-            ("all", "all()"),
-        ],
-    )
-}
-
-/// The tree of the text, and it without its parentheses, or none if it is out of memory.
-fn needed(rt: &(impl AllocGlobal + Abort)) -> Option<(ParsedExpr, ParsedExpr)> {
-    let tree = tree_of(rt, NEEDED)?;
-    match bare(rt.alloc(), &tree) {
-        Ok(without) => {
-            assert!(rt; without != tree);
-            Some((tree, without))
+/// Whether the call answered that adds parentheses to a tree: with this one.
+fn adds(rt: &(impl AllocGlobal + Abort), expr: &ParsedExpr, wanted: &ParsedExpr) -> bool {
+    match becomes(rt.alloc(), expr, wanted) {
+        Ok(answer) => {
+            assert!(rt; answer);
+            true
         }
-        Err(AllocError) => None,
+        Err(AllocError) => false,
     }
 }
 
 /// Whether all calls answered: the tree's own parentheses come back, with all spans, and it needs no more of them. What
 /// they are added to is then what it was.
 fn adds_what_is_needed(rt: &(impl AllocGlobal + Abort)) -> bool {
-    let (Some((tree, without)), Some((_, again))) = (needed(rt), needed(rt)) else {
+    let Some(tree) = tree_of(rt, WHOLE) else {
         return false;
     };
-    let mut whole = true;
-    for expr in [&without, &tree] {
-        match expr.with_parens(rt.alloc()) {
-            Ok(added) => assert!(rt; added == tree),
-            Err(AllocError) => whole = false,
-        }
-    }
-    assert!(rt; without == again);
-    whole
+    let Ok(without) = bare(rt.alloc(), &tree) else {
+        return false;
+    };
+    adds(rt, &without, &tree) && adds(rt, &tree, &tree) && is_tree_of(rt, &tree, WHOLE)
 }
 
 #[test]
@@ -148,6 +127,6 @@ fn added_parentheses_or_wants_memory(rt: HostRuntime) {
 }
 
 #[test]
-fn needed_parentheses_come_back(rt: HostRuntime) {
+fn parentheses_are_added(rt: HostRuntime) {
     assert!(rt; adds_what_is_needed(&rt));
 }

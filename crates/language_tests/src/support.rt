@@ -1,35 +1,7 @@
-//! What the tests share: faults and trees written out, and held against the wanted texts.
-use crate::judging::agrees;
+//! What the tests share: the tree of a text, and what is asked of a tree.
 use nextest_filtering::ParsedExpr;
-use nextest_filtering::errors::ParseSingleError;
 use std::alloc::{AllocError, Global};
-use std::fmt::Write;
 use std::process::Abort;
-
-pub mod made;
-mod shapes;
-
-pub use shapes::{outline, structure};
-
-/// What was found of a text is what is wanted.
-pub fn compare(rt: &impl Abort, text: &str, found: &String, wanted: &str) {
-    assert!(rt; agrees(found.as_str(), wanted), "{text}: {found}");
-}
-
-/// The faults, each by its code and its span.
-pub fn described(alloc: Global, faults: &[ParseSingleError]) -> Result<String, AllocError> {
-    let mut text = String::new(alloc);
-    for fault in faults {
-        if !text.is_empty() {
-            text.push_str(", ")?;
-        }
-        text.push_str(fault.code())?;
-        if let Some(span) = fault.span() {
-            write!(text, " ({}, {})", span.offset(), span.len())?;
-        }
-    }
-    Ok(text)
-}
 
 /// The tree of a text without faults, or none if it is out of memory.
 pub fn tree_of(rt: &(impl AllocGlobal + Abort), text: &str) -> Option<ParsedExpr> {
@@ -40,4 +12,31 @@ pub fn tree_of(rt: &(impl AllocGlobal + Abort), text: &str) -> Option<ParsedExpr
         }
         Err(AllocError) => None,
     }
+}
+
+/// Whether the text was read again, and this is its tree.
+pub fn is_tree_of(rt: &(impl AllocGlobal + Abort), tree: &ParsedExpr, text: &str) -> bool {
+    match tree_of(rt, text) {
+        Some(again) => {
+            assert!(rt; again == *tree, "{text}");
+            true
+        }
+        None => false,
+    }
+}
+
+/// Whether the tree prints so.
+pub fn prints(alloc: Global, tree: &ParsedExpr, wanted: &str) -> Result<bool, AllocError> {
+    let print = format!(in alloc; "{tree}")?;
+    Ok(print.as_str() == wanted)
+}
+
+/// Whether a copy of the tree is equal to it.
+pub fn is_copied(alloc: Global, tree: &ParsedExpr) -> Result<bool, AllocError> {
+    Ok(tree.try_clone(alloc)? == *tree)
+}
+
+/// Whether the tree, with parentheses added, is the wanted one.
+pub fn becomes(alloc: Global, tree: &ParsedExpr, wanted: &ParsedExpr) -> Result<bool, AllocError> {
+    Ok(tree.with_parens(alloc)? == *wanted)
 }

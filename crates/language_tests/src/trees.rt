@@ -1,4 +1,5 @@
 //! Refused memory where texts are read: each call gives its tree or its faults, or says that it is out of memory.
+use crate::support::{is_copied, tree_of};
 use nextest_filtering::{ParseSingleError, ParseStop, ParsedExpr, SourceSpan};
 use std::alloc::AllocError;
 use std::process::Abort;
@@ -9,46 +10,75 @@ const WHOLE: &str =
 
 #[test]
 fn tree_or_wants_memory(rt: HostRuntime) {
-    let alloc = rt.alloc();
-    if let Ok(parsed) = ParsedExpr::parse_with_faults(alloc, WHOLE) {
-        assert!(rt; parsed.faults.is_empty());
-        assert!(rt; matches!(parsed.tree, Some(ParsedExpr::Union(_, _, _))));
-        if let Some(tree) = &parsed.tree {
-            if let Ok(copy) = tree.try_clone(alloc) {
-                assert!(rt; copy == *tree);
-            }
-        }
+    let Some(tree) = tree_of(&rt, WHOLE) else {
+        return;
+    };
+    if let Ok(answer) = is_copied(rt.alloc(), &tree) {
+        assert!(rt; answer);
     }
 }
 
 #[test]
-fn fault_list_or_wants_memory(rt: HostRuntime) {
-    let alloc = rt.alloc();
-    let text = r"package({a) or test(\q) || deps(/(/) + platform(x, y) and kind(/a";
-    if let Ok(parsed) = ParsedExpr::parse_with_faults(alloc, text) {
-        assert!(rt; parsed.tree.is_none());
-        assert!(rt; parsed.faults.len() == 8);
+fn lenient_tree_or_wants_memory(rt: HostRuntime) {
+    match ParsedExpr::parse(
+        rt.alloc(),
+        "not test(=a) and (test(b) - !test(~c)) & none()",
+    ) {
+        Ok(_) | Err(ParseStop::OutOfMemory(AllocError)) => {}
+        Err(ParseStop::Faults(_)) => panic!(rt; "it has a tree"),
     }
 }
 
-/// Whether both calls that read a text answered: that it has these two faults and no tree.
-fn has_no_tree(rt: &(impl AllocGlobal + Abort)) -> bool {
-    let text = "all) + package(/not) - deps(expr none)";
-    let wanted = [
+/// Texts without a tree, and how many faults each has.
+const FAULTY: [(&str, usize); 2] = [
+    (
+        r"package({a) or test(\q) || deps(/(/) + platform(x, y) and kind(/a",
+        8,
+    ),
+    (r"test(a\x) && test", 5),
+];
+
+#[test]
+fn fault_list_or_wants_memory(rt: HostRuntime) {
+    for (text, count) in FAULTY {
+        if let Ok(parsed) = ParsedExpr::parse_with_faults(rt.alloc(), text) {
+            assert!(rt;
+                parsed.tree.is_none() && parsed.faults.len() == count,
+                "{text}"
+            );
+        }
+    }
+}
+
+/// A text without a tree, and its faults.
+const UNREAD: &str = "all) + package(/not) - deps(expr none)";
+
+/// Those faults.
+fn faults() -> [ParseSingleError; 2] {
+    [
         ParseSingleError::ExpectedOpenParenthesis(SourceSpan::new(3, 0)),
         ParseSingleError::ExpectedCloseRegex(SourceSpan::new(19, 0)),
-    ];
-    let lenient = match ParsedExpr::parse(rt.alloc(), text) {
+    ]
+}
+
+/// Whether the lenient call answered: that the text has these faults and no tree.
+fn has_no_lenient_tree(rt: &(impl AllocGlobal + Abort)) -> bool {
+    match ParsedExpr::parse(rt.alloc(), UNREAD) {
         Ok(_) => panic!(rt; "there is a tree"),
         Err(ParseStop::Faults(found)) => {
-            assert!(rt; found.as_slice() == wanted.as_slice());
+            assert!(rt; found.as_slice() == faults().as_slice());
             true
         }
         Err(ParseStop::OutOfMemory(AllocError)) => false,
-    };
-    match ParsedExpr::parse_with_faults(rt.alloc(), text) {
+    }
+}
+
+/// Whether both calls that read a text answered so.
+fn has_no_tree(rt: &(impl AllocGlobal + Abort)) -> bool {
+    let lenient = has_no_lenient_tree(rt);
+    match ParsedExpr::parse_with_faults(rt.alloc(), UNREAD) {
         Ok(parsed) => {
-            assert!(rt; parsed.tree.is_none() && parsed.faults.as_slice() == wanted.as_slice());
+            assert!(rt; parsed.tree.is_none() && parsed.faults.as_slice() == faults().as_slice());
             lenient
         }
         Err(AllocError) => false,

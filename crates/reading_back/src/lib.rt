@@ -1,9 +1,11 @@
 //! What a program can rely on that prints trees and reads texts, proved from the public calls alone.
+#![tactic(auto)]
+
 ghost use Rattle.std.specs.Prelude.{IfOk, IfSome, IfNone, IsTrue, string_bytes};
 ghost use Rattle.filterset_grammar.specs.Tree.{SameTree};
 ghost use Rattle.filterset_language.specs.Views.{tree_of};
 ghost use Rattle.filterset_grammar.specs.Printing.{WellFormed};
-ghost use Rattle.language_tests.specs.ReadingBack.{ComesBack, SpellAlike, IsRefused};
+ghost use Rattle.reading_back.specs.ReadingBack.{ComesBack, SpellAlike, IsRefused};
 
 use nextest_filtering::{Parsed, ParsedExpr, laws};
 use std::alloc::{AllocError, Global};

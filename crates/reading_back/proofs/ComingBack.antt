@@ -12,7 +12,7 @@ use Rattle.filterset_grammar.specs.Printing.{printed, printed_leaf, operands, We
 use Rattle.filterset_language.specs.Parsed.{Reads, Comes, LiesOnBody, HasRefusedBodies}
 use Rattle.filterset_language.specs.declared.parsing.parse.Parsed.{Parsed}
 use Rattle.filterset_language.specs.declared.tree.ParsedExpr.{ParsedExpr}
-use Rattle.language_tests.specs.ReadingBack.{SpellAlike, IsRefused}
+use Rattle.reading_back.specs.ReadingBack.{SpellAlike, IsRefused}
 
 -- ---- spans do not show in print
 
