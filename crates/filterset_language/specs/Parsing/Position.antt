@@ -1,20 +1,20 @@
--- Reading from left to right: a place of a text, and what stands there.
+-- Reading from left to right: a position of a text, and what stands there.
 use Rattle.std.specs.Prelude.{◌≡◌, ℕ, ◌+◌, List, [], ◌∷◌, length, drop, ◌<◌, ◌≤◌, ◌==◌, Option, Some, None, if◌then◌else◌}
 use Rattle.std.specs.Option.{option_map, option_and_then}
 use Rattle.filterset_grammar.specs.Text.{ends_word}
-pub use Rattle.filterset_language.specs.Parsing.Seam.{Place, place, skip_from}
+pub use Rattle.filterset_language.specs.Parsing.Seam.{Position, position, skip_from}
 use Rattle.filterset_language.specs.declared.parsing.input.Input.{Input}
 
--- the place at which an input stands
-abbrev pub place_of : Input → Place
-place_of input = place input.offset input.rest.now
+-- the position at which an input stands
+abbrev pub position_of : Input → Position
+position_of input = position input.offset input.rest.now
 
--- the place after so many bytes
-abbrev pub advanced : ℕ → Place → Place
-advanced count p = place (p.at + count) (drop count p.rest)
+-- the position after so many bytes
+abbrev pub advanced : ℕ → Position → Position
+advanced count p = position (p.at + count) (drop count p.rest)
 
--- the place after all blanks
-abbrev pub skip : Place → Place
+-- the position after all blanks
+abbrev pub skip : Position → Position
 skip p = skip_from p.at p.rest
 
 -- what stands after a text
@@ -23,16 +23,16 @@ behind [] t = Some t
 behind (w ∷ ws) [] = None
 behind (w ∷ ws) (b ∷ t) = if w == b then behind ws t else None
 
--- the place after a text, where it stands there
-abbrev pub after : List ℕ → Place → Option Place
-after text p = option_map (λ t. place (p.at + length text) t) (behind text p.rest)
+-- the position after a text, where it stands there
+abbrev pub after : List ℕ → Position → Option Position
+after text p = option_map (λ t. position (p.at + length text) t) (behind text p.rest)
 
 -- what stands after a word that ends there
-abbrev pub if_ends : Place → Option Place
+abbrev pub if_ends : Position → Option Position
 if_ends p = if ends_word p.rest then Some p else None
 
--- the place after a word, where it stands there and ends
-abbrev pub after_word : List ℕ → Place → Option Place
+-- the position after a word, where it stands there and ends
+abbrev pub after_word : List ℕ → Position → Option Position
 after_word word p = option_and_then if_ends (after word p)
 
 -- the second input is after the first, in one text

@@ -9,7 +9,7 @@ use Rattle.filterset_language.specs.Parsing.Front.{blank_len}
 use Rattle.filterset_language.specs.Parsing.Seam.{IsSeam}
 use Rattle.filterset_language.specs.declared.parsing.input.Input.{Input}
 use Rattle.filterset_grammar.specs.Text.{Blanks, no_blank, space, newline, return_newline}
-use Rattle.filterset_language.specs.Parsing.Place.{place, place_of, behind, skip_from, IsBehind, IsAtOrBehind}
+use Rattle.filterset_language.specs.Parsing.Position.{position, position_of, behind, skip_from, IsBehind, IsAtOrBehind}
 
 -- an input some bytes further
 pub seam_on : (i : Input) (n : ℕ) (rest : List ℕ) → n ≤ length i.rest.now → drop n i.rest.now ≡ rest → IsUtf8 rest → IsSeam i.text.now rest (i.offset + n)
@@ -27,10 +27,10 @@ pub seam_start : (t : List ℕ) → IsUtf8 t → IsSeam t t 0
 seam_start t utf8 = record { within = omega arith; onward = refl; utf8 = is_utf8-from_IsUtf8 t utf8 }
 
 -- two inputs in one text and at one offset
-pub same_place : (i j : Input) → j.text.now ≡ i.text.now → j.offset ≡ i.offset → place_of j ≡ place_of i
-same_place i j text at =
+pub same_position : (i j : Input) → j.text.now ≡ i.text.now → j.offset ≡ i.offset → position_of j ≡ position_of i
+same_position i j text at =
     let rest : j.rest.now ≡ i.rest.now = sym j.seam.onward ∙ (λ k. drop (at k) (text k)) ∙ i.seam.onward in
-    λ k. place (at k) (rest k)
+    λ k. position (at k) (rest k)
 
 pub behind_same : (w t : List ℕ) → behind w (w ++ t) ≡ Some t
 behind_same [] t = refl
@@ -53,28 +53,28 @@ pub skip_step : (n at : ℕ) (t : List ℕ) → n ≡ blank_len t → 0 < n → 
 skip_step n at [] e p = absurd (omega arith)
 skip_step n at (b ∷ []) e p = one_step ((eqb b 32) || (eqb b 10)) n at b e p
   where
-    one_step : (v : Bool) (n at b : ℕ) → n ≡ cond v 1 0 → 0 < n → cond v (place (at + 1) []) (place at (b ∷ [])) ≡ skip_from (at + n) (drop n (b ∷ []))
+    one_step : (v : Bool) (n at b : ℕ) → n ≡ cond v 1 0 → 0 < n → cond v (position (at + 1) []) (position at (b ∷ [])) ≡ skip_from (at + n) (drop n (b ∷ []))
     one_step true n at b e p = rw e refl
     one_step false n at b e p = absurd (omega arith)
 skip_step n at (b ∷ c ∷ t) e p = two_step ((eqb b 32) || (eqb b 10)) ((eqb b 13) && (eqb c 10)) n at b c t e p
   where
     two_step : (v w : Bool) (n at b c : ℕ) (t : List ℕ) → n ≡ cond v 1 (cond w 2 0) → 0 < n
-        → cond v (skip_from (at + 1) (c ∷ t)) (cond w (skip_from (at + 2) t) (place at (b ∷ c ∷ t))) ≡ skip_from (at + n) (drop n (b ∷ c ∷ t))
+        → cond v (skip_from (at + 1) (c ∷ t)) (cond w (skip_from (at + 2) t) (position at (b ∷ c ∷ t))) ≡ skip_from (at + n) (drop n (b ∷ c ∷ t))
     two_step true w n at b c t e p = rw e refl
     two_step false true n at b c t e p = rw e refl
     two_step false false n at b c t e p = absurd (omega arith)
 
-pub skip_stop : (at : ℕ) (t : List ℕ) → blank_len t ≡ 0 → skip_from at t ≡ place at t
+pub skip_stop : (at : ℕ) (t : List ℕ) → blank_len t ≡ 0 → skip_from at t ≡ position at t
 skip_stop at [] e = refl
 skip_stop at (b ∷ []) e = one_stop ((eqb b 32) || (eqb b 10)) at b e
   where
-    one_stop : (v : Bool) (at b : ℕ) → cond v 1 0 ≡ zero → cond v (place (at + 1) []) (place at (b ∷ [])) ≡ place at (b ∷ [])
+    one_stop : (v : Bool) (at b : ℕ) → cond v 1 0 ≡ zero → cond v (position (at + 1) []) (position at (b ∷ [])) ≡ position at (b ∷ [])
     one_stop true at b e = absurd (omega arith)
     one_stop false at b e = refl
 skip_stop at (b ∷ c ∷ t) e = two_stop ((eqb b 32) || (eqb b 10)) ((eqb b 13) && (eqb c 10)) at b c t e
   where
     two_stop : (v w : Bool) (at b c : ℕ) (t : List ℕ) → cond v 1 (cond w 2 0) ≡ zero
-        → cond v (skip_from (at + 1) (c ∷ t)) (cond w (skip_from (at + 2) t) (place at (b ∷ c ∷ t))) ≡ place at (b ∷ c ∷ t)
+        → cond v (skip_from (at + 1) (c ∷ t)) (cond w (skip_from (at + 2) t) (position at (b ∷ c ∷ t))) ≡ position at (b ∷ c ∷ t)
     two_stop true w at b c t e = absurd (omega arith)
     two_stop false true at b c t e = absurd (omega arith)
     two_stop false false at b c t e = refl
@@ -116,13 +116,13 @@ one_newline [] = refl
 one_newline (b ∷ t) = refl
 
 -- after blanks stands what begins with no blank
-pub skip_again : {b : List ℕ} → Blanks b → (at : ℕ) (u : List ℕ) → blank_len u ≡ 0 → skip_from at (b ++ u) ≡ place (at + length b) u
-skip_again no_blank at u stop = skip_stop at u stop ∙ ap (λ (n : ℕ). place n u) (omega arith)
+pub skip_again : {b : List ℕ} → Blanks b → (at : ℕ) (u : List ℕ) → blank_len u ≡ 0 → skip_from at (b ++ u) ≡ position (at + length b) u
+skip_again no_blank at u stop = skip_stop at u stop ∙ ap (λ (n : ℕ). position n u) (omega arith)
 skip_again (space {t} r) at u stop =
     let lt : 0 < 1 = omega arith in
-    skip_step 1 at (32 ∷ (t ++ u)) (sym (one_blank (t ++ u))) lt ∙ skip_again r (at + 1) u stop ∙ ap (λ (n : ℕ). place n u) (omega arith)
+    skip_step 1 at (32 ∷ (t ++ u)) (sym (one_blank (t ++ u))) lt ∙ skip_again r (at + 1) u stop ∙ ap (λ (n : ℕ). position n u) (omega arith)
 skip_again (newline {t} r) at u stop =
     let lt : 0 < 1 = omega arith in
-    skip_step 1 at (10 ∷ (t ++ u)) (sym (one_newline (t ++ u))) lt ∙ skip_again r (at + 1) u stop ∙ ap (λ (n : ℕ). place n u) (omega arith)
+    skip_step 1 at (10 ∷ (t ++ u)) (sym (one_newline (t ++ u))) lt ∙ skip_again r (at + 1) u stop ∙ ap (λ (n : ℕ). position n u) (omega arith)
 skip_again (return_newline {t} r) at u stop =
-    skip_again r (at + 2) u stop ∙ ap (λ (n : ℕ). place n u) (omega arith)
+    skip_again r (at + 2) u stop ∙ ap (λ (n : ℕ). position n u) (omega arith)
