@@ -38,6 +38,18 @@ example() {
     pass
 }
 
+# The program for people draws each fault of the stored texts and of the stored configuration as it is stored beside them.
+drawings() {
+    local stored=crates/filterset_command/data status
+    timeout 60 "$people" check --config "$stored/nextest.toml" --cargo-metadata "$stored/cargo-metadata.json" - \
+        < examples/faults.texts > "$room/wrote" 2> "$room/said"
+    status=$?
+    if [ "$status" -ne 1 ]; then fail examples/faults.texts "it ended with status $status, and not with 1"; return; fi
+    if [ -s "$room/said" ]; then fail examples/faults.texts "it said '$(head -c 200 "$room/said")'"; return; fi
+    if ! diff examples/faults.drawn "$room/wrote" > "$room/why"; then fail examples/faults.texts "other drawings: $(head -5 "$room/why")"; return; fi
+    pass
+}
+
 people=crates/filterset_command/out/filterset_command
 need "$program"
 need "$people"
@@ -45,6 +57,7 @@ for record in examples/*.json; do example "$record"; done
 for report in examples/*.report; do
     [ -f "${report%.report}.json" ] || fail "$report" "there is no record of it"
 done
+drawings
 holds "reports that pages show" scripts/pages.py shown "$program"
 holds "answers that pages show" scripts/pages.py answers "$people"
 

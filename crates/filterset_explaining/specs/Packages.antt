@@ -51,7 +51,7 @@ stands_for_packages (Set (Matching Deps matcher span)) = true
 stands_for_packages (Set (Matching Rdeps matcher span)) = true
 stands_for_packages e = false
 
--- behind a predicate of packages stand the names of those that it stands for, and behind other nodes there are none
+-- a predicate of packages has the names of those that it stands for, and other nodes have none
 abbrev pub NamesPackages : List PackageMetadata → Tree SourceSpan → Option NamedPackages → Type 0
 NamesPackages packages e (Some named) =
     (leaf : Leaf SourceSpan) × (set : List Text) × (e ≡ Set leaf) × IsCompiledLeaf packages leaf (compiled.Packages set)

@@ -1,5 +1,5 @@
 -- Explanations as text.
-use Rattle.std.specs.Prelude.{ℕ, zero, suc, Bool, true, false, [], ◌++◌, Option, Some, None, codes, decimal}
+use Rattle.std.specs.Prelude.{ℕ, ◌-◌, zero, suc, Bool, true, false, [], ◌++◌, Option, Some, None, codes, decimal}
 use Rattle.std.specs.List.{join_by, repeat}
 use Rattle.filterset_graph.specs.Packages.{Text}
 use Rattle.filterset_grammar.specs.Grammar.{not_text, or_text, join_text}
@@ -32,12 +32,21 @@ abbrev pub packages_text : NamedPackages → Text
 packages_text packages =
     codes " (packages: " ++ (join_by (λ n. n.now) (codes ", ") packages.names.items ++ (others_text packages.others ++ codes ")"))
 
-abbrev pub behind : Option NamedPackages → Text
-behind (Some packages) = packages_text packages
-behind None = []
+abbrev pub packages_part : Option NamedPackages → Text
+packages_part (Some packages) = packages_text packages
+packages_part None = []
 
--- the line of a node: two blanks for each operator above it, the node, its value, and its packages
+-- What stands before a node of this depth, which is that much deeper than can be shown by blanks alone: two blanks for
+-- each operator above it, and in brackets how many operators there are where there are more than 32.
+abbrev pub indented_by : ℕ → ℕ → Text
+indented_by depth zero = repeat depth (codes "  ")
+indented_by depth (suc more) = repeat 32 (codes "  ") ++ (codes "[" ++ (decimal depth ++ codes "] "))
+
+abbrev pub indentation : ℕ → Text
+indentation depth = indented_by depth (depth - 32)
+
+-- the line of a node: its indentation, the node, its value, and its packages
 abbrev pub explained_line : ExplainedNode → Text
 explained_line explained =
-    repeat explained.depth (codes "  ") ++ (head (tree_of explained.node.now) ++ (codes ": "
-    ++ (value_text explained.value ++ (behind explained.packages ++ codes "\n"))))
+    indentation explained.depth ++ (head (tree_of explained.node.now) ++ (codes ": "
+    ++ (value_text explained.value ++ (packages_part explained.packages ++ codes "\n"))))

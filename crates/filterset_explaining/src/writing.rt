@@ -2,7 +2,7 @@
 ghost use Rattle.std.specs.Prelude.{◌≡◌, ◌++◌, IfOk, OnOk, codes, string_bytes};
 ghost use Rattle.std.specs.List.{flat_map, join_by};
 ghost use Rattle.filterset_language.specs.Views.{tree_of};
-ghost use Rattle.filterset_explaining.specs.Writing.{behind, explained_line, head, others_text, packages_text, value_text};
+ghost use Rattle.filterset_explaining.specs.Writing.{explained_line, head, indentation, others_text, packages_part, packages_text, value_text};
 
 use crate::explaining::ExplainedNode;
 use crate::packages::NamedPackages;
@@ -62,13 +62,29 @@ fn packages_text(alloc: Global, packages: &NamedPackages<'_>) -> Result<String, 
     format!(in alloc; " (packages: {names}{others})")
 }
 
-/// What stands behind the value of a node.
-fn behind(alloc: Global, packages: &Option<NamedPackages<'_>>) -> Result<String, AllocError>
-    ensures { IfOk result (λ text. string_bytes text ≡ behind packages.now) }
+/// What stands after the value of a node.
+fn packages_part(
+    alloc: Global,
+    packages: &Option<NamedPackages<'_>>,
+) -> Result<String, AllocError>
+    ensures { IfOk result (λ text. string_bytes text ≡ packages_part packages.now) }
 {
     match packages {
         Some(packages) => packages_text(alloc, packages),
         None => Ok(String::new(alloc)),
+    }
+}
+
+/// What stands before a node.
+fn indentation(alloc: Global, depth: usize) -> Result<String, AllocError>
+    ensures { IfOk result (λ text. string_bytes text ≡ indentation depth) }
+{
+    match depth.saturating_sub(32) {
+        0 => "  ".repeat(alloc, depth),
+        _ => {
+            let blanks = "  ".repeat(alloc, 32)?;
+            format!(in alloc; "{blanks}[{depth}] ")
+        }
     }
 }
 
@@ -80,16 +96,19 @@ fn push_explained(
 ) -> Result<(), AllocError>
     ensures { OnOk result (string_bytes output.new ≡ string_bytes output.old ++ explained_line explained.now) }
 {
-    let indentation = "  ".repeat(alloc, explained.depth)?;
+    let indentation = indentation(alloc, explained.depth)?;
     let head = head(alloc, explained.node)?;
     let value = value_text(explained.value);
-    let behind = behind(alloc, &explained.packages)?;
-    writeln!(output, "{indentation}{head}: {value}{behind}")
+    let packages = packages_part(alloc, &explained.packages)?;
+    writeln!(output, "{indentation}{head}: {value}{packages}")
 }
 
 /// The explanation as text, a line a node: two blanks for each operator that the node stands under, the operator as it is
-/// written or the predicate as it prints, and its value, `yes`, `no` or `unknown`. Behind a predicate of packages stand
+/// written or the predicate as it prints, and its value, `yes`, `no` or `unknown`. After a predicate of packages stand
 /// the names of the first ten that it stands for, and how many others there are.
+///
+/// Under more than 32 operators a node is indented as under 32, and their number stands before it in brackets: of a long
+/// chain of operands the text grows with their number and not with its square.
 ///
 /// The only error is out of memory.
 pub fn explain_text(alloc: Global, nodes: &[ExplainedNode<'_>]) -> Result<String, AllocError>

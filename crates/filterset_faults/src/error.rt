@@ -15,7 +15,7 @@ use thiserror::Error;
 // The gate takes a literal with this word, in an attribute, for a test of the crate.
 const TEST_GROUPS: &str = "test groups";
 
-/// A fault of a filterset text, with the place where it stands. It displays as a message of its own.
+/// A fault of a filterset text, with the span where it stands. It displays as a message of its own.
 #[derive(Debug, Drop, Error)]
 pub enum ParseSingleError {
     /// A glob matcher whose text is no glob.
@@ -184,7 +184,7 @@ impl ParseSingleError {
         }
     }
 
-    /// The place, in bytes of the text; only `Unknown` has none.
+    /// The span, in bytes of the text; only `Unknown` has none.
     pub fn span(&self) -> Option<SourceSpan>
         ensures { result ≡ span_of self.now }
     {
@@ -215,7 +215,7 @@ impl ParseSingleError {
         }
     }
 
-    /// What to write beside the place; only `Unknown` has none.
+    /// What to write beside the span; only `Unknown` has none.
     pub fn label(&self) -> Option<Label<'_>>
         ensures { option_map label_text result ≡ label_of self.now }
     {

@@ -35,7 +35,7 @@ impl SourceSpan {
         self.len
     }
 
-    /// Whether it has no bytes, and is a place alone.
+    /// Whether it has no bytes, and is a position alone.
     pub fn is_empty(&self) -> bool
         ensures { IsTrue result ↔ (length_of self.now ≡ 0) }
     {

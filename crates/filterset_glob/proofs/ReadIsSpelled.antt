@@ -31,8 +31,8 @@ Completes (group ∷ groups) b t tokens =
 
 abbrev CompletesState : State → List ℕ → Tokens → Type 0
 CompletesState (outside groups b) t tokens = Completes groups b t tokens
-CompletesState (inside groups b negated ranges place) t tokens =
-    (a : List ℕ) × (rest : List ℕ) × (n : Bool) × (all : List (ℕ × ℕ)) × (t ≡ a ++ 93 ∷ rest) × ClassRest negated ranges place a n all × Completes groups (push b (class n all)) rest tokens
+CompletesState (inside groups b negated ranges position) t tokens =
+    (a : List ℕ) × (rest : List ℕ) × (n : Bool) × (all : List (ℕ × ℕ)) × (t ≡ a ++ 93 ∷ rest) × ClassRest negated ranges position a n all × Completes groups (push b (class n all)) rest tokens
 
 -- a piece before the first segment
 with_piece : {grouped : Bool} {a t : List ℕ} {token : Token} {first : Tokens} {more : List Tokens} → PieceText grouped a token → SegmentsText grouped t (first ∷ more) → SegmentsText grouped (a ++ t) (next_token token first ∷ more)
@@ -151,8 +151,8 @@ completes-sign (group ∷ groups) b c t tokens rest comma e is r =
 completes-sign groups b c t tokens rest separator e is r = subst (λ x. Completes groups b (x ∷ t) tokens) (sym is) (completes-with_slash groups b t tokens (rest (outside groups (end_segment b)) r))
 completes-sign groups b c t tokens rest itself e is r = completes-with_piece groups (one_character e) b t tokens (rest (outside groups (push b (literal c))) r)
 
-completes-place : (groups : List Group) (b : Open) (negated : Bool) (ranges : List (ℕ × ℕ)) (place : Progress) (c : ℕ) (t : List ℕ) (tokens : Tokens) → Rest t tokens → run t (step_inside groups b negated ranges place c) ≡ Ok tokens → CompletesState (inside groups b negated ranges place) (c ∷ t) tokens
-completes-place groups b negated ranges opened c t tokens rest =
+completes-position : (groups : List Group) (b : Open) (negated : Bool) (ranges : List (ℕ × ℕ)) (position : Progress) (c : ℕ) (t : List ℕ) (tokens : Tokens) → Rest t tokens → run t (step_inside groups b negated ranges position c) ≡ Ok tokens → CompletesState (inside groups b negated ranges position) (c ∷ t) tokens
+completes-position groups b negated ranges opened c t tokens rest =
     cond_both ((c == 33) || (c == 94)) _ _ (λ r. run t r ≡ Ok tokens → CompletesState (inside groups b negated ranges opened) (c ∷ t) tokens)
     (λ sign r.
     let (a, rest', n, all, t_is, (more, text, n_is, all_is), done) = rest (inside groups b true ranges negation) r in
@@ -163,10 +163,10 @@ completes-place groups b negated ranges opened c t tokens rest =
     let parts = or_parts (c == 33) (c == 94) sign in
     let not : ¬ IsNegation c = λ (i : IsNegation c). elim i [ inl e ↦ eqb-false c 33 parts.0 e | inr e ↦ eqb-false c 94 parts.1 e ] in
     (c ∷ a, rest', n, all, ap (λ x. c ∷ x) t_is, (false, (c, last) ∷ more, subst (λ x. ClassText (c ∷ x) false ((c, last) ∷ more)) (sym a_is) (plain_class not (items pairs later)), n_is, all_is), done))
-completes-place groups b negated ranges negation c t tokens rest = λ r.
+completes-position groups b negated ranges negation c t tokens rest = λ r.
     let (a, rest', n, all, t_is, (p, q, last, more, a_is, pairs, later, n_is, all_is), done) = rest (inside groups b negated ranges (in_item c c)) r in
     (c ∷ a, rest', n, all, ap (λ x. c ∷ x) t_is, ((c, last) ∷ more, subst (λ x. ItemsText (c ∷ x) ((c, last) ∷ more)) (sym a_is) (items pairs later), n_is, all_is), done)
-completes-place groups b negated ranges (in_item start end) c t tokens rest =
+completes-position groups b negated ranges (in_item start end) c t tokens rest =
     cond_both (c == 45) _ _ (λ r. run t r ≡ Ok tokens → CompletesState (inside groups b negated ranges (in_item start end)) (c ∷ t) tokens)
     (λ dash r.
     let (a, rest', n, all, t_is, (p, q, last, more, a_is, pairs, later, n_is, all_is), done) = rest (inside groups b negated ranges (behind_dash start end)) r in
@@ -177,7 +177,7 @@ completes-place groups b negated ranges (in_item start end) c t tokens rest =
     (λ no_bracket r.
     let (a, rest', n, all, t_is, (p, q, last, more, a_is, pairs, later, n_is, all_is), done) = rest (inside groups b negated (ranges ++ (start, end) ∷ []) (in_item c c)) r in
     (c ∷ a, rest', n, all, ap (λ x. c ∷ x) t_is, ([], c ∷ a, end, (c, last) ∷ more, refl, no_pair, subst (λ x. LaterItems (c ∷ x) ((c, last) ∷ more)) (sym a_is) (item (eqb-false c 93 no_bracket) (eqb-false c 45 no_dash) pairs later), n_is, all_is ∙ append_assoc ranges ((start, end) ∷ []) ((c, last) ∷ more)), done)))
-completes-place groups b negated ranges (behind_dash start end) c t tokens rest =
+completes-position groups b negated ranges (behind_dash start end) c t tokens rest =
     cond_both (c == 93) _ _ (λ r. run t r ≡ Ok tokens → CompletesState (inside groups b negated ranges (behind_dash start end)) (c ∷ t) tokens)
     (λ bracket' r.
     ([], t, negated, (ranges ++ (start, end) ∷ []) ++ (45, 45) ∷ [], ap (λ x. x ∷ t) (eqb-true c 93 bracket'), ([], 45 ∷ [], end, (45, 45) ∷ [], refl, no_pair, last_dash, refl, append_assoc ranges ((start, end) ∷ []) ((45, 45) ∷ [])), rest (outside groups (push b (class negated ((ranges ++ (start, end) ∷ []) ++ (45, 45) ∷ [])))) r))
@@ -190,9 +190,9 @@ completes-place groups b negated ranges (behind_dash start end) c t tokens rest 
 completes : (t : List ℕ) (tokens : Tokens) → Rest t tokens
 completes [] tokens (outside [] b) r = (no_token, [], one_segment no_piece, sym (let e : whole_tokens b ≡ tokens = cc in e) ∙ sym (whole_tokens-here b))
 completes [] tokens (outside (group ∷ groups) b) r = cc
-completes [] tokens (inside groups b negated ranges place) r = cc
+completes [] tokens (inside groups b negated ranges position) r = cc
 completes (c ∷ t) tokens (outside groups b) r = completes-sign groups b c t tokens (completes t tokens) (sign_of (is_grouped groups) c) refl (sign_is (is_grouped groups) c) r
-completes (c ∷ t) tokens (inside groups b negated ranges place) r = completes-place groups b negated ranges place c t tokens (completes t tokens) r
+completes (c ∷ t) tokens (inside groups b negated ranges position) r = completes-position groups b negated ranges position c t tokens (completes t tokens) r
 
 -- a text that is read as tokens is a glob of them
 pub glob_of_reading : (t : List ℕ) (tokens : Tokens) → reading t ≡ Ok tokens → GlobText t tokens

@@ -2,7 +2,7 @@
 use Rattle.std.proofs.Common.{◌≡◌, ℕ, zero, suc, ◌+◌, ◌*◌, ◌<◌, ◌≤◌, Bool, true, List, [], ◌∷◌, ◌++◌, length, slice_index, get_or, take, drop, refl, sym, ap, subst, ◌∙◌, append_assoc, arith, length-append, length-take}
 use Rattle.std.proofs.lemmas.List.{take-append-drop, take-append-le, take_all, drop-take}
 use Rattle.filterset_glob.specs.declared.token.GlobToken.{GlobToken}
-use Rattle.filterset_glob.specs.Places.{Holds, Moves}
+use Rattle.filterset_glob.specs.Positions.{Holds, Moves}
 use Rattle.filterset_glob.specs.Grammar.{◌⊕◌}
 use Rattle.filterset_glob.specs.Matching.{Admits, TakesOne, OneAdmitted, Matches, MatchesToken, node_count, token_node_count}
 use Rattle.filterset_glob.specs.Tokens.{Token, is_star, literal, any_char, star, class, alternates, deep_first, deep_mid, deep_last, Tokens, no_token, next_token, token_of, tokens_of}
@@ -91,7 +91,7 @@ run_each tokens k x c h is a each piece m =
     let (d, one, _) = (one_matched (token_of x) (admits_one (token_of x) c a) p2).0 m2 in
     omega (arith, ap length cut, length-append p r, each p m1, ap length cut2, length-append p2 r2, ap length one, ap length none)
 
--- a place alone, over tokens that match the characters after it, and nothing of another length
+-- a position alone, over tokens that match the characters after it, and nothing of another length
 pub moves_alone : (tokens : Tokens) (text : List ℕ) (p q : List Bool) (at n : ℕ) →
     ((i : ℕ) → Holds p i → i ≡ at) → Holds p at → ((i : ℕ) → Holds q i → i ≡ at + n) → Holds q (at + n) →
     Matches tokens (take n (drop at text)) → ((piece : List ℕ) → Matches tokens piece → length piece ≡ n) → Moves (Matches tokens) text p q
@@ -107,11 +107,11 @@ moves_alone tokens text p q at n only_p held_p only_q held_q m each = record {
       subst (Holds q) (sym long) held_q;
 }
 
--- the count of some tokens, which is at most twice the places, moves into the sum
+-- the count of some tokens, which is at most twice the positions, moves into the sum
 pub counted_some : (a b k all m : ℕ) → b ≤ a + 2 * m → k + 1 ≤ all → b + 2 * k * m ≤ a + 2 * all * m
 counted_some a b k all m step fewer = grind (arith, step, fewer)
 
--- a place alone, whose next character the token does not take
+-- a position alone, whose next character the token does not take
 pub moves_stopped : (token : Token) (text : List ℕ) (p q : List Bool) (at : ℕ) → TakesOne token → ((i : ℕ) → Holds p i → i ≡ at) → ¬ Admits token (slice_index text at) → ((i : ℕ) → ¬ Holds q i) → Moves (Matches (next_token token no_token)) text p q
 moves_stopped token text p q at one only stopped none =
     moves_then text p q q

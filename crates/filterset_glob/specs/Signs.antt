@@ -1,4 +1,4 @@
--- Characters by their signs, in the place of their numbers. All signs named so are ASCII, so a sign is one byte of
+-- Characters by their signs, in the position of their numbers. All signs named so are ASCII, so a sign is one byte of
 -- UTF-8 too.
 use Rattle.std.specs.Prelude.{ℕ, List, [], ◌∷◌, Bool, false, ◌==◌, ◌||◌, codes}
 use Prim.Native.String.{String}

@@ -11,7 +11,7 @@ use Rattle.filterset_graph.specs.Walks.{Follows, IsMarked}
 use Rattle.filterset_graph.specs.Packages.{Text, ids, IsLinked, Path}
 use Rattle.filterset_graph.specs.Index.{AreRows, IsIndexed, PositionsAre, index_of}
 use Rattle.filterset_graph.specs.Marked.{MarksReached, MarksReaching}
-use Rattle.filterset_graph.proofs.Places.{place_from_Contains, Contains-from_place, element_at, element_from_mapped, mapped_at, row_names, row_has}
+use Rattle.filterset_graph.proofs.Positions.{position_from_Contains, Contains-from_position, element_at, element_from_mapped, mapped_at, row_names, row_has}
 use Rattle.filterset_graph.proofs.Steps.{Walk-push}
 
 -- the end of an edge is a package, to which the package at its start is linked
@@ -20,12 +20,12 @@ edge_link packages positions links placed rows a b x edge here =
     let from = element_from_mapped (λ (p : PackageMetadata). p.id) packages a x here in
     let row = rows a from.0 edge.0 from.1 edge.1 in
     let named = row_names (index_of positions) from.0.links.items edge.0.items row b edge.2 in
-    (named.0, (placed named.0 b).0 named.2, (from.0, Contains-from_place packages from.0 a from.1, from.2, named.1))
+    (named.0, (placed named.0 b).0 named.2, (from.0, Contains-from_position packages from.0 a from.1, from.2, named.1))
 
 -- a link of the package at a position is an edge from there
 pub link_edge : {packages : List PackageMetadata} {positions : BTreeMap Text ℕ} {links back : List (Vec ℕ Global)} → IsIndexed packages positions links back → (a : ℕ) (x y : Text) → IsLinked packages x y → slice_get (ids packages) a ≡ Some x → (b : ℕ) × (slice_get (ids packages) b ≡ Some y) × HasEdge links a b
 link_edge {packages} {positions} {links} {back} index a x y link here =
-    let at = place_from_Contains packages link.0 link.1 in
+    let at = position_from_Contains packages link.0 link.1 in
     let named : slice_get (ids packages) at.0 ≡ Some x = mapped_at (λ (p : PackageMetadata). p.id) packages at.0 link.0 at.1 ∙ ap Some link.2 in
     let same : at.0 ≡ a = same_Some at.0 a (sym ((index.placed x at.0).1 named) ∙ (index.placed x a).1 here) in
     let owner : slice_get packages a ≡ Some link.0 = ap (slice_get packages) (sym same) ∙ at.1 in
@@ -77,7 +77,7 @@ MarksReached-from_search {packages} {positions} {links} {back} index starts mark
       let reached = (exact m.0).0 m.2 in
       let within : reached.0 < length starts = slice_get_within starts reached.0 true reached.1 in
       let x = element_at (ids packages) reached.0 (rw length-map (omega (arith, within, size))) in
-      (x.0, (reached.0, x.1, reached.1), (Contains-from_place (ids packages) x.0 reached.0 x.1, walk_path index reached.0 reached.2.0 m.0 x.0 id reached.2.1 x.1 m.1))),
+      (x.0, (reached.0, x.1, reached.1), (Contains-from_position (ids packages) x.0 reached.0 x.1, walk_path index reached.0 reached.2.0 m.0 x.0 id reached.2.1 x.1 m.1))),
   (λ p.
       let walk = path_walk index p.1.0 p.0 p.2.1.0 id p.2.1.1 p.1.1 in
       (walk.0, walk.1, (exact walk.0).1 (p.1.0, p.1.2, walk.2))),
@@ -90,9 +90,9 @@ MarksReaching-from_search {packages} {positions} {links} {back} index ends marks
       let within : reached.0 < length ends = slice_get_within ends reached.0 true reached.1 in
       let x = element_at (ids packages) reached.0 (rw length-map (omega (arith, within, size))) in
       let forth = Walk-reversed back links (λ b a edge. (index.back_edges a b).0 edge) reached.0 reached.2.0 m.0 reached.2.1 in
-      (x.0, (reached.0, x.1, reached.1), (Contains-from_place (ids packages) id m.0 m.1, walk_path index m.0 forth.0 reached.0 id x.0 forth.1 m.1 x.1))),
+      (x.0, (reached.0, x.1, reached.1), (Contains-from_position (ids packages) id m.0 m.1, walk_path index m.0 forth.0 reached.0 id x.0 forth.1 m.1 x.1))),
   (λ p.
-      let at = place_from_Contains (ids packages) id p.2.0 in
+      let at = position_from_Contains (ids packages) id p.2.0 in
       let walk = path_walk index at.0 id p.2.1.0 p.0 p.2.1.1 at.1 in
       let same : walk.0 ≡ p.1.0 = same_Some walk.0 p.1.0 (sym ((index.placed p.0 walk.0).1 walk.1) ∙ (index.placed p.0 p.1.0).1 p.1.1) in
       let turned = Walk-reversed links back (λ a b edge. (index.back_edges a b).1 edge) at.0 walk.2.0 walk.0 walk.2.1 in
@@ -131,10 +131,10 @@ reached_from_one packages a b from to starts marks answer at_a at_b alone exact 
 
 -- a look-up that found no position, of an id that no package has
 pub no_position : (packages : List PackageMetadata) (id : Text) → ((k : ℕ) → (◌≡◌ {A = Option ℕ} None (Some k)) ↔ (slice_get (ids packages) k ≡ Some id)) → ¬ Contains (ids packages) id
-no_position packages id none = λ c. let at = place_from_Contains (ids packages) id c in none-some at.0 ((none at.0).1 at.1)
+no_position packages id none = λ c. let at = position_from_Contains (ids packages) id c in none-some at.0 ((none at.0).1 at.1)
 
 pub one_position : (packages : List PackageMetadata) (id : Text) (position : ℕ) → IsOnlyPosition packages id position → Contains (ids packages) id
-one_position packages id position only = Contains-from_place (ids packages) id position ((only position).0 refl)
+one_position packages id position only = Contains-from_position (ids packages) id position ((only position).0 refl)
 
 pub one_position_within : (packages : List PackageMetadata) (id : Text) (position : ℕ) → IsOnlyPosition packages id position → position < length packages
 one_position_within packages id position only =
@@ -146,4 +146,4 @@ pub package_of_position : (packages : List PackageMetadata) (id : Text) (positio
 package_of_position packages id position p only read =
     let within : position < length packages = one_position_within packages id position only in
     let at : slice_get packages position ≡ Some p = slice_get-get_or packages position p within ∙ ap Some (sym read) in
-    (Contains-from_place packages p position at, same_Some p.id id (sym (mapped_at (λ (q : PackageMetadata). q.id) packages position p at) ∙ (only position).0 refl))
+    (Contains-from_position packages p position at, same_Some p.id id (sym (mapped_at (λ (q : PackageMetadata). q.id) packages position p at) ∙ (only position).0 refl))

@@ -18,7 +18,7 @@ use Rattle.filterset_graph.specs.Edges.{HasEdge}
 use Rattle.filterset_graph.specs.Packages.{Text, ids, AllDiffer, IsFirstRepeat, LinksKnown, IsUnknownLink, IsFirstUnknownLink}
 use Rattle.filterset_graph.specs.Index.{PositionsAre, index_of, IsRowOf, AreRows, AddsEdges, IsReversed}
 use Rattle.filterset_graph.specs.PartRefusals.{IsFirstWithout}
-use Rattle.filterset_graph.proofs.Places.{place_from_Contains, Contains-from_place, element_at, mapped_at, row_has}
+use Rattle.filterset_graph.proofs.Positions.{position_from_Contains, Contains-from_position, element_at, mapped_at, row_has}
 use Rattle.filterset_graph.proofs.Steps.{slice_get-set_same, slice_get-set_other}
 
 -- the first elements of a list
@@ -213,13 +213,13 @@ AreRows-push positions packages links at p row size within read resolved rows = 
 known_link : (positions : BTreeMap Text ℕ) (packages : List PackageMetadata) (links : List Text) (row : List ℕ) → PositionsAre positions (ids packages) → IsRowOf positions links row → (id : Text) → Contains links id → Contains (ids packages) id
 known_link positions packages links row placed resolved id c =
     let b = row_has (index_of positions) links row resolved id c in
-    Contains-from_place (ids packages) id b.0 ((placed id b.0).0 b.2)
+    Contains-from_position (ids packages) id b.0 ((placed id b.0).0 b.2)
 
 -- the links of a package that has a row name packages
 pub known_links : (positions : BTreeMap Text ℕ) (packages : List PackageMetadata) (links : List (Vec ℕ Global)) (k : ℕ) → PositionsAre positions (ids packages) → AreRows positions packages links → k < length links → (j : ℕ) → IsUnknownLink packages k j → ⊥
 known_links positions packages links k placed rows within j (p, id, here, there, unknown) =
     let row = element_at links k within in
-    unknown (known_link positions packages p.links.items row.0.items placed (rows k p row.0 here row.1) id (Contains-from_place p.links.items id j there))
+    unknown (known_link positions packages p.links.items row.0.items placed (rows k p row.0 here row.1) id (Contains-from_position p.links.items id j there))
 
 pub LinksKnown-from_rows : (positions : BTreeMap Text ℕ) (packages : List PackageMetadata) (links : List (Vec ℕ Global)) → PositionsAre positions (ids packages) → length links ≡ length packages → AreRows positions packages links → LinksKnown packages
 LinksKnown-from_rows positions packages links placed size rows = λ k d h j e g.
@@ -231,10 +231,10 @@ LinksKnown-from_rows positions packages links placed size rows = λ k d h j e g.
 pub first_unknown : (positions : BTreeMap Text ℕ) (packages : List PackageMetadata) (links : List (Vec ℕ Global)) (at : ℕ) (p : PackageMetadata) (owner link : ℕ) → PositionsAre positions (ids packages) → length links ≡ at → AreRows positions packages links → at < length packages → p ≡ get_or packages at p → owner ≡ at → IsFirstWithout positions p.links.items link → IsFirstUnknownLink packages owner link
 first_unknown positions packages links at p owner link placed size rows within read same (known, (id, here, missing)) =
     let at_p : slice_get packages owner ≡ Some p = ap (slice_get packages) same ∙ slice_get-get_or packages at p within ∙ ap Some (sym read) in (
-      (p, id, at_p, here, (λ c. let k = place_from_Contains (ids packages) id c in none-some k.0 (sym missing ∙ (placed id k.0).1 k.1))),
+      (p, id, at_p, here, (λ c. let k = position_from_Contains (ids packages) id c in none-some k.0 (sym missing ∙ (placed id k.0).1 k.1))),
       (λ k j below. known_links positions packages links k placed rows (omega (arith, below, size, same)) j),
       (λ j below (q, other, q_at, other_at, unknown).
           let one : q ≡ p = same_Some q p (sym q_at ∙ at_p) in
           let listed : slice_get p.links.items j ≡ Some other = subst (λ (x : PackageMetadata). slice_get x.links.items j ≡ Some other) one other_at in
-          unknown (known_link positions packages (take link p.links.items) known.0 placed known.1 other (Contains-from_place (take link p.links.items) other j (slice_get-take link p.links.items j below ∙ listed)))),
+          unknown (known_link positions packages (take link p.links.items) known.0 placed known.1 other (Contains-from_position (take link p.links.items) other j (slice_get-take link p.links.items j below ∙ listed)))),
     )

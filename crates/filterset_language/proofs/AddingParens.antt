@@ -123,19 +123,19 @@ reads_back {S} {e} {d} added held leaves = (printed_reads_back d held).1 (well_f
 
 -- ---- one tree alone
 
-same_place : {S : Type 0} {may : Type 0} {d c f g : Tree S} → d ≡ c → IsEnclosedUnless may d f → IsEnclosedUnless may c g → f ≡ g
-same_place e (stands h) (stands k) = e
-same_place e (stands h) (enclosed k) = absurd (k h)
-same_place e (enclosed h) (stands k) = absurd (h k)
-same_place e (enclosed h) (enclosed k) = ap tree.Parens e
+same_position : {S : Type 0} {may : Type 0} {d c f g : Tree S} → d ≡ c → IsEnclosedUnless may d f → IsEnclosedUnless may c g → f ≡ g
+same_position e (stands h) (stands k) = e
+same_position e (stands h) (enclosed k) = absurd (k h)
+same_position e (enclosed h) (stands k) = absurd (h k)
+same_position e (enclosed h) (enclosed k) = ap tree.Parens e
 
 pub one_way : {S : Type 0} {e d f : Tree S} → IsWithParens e d → IsWithParens e f → d ≡ f
-one_way (negation {op} a p) (negation b q) = ap (tree.Not op) (same_place (one_way a b) p q)
+one_way (negation {op} a p) (negation b q) = ap (tree.Not op) (same_position (one_way a b) p q)
 one_way (union {op} {l} {a} {r} {b} {d} left right p) (union {l = _} {a = a'} {r = _} {b = b'} {d = d'} other_left other_right q) =
     ap (λ (x : Tree _). tree.Union op x d) (one_way left other_left)
-    ∙ ap (tree.Union op a') (same_place (one_way right other_right) p q)
+    ∙ ap (tree.Union op a') (same_position (one_way right other_right) p q)
 one_way (join {op} {l} {a} {c} {r} {b} {d} left p right q) (join {l = _} {a = a'} {c = c'} {r = _} {b = b'} {d = d'} other_left s other_right t) =
-    ap (λ (x : Tree _). tree.Join op x d) (same_place (one_way left other_left) p s)
-    ∙ ap (tree.Join op c') (same_place (one_way right other_right) q t)
+    ap (λ (x : Tree _). tree.Join op x d) (same_position (one_way left other_left) p s)
+    ∙ ap (tree.Join op c') (same_position (one_way right other_right) q t)
 one_way (parens a) (parens b) = ap tree.Parens (one_way a b)
 one_way leaf leaf = refl

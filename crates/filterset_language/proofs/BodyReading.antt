@@ -10,7 +10,7 @@ use Rattle.filterset_faults.specs.declared.span.SourceSpan.{SourceSpan}
 use Rattle.filterset_faults.specs.declared.error.ParseSingleError.TheVariants.{InvalidRegexWithoutMessage}
 use Rattle.filterset_grammar.specs.Text.{SlashesFollow, ends_in_backslash, with_slashes, Body}
 use Rattle.std.specs.Prelude.{slice_range}
-use Rattle.filterset_language.specs.Parsing.Place.{Place, place, place_of, advanced, after}
+use Rattle.filterset_language.specs.Parsing.Position.{Position, position, position_of, advanced, after}
 use Rattle.filterset_language.specs.Parsing.RawTexts.{body_len, body_by, body_at, BodyTaken}
 use Rattle.filterset_language.specs.Faults.{piece, EndsWith}
 use Rattle.filterset_language.specs.Parsing.Recovery.{Found}
@@ -74,14 +74,14 @@ from_start : (body : List ℕ) → ends_in_backslash body ≡ false → ends_in_
 from_start [] e = refl
 from_start (b ∷ body) e = e
 
-pub regex_again : (at : ℕ) (body pattern u : List ℕ) → Body body pattern → body_at (place at (body ++ (47 ∷ u))) ≡ Some ((pattern, span at (length body)), place (at + length body + 1) u)
+pub regex_again : (at : ℕ) (body pattern u : List ℕ) → Body body pattern → body_at (position at (body ++ (47 ∷ u))) ≡ Some ((pattern, span at (length body)), position (at + length body + 1) u)
 regex_again at body pattern u is =
     let n = body_again 0 body u is.slashes (from_start body is.end) in
     let t : take (length body) (body ++ (47 ∷ u)) ≡ body = take_at body (47 ∷ u) (length body) refl in
     let d : drop (length body) (body ++ (47 ∷ u)) ≡ 47 ∷ u = drop_at body (47 ∷ u) (length body) refl in
-    let step : body_by (length body) (place at (body ++ (47 ∷ u))) ≡ Some ((with_slashes body, span at (length body)), place (at + length body + 1) u) = rw (t, d) refl in
-    ap (λ (k : ℕ). body_by k (place at (body ++ (47 ∷ u)))) n ∙ step
-    ∙ ap (λ (x : List ℕ). Some ((x, span at (length body)), place (at + length body + 1) u)) (sym is.replaced)
+    let step : body_by (length body) (position at (body ++ (47 ∷ u))) ≡ Some ((with_slashes body, span at (length body)), position (at + length body + 1) u) = rw (t, d) refl in
+    ap (λ (k : ℕ). body_by k (position at (body ++ (47 ∷ u)))) n ∙ step
+    ∙ ap (λ (x : List ℕ). Some ((x, span at (length body)), position (at + length body + 1) u)) (sym is.replaced)
 
 -- ---- what is read is written
 
@@ -105,13 +105,13 @@ to_start : (body : List ℕ) → ends_in_backslash (0 ∷ body) ≡ false → en
 to_start [] e = refl
 to_start (b ∷ body) e = e
 
-pub regex_takes : (p : Place) (pattern : List ℕ) (s : SourceSpan) (q : Place) → body_at p ≡ Some ((pattern, s), q) → BodyTaken p pattern s q
+pub regex_takes : (p : Position) (pattern : List ℕ) (s : SourceSpan) (q : Position) → body_at p ≡ Some ((pattern, s), q) → BodyTaken p pattern s q
 regex_takes p pattern s q e =
     let n = body_len 0 p.rest in
-    let m = map_is (after (47 ∷ []) (advanced n p)) (λ (x : Place). ((with_slashes (take n p.rest), span p.at n), x)) ((pattern, s), q) e in
-    let k : m.0 ≡ q = ap (λ (x : (List ℕ × SourceSpan) × Place). x.1) m.2 in
-    let first : with_slashes (take n p.rest) ≡ pattern = ap (λ (x : (List ℕ × SourceSpan) × Place). x.0.0) m.2 in
-    let second : span p.at n ≡ s = ap (λ (x : (List ℕ × SourceSpan) × Place). x.0.1) m.2 in
+    let m = map_is (after (47 ∷ []) (advanced n p)) (λ (x : Position). ((with_slashes (take n p.rest), span p.at n), x)) ((pattern, s), q) e in
+    let k : m.0 ≡ q = ap (λ (x : (List ℕ × SourceSpan) × Position). x.1) m.2 in
+    let first : with_slashes (take n p.rest) ≡ pattern = ap (λ (x : (List ℕ × SourceSpan) × Position). x.0.0) m.2 in
+    let second : span p.at n ≡ s = ap (λ (x : (List ℕ × SourceSpan) × Position). x.0.1) m.2 in
     let t = after_takes (47 ∷ []) (advanced n p) q (m.1 ∙ ap Some k) in
     let within = body_within 0 p.rest in
     let size : length (take n p.rest) ≡ n = omega (arith, length-take n p.rest) in
@@ -124,21 +124,21 @@ regex_takes p pattern s q e =
     }
 
 -- the body that the code cuts off
-pub body_taken : (i e r : Input) (count : ℕ) (pattern cut : List ℕ) (s : SourceSpan) → count ≡ body_len 0 i.rest.now → place_of e ≡ advanced count (place_of i) → Some (place_of r) ≡ after (47 ∷ []) (place_of e)
-    → cut ≡ slice_range i.rest.now 0 count → pattern ≡ with_slashes cut → s ≡ span i.offset (e.offset - i.offset) → BodyTaken (place_of i) pattern s (place_of r)
+pub body_taken : (i e r : Input) (count : ℕ) (pattern cut : List ℕ) (s : SourceSpan) → count ≡ body_len 0 i.rest.now → position_of e ≡ advanced count (position_of i) → Some (position_of r) ≡ after (47 ∷ []) (position_of e)
+    → cut ≡ slice_range i.rest.now 0 count → pattern ≡ with_slashes cut → s ≡ span i.offset (e.offset - i.offset) → BodyTaken (position_of i) pattern s (position_of r)
 body_taken i e r count pattern cut s counted at stands cut_is pattern_is span_is =
     let t = i.rest.now in
     let n = body_len 0 t in
     let front : cut ≡ take n t = let z : count - 0 ≡ n = omega (arith, counted) in cut_is ∙ ap (λ (k : ℕ). take k t) z in
-    let end : place_of e ≡ advanced n (place_of i) = at ∙ ap (λ (k : ℕ). advanced k (place_of i)) counted in
-    let size : e.offset - i.offset ≡ n = let o : e.offset ≡ i.offset + n = ap (λ (p : Place). p.at) end in omega arith in
+    let end : position_of e ≡ advanced n (position_of i) = at ∙ ap (λ (k : ℕ). advanced k (position_of i)) counted in
+    let size : e.offset - i.offset ≡ n = let o : e.offset ≡ i.offset + n = ap (λ (p : Position). p.at) end in omega arith in
     let first : with_slashes (take n t) ≡ pattern = ap with_slashes (sym front) ∙ sym pattern_is in
     let second : span i.offset n ≡ s = ap (span i.offset) (sym size) ∙ sym span_is in
-    let found : after (47 ∷ []) (advanced n (place_of i)) ≡ Some (place_of r) = ap (after (47 ∷ [])) (sym end) ∙ sym stands in
-    regex_takes (place_of i) pattern s (place_of r) (rw (found, first, second) refl)
+    let found : after (47 ∷ []) (advanced n (position_of i)) ≡ Some (position_of r) = ap (after (47 ∷ [])) (sym end) ∙ sym stands in
+    regex_takes (position_of i) pattern s (position_of r) (rw (found, first, second) refl)
 
 -- the body is what its span cuts off
-pub body_piece : (i : Input) (pattern : List ℕ) (s : SourceSpan) (q : Place) → BodyTaken (place_of i) pattern s q → Body (piece i.text.now s) pattern
+pub body_piece : (i : Input) (pattern : List ℕ) (s : SourceSpan) (q : Position) → BodyTaken (position_of i) pattern s q → Body (piece i.text.now s) pattern
 body_piece i pattern s q t =
     let n = length t.body in
     let cut : take n (drop i.offset i.text.now) ≡ t.body = ap (take n) (i.seam.onward ∙ t.parts) ∙ take_at t.body (47 ∷ q.rest) n refl in
@@ -149,7 +149,7 @@ seam_between : (front : List ℕ) (b : ℕ) (rest : List ℕ) → b < 128 → Is
 seam_between front b rest low = (omega (arith, length-append front (b ∷ rest)), λ lt high. let is = get_or-append_seam front b rest 0 in absurd (omega (arith, is)))
 
 -- a body that is refused, where a `/` stands before it
-pub refused_body_found : (i : Input) (pattern : List ℕ) (s : SourceSpan) (q : Place) → EndsWith (take i.offset i.text.now) (47 ∷ []) → BodyTaken (place_of i) pattern s q → Found i.text.now (InvalidRegexWithoutMessage s)
+pub refused_body_found : (i : Input) (pattern : List ℕ) (s : SourceSpan) (q : Position) → EndsWith (take i.offset i.text.now) (47 ∷ []) → BodyTaken (position_of i) pattern s q → Found i.text.now (InvalidRegexWithoutMessage s)
 refused_body_found i pattern s q slash t =
     let n = length t.body in
     let onward : drop i.offset i.text.now ≡ t.body ++ (47 ∷ q.rest) = i.seam.onward ∙ t.parts in

@@ -4,10 +4,10 @@ use Rattle.std.specs.Prelude.{codes, All, slice_range}
 use Rattle.std.proofs.lemmas.Bool.Decides.{eqb_tells}
 use Rattle.std.proofs.lemmas.List.Elements.{All-cons, All-nil}
 use Rattle.filterset_language.specs.Parsing.Front.{blank_len, close_len, is_white}
-use Rattle.filterset_language.specs.Parsing.Place.{Place, place_of, advanced, skip, after}
+use Rattle.filterset_language.specs.Parsing.Position.{Position, position_of, advanced, skip, after}
 use Rattle.filterset_language.specs.Parsing.Descent.{bare_end_at}
 use Rattle.filterset_language.specs.declared.parsing.input.Input.{Input}
-use Rattle.filterset_language.proofs.Places.{skip_stop}
+use Rattle.filterset_language.proofs.Positions.{skip_stop}
 use Rattle.filterset_language.specs.Faults.{EndsText, comma, closed, ClosesArgument, at_end, at_close}
 
 pub close_within : (t : List ℕ) → close_len t ≤ length t
@@ -67,18 +67,18 @@ ends_stop _ (comma {t}) = first t
     first (b ∷ t) = refl
 ends_stop _ (closed h) = closes_stop _ h
 
--- how many bytes stand between two places
-pub count_is : (i e : Input) (n : ℕ) → place_of e ≡ advanced n (place_of i) → e.offset - i.offset ≡ n
-count_is i e n is = let at : e.offset ≡ i.offset + n = ap (λ (p : Place). p.at) is in omega arith
+-- how many bytes stand between two positions
+pub count_is : (i e : Input) (n : ℕ) → position_of e ≡ advanced n (position_of i) → e.offset - i.offset ≡ n
+count_is i e n is = let at : e.offset ≡ i.offset + n = ap (λ (p : Position). p.at) is in omega arith
 
 -- at a `)` or the end no blank is skipped
-close_skipped : (p : Place) → skip (advanced (close_len p.rest) p) ≡ advanced (close_len p.rest) p
+close_skipped : (p : Position) → skip (advanced (close_len p.rest) p) ≡ advanced (close_len p.rest) p
 close_skipped p = skip_stop (p.at + close_len p.rest) (drop (close_len p.rest) p.rest) (closes_stop _ (close_behind p.rest))
 
-pub bare_end_is : (p e : Place) → e ≡ advanced (close_len p.rest) p → is_white (take (close_len p.rest) p.rest) ≡ true → after (codes ")") (skip e) ≡ bare_end_at p
+pub bare_end_is : (p e : Position) → e ≡ advanced (close_len p.rest) p → is_white (take (close_len p.rest) p.rest) ≡ true → after (codes ")") (skip e) ≡ bare_end_at p
 bare_end_is p e is white = rw (is, white) (ap (after (codes ")")) (close_skipped p))
 
-pub bare_end_none : (p : Place) → is_white (take (close_len p.rest) p.rest) ≡ false → bare_end_at p ≡ None
+pub bare_end_none : (p : Position) → is_white (take (close_len p.rest) p.rest) ≡ false → bare_end_at p ≡ None
 bare_end_none p black = rw black refl
 
 -- the piece that a range of a text cuts off before the next `)`

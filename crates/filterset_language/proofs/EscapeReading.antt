@@ -71,7 +71,7 @@ code_again (d ∷ ds) seen code number u h some few is =
     step : (d seen code : ℕ) → eqb d 125 ≡ false → eqb seen 6 ≡ false → digit_at d ≡ Some (hex_value d) → code_from seen code (d ∷ (ds ++ (125 ∷ u))) ≡ code_from (seen + 1) (16 * code + hex_value d) (ds ++ (125 ∷ u))
     step d seen code e1 e2 e3 = rw (e1, e2) (ap (option_and_then (λ (x : ℕ). code_from (seen + 1) (16 * code + x) (ds ++ (125 ∷ u)))) e3)
 
--- the digits between a place after so many others and a closing brace
+-- the digits between a position after so many others and a closing brace
 pub record CodeTaken (t : List ℕ) (seen code c n : ℕ) : Type 0 where
   pub digits : List ℕ
   pub rest : List ℕ

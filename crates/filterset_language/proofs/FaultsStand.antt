@@ -1,4 +1,4 @@
--- What stands at a place of a text.
+-- What stands at a position of a text.
 use Rattle.std.proofs.Common.{◌≡◌, ◌≢◌, ℕ, ◌+◌, ◌-◌, ◌≤◌, true, false, List, [], ◌∷◌, ◌++◌, length, take, drop, Option, Some, None, refl, sym, ap, ◌∙◌, subst, arith, length-take, IsCharBoundary}
 use Rattle.std.specs.Prelude.{codes, All}
 use Rattle.std.specs.Option.{option_map}
@@ -7,7 +7,7 @@ use Rattle.std.proofs.Math.Seq.{take-append-add}
 use Rattle.std.proofs.lemmas.Str.{IsCharBoundary-from_rest}
 use Rattle.filterset_grammar.specs.Text.{Blanks, WhiteSpace}
 use Rattle.filterset_language.specs.Parsing.Front.{blank_len, close_len, is_white}
-use Rattle.filterset_language.specs.Parsing.Place.{Place, place, place_of, skip, skip_from, after, IsBehind}
+use Rattle.filterset_language.specs.Parsing.Position.{Position, position, position_of, skip, skip_from, after, IsBehind}
 use Rattle.filterset_language.specs.Parsing.Words.{choose, with, not_at, name_at, joiner_at, or_at, name_text}
 use Rattle.filterset_grammar.specs.declared.operators.Joiner.{Joiner}
 use Rattle.filterset_grammar.specs.declared.predicate.Predicate.{Predicate}
@@ -25,21 +25,21 @@ use Rattle.filterset_grammar.specs.declared.predicate.Predicate.TheVariants as m
 use Rattle.filterset_language.specs.declared.parsing.names.PredicateName.{PredicateName}
 use Rattle.filterset_language.specs.declared.parsing.names.PredicateName.TheVariants as names
 use Rattle.filterset_faults.specs.declared.error.ParseSingleError.TheVariants.{ExpectedOpenParenthesis, ExpectedCloseParenthesis, ExpectedExpr, UnexpectedComma, UnexpectedArgument, InvalidAndOperator, InvalidOrOperator, ExprFoundBinaryOp, ExprFoundUnaryOp}
-use Rattle.filterset_language.proofs.Places.{behind_same, skip_again}
+use Rattle.filterset_language.proofs.Positions.{behind_same, skip_again}
 use Rattle.filterset_language.proofs.StepsTakeText.{Takes, word_after, after_takes, skip_takes, JoinerTaken, joiner_takes, OrTaken, or_takes, not_takes, name_takes}
 use Rattle.filterset_language.proofs.RawTextFaults.{size, begins_here, point_ends, rest_ends, piece_ends}
 use Rattle.filterset_language.proofs.ClosingParenthesis.{close_within, close_behind, close_none, close_boundary}
 use Rattle.filterset_language.proofs.WhiteSpaceTest.{white_to}
 
--- a text is what is before a place and what is left there
+-- a text is what is before a position and what is left there
 pub whole : (i : Input) → i.text.now ≡ take i.offset i.text.now ++ i.rest.now
 whole i = sym (take-append-drop i.offset i.text.now) ∙ ap (λ (t : List ℕ). take i.offset i.text.now ++ t) i.seam.onward
 
 pub before_length : (i : Input) → length (take i.offset i.text.now) ≡ i.offset
 before_length i = let w = i.seam.within in omega (arith, length-take i.offset i.text.now)
 
--- what ends at the second place
-pub ends_with : (a b : Input) (w : List ℕ) → b.text.now ≡ a.text.now → Takes (place_of a) w (place_of b) → EndsWith (take b.offset b.text.now) w
+-- what ends at the second position
+pub ends_with : (a b : Input) (w : List ℕ) → b.text.now ≡ a.text.now → Takes (position_of a) w (position_of b) → EndsWith (take b.offset b.text.now) w
 ends_with a b w same takes =
     let front = take a.offset a.text.now in
     let text : b.text.now ≡ front ++ (w ++ b.rest.now) = same ∙ whole a ∙ ap (λ (t : List ℕ). front ++ t) takes.parts in
@@ -47,21 +47,21 @@ ends_with a b w same takes =
     let cut : take (length front + length w) (front ++ (w ++ b.rest.now)) ≡ front ++ w = take-append-add front (w ++ b.rest.now) (length w) ∙ ap (λ (t : List ℕ). front ++ t) (take_at w b.rest.now (length w) refl) in
     record { front = front; parts = ap (λ (n : ℕ). take n b.text.now) at ∙ ap (take (length front + length w)) text ∙ cut }
 
--- the piece between two places
-pub piece_is : (a b : Input) (w : List ℕ) → Takes (place_of a) w (place_of b) → take (b.offset - a.offset) (drop a.offset a.text.now) ≡ w
+-- the piece between two positions
+pub piece_is : (a b : Input) (w : List ℕ) → Takes (position_of a) w (position_of b) → take (b.offset - a.offset) (drop a.offset a.text.now) ≡ w
 piece_is a b w takes =
     let n : b.offset - a.offset ≡ length w = omega (arith, takes.offset) in
     ap (λ (k : ℕ). take k (drop a.offset a.text.now)) n ∙ ap (take (length w)) (a.seam.onward ∙ takes.parts) ∙ take_at w b.rest.now (length w) refl
 
 -- ---- words that do not stand
 
-pub no_word : (word : List ℕ) (p : Place) → ((u : List ℕ) → blank_len (word ++ u) ≡ 0) → None ≡ after word (skip p) → BehindBlanks word p.rest → ⊥
+pub no_word : (word : List ℕ) (p : Position) → ((u : List ℕ) → blank_len (word ++ u) ≡ 0) → None ≡ after word (skip p) → BehindBlanks word p.rest → ⊥
 no_word word p stop none b =
     let blanks = b.blanks in
     let u = b.rest in
-    let skipped : skip p ≡ place (p.at + length blanks) (word ++ u) = ap (skip_from p.at) b.parts ∙ skip_again b.are p.at (word ++ u) (stop u) in
-    let some : after word (skip p) ≡ Some (place (p.at + length blanks + length word) u) = ap (after word) skipped ∙ ap (option_map (λ (t : List ℕ). place (p.at + length blanks + length word) t)) (behind_same word u) in
-    let no : None ≡ Some (place (p.at + length blanks + length word) u) = none ∙ some in
+    let skipped : skip p ≡ position (p.at + length blanks) (word ++ u) = ap (skip_from p.at) b.parts ∙ skip_again b.are p.at (word ++ u) (stop u) in
+    let some : after word (skip p) ≡ Some (position (p.at + length blanks + length word) u) = ap (after word) skipped ∙ ap (option_map (λ (t : List ℕ). position (p.at + length blanks + length word) t)) (behind_same word u) in
+    let no : None ≡ Some (position (p.at + length blanks + length word) u) = none ∙ some in
     cc
 
 pub open_first : (u : List ℕ) → blank_len (40 ∷ u) ≡ 0
@@ -95,14 +95,14 @@ name_first faults.all u = refl
 name_first faults.none u = refl
 
 -- `binary` stands there whether or not `binary_id` does
-binary_stands : (at : ℕ) (u : List ℕ) → None ≡ name_at (place at (codes "binary" ++ u)) → ⊥
-binary_stands at u e = one_of (after (codes "binary_id") (place at (codes "binary" ++ u))) e
+binary_stands : (at : ℕ) (u : List ℕ) → None ≡ name_at (position at (codes "binary" ++ u)) → ⊥
+binary_stands at u e = one_of (after (codes "binary_id") (position at (codes "binary" ++ u))) e
   where
-    one_of : (o : Option Place) → None ≡ choose o (with (names.Matching matching.BinaryId)) (Some (names.Matching matching.Binary, place (at + 6) u)) → ⊥
+    one_of : (o : Option Position) → None ≡ choose o (with (names.Matching matching.BinaryId)) (Some (names.Matching matching.Binary, position (at + 6) u)) → ⊥
     one_of None e = cc
     one_of (Some q) e = cc
 
-matching_stands : (p : Predicate) (at : ℕ) (u : List ℕ) → None ≡ name_at (place at (Name p ++ u)) → ⊥
+matching_stands : (p : Predicate) (at : ℕ) (u : List ℕ) → None ≡ name_at (position at (Name p ++ u)) → ⊥
 matching_stands matching.Package at u e = cc
 matching_stands matching.Deps at u e = cc
 matching_stands matching.Rdeps at u e = cc
@@ -112,30 +112,30 @@ matching_stands matching.BinaryId at u e = cc
 matching_stands matching.Test at u e = cc
 matching_stands matching.Group at u e = cc
 
-name_stands : {name : List ℕ} → IsName name → (at : ℕ) (u : List ℕ) → None ≡ name_at (place at (name ++ u)) → ⊥
+name_stands : {name : List ℕ} → IsName name → (at : ℕ) (u : List ℕ) → None ≡ name_at (position at (name ++ u)) → ⊥
 name_stands (faults.matching p) at u e = matching_stands p at u e
 name_stands faults.platform at u e = cc
 name_stands faults.default at u e = cc
 name_stands faults.all at u e = cc
 name_stands faults.none at u e = cc
 
-not_stands : (op : NotOperator) (at : ℕ) (u : List ℕ) → not_ends op u → None ≡ not_at (place at (not_text op ++ u)) → ⊥
-not_stands LiteralNot at u ends e = let f : None ≡ Some (LiteralNot, place (at + 3) u) = e ∙ rw ends refl in cc
+not_stands : (op : NotOperator) (at : ℕ) (u : List ℕ) → not_ends op u → None ≡ not_at (position at (not_text op ++ u)) → ⊥
+not_stands LiteralNot at u ends e = let f : None ≡ Some (LiteralNot, position (at + 3) u) = e ∙ rw ends refl in cc
 not_stands Exclamation at u ends e = cc
 
 -- no operand begins after the blanks
-pub no_operand : (p s : Place) → s ≡ skip p → None ≡ name_at s → None ≡ not_at s → None ≡ after (codes "(") s → (blanks u : List ℕ) → Blanks blanks → p.rest ≡ blanks ++ u → BeginsOperand u → ⊥
+pub no_operand : (p s : Position) → s ≡ skip p → None ≡ name_at s → None ≡ not_at s → None ≡ after (codes "(") s → (blanks u : List ℕ) → Blanks blanks → p.rest ≡ blanks ++ u → BeginsOperand u → ⊥
 no_operand p s skipped no_name no_not no_open blanks u are is (with_name {t} {name} n begins) =
     let v = begins.rest in
-    let at : s ≡ place (p.at + length blanks) (name ++ v) = skipped ∙ ap (skip_from p.at) (is ∙ ap (λ (t : List ℕ). blanks ++ t) begins.parts) ∙ skip_again are p.at (name ++ v) (name_first n v) in
+    let at : s ≡ position (p.at + length blanks) (name ++ v) = skipped ∙ ap (skip_from p.at) (is ∙ ap (λ (t : List ℕ). blanks ++ t) begins.parts) ∙ skip_again are p.at (name ++ v) (name_first n v) in
     name_stands n _ v (no_name ∙ ap name_at at)
 no_operand p s skipped no_name no_not no_open blanks u are is (with_negation {t} op v e ends) =
-    let at : s ≡ place (p.at + length blanks) (not_text op ++ v) = skipped ∙ ap (skip_from p.at) (is ∙ ap (λ (t : List ℕ). blanks ++ t) e) ∙ skip_again are p.at (not_text op ++ v) (not_first op v) in
+    let at : s ≡ position (p.at + length blanks) (not_text op ++ v) = skipped ∙ ap (skip_from p.at) (is ∙ ap (λ (t : List ℕ). blanks ++ t) e) ∙ skip_again are p.at (not_text op ++ v) (not_first op v) in
     not_stands op _ v ends (no_not ∙ ap not_at at)
 no_operand p s skipped no_name no_not no_open blanks u are is (with_parenthesis {t} begins) =
     let v = begins.rest in
-    let at : s ≡ place (p.at + length blanks) (40 ∷ v) = skipped ∙ ap (skip_from p.at) (is ∙ ap (λ (t : List ℕ). blanks ++ t) begins.parts) ∙ skip_again are p.at (40 ∷ v) (open_first v) in
-    let f : None ≡ Some (place (p.at + length blanks + 1) v) = no_open ∙ ap (after (codes "(")) at in
+    let at : s ≡ position (p.at + length blanks) (40 ∷ v) = skipped ∙ ap (skip_from p.at) (is ∙ ap (λ (t : List ℕ). blanks ++ t) begins.parts) ∙ skip_again are p.at (40 ∷ v) (open_first v) in
+    let f : None ≡ Some (position (p.at + length blanks + 1) v) = no_open ∙ ap (after (codes "(")) at in
     cc
 
 -- ---- faults
@@ -147,43 +147,43 @@ is_name names.Default = faults.default
 is_name names.All = faults.all
 is_name names.None = faults.none
 
-pub open_found : (i : Input) (s : Place) (n : PredicateName) → AtName n i → s ≡ skip (place_of i) → None ≡ after (codes "(") s → Found i.text.now (ExpectedOpenParenthesis (span i.offset 0))
+pub open_found : (i : Input) (s : Position) (n : PredicateName) → AtName n i → s ≡ skip (position_of i) → None ≡ after (codes "(") s → Found i.text.now (ExpectedOpenParenthesis (span i.offset 0))
 open_found i s n name skipped none = record {
   stands = record {
     within = let e = size i in omega arith;
     begins = begins_here i;
     ends = point_ends i;
-    there = (refl, (λ behind. no_word (codes "(") (place_of i) open_first (none ∙ ap (after (codes "(")) skipped) (subst (BehindBlanks (codes "(")) i.seam.onward behind)), (name_text n, is_name n, name));
+    there = (refl, (λ behind. no_word (codes "(") (position_of i) open_first (none ∙ ap (after (codes "(")) skipped) (subst (BehindBlanks (codes "(")) i.seam.onward behind)), (name_text n, is_name n, name));
   };
   inside = refl;
 }
 
-pub close_found : (i : Input) (s : Place) → s ≡ skip (place_of i) → None ≡ after (codes ")") s → Found i.text.now (ExpectedCloseParenthesis (span i.offset 0))
+pub close_found : (i : Input) (s : Position) → s ≡ skip (position_of i) → None ≡ after (codes ")") s → Found i.text.now (ExpectedCloseParenthesis (span i.offset 0))
 close_found i s skipped none = record {
   stands = record {
     within = let e = size i in omega arith;
     begins = begins_here i;
     ends = point_ends i;
-    there = (refl, λ behind. no_word (codes ")") (place_of i) close_first (none ∙ ap (after (codes ")")) skipped) (subst (BehindBlanks (codes ")")) i.seam.onward behind));
+    there = (refl, λ behind. no_word (codes ")") (position_of i) close_first (none ∙ ap (after (codes ")")) skipped) (subst (BehindBlanks (codes ")")) i.seam.onward behind));
   };
   inside = refl;
 }
 
-pub expr_found : (i : Input) (s : Place) → AtOperand i → s ≡ skip (place_of i) → None ≡ name_at s → None ≡ not_at s → None ≡ after (codes "(") s → Found i.text.now (ExpectedExpr (span i.offset (length i.rest.now)))
+pub expr_found : (i : Input) (s : Position) → AtOperand i → s ≡ skip (position_of i) → None ≡ name_at s → None ≡ not_at s → None ≡ after (codes "(") s → Found i.text.now (ExpectedExpr (span i.offset (length i.rest.now)))
 expr_found i s at skipped no_name no_not no_open = record {
   stands = record {
     within = let e = size i in omega arith;
     begins = begins_here i;
     ends = rest_ends i;
-    there = (at.before, size i, λ blanks u are is begins. no_operand (place_of i) s skipped no_name no_not no_open blanks u are (sym i.seam.onward ∙ is) begins);
+    there = (at.before, size i, λ blanks u are is begins. no_operand (position_of i) s skipped no_name no_not no_open blanks u are (sym i.seam.onward ∙ is) begins);
   };
   inside = refl;
 }
 
-pub comma_found : (i b : Input) (s : Place) → s ≡ skip (place_of i) → Some (place_of b) ≡ after (codes ",") s → Found i.text.now (UnexpectedComma (span i.offset 0))
+pub comma_found : (i b : Input) (s : Position) → s ≡ skip (position_of i) → Some (position_of b) ≡ after (codes ",") s → Found i.text.now (UnexpectedComma (span i.offset 0))
 comma_found i b s skipped stands =
     let k = skip_takes i.rest.now i.offset in
-    let t = after_takes (codes ",") (skip (place_of i)) (place_of b) (sym (stands ∙ ap (after (codes ",")) skipped)) in
+    let t = after_takes (codes ",") (skip (position_of i)) (position_of b) (sym (stands ∙ ap (after (codes ",")) skipped)) in
     record {
       stands = record {
         within = let e = size i in omega arith;
@@ -200,11 +200,11 @@ closed_ends i e n =
     let own : IsCharBoundary (drop i.offset i.text.now) (close_len i.rest.now) = subst (λ (t : List ℕ). IsCharBoundary t (close_len i.rest.now)) (sym i.seam.onward) (close_boundary (close_len i.rest.now) i.rest.now refl) in
     subst (λ (k : ℕ). IsCharBoundary i.text.now (i.offset + k)) (sym n) (IsCharBoundary-from_rest i.text.now i.offset (close_len i.rest.now) i.seam.within own)
 
-pub argument_found : (i e : Input) → place_of e ≡ place (i.offset + close_len i.rest.now) (drop (close_len i.rest.now) i.rest.now) → is_white (take (close_len i.rest.now) i.rest.now) ≡ false
+pub argument_found : (i e : Input) → position_of e ≡ position (i.offset + close_len i.rest.now) (drop (close_len i.rest.now) i.rest.now) → is_white (take (close_len i.rest.now) i.rest.now) ≡ false
     → Found i.text.now (UnexpectedArgument (span i.offset (e.offset - i.offset)))
 argument_found i e is black =
     let t = i.rest.now in
-    let at : e.offset ≡ i.offset + close_len t = ap (λ (p : Place). p.at) is in
+    let at : e.offset ≡ i.offset + close_len t = ap (λ (p : Position). p.at) is in
     let n : e.offset - i.offset ≡ close_len t = omega arith in
     let piece : take (e.offset - i.offset) (drop i.offset i.text.now) ≡ take (close_len t) t = ap (λ (k : ℕ). take k (drop i.offset i.text.now)) n ∙ ap (take (close_len t)) i.seam.onward in
     let rest : drop (e.offset - i.offset) (drop i.offset i.text.now) ≡ drop (close_len t) t = ap (λ (k : ℕ). drop k (drop i.offset i.text.now)) n ∙ ap (drop (close_len t)) i.seam.onward in
@@ -221,26 +221,26 @@ argument_found i e is black =
     not_white : (t : List ℕ) → is_white (take (close_len t) t) ≡ false → WhiteSpace (take (close_len t) t) → ⊥
     not_white t black white = let f : true ≡ false = sym (white_to _ white) ∙ black in cc
 
--- the span between two places of a text lies in it
+-- the span between two positions of a text lies in it
 span_within : (i s r : Input) → s.text.now ≡ i.text.now → r.text.now ≡ s.text.now → s.offset ≤ r.offset → s.offset + (r.offset - s.offset) ≤ length i.text.now
 span_within i s r a b le =
     let e = r.seam.within in
     let f : length r.text.now ≡ length i.text.now = ap length (b ∙ a) in
     omega (arith, e)
 
-piece_at : (i s r : Input) (w : List ℕ) → s.text.now ≡ i.text.now → after w (place_of s) ≡ Some (place_of r) → take (r.offset - s.offset) (drop s.offset i.text.now) ≡ w
-piece_at i s r w same stands = ap (λ (t : List ℕ). take (r.offset - s.offset) (drop s.offset t)) (sym same) ∙ piece_is s r w (after_takes w (place_of s) (place_of r) stands)
+piece_at : (i s r : Input) (w : List ℕ) → s.text.now ≡ i.text.now → after w (position_of s) ≡ Some (position_of r) → take (r.offset - s.offset) (drop s.offset i.text.now) ≡ w
+piece_at i s r w same stands = ap (λ (t : List ℕ). take (r.offset - s.offset) (drop s.offset t)) (sym same) ∙ piece_is s r w (after_takes w (position_of s) (position_of r) stands)
 
 begins_in : (i s : Input) → s.text.now ≡ i.text.now → IsCharBoundary i.text.now s.offset
 begins_in i s same = subst (λ (t : List ℕ). IsCharBoundary t s.offset) same (begins_here s)
 
-ends_in : (i s r : Input) (w : List ℕ) → s.text.now ≡ i.text.now → after w (place_of s) ≡ Some (place_of r) → IsCharBoundary i.text.now (s.offset + (r.offset - s.offset))
+ends_in : (i s r : Input) (w : List ℕ) → s.text.now ≡ i.text.now → after w (position_of s) ≡ Some (position_of r) → IsCharBoundary i.text.now (s.offset + (r.offset - s.offset))
 ends_in i s r w same stands =
-    let t = after_takes w (place_of s) (place_of r) stands in
+    let t = after_takes w (position_of s) (position_of r) stands in
     subst (λ (x : List ℕ). IsCharBoundary x (s.offset + (r.offset - s.offset))) same (piece_ends s r w t.parts t.offset)
 
--- an operator that stands in the place of an operand stands there
-misplaced_stands : (p : Place) (op suggest : List ℕ) (q : Place) → IsMisplaced p op suggest q → after op p ≡ Some q
+-- an operator that stands where an operand should stands there
+misplaced_stands : (p : Position) (op suggest : List ℕ) (q : Position) → IsMisplaced p op suggest q → after op p ≡ Some q
 misplaced_stands p op suggest q is = from is.suggested is.stands
   where
     from : {op suggest : List ℕ} (m : Misplaced op suggest) → behind_misplaced m p ≡ Some q → after op p ≡ Some q
@@ -252,10 +252,10 @@ misplaced_stands p op suggest q is = from is.suggested is.stands
     from misplaced_pipes e = e
 
 -- and none does where neither a word nor a sign stands
-pub none_misplaced : (p : Place) → NoMisplacedWord p → NoMisplacedSign p → (op suggest : List ℕ) (q : Place) → IsMisplaced p op suggest q → ⊥
+pub none_misplaced : (p : Position) → NoMisplacedWord p → NoMisplacedSign p → (op suggest : List ℕ) (q : Position) → IsMisplaced p op suggest q → ⊥
 none_misplaced p words signs op suggest q is = from is.suggested is.stands
   where
-    never : {o : Option Place} → None ≡ o → o ≡ Some q → ⊥
+    never : {o : Option Position} → None ≡ o → o ≡ Some q → ⊥
     never none e = let nothing = none ∙ e in absurd cc
 
     from : {op suggest : List ℕ} (m : Misplaced op suggest) → behind_misplaced m p ≡ Some q → ⊥
@@ -266,7 +266,7 @@ none_misplaced p words signs op suggest q is = from is.suggested is.stands
     from misplaced_ampersands e = never signs.no_ampersands e
     from misplaced_pipes e = never signs.no_pipes e
 
-pub binary_found : (i s : Input) (found : Found-operator) → s.text.now ≡ i.text.now → IsMisplaced (place_of s) found.op.now found.suggest.now (place_of found.end) → IsBehind s found.end
+pub binary_found : (i s : Input) (found : Found-operator) → s.text.now ≡ i.text.now → IsMisplaced (position_of s) found.op.now found.suggest.now (position_of found.end) → IsBehind s found.end
     → Found i.text.now (ExprFoundBinaryOp (span s.offset (found.end.offset - s.offset)) found.op found.suggest)
 binary_found i s found same is b = record {
   stands = record {
@@ -278,10 +278,10 @@ binary_found i s found same is b = record {
   inside = refl;
 }
   where
-    stands : after found.op.now (place_of s) ≡ Some (place_of found.end)
-    stands = misplaced_stands (place_of s) found.op.now found.suggest.now (place_of found.end) is
+    stands : after found.op.now (position_of s) ≡ Some (position_of found.end)
+    stands = misplaced_stands (position_of s) found.op.now found.suggest.now (position_of found.end) is
 
-pub unary_found : (i s : Input) (found : Found-operator) → s.text.now ≡ i.text.now → IsCapitalNot (place_of s) found.op.now found.suggest.now (place_of found.end) → IsBehind s found.end
+pub unary_found : (i s : Input) (found : Found-operator) → s.text.now ≡ i.text.now → IsCapitalNot (position_of s) found.op.now found.suggest.now (position_of found.end) → IsBehind s found.end
     → Found i.text.now (ExprFoundUnaryOp (span s.offset (found.end.offset - s.offset)) found.op found.suggest)
 unary_found i s found same is b = record {
   stands = record {
@@ -293,13 +293,13 @@ unary_found i s found same is b = record {
   inside = refl;
 }
   where
-    stands : after found.op.now (place_of s) ≡ Some (place_of found.end)
-    stands = word_after found.op.now (place_of s) (place_of found.end) is.stands
+    stands : after found.op.now (position_of s) ≡ Some (position_of found.end)
+    stands = word_after found.op.now (position_of s) (position_of found.end) is.stands
 
-pub and_found : (s r : Input) → Some (None, place_of r) ≡ joiner_at (place_of s) → IsBehind s r → Found s.text.now (InvalidAndOperator (span s.offset (r.offset - s.offset)))
+pub and_found : (s r : Input) → Some (None, position_of r) ≡ joiner_at (position_of s) → IsBehind s r → Found s.text.now (InvalidAndOperator (span s.offset (r.offset - s.offset)))
 unfolding JoinerTaken
 and_found s r stands b =
-    let j = joiner_takes (place_of s) (None, place_of r) (sym stands) in
+    let j = joiner_takes (position_of s) (None, position_of r) (sym stands) in
     record {
       stands = record {
         within = span_within s s r refl b.text (omega (arith, b.end, b.shorter));
@@ -310,10 +310,10 @@ and_found s r stands b =
       inside = refl;
     }
 
-pub or_found : (s r : Input) → Some (None, place_of r) ≡ or_at (place_of s) → IsBehind s r → Found s.text.now (InvalidOrOperator (span s.offset (r.offset - s.offset)))
+pub or_found : (s r : Input) → Some (None, position_of r) ≡ or_at (position_of s) → IsBehind s r → Found s.text.now (InvalidOrOperator (span s.offset (r.offset - s.offset)))
 unfolding OrTaken
 or_found s r stands b =
-    let j = or_takes (place_of s) (None, place_of r) (sym stands) in
+    let j = or_takes (position_of s) (None, position_of r) (sym stands) in
     record {
       stands = record {
         within = span_within s s r refl b.text (omega (arith, b.end, b.shorter));
@@ -326,28 +326,28 @@ or_found s r stands b =
 
 -- ---- where an operand may stand
 
-pub behind_not : (s r : Input) (op : NotOperator) → Some (op, place_of r) ≡ not_at (place_of s) → r.text.now ≡ s.text.now → AtOperand r
-behind_not s r op stands same = record { before = behind_opener (faults.negation op) (ends_with s r (not_text op) same (not_takes (place_of s) (op, place_of r) (sym stands)).0) }
+pub behind_not : (s r : Input) (op : NotOperator) → Some (op, position_of r) ≡ not_at (position_of s) → r.text.now ≡ s.text.now → AtOperand r
+behind_not s r op stands same = record { before = behind_opener (faults.negation op) (ends_with s r (not_text op) same (not_takes (position_of s) (op, position_of r) (sym stands)).0) }
 
-pub behind_open : (s r : Input) → Some (place_of r) ≡ after (codes "(") (place_of s) → r.text.now ≡ s.text.now → AtOperand r
-behind_open s r stands same = record { before = behind_opener parenthesis (ends_with s r (codes "(") same (after_takes (codes "(") (place_of s) (place_of r) (sym stands))) }
+pub behind_open : (s r : Input) → Some (position_of r) ≡ after (codes "(") (position_of s) → r.text.now ≡ s.text.now → AtOperand r
+behind_open s r stands same = record { before = behind_opener parenthesis (ends_with s r (codes "(") same (after_takes (codes "(") (position_of s) (position_of r) (sym stands))) }
 
-pub behind_joiner : (s r : Input) (op : Option Joiner) → Some (op, place_of r) ≡ joiner_at (place_of s) → r.text.now ≡ s.text.now → AtOperand r
+pub behind_joiner : (s r : Input) (op : Option Joiner) → Some (op, position_of r) ≡ joiner_at (position_of s) → r.text.now ≡ s.text.now → AtOperand r
 unfolding JoinerTaken
-behind_joiner s r (Some op) stands same = record { before = behind_opener (faults.joiner op) (ends_with s r (join_text op) same (joiner_takes (place_of s) (Some op, place_of r) (sym stands)).0) }
+behind_joiner s r (Some op) stands same = record { before = behind_opener (faults.joiner op) (ends_with s r (join_text op) same (joiner_takes (position_of s) (Some op, position_of r) (sym stands)).0) }
 behind_joiner s r None stands same =
-    let j = joiner_takes (place_of s) (None, place_of r) (sym stands) in
+    let j = joiner_takes (position_of s) (None, position_of r) (sym stands) in
     record { before = behind_opener (invalid_and j.1) (ends_with s r j.0 same j.2) }
 
-pub behind_or : (s r : Input) (op : Option OrOperator) → Some (op, place_of r) ≡ or_at (place_of s) → r.text.now ≡ s.text.now → AtOperand r
+pub behind_or : (s r : Input) (op : Option OrOperator) → Some (op, position_of r) ≡ or_at (position_of s) → r.text.now ≡ s.text.now → AtOperand r
 unfolding OrTaken
-behind_or s r (Some op) stands same = record { before = behind_opener (faults.or op) (ends_with s r (or_text op) same (or_takes (place_of s) (Some op, place_of r) (sym stands)).0) }
+behind_or s r (Some op) stands same = record { before = behind_opener (faults.or op) (ends_with s r (or_text op) same (or_takes (position_of s) (Some op, position_of r) (sym stands)).0) }
 behind_or s r None stands same =
-    let j = or_takes (place_of s) (None, place_of r) (sym stands) in
+    let j = or_takes (position_of s) (None, position_of r) (sym stands) in
     record { before = behind_opener (invalid_or j.1) (ends_with s r j.0 same j.2) }
 
-pub behind_name : (s r : Input) (n : PredicateName) → Some (n, place_of r) ≡ name_at (place_of s) → r.text.now ≡ s.text.now → AtName n r
-behind_name s r n stands same = ends_with s r (name_text n) same (name_takes (place_of s) (n, place_of r) (sym stands))
+pub behind_name : (s r : Input) (n : PredicateName) → Some (n, position_of r) ≡ name_at (position_of s) → r.text.now ≡ s.text.now → AtName n r
+behind_name s r n stands same = ends_with s r (name_text n) same (name_takes (position_of s) (n, position_of r) (sym stands))
 
-pub at_text_start : (r : Input) (t : List ℕ) → place_of r ≡ place 0 t → AtOperand r
-at_text_start r t e = let z : r.offset ≡ 0 = ap (λ (p : Place). p.at) e in record { before = subst (λ (n : ℕ). BeforeOperand (take n r.text.now)) (sym z) at_start }
+pub at_text_start : (r : Input) (t : List ℕ) → position_of r ≡ position 0 t → AtOperand r
+at_text_start r t e = let z : r.offset ≡ 0 = ap (λ (p : Position). p.at) e in record { before = subst (λ (n : ℕ). BeforeOperand (take n r.text.now)) (sym z) at_start }

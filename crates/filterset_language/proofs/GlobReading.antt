@@ -12,7 +12,7 @@ use Rattle.filterset_glob.proofs.ReadIsSpelled.{glob_of_reading}
 use Rattle.filterset_glob.specs.declared.fault.GlobConstructError.{GlobConstructError}
 use Rattle.filterset_faults.specs.Span.{span}
 use Rattle.filterset_faults.specs.declared.error.ParseSingleError.TheVariants.{InvalidGlob}
-use Rattle.filterset_language.specs.Parsing.Place.{place_of}
+use Rattle.filterset_language.specs.Parsing.Position.{position_of}
 use Rattle.filterset_language.specs.Parsing.RawTexts.{SpelledTo}
 use Rattle.filterset_matchers.specs.Matcher.{Glob}
 use Rattle.filterset_language.specs.Parsing.Globs.{glob_by, glob_in}
@@ -38,7 +38,7 @@ pub of_fault : (r : GlobRefusal) (error : GlobConstructError) (P : GlobConstruct
 of_fault r error P is holds = subst (λ (x : GlobRefusal). IfFault x P) is holds
 
 -- the fault of a text that is no glob
-pub glob_found : (i e : Input) (value : List ℕ) (error : GlobConstructError) → SpelledTo (place_of i) value (place_of e) → ((tokens : Tokens) → ¬ GlobText (chars value) tokens) → FaultStands (chars value) error
+pub glob_found : (i e : Input) (value : List ℕ) (error : GlobConstructError) → SpelledTo (position_of i) value (position_of e) → ((tokens : Tokens) → ¬ GlobText (chars value) tokens) → FaultStands (chars value) error
     → Found i.text.now (InvalidGlob (span i.offset (e.offset - i.offset)) error)
 glob_found i e value error s never stands = record {
   stands = record {

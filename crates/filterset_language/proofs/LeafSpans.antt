@@ -41,16 +41,16 @@ regroup f a u z b = simp append_assoc
 
 -- so does a part of it
 part : {text t : List ℕ} {at : ℕ} (a u z : List ℕ) (n : ℕ) → StandsAt text t at → t ≡ a ++ (u ++ z) → n ≡ at + length a → StandsAt text u n
-part {text} {t} {at} a u z n s is place = record {
+part {text} {t} {at} a u z n s is position = record {
   front = s.front ++ a;
   behind = z ++ s.behind;
   parts = s.parts ∙ ap (λ (x : List ℕ). s.front ++ (x ++ s.behind)) is ∙ regroup s.front a u z s.behind;
-  offset = omega (arith, place, s.offset, length-append s.front a);
+  offset = omega (arith, position, s.offset, length-append s.front a);
 }
 
 -- and its end
 end_part : {text t : List ℕ} {at : ℕ} (a u : List ℕ) (n : ℕ) → StandsAt text t at → t ≡ a ++ u → n ≡ at + length a → StandsAt text u n
-end_part a u n s is place = part a u [] n s (is ∙ ap (λ (x : List ℕ). a ++ x) (sym (append-nil u))) place
+end_part a u n s is position = part a u [] n s (is ∙ ap (λ (x : List ℕ). a ++ x) (sym (append-nil u))) position
 
 -- the left operand before an operator
 left_part : {text t : List ℕ} {at : ℕ} (left more : List ℕ) → StandsAt text t at → t ≡ left ++ more → StandsAt text left at

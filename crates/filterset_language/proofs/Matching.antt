@@ -13,7 +13,7 @@ use Rattle.filterset_faults.specs.declared.error.ParseSingleError.TheVariants.{I
 use Rattle.filterset_faults.specs.Span.{span}
 use Rattle.filterset_faults.specs.declared.span.SourceSpan.{SourceSpan}
 use Rattle.filterset_language.specs.declared.parsing.names.PredicateName.{PredicateName}
-use Rattle.filterset_language.specs.Parsing.Place.{Place, place_of, skip, after}
+use Rattle.filterset_language.specs.Parsing.Position.{Position, position_of, skip, after}
 use Rattle.filterset_matchers.specs.Matcher.{Matcher, Equal, Contains, Glob, Regex}
 use Rattle.filterset_grammar.specs.Tree.{Leaf, Matching, Platform, Default, Set}
 use Rattle.filterset_grammar.specs.declared.predicate.Predicate.{Predicate}
@@ -39,15 +39,15 @@ use Rattle.filterset_language.proofs.StepsTakeText.{bind_is, is_some, skip_takes
 -- ---- regular expressions
 
 -- the pattern of a body, built or refused
-pub regex_gives : (i : Input) (f g h : Faults) (pattern : List ℕ) (at : SourceSpan) (q : Place) (v : Option Matcher) → Recovers f g (Some ((pattern, at), q)) (body_at (place_of i)) → BodyTaken (place_of i) pattern at q
-    → MakesPattern at g h v (Regex pattern) → GivesMatcher i.text.now f h v q (regex_at (place_of i))
+pub regex_gives : (i : Input) (f g h : Faults) (pattern : List ℕ) (at : SourceSpan) (q : Position) (v : Option Matcher) → Recovers f g (Some ((pattern, at), q)) (body_at (position_of i)) → BodyTaken (position_of i) pattern at q
+    → MakesPattern at g h v (Regex pattern) → GivesMatcher i.text.now f h v q (regex_at (position_of i))
 regex_gives i f g h pattern at q v a taken made =
     ⊎_elim
-    (λ lt. fails (omega (arith, carried_grows MatcherIsRead _ g h v (Regex pattern) made)) (bind_none (body_at (place_of i)) _ (a.fault lt)))
+    (λ lt. fails (omega (arith, carried_grows MatcherIsRead _ g h v (Regex pattern) made)) (bind_none (body_at (position_of i)) _ (a.fault lt)))
     (λ le.
     let e = a.clean (omega (arith, a.grows)) in
     let kept = subst (λ (x : Faults). MakesPattern at x h v (Regex pattern)) e.0 made in
-    reads (Regex pattern) (lies kept) (bind_some (body_at (place_of i)) ((pattern, at), q) _ e.1))
+    reads (Regex pattern) (lies kept) (bind_some (body_at (position_of i)) ((pattern, at), q) _ e.1))
     (cases_lt (length f) (length g))
   where
     ends : q.at ≡ at.offset + at.len + 1
@@ -62,7 +62,7 @@ regex_gives i f g h pattern at q v a taken made =
         refused added same some (λ k d lt. record { at = at; is = each k d lt; pattern = pattern; is_regex = refl; body = body_piece i pattern at q taken; ends = ends }) none
 
 -- the faults of a refused pattern stand
-pub regex_keeps : (i : Input) (text : List ℕ) (f g h : Faults) (pattern : List ℕ) (at : SourceSpan) (q : Place) (v : Option Matcher) → i.text.now ≡ text → EndsWith (take i.offset i.text.now) (47 ∷ []) → BodyTaken (place_of i) pattern at q
+pub regex_keeps : (i : Input) (text : List ℕ) (f g h : Faults) (pattern : List ℕ) (at : SourceSpan) (q : Position) (v : Option Matcher) → i.text.now ≡ text → EndsWith (take i.offset i.text.now) (47 ∷ []) → BodyTaken (position_of i) pattern at q
     → Keeps text f g → MakesPattern at g h v (Regex pattern) → Keeps text f h
 regex_keeps i text f g h pattern at q v same slash taken keeps (comes is value read) = subst (λ (x : Faults). Keeps text f x) (sym is) keeps
 regex_keeps i text f g h pattern at q v same slash taken keeps (refused added is some each none) = λ old.
@@ -81,23 +81,23 @@ made_is_read (ways.Glob, implicit) value m e = glob_is_read (reading (chars valu
     glob_is_read (Ok tokens) e = subst MatcherIsRead (is_some (Glob value tokens implicit) m e) tt
     glob_is_read (Err fault) e = absurd cc
 
-text_is_read : (predicate : Predicate) (p : Place) (q : Place) (m : Matcher) → text_matcher_at predicate p ≡ Some (m, q) → MatcherIsRead m
+text_is_read : (predicate : Predicate) (p : Position) (q : Position) (m : Matcher) → text_matcher_at predicate p ≡ Some (m, q) → MatcherIsRead m
 text_is_read predicate p q m e =
     let s = sign_at predicate p in
     let a = bind_is (raw_at s.1) (λ x. made s.0 x.0 >>= λ y. Some (y, x.1)) (m, q) e in
     let b = bind_is (made s.0 a.0.0) (λ y. Some (y, a.0.1)) (m, q) a.2 in
-    let same : b.0 ≡ m = ap (λ (x : Matcher × Place). x.0) (is_some (b.0, a.0.1) (m, q) b.2) in
+    let same : b.0 ≡ m = ap (λ (x : Matcher × Position). x.0) (is_some (b.0, a.0.1) (m, q) b.2) in
     subst MatcherIsRead same (made_is_read s.0 a.0.0 b.0 b.1)
 
-pub text_gives : (text : List ℕ) (predicate : Predicate) (p q : Place) (f g : Faults) (v : Option Matcher) → None ≡ after (codes "/") p → Recovers f g (beside q v) (text_matcher_at predicate p) → GivesMatcher text f g v q (matcher_at predicate p)
+pub text_gives : (text : List ℕ) (predicate : Predicate) (p q : Position) (f g : Faults) (v : Option Matcher) → None ≡ after (codes "/") p → Recovers f g (beside q v) (text_matcher_at predicate p) → GivesMatcher text f g v q (matcher_at predicate p)
 text_gives text predicate p q f g v no_slash a = rw (← no_slash) (gives_of MatcherIsRead (LiesOnPattern text q.at) f g v q (text_matcher_at predicate p) a (λ m e. text_is_read predicate p q m e))
 
 -- a value is made after a text that was read
-pub text_recovers : (f g h : Faults) (s : (TextMatching × Bool) × Place) (value : List ℕ) (q : Place) (v : Option Matcher) → Recovers f g (Some (value, q)) (raw_at s.1) → Recovers g h v (made s.0 value)
+pub text_recovers : (f g h : Faults) (s : (TextMatching × Bool) × Position) (value : List ℕ) (q : Position) (v : Option Matcher) → Recovers f g (Some (value, q)) (raw_at s.1) → Recovers g h v (made s.0 value)
     → Recovers f h (beside q v) (raw_at s.1 >>= λ x. made s.0 x.0 >>= λ m. Some (m, x.1))
 text_recovers f g h s value q v a b = recovers_then f g h (value, q) (beside q v) (raw_at s.1) (λ x. made s.0 x.0 >>= λ m. Some (m, x.1)) a (recovers_beside g h v q (made s.0 value) b)
   where
-    recovers_beside : (g h : Faults) (v : Option Matcher) (q : Place) (r : Option Matcher) → Recovers g h v r → Recovers g h (beside q v) (r >>= λ m. Some (m, q))
+    recovers_beside : (g h : Faults) (v : Option Matcher) (q : Position) (r : Option Matcher) → Recovers g h v r → Recovers g h (beside q v) (r >>= λ m. Some (m, q))
     recovers_beside g h None q r b = record {
       grows = b.grows;
       clean = λ same. let e = b.clean same in absurd (let nothing : false ≡ true = e.2 in cc);
@@ -112,7 +112,7 @@ text_recovers f g h s value q v a b = recovers_then f g h (value, q) (beside q v
 -- ---- predicates
 
 -- the body of a matcher is one of the predicate
-matching_lies : (text : List ℕ) (predicate : Predicate) (m : Matcher) (p q : Place) (x : ParseSingleError) → p.at ≤ q.at → LiesOnPattern text q.at m x → LiesOnBody text (Set (Matching predicate m (between p.at q.at))) x
+matching_lies : (text : List ℕ) (predicate : Predicate) (m : Matcher) (p q : Position) (x : ParseSingleError) → p.at ≤ q.at → LiesOnPattern text q.at m x → LiesOnBody text (Set (Matching predicate m (between p.at q.at))) x
 matching_lies text predicate m p q x le lies = record {
   at = lies.at;
   is = lies.is;
@@ -124,65 +124,65 @@ matching_lies text predicate m p q x le lies = record {
   end = let ends = lies.ends in omega arith;
 }
 
-pub matching_gives : (t text : List ℕ) (predicate : Predicate) (p s q u : Place) (f g h : Faults) (v : Option Matcher) → t ≡ text → s ≡ skip p → p.at ≤ q.at → GivesMatcher t f g v q (matcher_at predicate s)
+pub matching_gives : (t text : List ℕ) (predicate : Predicate) (p s q u : Position) (f g h : Faults) (v : Option Matcher) → t ≡ text → s ≡ skip p → p.at ≤ q.at → GivesMatcher t f g v q (matcher_at predicate s)
     → Recovers g h (Some u) (after (codes ")") (skip q)) → GivesLeaf text f h (option_map (λ m. Matching predicate m (between p.at q.at)) v) u (matching_at predicate p)
 matching_gives t text predicate p s q u f g h v same skipped le a b =
-    let make : Matcher → Place → Leaf SourceSpan = λ m w. Matching predicate m (between p.at w.at) in
-    let read : GivesMatcher text f g v q (matcher_at predicate (skip p)) = subst (λ (x : List ℕ). GivesMatcher x f g v q (matcher_at predicate (skip p))) same (subst (λ (x : Place). GivesMatcher t f g v q (matcher_at predicate x)) skipped a) in
+    let make : Matcher → Position → Leaf SourceSpan = λ m w. Matching predicate m (between p.at w.at) in
+    let read : GivesMatcher text f g v q (matcher_at predicate (skip p)) = subst (λ (x : List ℕ). GivesMatcher x f g v q (matcher_at predicate (skip p))) same (subst (λ (x : Position). GivesMatcher t f g v q (matcher_at predicate x)) skipped a) in
     gives_pair MatcherIsRead (LiesOnPattern text q.at) LeafIsRead (λ l. LiesOnBody text (Set l)) make q (λ m fine. fine) (λ m x lies. matching_lies text predicate m p q x le lies) f g h v u (matcher_at predicate (skip p)) (λ w. after (codes ")") (skip w)) read b
 
 -- a platform that was read and named
-pub platform_recovers : (p s q u : Place) (f g h : Faults) (value : List ℕ) (platform : BuildPlatform) → s ≡ skip p → Recovers f g (Some (value, q)) (raw_at s) → Recovers g h (Some u) (after (codes ")") (skip q)) → Some platform ≡ platform_in value
+pub platform_recovers : (p s q u : Position) (f g h : Faults) (value : List ℕ) (platform : BuildPlatform) → s ≡ skip p → Recovers f g (Some (value, q)) (raw_at s) → Recovers g h (Some u) (after (codes ")") (skip q)) → Some platform ≡ platform_in value
     → Recovers f h (Some (Platform platform (between p.at q.at), u)) (platform_at p)
 platform_recovers p s q u f g h value platform skipped a b names =
-    let read = subst (λ (x : Place). Recovers f g (Some (value, q)) (raw_at x)) skipped a in
+    let read = subst (λ (x : Position). Recovers f g (Some (value, q)) (raw_at x)) skipped a in
     let leaf : Leaf SourceSpan = Platform platform (between p.at q.at) in
     let named : (platform_in value >>= λ y. Some (Platform y (between p.at q.at), u)) ≡ Some (leaf, u) = rw (← names) refl in
     recovers_then f g h (value, q) (Some (leaf, u)) (raw_at (skip p)) (λ x. after (codes ")") (skip x.1) >>= λ r. platform_in x.0 >>= λ y. Some (Platform y (between p.at x.1.at), r)) read
     (recovers_then g h h u (Some (leaf, u)) (after (codes ")") (skip q)) (λ r. platform_in value >>= λ y. Some (Platform y (between p.at q.at), r)) b (recovers_along h h (leaf, u) _ refl named))
 
 -- the predicates that hold no pattern
-pub platform_is_read : (p q : Place) (l : Leaf SourceSpan) → platform_at p ≡ Some (l, q) → LeafIsRead l
+pub platform_is_read : (p q : Position) (l : Leaf SourceSpan) → platform_at p ≡ Some (l, q) → LeafIsRead l
 platform_is_read p q l e =
     let a = bind_is (raw_at (skip p)) (λ x. after (codes ")") (skip x.1) >>= λ r. platform_in x.0 >>= λ y. Some (Platform y (between p.at x.1.at), r)) (l, q) e in
     let b = bind_is (after (codes ")") (skip a.0.1)) (λ r. platform_in a.0.0 >>= λ y. Some (Platform y (between p.at a.0.1.at), r)) (l, q) a.2 in
     let c = bind_is (platform_in a.0.0) (λ y. Some (Platform y (between p.at a.0.1.at), b.0)) (l, q) b.2 in
-    subst LeafIsRead (ap (λ (x : Leaf SourceSpan × Place). x.0) (is_some (Platform c.0 (between p.at a.0.1.at), b.0) (l, q) c.2)) tt
+    subst LeafIsRead (ap (λ (x : Leaf SourceSpan × Position). x.0) (is_some (Platform c.0 (between p.at a.0.1.at), b.0) (l, q) c.2)) tt
 
-pub default_is_read : (start : ℕ) (p q : Place) (l : Leaf SourceSpan) → default_at start p ≡ Some (l, q) → LeafIsRead l
+pub default_is_read : (start : ℕ) (p q : Position) (l : Leaf SourceSpan) → default_at start p ≡ Some (l, q) → LeafIsRead l
 default_is_read start p q l e =
     let a = bind_is (bare_end_at p) (λ r. Some (Default (between start r.at), r)) (l, q) e in
-    subst LeafIsRead (ap (λ (x : Leaf SourceSpan × Place). x.0) (is_some (Default (between start a.0.at), a.0) (l, q) a.2)) tt
+    subst LeafIsRead (ap (λ (x : Leaf SourceSpan × Position). x.0) (is_some (Default (between start a.0.at), a.0) (l, q) a.2)) tt
 
-pub bare_is_read : (d : Leaf SourceSpan) (p q : Place) (l : Leaf SourceSpan) → LeafIsRead d → bare_at d p ≡ Some (l, q) → LeafIsRead l
+pub bare_is_read : (d : Leaf SourceSpan) (p q : Position) (l : Leaf SourceSpan) → LeafIsRead d → bare_at d p ≡ Some (l, q) → LeafIsRead l
 bare_is_read d p q l fine e =
     let a = bind_is (bare_end_at p) (λ r. Some (d, r)) (l, q) e in
-    subst LeafIsRead (ap (λ (x : Leaf SourceSpan × Place). x.0) (is_some (d, a.0) (l, q) a.2)) fine
+    subst LeafIsRead (ap (λ (x : Leaf SourceSpan × Position). x.0) (is_some (d, a.0) (l, q) a.2)) fine
 
 -- the fault of an argument that names no platform
-pub platform_found : (i s e : Input) (value : List ℕ) → place_of s ≡ skip (place_of i) → SpelledTo (place_of s) value (place_of e) → ((platform : BuildPlatform) → Names value platform → ⊥) → Found i.text.now (InvalidPlatformArgument (span i.offset (e.offset - i.offset)))
+pub platform_found : (i s e : Input) (value : List ℕ) → position_of s ≡ skip (position_of i) → SpelledTo (position_of s) value (position_of e) → ((platform : BuildPlatform) → Names value platform → ⊥) → Found i.text.now (InvalidPlatformArgument (span i.offset (e.offset - i.offset)))
 platform_found i s e value skipped spelled never =
     let k = skip_takes i.rest.now i.offset in
-    let read = subst (λ (x : Place). SpelledTo x value (place_of e)) skipped spelled in
-    platform_refused i e value k.are (with_blanks (place_of i) (skip (place_of i)) (place_of e) value k.are k.takes read) never
+    let read = subst (λ (x : Position). SpelledTo x value (position_of e)) skipped spelled in
+    platform_refused i e value k.are (with_blanks (position_of i) (skip (position_of i)) (position_of e) value k.are k.takes read) never
 
 -- what stands after the opening parenthesis of a predicate
-pub leaf_gives : (t text : List ℕ) (name : PredicateName) (start : ℕ) (p q u : Place) (f g h : Faults) (v : Option (Leaf SourceSpan)) → t ≡ text → Recovers f g (Some u) (after (codes "(") (skip p)) → GivesLeaf t g h v q (argument_at name start u)
+pub leaf_gives : (t text : List ℕ) (name : PredicateName) (start : ℕ) (p q u : Position) (f g h : Faults) (v : Option (Leaf SourceSpan)) → t ≡ text → Recovers f g (Some u) (after (codes "(") (skip p)) → GivesLeaf t g h v q (argument_at name start u)
     → GivesLeaf text f h v q (leaf_at name start p)
 leaf_gives t text name start p q u f g h v same a b =
     let read = subst (λ (x : List ℕ). GivesLeaf x g h v q (argument_at name start u)) same b in
     gives_then LeafIsRead (λ l. LiesOnBody text (Set l)) f g h u v q (after (codes "(") (skip p)) (argument_at name start) a read
 
 -- the arguments that hold no pattern
-pub platform_gives : (t : List ℕ) (p q : Place) (f g : Faults) (v : Option (Leaf SourceSpan)) → Recovers f g (beside q v) (platform_at p) → GivesLeaf t f g v q (platform_at p)
+pub platform_gives : (t : List ℕ) (p q : Position) (f g : Faults) (v : Option (Leaf SourceSpan)) → Recovers f g (beside q v) (platform_at p) → GivesLeaf t f g v q (platform_at p)
 platform_gives t p q f g v a = gives_of LeafIsRead (λ l. LiesOnBody t (Set l)) f g v q (platform_at p) a (λ l e. platform_is_read p q l e)
 
-pub default_gives : (t : List ℕ) (start : ℕ) (p q : Place) (f g : Faults) (v : Option (Leaf SourceSpan)) → Recovers f g (beside q v) (default_at start p) → GivesLeaf t f g v q (default_at start p)
+pub default_gives : (t : List ℕ) (start : ℕ) (p q : Position) (f g : Faults) (v : Option (Leaf SourceSpan)) → Recovers f g (beside q v) (default_at start p) → GivesLeaf t f g v q (default_at start p)
 default_gives t start p q f g v a = gives_of LeafIsRead (λ l. LiesOnBody t (Set l)) f g v q (default_at start p) a (λ l e. default_is_read start p q l e)
 
-pub bare_gives : (t : List ℕ) (d : Leaf SourceSpan) (p q : Place) (f g : Faults) (v : Option (Leaf SourceSpan)) → LeafIsRead d → Recovers f g (beside q v) (bare_at d p) → GivesLeaf t f g v q (bare_at d p)
+pub bare_gives : (t : List ℕ) (d : Leaf SourceSpan) (p q : Position) (f g : Faults) (v : Option (Leaf SourceSpan)) → LeafIsRead d → Recovers f g (beside q v) (bare_at d p) → GivesLeaf t f g v q (bare_at d p)
 bare_gives t d p q f g v fine a = gives_of LeafIsRead (λ l. LiesOnBody t (Set l)) f g v q (bare_at d p) a (λ l e. bare_is_read d p q l fine e)
 
 -- a predicate as an expression
-pub set_gives : (text : List ℕ) (f g : Faults) (v : Option (Leaf SourceSpan)) (q : Place) (r : Option (Leaf SourceSpan × Place)) → GivesLeaf text f g v q r → GivesTree text f g (option_map (λ l. Set l) v) q (r >>= λ l. Some (Set l.0, l.1))
+pub set_gives : (text : List ℕ) (f g : Faults) (v : Option (Leaf SourceSpan)) (q : Position) (r : Option (Leaf SourceSpan × Position)) → GivesLeaf text f g v q r → GivesTree text f g (option_map (λ l. Set l) v) q (r >>= λ l. Some (Set l.0, l.1))
 set_gives text f g v q r a = gives_map LeafIsRead (λ l. LiesOnBody text (Set l)) PatternsAreRead (LiesOnBody text) (λ l. Set l) (λ l fine. fine) (λ l x lies. lies) f g v q r a

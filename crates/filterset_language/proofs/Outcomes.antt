@@ -6,7 +6,7 @@ use Rattle.std.proofs.lemmas.Bool.{cases_lt}
 use Rattle.std.proofs.lemmas.List.Elements.{All-append}
 use Rattle.filterset_faults.specs.declared.error.ParseSingleError.{ParseSingleError}
 use Rattle.filterset_faults.specs.declared.span.SourceSpan.{SourceSpan}
-use Rattle.filterset_language.specs.Parsing.Place.{Place, skip}
+use Rattle.filterset_language.specs.Parsing.Position.{Position, skip}
 use Rattle.filterset_grammar.specs.Tree.{Leaf, Tree, tree_leaves}
 use Rattle.filterset_language.specs.Parsed.{LiesOnBody}
 use Rattle.filterset_language.specs.Parsing.Descent.{Placed, ◌>>=◌, Reader, Next, Make, more, level_by}
@@ -24,7 +24,7 @@ pub carried_grows : {Y : Type 0} (Good : Y → Type 0) (On : Judgement Y) (f g :
 carried_grows Good On f g v y (comes same is good) = let size : length g ≡ length f = ap length same in omega arith
 carried_grows Good On f g v y (refused added same some each none) = let size : length g ≡ length f + length added = ap length same ∙ length-append f added in omega arith
 
-pub gives_grows : {Y : Type 0} (Good : Y → Type 0) (On : Judgement Y) (f g : Faults) (v : Option Y) (q : Place) (r : Option (Y × Place)) → Gives Good On f g v q r → length f ≤ length g
+pub gives_grows : {Y : Type 0} (Good : Y → Type 0) (On : Judgement Y) (f g : Faults) (v : Option Y) (q : Position) (r : Option (Y × Position)) → Gives Good On f g v q r → length f ≤ length g
 gives_grows Good On f g v q r (reads y c is) = carried_grows Good On f g v y c
 gives_grows Good On f g v q r (fails lt none) = omega arith
 
@@ -57,7 +57,7 @@ carried_both GoodX OnX GoodY OnY Good On make good onx ony f g h v w x y (refuse
 
 module _ {Y : Type 0} (Good : Y → Type 0) (On : Judgement Y) where
   -- a reader that never refuses a pattern
-  pub gives_of : (f g : Faults) (v : Option Y) (q : Place) (r : Option (Y × Place)) → Recovers f g (beside q v) r → ((y : Y) → r ≡ Some (y, q) → Good y) → Gives Good On f g v q r
+  pub gives_of : (f g : Faults) (v : Option Y) (q : Position) (r : Option (Y × Position)) → Recovers f g (beside q v) r → ((y : Y) → r ≡ Some (y, q) → Good y) → Gives Good On f g v q r
   gives_of f g None q r a good =
       ⊎_elim
       (λ lt. fails lt (a.fault lt))
@@ -70,11 +70,11 @@ module _ {Y : Type 0} (Good : Y → Type 0) (On : Judgement Y) where
       (cases_lt (length f) (length g))
 
   -- another reading that is the same
-  pub gives_as : (f g : Faults) (v w : Option Y) (q : Place) (r s : Option (Y × Place)) → Gives Good On f g v q r → w ≡ v → s ≡ r → Gives Good On f g w q s
+  pub gives_as : (f g : Faults) (v w : Option Y) (q : Position) (r s : Option (Y × Position)) → Gives Good On f g v q r → w ≡ v → s ≡ r → Gives Good On f g w q s
   gives_as f g v w q r s a e d = rw (e, d) a
 
   -- after a step that gave x, or reported a fault and went on at x
-  pub gives_then : {X : Type 0} (f g h : Faults) (x : X) (v : Option Y) (q : Place) (r : Option X) (k : X → Option (Y × Place)) → Recovers f g (Some x) r → Gives Good On g h v q (k x) → Gives Good On f h v q (r >>= k)
+  pub gives_then : {X : Type 0} (f g h : Faults) (x : X) (v : Option Y) (q : Position) (r : Option X) (k : X → Option (Y × Position)) → Recovers f g (Some x) r → Gives Good On g h v q (k x) → Gives Good On f h v q (r >>= k)
   gives_then f g h x v q r k a b =
       ⊎_elim
       (λ lt. fails (omega (arith, gives_grows Good On g h v q (k x) b)) (bind_none r k (a.fault lt)))
@@ -86,13 +86,13 @@ module _ {Y : Type 0} (Good : Y → Type 0) (On : Judgement Y) where
 module _ {Y Z : Type 0} (Good : Y → Type 0) (On : Judgement Y) (GoodTo : Z → Type 0) (OnTo : Judgement Z) where
   -- a value, changed
   pub gives_map : (change : Y → Z) → ((y : Y) → Good y → GoodTo (change y)) → ((y : Y) (x : ParseSingleError) → On y x → OnTo (change y) x)
-      → (f g : Faults) (v : Option Y) (q : Place) (r : Option (Y × Place)) → Gives Good On f g v q r → Gives GoodTo OnTo f g (option_map change v) q (r >>= λ x. Some (change x.0, x.1))
+      → (f g : Faults) (v : Option Y) (q : Position) (r : Option (Y × Position)) → Gives Good On f g v q r → Gives GoodTo OnTo f g (option_map change v) q (r >>= λ x. Some (change x.0, x.1))
   gives_map change good on f g v q r (fails lt none) = fails lt (bind_none r _ none)
   gives_map change good on f g v q r (reads y c is) = reads (change y) (carried_map Good On GoodTo OnTo change good on f g v y c) (bind_some r (y, q) _ is)
 
   -- a value, and a step after it
-  pub gives_pair : (make : Y → Place → Z) (q : Place) → ((y : Y) → Good y → GoodTo (make y q)) → ((y : Y) (x : ParseSingleError) → On y x → OnTo (make y q) x)
-      → (f g h : Faults) (v : Option Y) (p : Place) (r : Option (Y × Place)) (s : Place → Option Place) → Gives Good On f g v q r → Recovers g h (Some p) (s q)
+  pub gives_pair : (make : Y → Position → Z) (q : Position) → ((y : Y) → Good y → GoodTo (make y q)) → ((y : Y) (x : ParseSingleError) → On y x → OnTo (make y q) x)
+      → (f g h : Faults) (v : Option Y) (p : Position) (r : Option (Y × Position)) (s : Position → Option Position) → Gives Good On f g v q r → Recovers g h (Some p) (s q)
       → Gives GoodTo OnTo f h (option_map (λ a. make a q) v) p (r >>= λ x. s x.1 >>= λ u. Some (make x.0 x.1, u))
   gives_pair make q good on f g h v p r s (fails lt none) b = fails (omega (arith, b.grows)) (bind_none r _ none)
   gives_pair make q good on f g h v p r s (reads y c is) b =
@@ -107,7 +107,7 @@ module _ {Y Z : Type 0} (Good : Y → Type 0) (On : Judgement Y) (GoodTo : Z →
 -- ---- the loop over the operators of a level
 
 -- a turn of the loop: the operator, where one stands there
-pub more_by : {O : Type 0} (next : Next O) (make : Make O) (read : Reader) (m : ℕ) (e : Placed) (p s q : Place) (op : Option O) → 0 < length p.rest → length p.rest ≤ m → s ≡ skip p → Some (op, q) ≡ next s
+pub more_by : {O : Type 0} (next : Next O) (make : Make O) (read : Reader) (m : ℕ) (e : Placed) (p s q : Position) (op : Option O) → 0 < length p.rest → length p.rest ≤ m → s ≡ skip p → Some (op, q) ≡ next s
     → (k : ℕ) × (m ≡ suc k) × (more next make read m e p ≡ (op >>= λ o. read q >>= λ y. more next make read k (make o e y.0) y.1))
 more_by next make read zero e p s q op some le skipped stands = absurd (omega arith)
 more_by next make read (suc m) e p s q op some le skipped stands = (m, refl, rw (← skipped, ← stands) refl)
@@ -116,11 +116,11 @@ module _ {O : Type 0} (next : Next O) (make : Make O) (read : Reader) (Good : Pl
     (good : (o : O) (l r : Placed) → Good l → Good r → Good (make o l r))
     (on_left : (o : O) (l r : Placed) (x : ParseSingleError) → On l x → On (make o l r) x)
     (on_right : (o : O) (l r : Placed) (x : ParseSingleError) → On r x → On (make o l r) x) where
-  pub going_start : (f g : Faults) (left : Option Placed) (p q : Place) → Gives Good On f g left q (read p) → Going next make Good On f g left q read (level_by next make read p)
+  pub going_start : (f g : Faults) (left : Option Placed) (p q : Position) → Gives Good On f g left q (read p) → Going next make Good On f g left q read (level_by next make read p)
   going_start f g left p q (reads e c is) = goes e c (length q.rest) (omega arith) (sym (bind_some (read p) (e, q) _ is))
   going_start f g left p q (fails lt none) = failed lt (bind_none (read p) _ none)
 
-  going_on : (f g h : Faults) (left right : Option Placed) (op : O) (p s q r : Place) (total : Option (Placed × Place)) → length r.rest < length p.rest → s ≡ skip p → Some (Some op, q) ≡ next s
+  going_on : (f g h : Faults) (left right : Option Placed) (op : O) (p s q r : Position) (total : Option (Placed × Position)) → length r.rest < length p.rest → s ≡ skip p → Some (Some op, q) ≡ next s
       → Going next make Good On f g left p read total → Gives Good On g h right r (read q) → Going next make Good On f h (joined make (Some op) left right) r read total
   going_on f g h left right op p s q r total lt skipped stands (failed more none) b = failed (omega (arith, gives_grows Good On g h right r (read q) b)) none
   going_on f g h left right op p s q r total lt skipped stands (goes e c m le is) (fails more none) =
@@ -131,20 +131,20 @@ module _ {O : Type 0} (next : Next O) (make : Make O) (read : Reader) (Good : Pl
       let long : length r.rest ≤ n.0 = omega (arith, n.1) in
       goes (make op e y) (carried_both Good On Good On Good On (make op) (good op) (on_left op) (on_right op) f g h left right e y c d) n.0 long (sym (bind_some (read q) (y, r) _ at) ∙ sym n.2 ∙ is)
 
-  going_wrong : (f g i : Faults) (left : Option Placed) (p s q r : Place) (total : Option (Placed × Place)) → 0 < length p.rest → s ≡ skip p → Some (None, q) ≡ next s
+  going_wrong : (f g i : Faults) (left : Option Placed) (p s q r : Position) (total : Option (Placed × Position)) → 0 < length p.rest → s ≡ skip p → Some (None, q) ≡ next s
       → Going next make Good On f g left p read total → length g < length i → Going next make Good On f i None r read total
   going_wrong f g i left p s q r total some skipped stands (failed more none) lt = failed (omega arith) none
   going_wrong f g i left p s q r total some skipped stands (goes e c m le is) lt =
       let n = more_by next make read m e p s q None some le skipped stands in failed (omega (arith, carried_grows Good On f g left e c)) (sym is ∙ n.2)
 
-  pub going_by : (f g h i : Faults) (left right : Option Placed) (op : Option O) (p s q r : Place) (total : Option (Placed × Place)) → length r.rest < length p.rest → s ≡ skip p → Some (op, q) ≡ next s
+  pub going_by : (f g h i : Faults) (left right : Option Placed) (op : Option O) (p s q r : Position) (total : Option (Placed × Position)) → length r.rest < length p.rest → s ≡ skip p → Some (op, q) ≡ next s
       → Going next make Good On f g left p read total → Checked op g h → Gives Good On h i right r (read q) → Going next make Good On f i (joined make op left right) r read total
   going_by f g h i left right (Some op) p s q r total lt skipped stands a checked b =
       going_on f g i left right op p s q r total lt skipped stands a (subst (λ (x : Faults). Gives Good On x i right r (read q)) checked b)
   going_by f g h i left right None p s q r total lt skipped stands a checked b =
       going_wrong f g i left p s q r total (omega arith) skipped stands a (omega (arith, checked, gives_grows Good On h i right r (read q) b))
 
-  pub going_end : (f g : Faults) (left : Option Placed) (p s : Place) (total : Option (Placed × Place)) → s ≡ skip p → None ≡ next s → Going next make Good On f g left p read total → Gives Good On f g left p total
+  pub going_end : (f g : Faults) (left : Option Placed) (p s : Position) (total : Option (Placed × Position)) → s ≡ skip p → None ≡ next s → Going next make Good On f g left p read total → Gives Good On f g left p total
   going_end f g left p s total skipped none (failed more is) = fails more is
   going_end f g left p s total skipped none (goes e c m le is) = reads e c (sym is ∙ more_ends next make read m e p (sym (none ∙ ap next skipped)))
 

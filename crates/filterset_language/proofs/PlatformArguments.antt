@@ -13,14 +13,14 @@ use Rattle.filterset_graph.specs.declared.package.BuildPlatform.{BuildPlatform}
 use Rattle.filterset_graph.specs.declared.package.BuildPlatform.TheVariants.{Target, Host}
 use Rattle.filterset_language.specs.Parsing.Front.{blank_len}
 use Rattle.filterset_grammar.specs.Text.{Blanks, no_blank, space, newline, return_newline, is_plain, Spelled, nothing, plain, escaped, WhiteSpace}
-use Rattle.filterset_language.specs.Parsing.Place.{Place, place, place_of, skip}
+use Rattle.filterset_language.specs.Parsing.Position.{Position, position, position_of, skip}
 use Rattle.filterset_language.specs.Parsing.RawTexts.{raw_at, SpelledTo}
 use Rattle.filterset_grammar.specs.Platforms.{Names}
 use Rattle.filterset_language.specs.Parsing.PlatformNames.{platform_in}
 use Rattle.filterset_language.specs.Faults.{EndsText, comma, closed, at_end, at_close}
 use Rattle.filterset_language.specs.Parsing.Recovery.{Found}
 use Rattle.filterset_language.specs.declared.parsing.input.Input.{Input}
-use Rattle.filterset_language.proofs.Places.{skip_again}
+use Rattle.filterset_language.proofs.Positions.{skip_again}
 use Rattle.filterset_language.proofs.ClosingParenthesis.{ends_stop}
 use Rattle.filterset_language.proofs.StepsTakeText.{Takes, blank_front, return_front}
 use Rattle.filterset_language.proofs.RawTexts.{text_again, spelled_none}
@@ -178,20 +178,20 @@ not_empty [] lt e = absurd (omega arith)
 not_empty (b ∷ t) lt e = cc
 
 pub argument_again : (p : BuildPlatform) (at : ℕ) (raw value u : List ℕ) → Spelled raw value → Names value p → EndsText u
-    → (v : List ℕ) × (raw_at (skip (place at (raw ++ u))) ≡ Some (v, place (at + length raw) u)) × (platform_in v ≡ Some p)
+    → (v : List ℕ) × (raw_at (skip (position at (raw ++ u))) ≡ Some (v, position (at + length raw) u)) × (platform_in v ≡ Some p)
 argument_again p at raw value u x names ends =
     let f = front_of raw ends in
     let o = blanks_off f.are f.rest value (subst (λ (y : List ℕ). Spelled y value) f.parts x) in
     let own = names_behind f.are o.rest p (subst (λ (y : List ℕ). Names y p) o.parts names) in
     let some = spelled_none o.spelled (names_some o.rest p own) in
     let whole : raw ++ u ≡ f.blanks ++ (f.rest ++ u) = ap (λ (y : List ℕ). y ++ u) f.parts ∙ append_assoc f.blanks f.rest u in
-    let skipped : skip (place at (raw ++ u)) ≡ place (at + length f.blanks) (f.rest ++ u) = ap (λ (y : List ℕ). skip (place at y)) whole ∙ skip_again f.are at (f.rest ++ u) f.stop in
+    let skipped : skip (position at (raw ++ u)) ≡ position (at + length f.blanks) (f.rest ++ u) = ap (λ (y : List ℕ). skip (position at y)) whole ∙ skip_again f.are at (f.rest ++ u) f.stop in
     let read = text_again (at + length f.blanks) f.rest o.rest u o.spelled (not_empty f.rest some) ends in
     let end : at + length f.blanks + length f.rest ≡ at + length raw = let e = ap length f.parts in omega (arith, e, length-append f.blanks f.rest) in
-    (o.rest, ap raw_at skipped ∙ read ∙ ap (λ (k : ℕ). Some (o.rest, place k u)) end, platform_again p o.rest own)
+    (o.rest, ap raw_at skipped ∙ read ∙ ap (λ (k : ℕ). Some (o.rest, position k u)) end, platform_again p o.rest own)
 
 -- blanks, and a raw text after them
-pub with_blanks : {b : List ℕ} (p q r : Place) (v : List ℕ) → Blanks b → Takes p b q → SpelledTo q v r → SpelledTo p (b ++ v) r
+pub with_blanks : {b : List ℕ} (p q r : Position) (v : List ℕ) → Blanks b → Takes p b q → SpelledTo q v r → SpelledTo p (b ++ v) r
 with_blanks {b} p q r v are takes s = record {
   raw = b ++ s.raw;
   spelled = blanks_spelled are s.raw v s.spelled;
@@ -201,7 +201,7 @@ with_blanks {b} p q r v are takes s = record {
 
 -- ---- faults of a whole raw text
 
-pub piece_spelled : (a b : Input) (v : List ℕ) → SpelledTo (place_of a) v (place_of b) → Spelled (take (b.offset - a.offset) (drop a.offset a.text.now)) v
+pub piece_spelled : (a b : Input) (v : List ℕ) → SpelledTo (position_of a) v (position_of b) → Spelled (take (b.offset - a.offset) (drop a.offset a.text.now)) v
 piece_spelled a b v s =
     let n : b.offset - a.offset ≡ length s.raw = omega (arith, s.offset) in
     let cut : take (b.offset - a.offset) (drop a.offset a.text.now) ≡ s.raw =
@@ -210,7 +210,7 @@ piece_spelled a b v s =
     subst (λ (y : List ℕ). Spelled y v) (sym cut) s.spelled
 
 -- an argument that names no platform, from after its parenthesis on
-pub platform_refused : {blanks : List ℕ} (i b : Input) (v : List ℕ) → Blanks blanks → SpelledTo (place_of i) (blanks ++ v) (place_of b) → ((p : BuildPlatform) → Names v p → ⊥)
+pub platform_refused : {blanks : List ℕ} (i b : Input) (v : List ℕ) → Blanks blanks → SpelledTo (position_of i) (blanks ++ v) (position_of b) → ((p : BuildPlatform) → Names v p → ⊥)
     → Found i.text.now (InvalidPlatformArgument (span i.offset (b.offset - i.offset)))
 platform_refused {blanks} i b v are s none = record {
   stands = record {

@@ -5,7 +5,7 @@ use Rattle.std.proofs.lemmas.List.{drop_at}
 use Rattle.std.proofs.lemmas.Str.{IsUtf8-from_is_utf8, IsCharBoundary-from_drop, IsCharBoundary-from_rest}
 use Rattle.filterset_faults.specs.Span.{span}
 use Rattle.filterset_faults.specs.declared.error.ParseSingleError.TheVariants.{InvalidString, InvalidEscapeCharacter, ExpectedCloseRegex}
-use Rattle.filterset_language.specs.Parsing.Place.{place_of, after}
+use Rattle.filterset_language.specs.Parsing.Position.{position_of, after}
 use Rattle.filterset_language.specs.Parsing.Escapes.{escape_at}
 use Rattle.filterset_language.specs.Faults.{EndsText, ClosesArgument}
 use Rattle.filterset_language.specs.Parsing.Recovery.{Found}
@@ -39,9 +39,9 @@ piece_ends i e w parts offset =
     let own : IsCharBoundary (drop i.offset i.text.now) (length w) = subst (λ (t : List ℕ). IsCharBoundary t (length w)) (sym i.seam.onward) inner in
     subst (λ (k : ℕ). IsCharBoundary i.text.now (i.offset + k)) at (IsCharBoundary-from_rest i.text.now i.offset (length w) i.seam.within own)
 
-pub unescaped_found : (i b : Input) → Some (place_of b) ≡ after (92 ∷ []) (place_of i) → None ≡ escape_at b.rest.now → Found i.text.now (InvalidEscapeCharacter (span i.offset (min 2 (length i.rest.now - 1))))
+pub unescaped_found : (i b : Input) → Some (position_of b) ≡ after (92 ∷ []) (position_of i) → None ≡ escape_at b.rest.now → Found i.text.now (InvalidEscapeCharacter (span i.offset (min 2 (length i.rest.now - 1))))
 unescaped_found i b stands none =
-    let t = after_takes (92 ∷ []) (place_of i) (place_of b) (sym stands) in
+    let t = after_takes (92 ∷ []) (position_of i) (position_of b) (sym stands) in
     let n : length i.rest.now - 1 ≡ length b.rest.now = let e = ap length t.parts in omega (arith, e) in
     record {
       stands = record {

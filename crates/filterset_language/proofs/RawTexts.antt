@@ -8,7 +8,7 @@ use Rattle.std.proofs.Math.Seq.{drop-nil}
 use Rattle.std.proofs.lemmas.List.{append-nil, take-append-drop, drop_at, length-take}
 use Rattle.std.proofs.lemmas.Str.{length-encode, len_utf8_bounds}
 use Rattle.filterset_grammar.specs.Text.{is_plain, Spelled, nothing, plain, escaped}
-use Rattle.filterset_language.specs.Parsing.Place.{Place, place, advanced, after}
+use Rattle.filterset_language.specs.Parsing.Position.{Position, position, advanced, after}
 use Rattle.filterset_language.specs.Parsing.Escapes.{escape_at}
 use Rattle.filterset_language.specs.Parsing.RawTexts.{plain_len, behind_value, raw_from, unless_empty, raw_at, SpelledTo, TextTaken}
 use Rattle.filterset_language.specs.Faults.{EndsText, comma, closed, at_end, at_close}
@@ -60,7 +60,7 @@ plain_spelled (b ∷ t) = at_test (is_plain b) refl (plain_spelled t)
     at_test false e on = nothing
 
 -- where nothing stands for itself and no backslash stands, a raw text ends
-pub text_ends : (at : ℕ) (t : List ℕ) → plain_len t ≡ 0 → None ≡ after (92 ∷ []) (place at t) → EndsText t
+pub text_ends : (at : ℕ) (t : List ℕ) → plain_len t ≡ 0 → None ≡ after (92 ∷ []) (position at t) → EndsText t
 text_ends at [] stops none = closed at_end
 text_ends at (b ∷ t) stops none =
     ⊎_elim
@@ -68,7 +68,7 @@ text_ends at (b ∷ t) stops none =
     (λ no44. ⊎_elim
     (λ is. subst (λ (x : ℕ). EndsText (x ∷ t)) (sym is.1) (closed at_close))
     (λ no41. ⊎_elim
-    (λ is. absurd (none_some (place (at + 1) t) (none ∙ ap (λ (x : ℕ). after (92 ∷ []) (place at (x ∷ t))) is.1)))
+    (λ is. absurd (none_some (position (at + 1) t) (none ∙ ap (λ (x : ℕ). after (92 ∷ []) (position at (x ∷ t))) is.1)))
     (λ no92. absurd (let f : suc (plain_len t) ≡ 0 = rw (no44.0, no41.0, no92.0) at stops in omega arith))
     (eqb_tells b 92))
     (eqb_tells b 41))
@@ -137,17 +137,17 @@ raw_ends (closed at_close) = refl
 raw_read : {raw value : List ℕ} (u : List ℕ) → Spelled raw value → EndsText u → raw_from (raw ++ u) zero ≡ Some (value, u)
 raw_read {raw} {value} u x ends = raw_along x u ∙ ap (behind_value value) (raw_ends ends) ∙ ap (λ (t : List ℕ). Some (t, u)) (append-nil value)
 
-same_place : (a b : ℕ) (t u : List ℕ) → a ≡ b → t ≡ u → place a t ≡ place b u
-same_place a b t u e f = cc
+same_position : (a b : ℕ) (t u : List ℕ) → a ≡ b → t ≡ u → position a t ≡ position b u
+same_position a b t u e f = cc
 
-unless_some : (p q : Place) (v : List ℕ) → 0 < length v → q.at + length q.rest ≡ p.at + length p.rest → length q.rest ≤ length p.rest → unless_empty p (v, q.rest) ≡ Some (v, q)
+unless_some : (p q : Position) (v : List ℕ) → 0 < length v → q.at + length q.rest ≡ p.at + length p.rest → length q.rest ≤ length p.rest → unless_empty p (v, q.rest) ≡ Some (v, q)
 unless_some p q v some end within =
     let e : eqb (length v) 0 ≡ false = ne_eqb (length v) 0 (omega arith) in
-    let at : place (p.at + (length p.rest - length q.rest)) q.rest ≡ q = same_place _ _ _ _ (omega arith) refl in
-    rw e (ap (λ (x : Place). Some (v, x)) at)
+    let at : position (p.at + (length p.rest - length q.rest)) q.rest ≡ q = same_position _ _ _ _ (omega arith) refl in
+    rw e (ap (λ (x : Position). Some (v, x)) at)
 
--- a raw text between two places is read, where it ends there
-pub spelled_is_read : (p q : Place) (v : List ℕ) → SpelledTo p v q → 0 < length v → EndsText q.rest → raw_at p ≡ Some (v, q)
+-- a raw text between two positions is read, where it ends there
+pub spelled_is_read : (p q : Position) (v : List ℕ) → SpelledTo p v q → 0 < length v → EndsText q.rest → raw_at p ≡ Some (v, q)
 spelled_is_read p q v s some ends =
     let read : raw_from p.rest zero ≡ Some (v, q.rest) = ap (λ (t : List ℕ). raw_from t zero) s.parts ∙ raw_read q.rest s.spelled ends in
     let size = ap length s.parts in
@@ -156,13 +156,13 @@ spelled_is_read p q v s some ends =
     ap (option_and_then (unless_empty p)) read ∙ unless_some p q v some (omega arith) (omega arith)
 
 -- an empty one is not
-pub empty_is_unread : (p q : Place) (v : List ℕ) → SpelledTo p v q → length v ≡ 0 → EndsText q.rest → raw_at p ≡ None
+pub empty_is_unread : (p q : Position) (v : List ℕ) → SpelledTo p v q → length v ≡ 0 → EndsText q.rest → raw_at p ≡ None
 empty_is_unread p q v s empty ends =
     let read : raw_from p.rest zero ≡ Some (v, q.rest) = ap (λ (t : List ℕ). raw_from t zero) s.parts ∙ raw_read q.rest s.spelled ends in
     ap (option_and_then (unless_empty p)) read ∙ rw empty refl
 
 -- nor is one with a backslash that begins no escape
-pub unescaped_is_unread : (p q b : Place) (v : List ℕ) → SpelledTo p v q → Some b ≡ after (92 ∷ []) q → None ≡ escape_at b.rest → raw_at p ≡ None
+pub unescaped_is_unread : (p q b : Position) (v : List ℕ) → SpelledTo p v q → Some b ≡ after (92 ∷ []) q → None ≡ escape_at b.rest → raw_at p ≡ None
 unescaped_is_unread p q b v s stands none =
     let t = after_takes (92 ∷ []) q b (sym stands) in
     let here : raw_from q.rest zero ≡ None =
@@ -171,9 +171,9 @@ unescaped_is_unread p q b v s stands none =
     let read : raw_from p.rest zero ≡ None = ap (λ (x : List ℕ). raw_from x zero) s.parts ∙ raw_along s.spelled q.rest ∙ ap (behind_value v) here in
     ap (option_and_then (unless_empty p)) read
 
-pub text_again : (at : ℕ) (raw value u : List ℕ) → Spelled raw value → raw ≢ [] → EndsText u → raw_at (place at (raw ++ u)) ≡ Some (value, place (at + length raw) u)
+pub text_again : (at : ℕ) (raw value u : List ℕ) → Spelled raw value → raw ≢ [] → EndsText u → raw_at (position at (raw ++ u)) ≡ Some (value, position (at + length raw) u)
 text_again at raw value u x some ends =
-    spelled_is_read (place at (raw ++ u)) (place (at + length raw) u) value (record { raw = raw; spelled = x; parts = refl; offset = refl }) (spelled_some x (not_empty raw some)) ends
+    spelled_is_read (position at (raw ++ u)) (position (at + length raw) u) value (record { raw = raw; spelled = x; parts = refl; offset = refl }) (spelled_some x (not_empty raw some)) ends
   where
     not_empty : (t : List ℕ) → t ≢ [] → 0 < length t
     not_empty [] h = absurd (h refl)
@@ -242,27 +242,27 @@ raw_takes (b ∷ t) zero value rest e = from (is_plain b) (eqb b 92) refl refl (
         let r : b ∷ t ≡ rest = ap (λ (x : List ℕ × List ℕ). x.1) pair in
         record { raw = []; spelled = subst (Spelled []) v nothing; parts = r; ends = subst EndsText r (ends_there b t h i) }
 
-unless_is : (p : Place) (x : List ℕ × List ℕ) (v : List ℕ) (q : Place) → unless_empty p x ≡ Some (v, q) → (0 < length x.0) × (x.0 ≡ v) × (place (p.at + (length p.rest - length x.1)) x.1 ≡ q)
+unless_is : (p : Position) (x : List ℕ × List ℕ) (v : List ℕ) (q : Position) → unless_empty p x ≡ Some (v, q) → (0 < length x.0) × (x.0 ≡ v) × (position (p.at + (length p.rest - length x.1)) x.1 ≡ q)
 unless_is p x v q e = from (eqb (length x.0) 0) refl e
   where
-    from : (t : Bool) → eqb (length x.0) 0 ≡ t → cond {A = Option (List ℕ × Place)} t None (Some (x.0, place (p.at + (length p.rest - length x.1)) x.1)) ≡ Some (v, q)
-        → (0 < length x.0) × (x.0 ≡ v) × (place (p.at + (length p.rest - length x.1)) x.1 ≡ q)
+    from : (t : Bool) → eqb (length x.0) 0 ≡ t → cond {A = Option (List ℕ × Position)} t None (Some (x.0, position (p.at + (length p.rest - length x.1)) x.1)) ≡ Some (v, q)
+        → (0 < length x.0) × (x.0 ≡ v) × (position (p.at + (length p.rest - length x.1)) x.1 ≡ q)
     from true h e = absurd cc
     from false h e =
-        let pair = some_same {A = List ℕ × Place} (x.0, place (p.at + (length p.rest - length x.1)) x.1) (v, q) e in
-        (some x.0 h, ap (λ (y : List ℕ × Place). y.0) pair, ap (λ (y : List ℕ × Place). y.1) pair)
+        let pair = some_same {A = List ℕ × Position} (x.0, position (p.at + (length p.rest - length x.1)) x.1) (v, q) e in
+        (some x.0 h, ap (λ (y : List ℕ × Position). y.0) pair, ap (λ (y : List ℕ × Position). y.1) pair)
       where
         some : (t : List ℕ) → eqb (length t) 0 ≡ false → 0 < length t
         some [] h = absurd cc
         some (b ∷ t) h = omega arith
 
-pub text_takes : (p : Place) (value : List ℕ) (q : Place) → raw_at p ≡ Some (value, q) → TextTaken p value q
+pub text_takes : (p : Position) (value : List ℕ) (q : Position) → raw_at p ≡ Some (value, q) → TextTaken p value q
 text_takes p value q e =
     let a = and_then_is (raw_from p.rest zero) (unless_empty p) (value, q) e in
     let u = unless_is p a.0 value q a.2 in
     let r = raw_takes p.rest zero a.0.0 a.0.1 a.1 in
-    let at : q.at ≡ p.at + (length p.rest - length a.0.1) = sym (ap (λ (y : Place). y.at) u.2) in
-    let rest : a.0.1 ≡ q.rest = ap (λ (y : Place). y.rest) u.2 in
+    let at : q.at ≡ p.at + (length p.rest - length a.0.1) = sym (ap (λ (y : Position). y.at) u.2) in
+    let rest : a.0.1 ≡ q.rest = ap (λ (y : Position). y.rest) u.2 in
     let size = ap length r.parts in
     let both = length-append r.raw a.0.1 in
     record {
@@ -273,11 +273,11 @@ text_takes p value q e =
 
 -- ---- the loop
 
-pub text_start : (p end : Place) (front : List ℕ) → front ≡ take (plain_len p.rest) p.rest → end ≡ advanced (plain_len p.rest) p → SpelledTo p front end
+pub text_start : (p end : Position) (front : List ℕ) → front ≡ take (plain_len p.rest) p.rest → end ≡ advanced (plain_len p.rest) p → SpelledTo p front end
 text_start p end front is e =
     let n = plain_len p.rest in
-    let rest : end.rest ≡ drop n p.rest = ap (λ (x : Place). x.rest) e in
-    let at : end.at ≡ p.at + n = ap (λ (x : Place). x.at) e in
+    let rest : end.rest ≡ drop n p.rest = ap (λ (x : Position). x.rest) e in
+    let at : end.at ≡ p.at + n = ap (λ (x : Position). x.at) e in
     let within = plain_within p.rest in
     let size : length (take n p.rest) ≡ n = omega (arith, length-take n p.rest) in
     record {
@@ -287,18 +287,18 @@ text_start p end front is e =
       offset = omega arith;
     }
 
-pub stops_there : (p end : Place) → end ≡ advanced (plain_len p.rest) p → plain_len end.rest ≡ 0
-stops_there p end e = ap plain_len (ap (λ (x : Place). x.rest) e) ∙ plain_rest p.rest
+pub stops_there : (p end : Position) → end ≡ advanced (plain_len p.rest) p → plain_len end.rest ≡ 0
+stops_there p end e = ap plain_len (ap (λ (x : Position). x.rest) e) ∙ plain_rest p.rest
 
 -- one turn: an escape, and what stands for itself after it
-pub text_turns : (p end b q next : Place) (v run : List ℕ) (c n : ℕ) → SpelledTo p v end → Some b ≡ after (92 ∷ []) end → Some (c, n) ≡ escape_at b.rest
+pub text_turns : (p end b q next : Position) (v run : List ℕ) (c n : ℕ) → SpelledTo p v end → Some b ≡ after (92 ∷ []) end → Some (c, n) ≡ escape_at b.rest
     → q ≡ advanced n b → run ≡ take (plain_len q.rest) q.rest → next ≡ advanced (plain_len q.rest) q → SpelledTo p ((v ++ encode_utf8 c) ++ run) next
 text_turns p end b q next v run c n s stands read past is e =
     let t = after_takes (92 ∷ []) end b (sym stands) in
     let k = escape_takes b.rest c n (sym read) in
     let r = text_start q next run is e in
-    let rest : q.rest ≡ k.rest = ap (λ (x : Place). x.rest) past ∙ ap (λ (x : List ℕ). drop n x) k.parts ∙ drop_at k.own k.rest n (sym k.size) in
-    let at : q.at ≡ b.at + n = ap (λ (x : Place). x.at) past in
+    let rest : q.rest ≡ k.rest = ap (λ (x : Position). x.rest) past ∙ ap (λ (x : List ℕ). drop n x) k.parts ∙ drop_at k.own k.rest n (sym k.size) in
+    let at : q.at ≡ b.at + n = ap (λ (x : Position). x.at) past in
     let own : List ℕ = 92 ∷ (k.own ++ r.raw) in
     let spelled : Spelled own (encode_utf8 c ++ run) = escaped k.own k.escape r.spelled refl in
     let tail : end.rest ≡ own ++ next.rest =

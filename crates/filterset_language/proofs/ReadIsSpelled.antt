@@ -4,7 +4,7 @@ use Rattle.std.specs.Prelude.{codes, ◌==◌, Option}
 use Rattle.std.proofs.lemmas.Bool.{eqb-true}
 use Rattle.std.proofs.lemmas.List.{append-nil, take_at, nil_from_length}
 use Rattle.filterset_grammar.specs.Text.{Blanks, no_blank, ends_word}
-use Rattle.filterset_language.specs.Parsing.Place.{Place, place, skip, after}
+use Rattle.filterset_language.specs.Parsing.Position.{Position, position, skip, after}
 use Rattle.filterset_language.specs.Parsing.Words.{not_at, joiner_at, or_at, name_at}
 use Rattle.filterset_grammar.specs.Tree.{Not, Parens, Set}
 use Rattle.filterset_grammar.specs.declared.operators.Joiner.{Joiner}
@@ -28,15 +28,15 @@ use Rattle.filterset_language.proofs.StepsTakeText.{bind_is, choose_is, is_some,
 abbrev Spelling : Type 1
 Spelling = List ℕ → ℕ → Placed → Type 0
 
--- the text between two places spells the tree
-record Taken (Level : Spelling) (p : Place) (e : Placed) (q : Place) : Type 0 where
+-- the text between two positions spells the tree
+record Taken (Level : Spelling) (p : Position) (e : Placed) (q : Position) : Type 0 where
   own : List ℕ
   takes : Takes p own q
   text : Level own p.at e
 
 -- what a reader reads is spelled so
 abbrev IsSound : Spelling → Reader → Type 0
-IsSound Level read = (p : Place) (x : Placed × Place) → read p ≡ Some x → Taken Level p x.0 x.1
+IsSound Level read = (p : Position) (x : Placed × Position) → read p ≡ Some x → Taken Level p x.0 x.1
 
 -- ---- operands of a level
 
@@ -49,13 +49,13 @@ front_ends (b ∷ own) u lt h = h
 module _ (O : Type 0) (next : Next O) (make : Make O) (op_text : O → List ℕ) (op_ends : O → List ℕ → Type 0) (Operand Level : Spelling)
     (operand_some : (t : List ℕ) (at : ℕ) (e : Placed) → Operand t at e → 0 < length t)
     (ends_front : (op : O) (own u : List ℕ) → 0 < length own → op_ends op (own ++ u) → op_ends op own)
-    (next_takes : (p : Place) (op : O) (q : Place) → next p ≡ Some (Some op, q) → Takes p (op_text op) q × op_ends op q.rest)
+    (next_takes : (p : Position) (op : O) (q : Position) → next p ≡ Some (Some op, q) → Takes p (op_text op) q × op_ends op q.rest)
     (first : (t : List ℕ) (at : ℕ) (e : Placed) → Operand t at e → Level t at e)
     (joined : (at : ℕ) (op : O) (l r : Placed) (left blanks right : List ℕ) → Level left at l → Blanks blanks → op_ends op right
     → Operand right (at + length left + length blanks + length (op_text op)) r → Level (left ++ (blanks ++ (op_text op ++ right))) at (make op l r))
     (read : Reader) (sound : IsSound Operand read) where
-  more_takes : (n : ℕ) (left : Placed) (start p : Place) (x : Placed × Place) → Taken Level start left p → more next make read n left p ≡ Some x → Taken Level start x.0 x.1
-  more_takes zero left start p x taken e = subst (λ (y : Placed × Place). Taken Level start y.0 y.1) (is_some (left, p) x e) taken
+  more_takes : (n : ℕ) (left : Placed) (start p : Position) (x : Placed × Position) → Taken Level start left p → more next make read n left p ≡ Some x → Taken Level start x.0 x.1
+  more_takes zero left start p x taken e = subst (λ (y : Placed × Position). Taken Level start y.0 y.1) (is_some (left, p) x e) taken
   more_takes (suc n) left start p x taken e =
       ⊎_elim
       (λ a.
@@ -74,7 +74,7 @@ module _ (O : Type 0) (next : Next O) (make : Make O) (op_text : O → List ℕ)
       let ends = ends_front op s.own r.rest (operand_some s.own q.at right s.text) (subst (op_ends op) s.takes.parts j.1) in
       let turn : Taken Level start (make op left right) r = record { own = taken.own ++ (k.blanks ++ (op_text op ++ s.own)); takes = all; text = joined start.at op left right taken.own k.blanks s.own taken.text k.are ends text } in
       more_takes n (make op left right) start r x turn b.2)
-      (λ a. subst (λ (y : Placed × Place). Taken Level start y.0 y.1) (is_some (left, p) x a.1) taken)
+      (λ a. subst (λ (y : Placed × Position). Taken Level start y.0 y.1) (is_some (left, p) x a.1) taken)
       (choose_is (next (skip p)) _ _ x e)
 
   level_takes : IsSound Level (level_by next make read)
@@ -83,7 +83,7 @@ module _ (O : Type 0) (next : Next O) (make : Make O) (op_text : O → List ℕ)
       let s = sound p b.0 b.1 in
       more_takes (length b.0.1.rest) b.0.0 p b.0.1 x (record { own = s.own; takes = s.takes; text = first s.own p.at b.0.0 s.text }) b.2
 
-join_takes : (p : Place) (op : Joiner) (q : Place) → joiner_at p ≡ Some (Some op, q) → Takes p (join_text op) q × join_ends op q.rest
+join_takes : (p : Position) (op : Joiner) (q : Position) → joiner_at p ≡ Some (Some op, q) → Takes p (join_text op) q × join_ends op q.rest
 unfolding JoinerTaken
 join_takes p op q e = joiner_takes p (Some op, q) e
 
@@ -111,7 +111,7 @@ and_takes read sound =
     read
     sound
 
-union_takes : (p : Place) (op : OrOperator) (q : Place) → or_at p ≡ Some (Some op, q) → Takes p (or_text op) q × or_ends op q.rest
+union_takes : (p : Position) (op : OrOperator) (q : Position) → or_at p ≡ Some (Some op, q) → Takes p (or_text op) q × or_ends op q.rest
 unfolding OrTaken
 union_takes p op q e = or_takes p (Some op, q) e
 
@@ -144,7 +144,7 @@ not_ends_front : (op : NotOperator) (own u : List ℕ) → 0 < length own → no
 not_ends_front LiteralNot own u lt h = front_ends own u lt h
 not_ends_front Exclamation own u lt h = tt
 
-leaf_step_takes : (p q : Place) (x : Placed × Place) (n : PredicateName) → name_at (skip p) ≡ Some (n, q) → set_at n (skip p).at q ≡ Some x → Taken Basic p x.0 x.1
+leaf_step_takes : (p q : Position) (x : Placed × Position) (n : PredicateName) → name_at (skip p) ≡ Some (n, q) → set_at n (skip p).at q ≡ Some x → Taken Basic p x.0 x.1
 leaf_step_takes p q x n stands e =
     let s = skip p in
     let k = skip_takes p.rest p.at in
@@ -152,9 +152,9 @@ leaf_step_takes p q x n stands e =
     let l = leaf_takes s n q b.0 (name_takes s (n, q) stands) b.1 in
     let text = subst (λ (m : ℕ). LeafText l.own m b.0.0) k.takes.offset l.text in
     let is : Taken Basic p (Set b.0.0) b.0.1 = record { own = k.blanks ++ l.own; takes = Takes-then p s b.0.1 k.blanks l.own k.takes l.takes; text = grammar.leaf k.blanks l.own k.are text refl } in
-    subst (λ (y : Placed × Place). Taken Basic p y.0 y.1) (is_some (Set b.0.0, b.0.1) x b.2) is
+    subst (λ (y : Placed × Position). Taken Basic p y.0 y.1) (is_some (Set b.0.0, b.0.1) x b.2) is
 
-negation_step_takes : (read : Reader) → IsSound Basic read → (p q : Place) (x : Placed × Place) (op : NotOperator) → not_at (skip p) ≡ Some (op, q) → (read q >>= λ e. Some (Not op e.0, e.1)) ≡ Some x → Taken Basic p x.0 x.1
+negation_step_takes : (read : Reader) → IsSound Basic read → (p q : Position) (x : Placed × Position) (op : NotOperator) → not_at (skip p) ≡ Some (op, q) → (read q >>= λ e. Some (Not op e.0, e.1)) ≡ Some x → Taken Basic p x.0 x.1
 negation_step_takes read sound p q x op stands e =
     let s = skip p in
     let k = skip_takes p.rest p.at in
@@ -166,9 +166,9 @@ negation_step_takes read sound p q x op stands e =
     let ends = not_ends_front op i.own b.0.1.rest (basic_some i.text) (subst (not_ends op) i.takes.parts n.1) in
     let all = Takes-then p s b.0.1 k.blanks (not_text op ++ i.own) k.takes (Takes-then s q b.0.1 (not_text op) i.own n.0 i.takes) in
     let is : Taken Basic p (Not op b.0.0) b.0.1 = record { own = k.blanks ++ (not_text op ++ i.own); takes = all; text = grammar.negation k.blanks i.own k.are ends text refl } in
-    subst (λ (y : Placed × Place). Taken Basic p y.0 y.1) (is_some (Not op b.0.0, b.0.1) x b.2) is
+    subst (λ (y : Placed × Position). Taken Basic p y.0 y.1) (is_some (Not op b.0.0, b.0.1) x b.2) is
 
-parens_step_takes : (read : Reader) → IsSound Basic read → (p q : Place) (x : Placed × Place) → after (codes "(") (skip p) ≡ Some q
+parens_step_takes : (read : Reader) → IsSound Basic read → (p q : Position) (x : Placed × Position) → after (codes "(") (skip p) ≡ Some q
     → (or_level_by read q >>= λ e. after (codes ")") (skip e.1) >>= λ r. Some (Parens e.0, r)) ≡ Some x → Taken Basic p x.0 x.1
 parens_step_takes read sound p q x stands e =
     let s = skip p in
@@ -187,9 +187,9 @@ parens_step_takes read sound p q x stands e =
     let rest = Takes-then q j d.0 i.own (behind.blanks ++ 41 ∷ []) i.takes last in
     let all = Takes-then p s d.0 k.blanks (40 ∷ (i.own ++ (behind.blanks ++ 41 ∷ []))) k.takes (Takes-then s q d.0 (codes "(") (i.own ++ (behind.blanks ++ 41 ∷ [])) o rest) in
     let is : Taken Basic p (Parens inner) d.0 = record { own = k.blanks ++ (40 ∷ (i.own ++ (behind.blanks ++ 41 ∷ []))); takes = all; text = grammar.parens k.blanks i.own behind.blanks k.are text behind.are refl } in
-    subst (λ (y : Placed × Place). Taken Basic p y.0 y.1) (is_some (Parens inner, d.0) x d.2) is
+    subst (λ (y : Placed × Position). Taken Basic p y.0 y.1) (is_some (Parens inner, d.0) x d.2) is
 
-operand_takes : (read : Reader) → IsSound Basic read → (p : Place) (x : Placed × Place) → operand_by read (skip p) ≡ Some x → Taken Basic p x.0 x.1
+operand_takes : (read : Reader) → IsSound Basic read → (p : Position) (x : Placed × Position) → operand_by read (skip p) ≡ Some x → Taken Basic p x.0 x.1
 operand_takes read sound p x e =
     let s = skip p in
     ⊎_elim
@@ -212,8 +212,8 @@ basic_takes (suc n) p x e = operand_takes (operand_at n) (basic_takes n) p x e
 -- the whole text
 pub whole_takes : (n : ℕ) (text : List ℕ) (e : Placed) → whole_by n text ≡ Some e → Spells text e
 whole_takes n text e h =
-    let b = bind_is (or_level_by (operand_at (suc n)) (place 0 text)) (λ x. nothing_behind x.0 (skip x.1)) e h in
-    let i = or_level_takes (operand_at (suc n)) (basic_takes (suc n)) (place 0 text) b.0 b.1 in
+    let b = bind_is (or_level_by (operand_at (suc n)) (position 0 text)) (λ x. nothing_behind x.0 (skip x.1)) e h in
+    let i = or_level_takes (operand_at (suc n)) (basic_takes (suc n)) (position 0 text) b.0 b.1 in
     let k = skip_takes b.0.1.rest b.0.1.at in
     let last = ended (length (skip b.0.1).rest == 0) b.0.0 e b.2 in
     let none : (skip b.0.1).rest ≡ [] = nil_from_length (skip b.0.1).rest (eqb-true _ _ last.0) in
@@ -231,9 +231,9 @@ whole_takes n text e h =
     ended false d e h = absurd cc
 
 -- what was read from the start spells the tree
-pub front_takes_whole : (n : ℕ) (text : List ℕ) (e : Placed) (q : Place) → or_level_by (operand_at (suc n)) (place 0 text) ≡ Some (e, q) → Spells (take q.at text) e
+pub front_takes_whole : (n : ℕ) (text : List ℕ) (e : Placed) (q : Position) → or_level_by (operand_at (suc n)) (position 0 text) ≡ Some (e, q) → Spells (take q.at text) e
 front_takes_whole n text e q h =
-    let i = or_level_takes (operand_at (suc n)) (basic_takes (suc n)) (place 0 text) (e, q) h in
+    let i = or_level_takes (operand_at (suc n)) (basic_takes (suc n)) (position 0 text) (e, q) h in
     let at : q.at ≡ length i.own = omega (arith, i.takes.offset) in
     let cut : take q.at text ≡ i.own = ap (λ (k : ℕ). take k text) at ∙ ap (take (length i.own)) i.takes.parts ∙ take_at i.own q.rest (length i.own) refl in
     record { own = i.own; behind = []; whole = cut ∙ sym (append-nil i.own); expression = i.text; blanks = no_blank }

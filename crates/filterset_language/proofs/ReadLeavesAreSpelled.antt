@@ -13,7 +13,7 @@ use Rattle.filterset_glob.proofs.ReadIsSpelled.{glob_of_reading}
 use Rattle.filterset_graph.specs.declared.package.BuildPlatform.{BuildPlatform}
 use Rattle.filterset_grammar.specs.Text.{Blanks, no_blank, space, newline, return_newline, Spelled, WhiteSpace}
 use Rattle.filterset_language.specs.Parsing.Front.{blank_len, close_len, is_white}
-use Rattle.filterset_language.specs.Parsing.Place.{Place, place, skip, after, behind, advanced}
+use Rattle.filterset_language.specs.Parsing.Position.{Position, position, skip, after, behind, advanced}
 use Rattle.filterset_language.specs.Parsing.RawTexts.{raw_at, body_at, TextTaken}
 use Rattle.filterset_language.specs.Parsing.Globs.{glob_by, glob_in}
 use Rattle.filterset_grammar.specs.Platforms.{Names}
@@ -31,7 +31,7 @@ use Rattle.filterset_grammar.specs.declared.predicate.TextMatching.TheVariants a
 use Rattle.filterset_language.specs.declared.parsing.names.PredicateName.{PredicateName}
 use Rattle.filterset_language.specs.declared.parsing.names.PredicateName.TheVariants as names
 use Rattle.filterset_language.specs.Parsing.Descent.{◌>>=◌, regex_at, signed_or, made, signed_text, text_matcher_at, matcher_at, between, matching_at, platform_at, bare_end_at, bare_at, default_at, argument_at, leaf_at}
-use Rattle.filterset_language.proofs.Places.{behind_some, one_blank, one_newline, skip_stop}
+use Rattle.filterset_language.proofs.Positions.{behind_some, one_blank, one_newline, skip_stop}
 use Rattle.filterset_language.proofs.WhiteSpaceTest.{white_from}
 use Rattle.filterset_language.proofs.ClosingParenthesis.{close_within, ends_stop}
 use Rattle.filterset_language.proofs.SpelledIsNotEmpty.{span_same}
@@ -44,16 +44,16 @@ use Rattle.filterset_language.proofs.StepsTakeText.{bind_is, choose_is, is_some,
 -- ---- what ends a text
 
 -- after a text no blank is skipped
-none_skipped : (q : Place) → EndsText q.rest → skip q ≡ q
+none_skipped : (q : Position) → EndsText q.rest → skip q ≡ q
 none_skipped q ends = skip_stop q.at q.rest (ends_stop q.rest ends)
 
 -- so a closing parenthesis stands right after it
-close_takes : (p q : Place) → EndsText p.rest → after (codes ")") (skip p) ≡ Some q → Takes p (codes ")") q
+close_takes : (p q : Position) → EndsText p.rest → after (codes ")") (skip p) ≡ Some q → Takes p (codes ")") q
 close_takes p q ends e = after_takes (codes ")") p q (ap (after (codes ")")) (sym (none_skipped p ends)) ∙ e)
 
-no_blanks : (q : Place) (t : List ℕ) → EndsText q.rest → Takes q t (skip q) → t ≡ []
+no_blanks : (q : Position) (t : List ℕ) → EndsText q.rest → Takes q t (skip q) → t ≡ []
 no_blanks q t ends takes =
-    let at : (skip q).at ≡ q.at = ap (λ (p : Place). p.at) (none_skipped q ends) in
+    let at : (skip q).at ≡ q.at = ap (λ (p : Position). p.at) (none_skipped q ends) in
     nil_from_length t (omega (arith, takes.offset))
 
 not_empty : (t : List ℕ) → 0 < length t → t ≢ []
@@ -62,11 +62,11 @@ not_empty (b ∷ t) lt e = cc
 
 -- ---- what a matcher without a sign begins with
 
-not_front : (c b : ℕ) (p : Place) (r : List ℕ) → p.rest ≡ b ∷ r → after (c ∷ []) p ≡ None → b ≢ c
+not_front : (c b : ℕ) (p : Position) (r : List ℕ) → p.rest ≡ b ∷ r → after (c ∷ []) p ≡ None → b ≢ c
 not_front c b p r is none e =
     let h : behind (c ∷ []) p.rest ≡ Some r = behind_some (c ∷ []) p.rest r (is ∙ ap (λ (x : ℕ). x ∷ r) e) in
-    let f : after (c ∷ []) p ≡ Some (place (p.at + 1) r) = ap (option_map (λ (t : List ℕ). place (p.at + 1) t)) h in
-    let g : None ≡ Some (place (p.at + 1) r) = sym none ∙ f in
+    let f : after (c ∷ []) p ≡ Some (position (p.at + 1) r) = ap (option_map (λ (t : List ℕ). position (p.at + 1) t)) h in
+    let g : None ≡ Some (position (p.at + 1) r) = sym none ∙ f in
     cc
 
 -- where no blank stands, a list of blanks is empty
@@ -76,15 +76,15 @@ blank_free (space {t} r) rest e = absurd (let one = one_blank (t ++ rest) in ome
 blank_free (newline {t} r) rest e = absurd (let one = one_newline (t ++ rest) in omega arith)
 blank_free (return_newline {t} r) rest e = absurd (let two : 2 ≡ 0 = e in omega arith)
 
--- neither a blank nor a sign stands at the place
-record Unsigned (p : Place) : Type 0 where
+-- neither a blank nor a sign stands at the position
+record Unsigned (p : Position) : Type 0 where
   stop : blank_len p.rest ≡ 0
   no_slash : after (codes "/") p ≡ None
   no_hash : after (codes "#") p ≡ None
   no_equal : after (codes "=") p ≡ None
   no_tilde : after (codes "~") p ≡ None
 
-plainly : (p q : Place) (raw : List ℕ) → Unsigned p → Takes p raw q → begins_plainly raw
+plainly : (p q : Position) (raw : List ℕ) → Unsigned p → Takes p raw q → begins_plainly raw
 plainly p q raw unsigned takes = (
   λ blanks rest are is.
       let front : p.rest ≡ blanks ++ (rest ++ q.rest) = takes.parts ∙ ap (λ (w : List ℕ). w ++ q.rest) is ∙ append_assoc blanks rest q.rest in
@@ -128,13 +128,13 @@ made_short ways.Contains implicit value m e = subst (λ (x : Matcher). BehindMat
 -- ---- matchers
 
 -- a matcher that is read: its text, and what the blanks after it may be
-record MatcherTaken (predicate : Predicate) (p : Place) (m : Matcher) (q : Place) : Type 0 where
+record MatcherTaken (predicate : Predicate) (p : Position) (m : Matcher) (q : Position) : Type 0 where
   raw : List ℕ
   takes : Takes p raw q
   text : MatcherText predicate raw m
   behind : (t : List ℕ) → Blanks t → Takes q t (skip q) → BehindMatcher m t
 
-regex_matcher_takes : (predicate : Predicate) (p i : Place) (x : Matcher × Place) → Takes p (codes "/") i → regex_at i ≡ Some x → MatcherTaken predicate p x.0 x.1
+regex_matcher_takes : (predicate : Predicate) (p i : Position) (x : Matcher × Position) → Takes p (codes "/") i → regex_at i ≡ Some x → MatcherTaken predicate p x.0 x.1
 regex_matcher_takes predicate p i x slash e =
     let b = bind_is (body_at i) (λ y. Some (Regex y.0.0, y.1)) x e in
     let pattern = b.0.0.0 in
@@ -147,27 +147,27 @@ regex_matcher_takes predicate p i x slash e =
       text = grammar.regex t.body t.is refl;
       behind = λ blanks are takes. are;
     } in
-    subst (λ (y : Matcher × Place). MatcherTaken predicate p y.0 y.1) (is_some (Regex pattern, q) x b.2) is
+    subst (λ (y : Matcher × Position). MatcherTaken predicate p y.0 y.1) (is_some (Regex pattern, q) x b.2) is
 
 -- a text that is read, and the matcher that is made of its value
-record Made (how : TextMatching) (implicit : Bool) (p : Place) (m : Matcher) (q : Place) : Type 0 where
+record Made (how : TextMatching) (implicit : Bool) (p : Position) (m : Matcher) (q : Position) : Type 0 where
   value : List ℕ
   text : TextTaken p value q
   is : made (how, implicit) value ≡ Some m
 
-made_is : (how : TextMatching) (implicit : Bool) (p : Place) (x : Matcher × Place) → signed_text ((how, implicit), p) ≡ Some x → Made how implicit p x.0 x.1
+made_is : (how : TextMatching) (implicit : Bool) (p : Position) (x : Matcher × Position) → signed_text ((how, implicit), p) ≡ Some x → Made how implicit p x.0 x.1
 made_is how implicit p x e =
     let b = bind_is (raw_at p) (λ y. made (how, implicit) y.0 >>= λ m. Some (m, y.1)) x e in
     let c = bind_is (made (how, implicit) b.0.0) (λ m. Some (m, b.0.1)) x b.2 in
-    subst (λ (y : Matcher × Place). Made how implicit p y.0 y.1) (is_some (c.0, b.0.1) x c.2) (record { value = b.0.0; text = text_takes p b.0.0 b.0.1 b.1; is = c.1 })
+    subst (λ (y : Matcher × Position). Made how implicit p y.0 y.1) (is_some (c.0, b.0.1) x c.2) (record { value = b.0.0; text = text_takes p b.0.0 b.0.1 b.1; is = c.1 })
 
-text_behind : {how : TextMatching} {implicit : Bool} {p : Place} {m : Matcher} {q : Place} → Made how implicit p m q → (t : List ℕ) → Takes q t (skip q) → BehindMatcher m t
+text_behind : {how : TextMatching} {implicit : Bool} {p : Position} {m : Matcher} {q : Position} → Made how implicit p m q → (t : List ℕ) → Takes q t (skip q) → BehindMatcher m t
 text_behind {how} {implicit} {p} {m} {q} is t takes = subst (BehindMatcher m) (sym (no_blanks q t is.text.ends takes)) (made_short how implicit is.value m is.is)
 
-raw_takes : {p : Place} {value : List ℕ} {q : Place} (t : TextTaken p value q) → Takes p t.spelled.raw q
+raw_takes : {p : Position} {value : List ℕ} {q : Position} (t : TextTaken p value q) → Takes p t.spelled.raw q
 raw_takes t = record { parts = t.spelled.parts; offset = t.spelled.offset }
 
-signed_takes : (predicate : Predicate) (how : TextMatching) (p i : Place) (x : Matcher × Place) → Takes p (matching_sign how ∷ []) i → signed_text ((how, false), i) ≡ Some x → MatcherTaken predicate p x.0 x.1
+signed_takes : (predicate : Predicate) (how : TextMatching) (p i : Position) (x : Matcher × Position) → Takes p (matching_sign how ∷ []) i → signed_text ((how, false), i) ≡ Some x → MatcherTaken predicate p x.0 x.1
 signed_takes predicate how p i x front e =
     let is = made_is how false i x e in
     let t = is.text.spelled in
@@ -178,7 +178,7 @@ signed_takes predicate how p i x front e =
       behind = λ blanks are takes. text_behind is blanks takes;
     }
 
-implicit_takes : (predicate : Predicate) (p : Place) (x : Matcher × Place) → Unsigned p → signed_text ((own_matching predicate, true), p) ≡ Some x → MatcherTaken predicate p x.0 x.1
+implicit_takes : (predicate : Predicate) (p : Position) (x : Matcher × Position) → Unsigned p → signed_text ((own_matching predicate, true), p) ≡ Some x → MatcherTaken predicate p x.0 x.1
 implicit_takes predicate p x unsigned e =
     let is = made_is (own_matching predicate) true p x e in
     let t = is.text.spelled in
@@ -191,12 +191,12 @@ implicit_takes predicate p x unsigned e =
     }
 
 -- a sign that stands there, or the other
-by_sign : (Is : (TextMatching × Bool) × Place → Type 0) (o : Option Place) (how : TextMatching) (other : (TextMatching × Bool) × Place)
-    → ((q : Place) → o ≡ Some q → Is ((how, false), q)) → (o ≡ None → Is other) → Is (signed_or o how other)
+by_sign : (Is : (TextMatching × Bool) × Position → Type 0) (o : Option Position) (how : TextMatching) (other : (TextMatching × Bool) × Position)
+    → ((q : Position) → o ≡ Some q → Is ((how, false), q)) → (o ≡ None → Is other) → Is (signed_or o how other)
 by_sign Is (Some q) how other with_sign without = with_sign q refl
 by_sign Is None how other with_sign without = without refl
 
-matcher_takes : (predicate : Predicate) (p : Place) (x : Matcher × Place) → blank_len p.rest ≡ 0 → matcher_at predicate p ≡ Some x → MatcherTaken predicate p x.0 x.1
+matcher_takes : (predicate : Predicate) (p : Position) (x : Matcher × Position) → blank_len p.rest ≡ 0 → matcher_at predicate p ≡ Some x → MatcherTaken predicate p x.0 x.1
 matcher_takes predicate p x stop e =
     ⊎_elim
     (λ a. regex_matcher_takes predicate p a.0 x (after_takes (codes "/") p a.0 a.1) a.2)
@@ -207,19 +207,19 @@ matcher_takes predicate p x stop e =
     b.1)
     (choose_is (after (codes "/") p) regex_at (text_matcher_at predicate p) x e)
   where
-    Is : (TextMatching × Bool) × Place → Type 0
+    Is : (TextMatching × Bool) × Position → Type 0
     Is s = signed_text s ≡ Some x → MatcherTaken predicate p x.0 x.1
 
 -- ---- calls
 
 -- a name, blanks and an opening parenthesis
-record Opened (name : List ℕ) (s i : Place) : Type 0 where
+record Opened (name : List ℕ) (s i : Position) : Type 0 where
   blanks : List ℕ
   are : Blanks blanks
   parts : s.rest ≡ name ++ (blanks ++ (40 ∷ i.rest))
   offset : i.at ≡ s.at + length name + length blanks + 1
 
-opened_takes : (name : List ℕ) (s q i : Place) → Takes s name q → after (codes "(") (skip q) ≡ Some i → Opened name s i
+opened_takes : (name : List ℕ) (s q i : Position) → Takes s name q → after (codes "(") (skip q) ≡ Some i → Opened name s i
 opened_takes name s q i word e =
     let k = skip_takes q.rest q.at in
     let o = after_takes (codes "(") (skip q) i e in
@@ -231,12 +231,12 @@ opened_takes name s q i word e =
     }
 
 -- a name and an argument between parentheses
-record CallTaken (name argument : List ℕ) (s : Place) (inside : ℕ) (q : Place) : Type 0 where
+record CallTaken (name argument : List ℕ) (s : Position) (inside : ℕ) (q : Position) : Type 0 where
   own : List ℕ
   takes : Takes s own q
   call : Call name argument own s.at inside
 
-call_takes : (name argument : List ℕ) (s i j q : Place) → Opened name s i → Takes i argument j → Takes j (codes ")") q → CallTaken name argument s i.at q
+call_takes : (name argument : List ℕ) (s i j q : Position) → Opened name s i → Takes i argument j → Takes j (codes ")") q → CallTaken name argument s i.at q
 call_takes name argument s i j q o a close =
     let inner = Takes-then i j q argument (41 ∷ []) a close in
     let own : List ℕ = name ++ (o.blanks ++ (40 ∷ (argument ++ 41 ∷ []))) in
@@ -251,16 +251,16 @@ call_takes name argument s i j q o a close =
 -- ---- predicates
 
 -- a predicate that is read
-pub record LeafTaken (s : Place) (l : Leaf SourceSpan) (q : Place) : Type 0 where
+pub record LeafTaken (s : Position) (l : Leaf SourceSpan) (q : Position) : Type 0 where
   pub own : List ℕ
   pub takes : Takes s own q
   pub text : LeafText own s.at l
 
--- the predicate and the place, as they were read
-leaf_is : (s : Place) (l : Leaf SourceSpan) (q : Place) (x : Leaf SourceSpan × Place) → Some (l, q) ≡ Some x → LeafTaken s l q → LeafTaken s x.0 x.1
-leaf_is s l q x e taken = subst (λ (y : Leaf SourceSpan × Place). LeafTaken s y.0 y.1) (is_some (l, q) x e) taken
+-- the predicate and the position, as they were read
+leaf_is : (s : Position) (l : Leaf SourceSpan) (q : Position) (x : Leaf SourceSpan × Position) → Some (l, q) ≡ Some x → LeafTaken s l q → LeafTaken s x.0 x.1
+leaf_is s l q x e taken = subst (λ (y : Leaf SourceSpan × Position). LeafTaken s y.0 y.1) (is_some (l, q) x e) taken
 
-matching_call_takes : (p : Predicate) (m : Matcher) (s i j r : Place) → Opened (Name p) s i → matcher_at p (skip i) ≡ Some (m, j) → after (codes ")") (skip j) ≡ Some r → LeafTaken s (Matching p m (between i.at j.at)) r
+matching_call_takes : (p : Predicate) (m : Matcher) (s i j r : Position) → Opened (Name p) s i → matcher_at p (skip i) ≡ Some (m, j) → after (codes ")") (skip j) ≡ Some r → LeafTaken s (Matching p m (between i.at j.at)) r
 matching_call_takes p m s i j r o e close =
     let before = skip_takes i.rest i.at in
     let t = matcher_takes p (skip i) (m, j) before.stop e in
@@ -275,7 +275,7 @@ matching_call_takes p m s i j r o e close =
       text = grammar.matching {t = call.own} i.at before.blanks t.raw behind.blanks call.call before.are t.text (t.behind behind.blanks behind.are behind.takes) s_is;
     }
 
-matching_takes : (p : Predicate) (s i : Place) (x : Leaf SourceSpan × Place) → Opened (Name p) s i → matching_at p i ≡ Some x → LeafTaken s x.0 x.1
+matching_takes : (p : Predicate) (s i : Position) (x : Leaf SourceSpan × Position) → Opened (Name p) s i → matching_at p i ≡ Some x → LeafTaken s x.0 x.1
 matching_takes p s i x o e =
     let b = bind_is (matcher_at p (skip i)) (λ y. after (codes ")") (skip y.1) >>= λ r. Some (Matching p y.0 (between i.at y.1.at), r)) x e in
     let m = b.0.0 in
@@ -284,7 +284,7 @@ matching_takes p s i x o e =
     leaf_is s (Matching p m (between i.at j.at)) c.0 x c.2 (matching_call_takes p m s i j c.0 o b.1 c.1)
 
 -- the argument of `platform`, with the blanks before it
-record PlatformTaken (i : Place) (q : BuildPlatform) (j : Place) : Type 0 where
+record PlatformTaken (i : Position) (q : BuildPlatform) (j : Position) : Type 0 where
   raw : List ℕ
   takes : Takes i raw j
   value : List ℕ
@@ -292,7 +292,7 @@ record PlatformTaken (i : Place) (q : BuildPlatform) (j : Place) : Type 0 where
   names : Names value q
   ends : EndsText j.rest
 
-platform_text_takes : (i j : Place) (value : List ℕ) (q : BuildPlatform) → raw_at (skip i) ≡ Some (value, j) → platform_in value ≡ Some q → PlatformTaken i q j
+platform_text_takes : (i j : Position) (value : List ℕ) (q : BuildPlatform) → raw_at (skip i) ≡ Some (value, j) → platform_in value ≡ Some q → PlatformTaken i q j
 platform_text_takes i j value q e is =
     let k = skip_takes i.rest i.at in
     let read = text_takes (skip i) value j e in
@@ -306,7 +306,7 @@ platform_text_takes i j value q e is =
       ends = read.ends;
     }
 
-platform_call_takes : (s i j r : Place) (q : BuildPlatform) → Opened (codes "platform") s i → PlatformTaken i q j → after (codes ")") (skip j) ≡ Some r → LeafTaken s (Platform q (between i.at j.at)) r
+platform_call_takes : (s i j r : Position) (q : BuildPlatform) → Opened (codes "platform") s i → PlatformTaken i q j → after (codes ")") (skip j) ≡ Some r → LeafTaken s (Platform q (between i.at j.at)) r
 platform_call_takes s i j r q o t e =
     let call = call_takes (codes "platform") t.raw s i j r o t.takes (close_takes j r t.ends e) in
     let s_is : between i.at j.at ≡ span i.at (length t.raw) = span_same i.at (length t.raw) j.at (sym t.takes.offset) in
@@ -316,7 +316,7 @@ platform_call_takes s i j r q o t e =
       text = grammar.platform {t = call.own} i.at t.raw t.value call.call t.spelled t.names s_is;
     }
 
-platform_leaf_takes : (s i : Place) (x : Leaf SourceSpan × Place) → Opened (codes "platform") s i → platform_at i ≡ Some x → LeafTaken s x.0 x.1
+platform_leaf_takes : (s i : Position) (x : Leaf SourceSpan × Position) → Opened (codes "platform") s i → platform_at i ≡ Some x → LeafTaken s x.0 x.1
 platform_leaf_takes s i x o e =
     let b = bind_is (raw_at (skip i)) (λ y. after (codes ")") (skip y.1) >>= λ r. platform_in y.0 >>= λ q. Some (Platform q (between i.at y.1.at), r)) x e in
     let j = b.0.1 in
@@ -325,14 +325,14 @@ platform_leaf_takes s i x o e =
     leaf_is s (Platform d.0 (between i.at j.at)) c.0 x d.2 (platform_call_takes s i j c.0 d.0 o (platform_text_takes i j b.0.0 d.0 b.1 d.1) c.1)
 
 -- white space and a closing parenthesis
-record WhiteTaken (p q : Place) : Type 0 where
+record WhiteTaken (p q : Position) : Type 0 where
   white : List ℕ
   are : WhiteSpace white
-  middle : Place
+  middle : Position
   takes : Takes p white middle
   close : Takes middle (codes ")") q
 
-bare_end_takes : (p q : Place) → bare_end_at p ≡ Some q → WhiteTaken p q
+bare_end_takes : (p q : Position) → bare_end_at p ≡ Some q → WhiteTaken p q
 bare_end_takes p q e = from (is_white (take (close_len p.rest) p.rest)) refl e
   where
     from : (v : Bool) → is_white (take (close_len p.rest) p.rest) ≡ v → cond v (after (codes ")") (advanced (close_len p.rest) p)) None ≡ Some q → WhiteTaken p q
@@ -349,17 +349,17 @@ bare_end_takes p q e = from (is_white (take (close_len p.rest) p.rest)) refl e
         }
 
 -- a name and white space between parentheses
-record BareTaken (name : List ℕ) (s : Place) (inside : ℕ) (q : Place) : Type 0 where
+record BareTaken (name : List ℕ) (s : Position) (inside : ℕ) (q : Position) : Type 0 where
   white : List ℕ
   are : WhiteSpace white
   taken : CallTaken name white s inside q
 
-bare_takes : (name : List ℕ) (s i q : Place) → Opened name s i → bare_end_at i ≡ Some q → BareTaken name s i.at q
+bare_takes : (name : List ℕ) (s i q : Position) → Opened name s i → bare_end_at i ≡ Some q → BareTaken name s i.at q
 bare_takes name s i q o e =
     let w = bare_end_takes i q e in
     record { white = w.white; are = w.are; taken = call_takes name w.white s i w.middle q o w.takes w.close }
 
-default_takes : (s i : Place) (x : Leaf SourceSpan × Place) → Opened (codes "default") s i → default_at s.at i ≡ Some x → LeafTaken s x.0 x.1
+default_takes : (s i : Position) (x : Leaf SourceSpan × Position) → Opened (codes "default") s i → default_at s.at i ≡ Some x → LeafTaken s x.0 x.1
 default_takes s i x o e =
     let b = bind_is (bare_end_at i) (λ r. Some (Default (between s.at r.at), r)) x e in
     let t = bare_takes (codes "default") s i b.0 o b.1 in
@@ -371,14 +371,14 @@ default_takes s i x o e =
     } in
     leaf_is s (Default (between s.at b.0.at)) b.0 x b.2 is
 
-bare_leaf_takes : (name : List ℕ) (l : Leaf SourceSpan) (s i : Place) (x : Leaf SourceSpan × Place) → Opened name s i
+bare_leaf_takes : (name : List ℕ) (l : Leaf SourceSpan) (s i : Position) (x : Leaf SourceSpan × Position) → Opened name s i
     → ((own white : List ℕ) → Call name white own s.at i.at → WhiteSpace white → LeafText own s.at l) → bare_at l i ≡ Some x → LeafTaken s x.0 x.1
 bare_leaf_takes name l s i x o text e =
     let b = bind_is (bare_end_at i) (λ r. Some (l, r)) x e in
     let t = bare_takes name s i b.0 o b.1 in
     leaf_is s l b.0 x b.2 (record { own = t.taken.own; takes = t.taken.takes; text = text t.taken.own t.white t.taken.call t.are })
 
-argument_takes : (n : PredicateName) (s i : Place) (x : Leaf SourceSpan × Place) → Opened (name_text n) s i → argument_at n s.at i ≡ Some x → LeafTaken s x.0 x.1
+argument_takes : (n : PredicateName) (s i : Position) (x : Leaf SourceSpan × Position) → Opened (name_text n) s i → argument_at n s.at i ≡ Some x → LeafTaken s x.0 x.1
 argument_takes (names.Matching name) s i x o e = matching_takes name s i x o e
 argument_takes names.Platform s i x o e = platform_leaf_takes s i x o e
 argument_takes names.Default s i x o e = default_takes s i x o e
@@ -386,7 +386,7 @@ argument_takes names.All s i x o e = bare_leaf_takes (codes "all") tree.All s i 
 argument_takes names.None s i x o e = bare_leaf_takes (codes "none") tree.None s i x o (λ own white call are. grammar.none i.at white call are) e
 
 -- what stands after a name that was read
-pub leaf_takes : (s : Place) (n : PredicateName) (q : Place) (x : Leaf SourceSpan × Place) → Takes s (name_text n) q → leaf_at n s.at q ≡ Some x → LeafTaken s x.0 x.1
+pub leaf_takes : (s : Position) (n : PredicateName) (q : Position) (x : Leaf SourceSpan × Position) → Takes s (name_text n) q → leaf_at n s.at q ≡ Some x → LeafTaken s x.0 x.1
 leaf_takes s n q x word e =
     let b = bind_is (after (codes "(") (skip q)) (λ i. argument_at n s.at i) x e in
     argument_takes n s b.0 x (opened_takes (name_text n) s q b.0 word b.1) b.2

@@ -6,7 +6,7 @@ use Rattle.std.proofs.lemmas.List.Elements.{All-append, All-cons, All-nil}
 use Rattle.filterset_faults.specs.declared.error.ParseSingleError.{ParseSingleError}
 use Rattle.filterset_language.specs.Parsing.Descent.{◌>>=◌}
 use Rattle.filterset_language.specs.Parsing.Escapes.{escape_at}
-use Rattle.filterset_language.specs.Parsing.Place.{Place, advanced}
+use Rattle.filterset_language.specs.Parsing.Position.{Position, advanced}
 use Rattle.filterset_language.specs.Parsing.Recovery.{Recovers, Found, Keeps, Passes}
 use Rattle.filterset_language.specs.Parsing.Outcome.{Faults}
 
@@ -80,7 +80,7 @@ pub keeps_from : (t : List ℕ) (old f g : Faults) → f ≡ old → Keeps t f g
 keeps_from t old f g same k = subst (λ (x : Faults). Keeps t x g) same k
 
 -- after what was passed no fault is gone
-pub passes_grows : (p q : Place) (f g : Faults) → Passes p q f g → length f ≤ length g
+pub passes_grows : (p q : Position) (f g : Faults) → Passes p q f g → length f ≤ length g
 passes_grows p q f g passes = from (escape_at p.rest) passes
   where
     from : (o : Option (ℕ × ℕ)) → MatchOption o ((q ≡ p) × (length f < length g)) (λ e. (q ≡ advanced e.1 p) × (g ≡ f)) → length f ≤ length g

@@ -5,7 +5,7 @@ use Rattle.std.proofs.lemmas.List.{append-nil}
 use Rattle.filterset_faults.specs.declared.span.SourceSpan.{SourceSpan}
 use Rattle.filterset_grammar.specs.Text.{Blanks, no_blank, space, newline, return_newline, ends_word}
 use Rattle.filterset_language.specs.Parsing.Front.{blank_len}
-use Rattle.filterset_language.specs.Parsing.Place.{Place, place, skip, skip_from, behind}
+use Rattle.filterset_language.specs.Parsing.Position.{Position, position, skip, skip_from, behind}
 use Rattle.filterset_language.specs.Parsing.Words.{choose, not_at, joiner_at, or_at, name_at}
 use Rattle.filterset_grammar.specs.declared.predicate.Predicate.TheVariants as predicates
 use Rattle.filterset_grammar.specs.Tree.{Leaf, Union, Join, Set}
@@ -23,7 +23,7 @@ use Rattle.filterset_grammar.specs.declared.operators.AndOperator.TheVariants.{L
 use Rattle.filterset_grammar.specs.declared.operators.DifferenceOperator.TheVariants.{Minus}
 use Rattle.filterset_grammar.specs.declared.operators.SymmetricDifferenceOperator.TheVariants.{Caret}
 use Rattle.filterset_language.specs.declared.parsing.names.PredicateName.{PredicateName}
-use Rattle.filterset_language.proofs.Places.{skip_again}
+use Rattle.filterset_language.proofs.Positions.{skip_again}
 use Rattle.filterset_language.proofs.StepsTakeText.{is_some}
 use Rattle.filterset_language.proofs.ReadingSteps.{less, loop_turns, more_ends}
 use Rattle.filterset_language.proofs.SpelledLeavesAreRead.{byte_stop, open_stop, close_stop, close_again, call_text, leaf_again}
@@ -39,11 +39,11 @@ not_stop : (op : NotOperator) (u : List ℕ) → blank_len (not_text op ++ u) �
 not_stop LiteralNot u = refl
 not_stop Exclamation u = byte_stop 33 u refl refl
 
-not_name : (op : NotOperator) (at : ℕ) (u : List ℕ) → name_at (place at (not_text op ++ u)) ≡ None
+not_name : (op : NotOperator) (at : ℕ) (u : List ℕ) → name_at (position at (not_text op ++ u)) ≡ None
 not_name LiteralNot at u = refl
 not_name Exclamation at u = refl
 
-not_again : (op : NotOperator) (at : ℕ) (own u : List ℕ) → 0 < length own → not_ends op own → not_at (place at (not_text op ++ (own ++ u))) ≡ Some (op, place (at + length (not_text op)) (own ++ u))
+not_again : (op : NotOperator) (at : ℕ) (own u : List ℕ) → 0 < length own → not_ends op own → not_at (position at (not_text op ++ (own ++ u))) ≡ Some (op, position (at + length (not_text op)) (own ++ u))
 not_again LiteralNot at own u lt ends = let e = ends_more own u lt ends in rw e refl
 not_again Exclamation at own u lt ends = refl
 
@@ -53,7 +53,7 @@ join_stop (Both Ampersand) u = byte_stop 38 u refl refl
 join_stop (Without Minus) u = byte_stop 45 u refl refl
 join_stop (ExactlyOne Caret) u = byte_stop 94 u refl refl
 
-join_again : (op : Joiner) (at : ℕ) (own u : List ℕ) → 0 < length own → behind (codes "&") (own ++ u) ≡ None → join_ends op own → joiner_at (place at (join_text op ++ (own ++ u))) ≡ Some (Some op, place (at + length (join_text op)) (own ++ u))
+join_again : (op : Joiner) (at : ℕ) (own u : List ℕ) → 0 < length own → behind (codes "&") (own ++ u) ≡ None → join_ends op own → joiner_at (position at (join_text op ++ (own ++ u))) ≡ Some (Some op, position (at + length (join_text op)) (own ++ u))
 join_again (Both LiteralAnd) at own u lt no_amp ends = let e = ends_more own u lt ends in rw e refl
 join_again (Both Ampersand) at own u lt no_amp ends = rw no_amp refl
 join_again (Without Minus) at own u lt no_amp ends = refl
@@ -64,7 +64,7 @@ or_stop LiteralOr u = refl
 or_stop Pipe u = byte_stop 124 u refl refl
 or_stop Plus u = byte_stop 43 u refl refl
 
-or_again : (op : OrOperator) (at : ℕ) (own u : List ℕ) → 0 < length own → behind (codes "|") (own ++ u) ≡ None → or_ends op own → or_at (place at (or_text op ++ (own ++ u))) ≡ Some (Some op, place (at + length (or_text op)) (own ++ u))
+or_again : (op : OrOperator) (at : ℕ) (own u : List ℕ) → 0 < length own → behind (codes "|") (own ++ u) ≡ None → or_ends op own → or_at (position at (or_text op ++ (own ++ u))) ≡ Some (Some op, position (at + length (or_text op)) (own ++ u))
 or_again LiteralOr at own u lt no_pipe ends = let e = ends_more own u lt ends in rw e refl
 or_again Pipe at own u lt no_pipe ends = rw no_pipe refl
 or_again Plus at own u lt no_pipe ends = refl
@@ -125,23 +125,23 @@ and_no_sign (grammar.join {t} {at} {op} left blanks right first b ends second is
 pub record LevelRead {O : Type 0} (next : Next O) (make : Make O) (read : Reader) (at : ℕ) (t : List ℕ) (e : Placed) (u : List ℕ) : Type 0 where
   pub m : ℕ
   pub long : length u ≤ m
-  pub same : level_by next make read (place at (t ++ u)) ≡ more next make read m e (place (at + length t) u)
+  pub same : level_by next make read (position at (t ++ u)) ≡ more next make read m e (position (at + length t) u)
 
 -- a level of one operand so far
 one_read : {O : Type 0} (next : Next O) (make : Make O) (read : Reader) (at : ℕ) (t : List ℕ) (e : Placed) (u : List ℕ)
-    → read (place at (t ++ u)) ≡ Some (e, place (at + length t) u) → LevelRead next make read at t e u
+    → read (position at (t ++ u)) ≡ Some (e, position (at + length t) u) → LevelRead next make read at t e u
 one_read next make read at t e u h = record { m = length u; long = omega arith; same = rw h refl }
 
 -- a level before what is none of its operators
 level_ends : {O : Type 0} (next : Next O) (make : Make O) (read : Reader) (at : ℕ) (t : List ℕ) (e : Placed) (u : List ℕ)
-    → LevelRead next make read at t e u → next (skip (place (at + length t) u)) ≡ None → level_by next make read (place at (t ++ u)) ≡ Some (e, place (at + length t) u)
-level_ends next make read at t e u so_far none = so_far.same ∙ more_ends next make read so_far.m e (place (at + length t) u) none
+    → LevelRead next make read at t e u → next (skip (position (at + length t) u)) ≡ None → level_by next make read (position at (t ++ u)) ≡ Some (e, position (at + length t) u)
+level_ends next make read at t e u so_far none = so_far.same ∙ more_ends next make read so_far.m e (position (at + length t) u) none
 
 -- an operator and its right operand after a level so far
 level_grows : {O : Type 0} (next : Next O) (make : Make O) (read : Reader) (op : O) (at : ℕ) (left blanks own right : List ℕ) (l r : Placed) (u : List ℕ)
     → Blanks blanks → ((v : List ℕ) → blank_len (own ++ v) ≡ 0) → 0 < length right
-    → next (place (at + length left + length blanks) (own ++ (right ++ u))) ≡ Some (Some op, place (at + length left + length blanks + length own) (right ++ u))
-    → read (place (at + length left + length blanks + length own) (right ++ u)) ≡ Some (r, place (at + length left + length blanks + length own + length right) u)
+    → next (position (at + length left + length blanks) (own ++ (right ++ u))) ≡ Some (Some op, position (at + length left + length blanks + length own) (right ++ u))
+    → read (position (at + length left + length blanks + length own) (right ++ u)) ≡ Some (r, position (at + length left + length blanks + length own + length right) u)
     → LevelRead next make read at left l (blanks ++ (own ++ (right ++ u))) → LevelRead next make read at (left ++ (blanks ++ (own ++ right))) (make op l r) u
 level_grows next make read op at left blanks own right l r u are stop some stands second so_far =
     let behind = blanks ++ (own ++ (right ++ u)) in
@@ -150,12 +150,12 @@ level_grows next make read op at left blanks own right l r u are stop some stand
     let whole : (left ++ (blanks ++ (own ++ right))) ++ u ≡ left ++ behind = simp append_assoc in
     let shorter : length u < length behind = omega (arith, length-append blanks (own ++ (right ++ u)), length-append own (right ++ u), length-append right u) in
     let skipped = skip_again are a (own ++ (right ++ u)) (stop (right ++ u)) in
-    let turn = loop_turns next make read so_far.m l r op (place a behind) (place (a + length blanks) (own ++ (right ++ u))) (place b (right ++ u)) (place (b + length right) u) (level_by next make read (place at (left ++ behind))) shorter so_far.long (sym skipped) (sym stands) second (sym so_far.same) in
+    let turn = loop_turns next make read so_far.m l r op (position a behind) (position (a + length blanks) (own ++ (right ++ u))) (position b (right ++ u)) (position (b + length right) u) (level_by next make read (position at (left ++ behind))) shorter so_far.long (sym skipped) (sym stands) second (sym so_far.same) in
     let end : b + length right ≡ at + length (left ++ (blanks ++ (own ++ right))) = omega (arith, length-append left (blanks ++ (own ++ right)), length-append blanks (own ++ right), length-append own right) in
     record {
       m = turn.0;
       long = turn.1;
-      same = ap (λ (x : List ℕ). level_by next make read (place at x)) whole ∙ sym turn.2 ∙ ap (λ (x : ℕ). more next make read turn.0 (make op l r) (place x u)) end;
+      same = ap (λ (x : List ℕ). level_by next make read (position at x)) whole ∙ sym turn.2 ∙ ap (λ (x : ℕ). more next make read turn.0 (make op l r) (position x u)) end;
     }
 
 -- an operand after an operator: the text from the left side on is the whole one, and the right side stands within it
@@ -167,12 +167,12 @@ split_size t left blanks own right u is =
 
 -- no operator of the level of `and` stands after the blanks of a text
 abbrev NoJoiner : List ℕ → Type 0
-NoJoiner u = (at : ℕ) → joiner_at (skip (place at u)) ≡ None
+NoJoiner u = (at : ℕ) → joiner_at (skip (position at u)) ≡ None
 
 or_no_joiner : (op : OrOperator) {b : List ℕ} → Blanks b → (v : List ℕ) → NoJoiner (b ++ (or_text op ++ v))
 or_no_joiner op {b} r v at = ap joiner_at (skip_again r at (or_text op ++ v) (or_stop op v)) ∙ none op
   where
-    none : (op : OrOperator) → joiner_at (place (at + length b) (or_text op ++ v)) ≡ None
+    none : (op : OrOperator) → joiner_at (position (at + length b) (or_text op ++ v)) ≡ None
     none LiteralOr = refl
     none Pipe = refl
     none Plus = refl
@@ -181,23 +181,23 @@ close_no_joiner : {b : List ℕ} → Blanks b → (v : List ℕ) → NoJoiner (b
 close_no_joiner r v at = ap joiner_at (skip_again r at (41 ∷ v) (close_stop v))
 
 -- after the blanks at the end of a text stands nothing
-end_skipped : {b : List ℕ} → Blanks b → (at : ℕ) → skip (place at b) ≡ place (at + length b) []
+end_skipped : {b : List ℕ} → Blanks b → (at : ℕ) → skip (position at b) ≡ position (at + length b) []
 end_skipped {b} r at = ap (skip_from at) (sym (append-nil b)) ∙ skip_again r at [] refl
 
 -- ---- expressions
 
 -- the readers of a bound, from a bound that leaves room
-basic_of : (n k : ℕ) (p : Place) (r : Option (Placed × Place)) → n ≡ suc k → operand_at (suc k) p ≡ r → operand_at n p ≡ r
+basic_of : (n k : ℕ) (p : Position) (r : Option (Placed × Position)) → n ≡ suc k → operand_at (suc k) p ≡ r → operand_at n p ≡ r
 basic_of n k p r e h = rw e h
 
-or_of : (n k : ℕ) (p : Place) (r : Option (Placed × Place)) → n ≡ suc k → or_level_by (operand_at (suc k)) p ≡ r → or_level_by (operand_at n) p ≡ r
+or_of : (n k : ℕ) (p : Position) (r : Option (Placed × Position)) → n ≡ suc k → or_level_by (operand_at (suc k)) p ≡ r → or_level_by (operand_at n) p ≡ r
 or_of n k p r e h = rw e h
 
 -- a name before what it stands before: what is read then is a leaf
-name_then : (n : ℕ) (at : ℕ) (t : List ℕ) (x : Leaf SourceSpan × Place) → (name_at (place at t) >>= λ y. leaf_at y.0 at y.1) ≡ Some x → operand_by (operand_at n) (place at t) ≡ Some (Set x.0, x.1)
-name_then n at t x e = by_name _ (name_at (place at t)) e
+name_then : (n : ℕ) (at : ℕ) (t : List ℕ) (x : Leaf SourceSpan × Position) → (name_at (position at t) >>= λ y. leaf_at y.0 at y.1) ≡ Some x → operand_by (operand_at n) (position at t) ≡ Some (Set x.0, x.1)
+name_then n at t x e = by_name _ (name_at (position at t)) e
   where
-    by_name : (other : Option (Placed × Place)) (o : Option (PredicateName × Place)) → (o >>= λ y. leaf_at y.0 at y.1) ≡ Some x → choose o (λ y. set_at y.0 at y.1) other ≡ Some (Set x.0, x.1)
+    by_name : (other : Option (Placed × Position)) (o : Option (PredicateName × Position)) → (o >>= λ y. leaf_at y.0 at y.1) ≡ Some x → choose o (λ y. set_at y.0 at y.1) other ≡ Some (Set x.0, x.1)
     by_name other (Some y) h = rw h refl
     by_name other None h = absurd cc
 
@@ -211,7 +211,7 @@ OrRead n at t e u = LevelRead or_at unite (and_level_by (operand_at (suc n))) at
 mutual
   unfolding operand_at
 
-  pub basic_again : {t : List ℕ} {at : ℕ} {e : Placed} → Basic t at e → (n : ℕ) (u : List ℕ) → length (t ++ u) ≤ n → operand_at (suc n) (place at (t ++ u)) ≡ Some (e, place (at + length t) u)
+  pub basic_again : {t : List ℕ} {at : ℕ} {e : Placed} → Basic t at e → (n : ℕ) (u : List ℕ) → length (t ++ u) ≤ n → operand_at (suc n) (position at (t ++ u)) ≡ Some (e, position (at + length t) u)
   basic_again (grammar.leaf {t} {at} {l} blanks own b text is) n u le =
       let whole : t ++ u ≡ blanks ++ (own ++ u) = ap (λ (x : List ℕ). x ++ u) is ∙ append_assoc blanks own u in
       let r = leaf_again text u in
@@ -224,7 +224,7 @@ mutual
       let op_some = not_some op in
       let k = less n (length (own ++ u)) (length (t ++ u)) (omega arith) le in
       let a = at + length blanks + length (not_text op) in
-      let next = basic_of n k.by (place a (own ++ u)) (Some (e, place (a + length own) u)) k.is (basic_again inner k.by u k.holds) in
+      let next = basic_of n k.by (position a (own ++ u)) (Some (e, position (a + length own) u)) k.is (basic_again inner k.by u k.holds) in
       let len : a + length own ≡ at + length t = omega (arith, ap length is, length-append blanks (not_text op ++ own), length-append (not_text op) own) in
       rw (whole, skip_again b at (not_text op ++ (own ++ u)) (not_stop op (own ++ u)), not_name op (at + length blanks) (own ++ u), not_again op (at + length blanks) own u some ends, next, len) refl
   basic_again (grammar.parens {t} {at} {e} blanks own behind b inner c is) n u le =
@@ -235,8 +235,8 @@ mutual
       let k = less n (length rest) (length (t ++ u)) (omega arith) le in
       let a = at + length blanks + 1 in
       let read = or_level_again inner k.by last k.holds (close_no_joiner c u) in
-      let stop : or_at (skip (place (a + length own) last)) ≡ None = ap or_at (skip_again c (a + length own) (41 ∷ u) (close_stop u)) in
-      let all = or_of n k.by (place a rest) (Some (e, place (a + length own) last)) k.is (level_ends or_at unite (and_level_by (operand_at (suc k.by))) a own e last read stop) in
+      let stop : or_at (skip (position (a + length own) last)) ≡ None = ap or_at (skip_again c (a + length own) (41 ∷ u) (close_stop u)) in
+      let all = or_of n k.by (position a rest) (Some (e, position (a + length own) last)) k.is (level_ends or_at unite (and_level_by (operand_at (suc k.by))) a own e last read stop) in
       let len : a + length own + length behind + 1 ≡ at + length t = omega (arith, ap length is, length-append blanks (40 ∷ (own ++ (behind ++ 41 ∷ []))), length-append own (behind ++ 41 ∷ []), length-append behind (41 ∷ [])) in
       rw (whole, skip_again b at (40 ∷ rest) (open_stop rest), all, close_again c (a + length own) u, len) refl
 

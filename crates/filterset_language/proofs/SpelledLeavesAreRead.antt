@@ -10,7 +10,7 @@ use Rattle.filterset_faults.specs.declared.span.SourceSpan.{SourceSpan}
 use Rattle.filterset_grammar.specs.Text.{Blanks, no_blank, space, newline, return_newline, Spelled, WhiteSpace}
 use Rattle.filterset_language.specs.Parsing.Front.{blank_len}
 use Rattle.filterset_language.specs.Faults.{closed, at_close}
-use Rattle.filterset_language.specs.Parsing.Place.{Place, place, skip, after, behind}
+use Rattle.filterset_language.specs.Parsing.Position.{Position, position, skip, after, behind}
 use Rattle.filterset_grammar.specs.Platforms.{Names}
 use Rattle.filterset_language.specs.Parsing.RawTexts.{raw_at}
 use Rattle.filterset_language.specs.Parsing.Words.{name_at}
@@ -24,7 +24,7 @@ use Rattle.filterset_grammar.specs.declared.predicate.Predicate.{Predicate}
 use Rattle.filterset_grammar.specs.Grammar as grammar
 use Rattle.filterset_grammar.specs.Grammar.{Name, own_matching, matching_sign, Matches, begins_plainly, MatcherText, regex, signed, implicit, BehindMatcher, Call, LeafText}
 use Rattle.filterset_language.specs.Parsing.Descent.{◌>>=◌, made, signed_text, matcher_at, between, matching_at, platform_at, bare_end_at, bare_at, default_at, leaf_at}
-use Rattle.filterset_language.proofs.Places.{skip_stop, skip_again}
+use Rattle.filterset_language.proofs.Positions.{skip_stop, skip_again}
 use Rattle.filterset_language.proofs.WhiteSpaceTest.{white_to, white_close}
 use Rattle.filterset_language.proofs.RawTexts.{text_again}
 use Rattle.filterset_language.proofs.BodyReading.{regex_again}
@@ -45,10 +45,10 @@ pub close_stop : (u : List ℕ) → blank_len (41 ∷ u) ≡ 0
 close_stop u = byte_stop 41 u refl refl
 
 -- blanks and a parenthesis
-open_again : {b : List ℕ} → Blanks b → (at : ℕ) (u : List ℕ) → after (codes "(") (skip (place at (b ++ 40 ∷ u))) ≡ Some (place (at + length b + 1) u)
+open_again : {b : List ℕ} → Blanks b → (at : ℕ) (u : List ℕ) → after (codes "(") (skip (position at (b ++ 40 ∷ u))) ≡ Some (position (at + length b + 1) u)
 open_again r at u = rw (skip_again r at (40 ∷ u) (open_stop u)) refl
 
-pub close_again : {b : List ℕ} → Blanks b → (at : ℕ) (u : List ℕ) → after (codes ")") (skip (place at (b ++ 41 ∷ u))) ≡ Some (place (at + length b + 1) u)
+pub close_again : {b : List ℕ} → Blanks b → (at : ℕ) (u : List ℕ) → after (codes ")") (skip (position at (b ++ 41 ∷ u))) ≡ Some (position (at + length b + 1) u)
 close_again r at u = rw (skip_again r at (41 ∷ u) (close_stop u)) refl
 
 -- ---- matchers
@@ -56,16 +56,16 @@ close_again r at u = rw (skip_again r at (41 ∷ u) (close_stop u)) refl
 -- a matcher that is read before what stands between it and its closing parenthesis
 record MatcherRead (p : Predicate) (raw : List ℕ) (m : Matcher) (at : ℕ) (behind u : List ℕ) : Type 0 where
   stop : blank_len (raw ++ (behind ++ 41 ∷ u)) ≡ 0
-  read : matcher_at p (place at (raw ++ (behind ++ 41 ∷ u))) ≡ Some (m, place (at + length raw) (behind ++ 41 ∷ u))
+  read : matcher_at p (position at (raw ++ (behind ++ 41 ∷ u))) ≡ Some (m, position (at + length raw) (behind ++ 41 ∷ u))
   blanks : Blanks behind
 
 -- a raw text before a closing parenthesis
-text_read : (at : ℕ) (raw value u : List ℕ) → Spelled raw value → raw ≢ [] → raw_at (place at (raw ++ 41 ∷ u)) ≡ Some (value, place (at + length raw) (41 ∷ u))
+text_read : (at : ℕ) (raw value u : List ℕ) → Spelled raw value → raw ≢ [] → raw_at (position at (raw ++ 41 ∷ u)) ≡ Some (value, position (at + length raw) (41 ∷ u))
 text_read at raw value u r some = text_again at raw value (41 ∷ u) r some (closed at_close)
 
 -- what begins plainly begins with no blank, and is read as a text without a sign
 plain_begins : (p : Predicate) (raw : List ℕ) (at : ℕ) (u : List ℕ) → raw ≢ [] → begins_plainly raw
-    → (blank_len (raw ++ 41 ∷ u) ≡ 0) × (matcher_at p (place at (raw ++ 41 ∷ u)) ≡ signed_text ((own_matching p, true), place at (raw ++ 41 ∷ u)))
+    → (blank_len (raw ++ 41 ∷ u) ≡ 0) × (matcher_at p (position at (raw ++ 41 ∷ u)) ≡ signed_text ((own_matching p, true), position at (raw ++ 41 ∷ u)))
 plain_begins p [] at u some h = absurd (some refl)
 plain_begins p (b ∷ raw) at u some h =
     let f = h.1 b raw refl in
@@ -108,7 +108,7 @@ stands_alone ways.Glob unsigned value m more is h = subst (λ (x : Matcher). Beh
 
 -- after its sign such a text is read
 signed_begins : (how : TextMatching) (p : Predicate) (at : ℕ) (t : List ℕ)
-    → (blank_len (matching_sign how ∷ t) ≡ 0) × (matcher_at p (place at (matching_sign how ∷ t)) ≡ signed_text ((how, false), place (at + 1) t))
+    → (blank_len (matching_sign how ∷ t) ≡ 0) × (matcher_at p (position at (matching_sign how ∷ t)) ≡ signed_text ((how, false), position (at + 1) t))
 signed_begins ways.Equal p at t = (byte_stop 61 t refl refl, refl)
 signed_begins ways.Contains p at t = (byte_stop 126 t refl refl, refl)
 signed_begins ways.Glob p at t = (byte_stop 35 t refl refl, refl)
@@ -137,7 +137,7 @@ matcher_again (implicit {p} {raw} {m} value r some begins is) at behind u last =
 
 -- a matcher, with the blanks round it
 matching_argument : {p : Predicate} {m : Matcher} {before : List ℕ} (at : ℕ) (raw behind u : List ℕ) → Blanks before → MatcherText p raw m → BehindMatcher m behind
-    → matching_at p (place at ((before ++ (raw ++ behind)) ++ 41 ∷ u)) ≡ Some (Matching p m (span at (length before + length raw)), place (at + length (before ++ (raw ++ behind)) + 1) u)
+    → matching_at p (position at ((before ++ (raw ++ behind)) ++ 41 ∷ u)) ≡ Some (Matching p m (span at (length before + length raw)), position (at + length (before ++ (raw ++ behind)) + 1) u)
 matching_argument {p} {m} {before} at raw behind u blanks text last =
     let whole : (before ++ (raw ++ behind)) ++ 41 ∷ u ≡ before ++ (raw ++ (behind ++ 41 ∷ u)) = simp append_assoc in
     let read = matcher_again text (at + length before) behind u last in
@@ -148,7 +148,7 @@ matching_argument {p} {m} {before} at raw behind u blanks text last =
 
 -- a platform's name
 platform_argument : (q : BuildPlatform) (at : ℕ) (raw value u : List ℕ) → Spelled raw value → Names value q
-    → platform_at (place at (raw ++ 41 ∷ u)) ≡ Some (Platform q (span at (length raw)), place (at + length raw + 1) u)
+    → platform_at (position at (raw ++ 41 ∷ u)) ≡ Some (Platform q (span at (length raw)), position (at + length raw + 1) u)
 platform_argument q at raw value u spelled names =
     let read = argument_again q at raw value (41 ∷ u) spelled names (closed at_close) in
     let stays = skip_stop (at + length raw) (41 ∷ u) (close_stop u) in
@@ -156,7 +156,7 @@ platform_argument q at raw value u spelled names =
     rw (read.1, stays, read.2, own) refl
 
 -- white space alone
-bare_end_again : (at : ℕ) (white u : List ℕ) → WhiteSpace white → bare_end_at (place at (white ++ 41 ∷ u)) ≡ Some (place (at + length white + 1) u)
+bare_end_again : (at : ℕ) (white u : List ℕ) → WhiteSpace white → bare_end_at (position at (white ++ 41 ∷ u)) ≡ Some (position (at + length white + 1) u)
 bare_end_again at white u w =
     let front : take (length white) (white ++ 41 ∷ u) ≡ white = take_at white (41 ∷ u) (length white) refl in
     let rest : drop (length white) (white ++ 41 ∷ u) ≡ 41 ∷ u = drop_at white (41 ∷ u) (length white) refl in
@@ -171,22 +171,22 @@ call_text u c = ap (λ (x : List ℕ). x ++ u) c.text ∙ simp append_assoc
 -- a predicate that is read before what follows it
 pub record LeafRead (t : List ℕ) (at : ℕ) (l : Leaf SourceSpan) (u : List ℕ) : Type 0 where
   pub stop : blank_len (t ++ u) ≡ 0
-  pub read : (name_at (place at (t ++ u)) >>= λ x. leaf_at x.0 at x.1) ≡ Some (l, place (at + length t) u)
+  pub read : (name_at (position at (t ++ u)) >>= λ x. leaf_at x.0 at x.1) ≡ Some (l, position (at + length t) u)
 
 -- a call is read where its name and its argument are
-call_again : {name argument t : List ℕ} {at inside : ℕ} (l : Leaf SourceSpan) (u : List ℕ) (f : Place → Option (Leaf SourceSpan × Place)) (c : Call name argument t at inside)
+call_again : {name argument t : List ℕ} {at inside : ℕ} (l : Leaf SourceSpan) (u : List ℕ) (f : Position → Option (Leaf SourceSpan × Position)) (c : Call name argument t at inside)
     → ((v : List ℕ) → blank_len (name ++ v) ≡ 0)
-    → ((v : List ℕ) → (name_at (place at (name ++ (c.blanks ++ 40 ∷ v))) >>= λ x. leaf_at x.0 at x.1) ≡ (after (codes "(") (skip (place (at + length name) (c.blanks ++ 40 ∷ v))) >>= f))
-    → f (place inside (argument ++ 41 ∷ u)) ≡ Some (l, place (inside + length argument + 1) u) → LeafRead t at l u
+    → ((v : List ℕ) → (name_at (position at (name ++ (c.blanks ++ 40 ∷ v))) >>= λ x. leaf_at x.0 at x.1) ≡ (after (codes "(") (skip (position (at + length name) (c.blanks ++ 40 ∷ v))) >>= f))
+    → f (position inside (argument ++ 41 ∷ u)) ≡ Some (l, position (inside + length argument + 1) u) → LeafRead t at l u
 call_again {name} {argument} {t} {at} {inside} l u f c stop named read =
     let rest = argument ++ 41 ∷ u in
     let whole = call_text u c in
-    let opened : after (codes "(") (skip (place (at + length name) (c.blanks ++ 40 ∷ rest))) ≡ Some (place inside rest) = open_again c.are_blanks (at + length name) rest ∙ ap (λ (n : ℕ). Some (place n rest)) (sym c.offset) in
+    let opened : after (codes "(") (skip (position (at + length name) (c.blanks ++ 40 ∷ rest))) ≡ Some (position inside rest) = open_again c.are_blanks (at + length name) rest ∙ ap (λ (n : ℕ). Some (position n rest)) (sym c.offset) in
     let end : inside + length argument + 1 ≡ at + length t = omega (arith, call_length _ _ _ _ _ c, c.offset) in
     record {
       stop = ap blank_len whole ∙ stop (c.blanks ++ 40 ∷ rest);
-      read = ap (λ (x : List ℕ). name_at (place at x) >>= λ y. leaf_at y.0 at y.1) whole ∙ named rest
-          ∙ ap (λ (x : Option Place). x >>= f) opened ∙ read ∙ ap (λ (n : ℕ). Some (l, place n u)) end;
+      read = ap (λ (x : List ℕ). name_at (position at x) >>= λ y. leaf_at y.0 at y.1) whole ∙ named rest
+          ∙ ap (λ (x : Option Position). x >>= f) opened ∙ read ∙ ap (λ (n : ℕ). Some (l, position n u)) end;
     }
 
 -- after `binary` stands no `_id`
@@ -207,7 +207,7 @@ name_stop predicates.Test v = refl
 name_stop predicates.Group v = refl
 
 name_again : (p : Predicate) {b : List ℕ} → Blanks b → (at : ℕ) (v : List ℕ)
-    → (name_at (place at (Name p ++ (b ++ 40 ∷ v))) >>= λ x. leaf_at x.0 at x.1) ≡ (after (codes "(") (skip (place (at + length (Name p)) (b ++ 40 ∷ v))) >>= λ q. matching_at p q)
+    → (name_at (position at (Name p ++ (b ++ 40 ∷ v))) >>= λ x. leaf_at x.0 at x.1) ≡ (after (codes "(") (skip (position (at + length (Name p)) (b ++ 40 ∷ v))) >>= λ q. matching_at p q)
 name_again predicates.Package r at v = refl
 name_again predicates.Deps r at v = refl
 name_again predicates.Rdeps r at v = refl
@@ -220,11 +220,11 @@ name_again predicates.Group r at v = refl
 pub leaf_again : {t : List ℕ} {at : ℕ} {l : Leaf SourceSpan} → LeafText t at l → (u : List ℕ) → LeafRead t at l u
 leaf_again (grammar.matching {p} {t} {at} {m} {s} inside before raw behind call blanks text last s_is) u =
     let read = matching_argument inside raw behind u blanks text last in
-    let own = ap (λ (x : SourceSpan). Some (Matching p m x, place (inside + length (before ++ (raw ++ behind)) + 1) u)) (sym s_is) in
+    let own = ap (λ (x : SourceSpan). Some (Matching p m x, position (inside + length (before ++ (raw ++ behind)) + 1) u)) (sym s_is) in
     call_again _ u (λ q. matching_at p q) call (name_stop p) (λ v. name_again p call.are_blanks at v) (read ∙ own)
 leaf_again (grammar.platform {q} {t} {at} {s} inside raw value call spelled names s_is) u =
     let read = platform_argument q inside raw value u spelled names in
-    let own = ap (λ (x : SourceSpan). Some (Platform q x, place (inside + length raw + 1) u)) (sym s_is) in
+    let own = ap (λ (x : SourceSpan). Some (Platform q x, position (inside + length raw + 1) u)) (sym s_is) in
     call_again _ u (λ p. platform_at p) call (λ v. refl) (λ v. refl) (read ∙ own)
 leaf_again (grammar.default {t} {at} {s} inside white call w s_is) u =
     let end : at + length t ≡ inside + length white + 1 = omega (arith, call_length _ _ _ _ _ call, call.offset) in

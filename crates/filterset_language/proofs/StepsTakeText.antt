@@ -5,7 +5,7 @@ use Rattle.std.proofs.lemmas.Bool.Decides.{eqb_tells}
 use Rattle.std.specs.Option.{option_map, option_and_then}
 use Rattle.filterset_language.specs.Parsing.Front.{blank_len}
 use Rattle.filterset_grammar.specs.Text.{ends_word}
-use Rattle.filterset_language.specs.Parsing.Place.{Place, place, skip_from, after, after_word, behind, if_ends}
+use Rattle.filterset_language.specs.Parsing.Position.{Position, position, skip_from, after, after_word, behind, if_ends}
 use Rattle.filterset_language.specs.Parsing.Words.{choose, not_at, joiner_at, or_at, first_byte, named, either, name_at, name_text}
 use Rattle.filterset_language.specs.Faults.{InvalidAnd, ampersands, capital_and, InvalidOr, pipes, capital_or}
 use Rattle.filterset_grammar.specs.Text.{Blanks, no_blank, space, newline, return_newline}
@@ -37,19 +37,19 @@ choose_is None f d y e = inr (refl, e)
 pub is_some : {A : Type 0} (x y : A) → Some x ≡ Some y → x ≡ y
 is_some x y e = cc
 
--- the text between two places
-pub record Takes (p : Place) (t : List ℕ) (q : Place) : Type 0 where
+-- the text between two positions
+pub record Takes (p : Position) (t : List ℕ) (q : Position) : Type 0 where
   pub parts : p.rest ≡ t ++ q.rest
   pub offset : q.at ≡ p.at + length t
 
-pub Takes-then : (p q r : Place) (t u : List ℕ) → Takes p t q → Takes q u r → Takes p (t ++ u) r
+pub Takes-then : (p q r : Position) (t u : List ℕ) → Takes p t q → Takes q u r → Takes p (t ++ u) r
 Takes-then p q r t u a b = record {
   parts = a.parts ∙ ap (λ (x : List ℕ). t ++ x) b.parts ∙ sym (append_assoc t u r.rest);
   offset = omega (arith, a.offset, b.offset, length-append t u);
 }
 
--- the blanks between a place and the one after them
-pub record Skipped (p q : Place) : Type 0 where
+-- the blanks between a position and the one after them
+pub record Skipped (p q : Position) : Type 0 where
   pub blanks : List ℕ
   pub are : Blanks blanks
   pub takes : Takes p blanks q
@@ -69,15 +69,15 @@ return_front b c t e r =
     (λ a. absurd (let f : false ≡ true = rw a.0 at e in cc))
     (eqb_tells b 13)
 
-pub stays : (at : ℕ) (t : List ℕ) → blank_len t ≡ 0 → Skipped (place at t) (place at t)
+pub stays : (at : ℕ) (t : List ℕ) → blank_len t ≡ 0 → Skipped (position at t) (position at t)
 stays at t e = record { blanks = []; are = no_blank; takes = record { parts = refl; offset = omega arith }; stop = e }
 
-pub skip_one : (b at : ℕ) (v : Bool) → (eqb b 32 || eqb b 10) ≡ v → Skipped (place at (b ∷ [])) (cond v (place (at + 1) []) (place at (b ∷ [])))
+pub skip_one : (b at : ℕ) (v : Bool) → (eqb b 32 || eqb b 10) ≡ v → Skipped (position at (b ∷ [])) (cond v (position (at + 1) []) (position at (b ∷ [])))
 skip_one b at true e = record { blanks = b ∷ []; are = blank_front b [] e no_blank; takes = record { parts = refl; offset = refl }; stop = refl }
 skip_one b at false e = stays at (b ∷ []) (rw e refl)
 
-pub skip_two : (b c : ℕ) (t : List ℕ) (at : ℕ) (v w : Bool) → (eqb b 32 || eqb b 10) ≡ v → (eqb b 13 && eqb c 10) ≡ w → (q r : Place) → Skipped (place (at + 1) (c ∷ t)) q → Skipped (place (at + 2) t) r
-    → Skipped (place at (b ∷ c ∷ t)) (cond v q (cond w r (place at (b ∷ c ∷ t))))
+pub skip_two : (b c : ℕ) (t : List ℕ) (at : ℕ) (v w : Bool) → (eqb b 32 || eqb b 10) ≡ v → (eqb b 13 && eqb c 10) ≡ w → (q r : Position) → Skipped (position (at + 1) (c ∷ t)) q → Skipped (position (at + 2) t) r
+    → Skipped (position at (b ∷ c ∷ t)) (cond v q (cond w r (position at (b ∷ c ∷ t))))
 skip_two b c t at true w e f q r hq hr = record {
   blanks = b ∷ hq.blanks;
   are = blank_front b hq.blanks e hq.are;
@@ -92,7 +92,7 @@ skip_two b c t at false true e f q r hq hr = record {
 }
 skip_two b c t at false false e f q r hq hr = stays at (b ∷ c ∷ t) (rw (e, f) refl)
 
-pub skip_takes : (t : List ℕ) (at : ℕ) → Skipped (place at t) (skip_from at t)
+pub skip_takes : (t : List ℕ) (at : ℕ) → Skipped (position at t) (skip_from at t)
 skip_takes [] at = stays at [] refl
 skip_takes (b ∷ []) at = skip_one b at _ refl
 skip_takes (b ∷ c ∷ t) at = skip_two b c t at _ _ refl refl _ _ (skip_takes (c ∷ t) (at + 1)) (skip_takes t (at + 2))
@@ -106,48 +106,48 @@ behind_takes (w ∷ ws) (b ∷ t) u e =
     (λ no. let f : None ≡ Some u = rw no.0 at e in absurd cc)
     (eqb_tells w b)
 
-pub after_takes : (w : List ℕ) (p q : Place) → after w p ≡ Some q → Takes p w q
+pub after_takes : (w : List ℕ) (p q : Position) → after w p ≡ Some q → Takes p w q
 after_takes w p q e = from (behind w p.rest) refl e
   where
-    from : (o : Option (List ℕ)) → behind w p.rest ≡ o → option_map (λ (t : List ℕ). place (p.at + length w) t) o ≡ Some q → Takes p w q
+    from : (o : Option (List ℕ)) → behind w p.rest ≡ o → option_map (λ (t : List ℕ). position (p.at + length w) t) o ≡ Some q → Takes p w q
     from None h e = absurd cc
     from (Some u) h e =
-        let same : place (p.at + length w) u ≡ q = is_some _ _ e in
-        subst (λ (x : Place). Takes p w x) same (record { parts = behind_takes w p.rest u h; offset = refl })
+        let same : position (p.at + length w) u ≡ q = is_some _ _ e in
+        subst (λ (x : Position). Takes p w x) same (record { parts = behind_takes w p.rest u h; offset = refl })
 
-pub if_ends_is : (p q : Place) → if_ends p ≡ Some q → (p ≡ q) × (ends_word q.rest ≡ true)
+pub if_ends_is : (p q : Position) → if_ends p ≡ Some q → (p ≡ q) × (ends_word q.rest ≡ true)
 if_ends_is p q e = from (ends_word p.rest) refl e
   where
     from : (v : Bool) → ends_word p.rest ≡ v → cond v (Some p) None ≡ Some q → (p ≡ q) × (ends_word q.rest ≡ true)
     from true h e = let same : p ≡ q = is_some p q e in (same, rw (← same) h)
     from false h e = absurd cc
 
-pub word_takes : (w : List ℕ) (p q : Place) → after_word w p ≡ Some q → Takes p w q × (ends_word q.rest ≡ true)
+pub word_takes : (w : List ℕ) (p q : Position) → after_word w p ≡ Some q → Takes p w q × (ends_word q.rest ≡ true)
 word_takes w p q e = from (after w p) refl e
   where
-    from : (o : Option Place) → after w p ≡ o → option_and_then if_ends o ≡ Some q → Takes p w q × (ends_word q.rest ≡ true)
+    from : (o : Option Position) → after w p ≡ o → option_and_then if_ends o ≡ Some q → Takes p w q × (ends_word q.rest ≡ true)
     from None h e = absurd cc
-    from (Some r) h e = let s = if_ends_is r q e in (subst (λ (x : Place). Takes p w x) s.0 (after_takes w p r h), s.1)
+    from (Some r) h e = let s = if_ends_is r q e in (subst (λ (x : Position). Takes p w x) s.0 (after_takes w p r h), s.1)
 
-pub not_takes : (p : Place) (x : NotOperator × Place) → not_at p ≡ Some x → Takes p (not_text x.0) x.1 × not_ends x.0 x.1.rest
+pub not_takes : (p : Position) (x : NotOperator × Position) → not_at p ≡ Some x → Takes p (not_text x.0) x.1 × not_ends x.0 x.1.rest
 not_takes p x e =
     ⊎_elim
-    (λ a. let w = word_takes (codes "not") p a.0 a.1 in subst (λ (y : NotOperator × Place). Takes p (not_text y.0) y.1 × not_ends y.0 y.1.rest) (is_some (LiteralNot, a.0) x a.2) w)
+    (λ a. let w = word_takes (codes "not") p a.0 a.1 in subst (λ (y : NotOperator × Position). Takes p (not_text y.0) y.1 × not_ends y.0 y.1.rest) (is_some (LiteralNot, a.0) x a.2) w)
     (λ b. ⊎_elim
-    (λ a. subst (λ (y : NotOperator × Place). Takes p (not_text y.0) y.1 × not_ends y.0 y.1.rest) (is_some (Exclamation, a.0) x a.2) (after_takes (codes "!") p a.0 a.1, tt))
+    (λ a. subst (λ (y : NotOperator × Position). Takes p (not_text y.0) y.1 × not_ends y.0 y.1.rest) (is_some (Exclamation, a.0) x a.2) (after_takes (codes "!") p a.0 a.1, tt))
     (λ c. absurd (let n : None ≡ Some x = c.1 in cc))
     (choose_is _ _ _ x b.1))
     (choose_is _ _ _ x e)
 
 -- an operator of the level of `and`, and what stands after it
-unfoldable pub JoinerTaken : Place → Option Joiner × Place → Type 0
+unfoldable pub JoinerTaken : Position → Option Joiner × Position → Type 0
 JoinerTaken p (None, q) = (w : List ℕ) × InvalidAnd w × Takes p w q
 JoinerTaken p (Some op, q) = Takes p (join_text op) q × join_ends op q.rest
 
-pub joiner_takes : (p : Place) (x : Option Joiner × Place) → joiner_at p ≡ Some x → JoinerTaken p x
+pub joiner_takes : (p : Position) (x : Option Joiner × Position) → joiner_at p ≡ Some x → JoinerTaken p x
 unfolding JoinerTaken
 joiner_takes p x e =
-    let P : Option Joiner × Place → Type 0 = λ y. JoinerTaken p y in
+    let P : Option Joiner × Position → Type 0 = λ y. JoinerTaken p y in
     ⊎_elim
     (λ a. subst P (is_some (None, a.0) x a.2) (codes "&&", ampersands, after_takes (codes "&&") p a.0 a.1))
     (λ b. ⊎_elim
@@ -169,14 +169,14 @@ joiner_takes p x e =
     (choose_is _ _ _ x e)
 
 -- an operator of the level of `or`, and what stands after it
-unfoldable pub OrTaken : Place → Option OrOperator × Place → Type 0
+unfoldable pub OrTaken : Position → Option OrOperator × Position → Type 0
 OrTaken p (None, q) = (w : List ℕ) × InvalidOr w × Takes p w q
 OrTaken p (Some op, q) = Takes p (or_text op) q × or_ends op q.rest
 
-pub or_takes : (p : Place) (x : Option OrOperator × Place) → or_at p ≡ Some x → OrTaken p x
+pub or_takes : (p : Position) (x : Option OrOperator × Position) → or_at p ≡ Some x → OrTaken p x
 unfolding OrTaken
 or_takes p x e =
-    let P : Option OrOperator × Place → Type 0 = λ y. OrTaken p y in
+    let P : Option OrOperator × Position → Type 0 = λ y. OrTaken p y in
     ⊎_elim
     (λ a. subst P (is_some (None, a.0) x a.2) (codes "||", pipes, after_takes (codes "||") p a.0 a.1))
     (λ b. ⊎_elim
@@ -197,17 +197,17 @@ or_takes p x e =
 -- ---- predicates' names
 
 -- what was read as a name stands there
-abbrev NameTaken : Place → PredicateName × Place → Type 0
+abbrev NameTaken : Position → PredicateName × Position → Type 0
 NameTaken p y = Takes p (name_text y.0) y.1
 
-named_takes : (n : PredicateName) (p : Place) (x : PredicateName × Place) → named (name_text n) n p ≡ Some x → NameTaken p x
+named_takes : (n : PredicateName) (p : Position) (x : PredicateName × Position) → named (name_text n) n p ≡ Some x → NameTaken p x
 named_takes n p x e =
     ⊎_elim
     (λ a. subst (NameTaken p) (is_some (n, a.0) x a.2) (after_takes (name_text n) p a.0 a.1))
     (λ b. absurd (let none : None ≡ Some x = b.1 in cc))
     (choose_is _ _ _ x e)
 
-either_takes : (n m : PredicateName) (p : Place) (x : PredicateName × Place) → either (name_text n) n (name_text m) m p ≡ Some x → NameTaken p x
+either_takes : (n m : PredicateName) (p : Position) (x : PredicateName × Position) → either (name_text n) n (name_text m) m p ≡ Some x → NameTaken p x
 either_takes n m p x e =
     ⊎_elim
     (λ a. subst (NameTaken p) (is_some (n, a.0) x a.2) (after_takes (name_text n) p a.0 a.1))
@@ -219,7 +219,7 @@ one_of : {A : Type 0} (v : Bool) (a b : Option A) (x : A) → cond v a b ≡ Som
 one_of true a b x e = inl e
 one_of false a b x e = inr e
 
-pub name_takes : (p : Place) (x : PredicateName × Place) → name_at p ≡ Some x → NameTaken p x
+pub name_takes : (p : Position) (x : PredicateName × Position) → name_at p ≡ Some x → NameTaken p x
 name_takes p x e =
     let b = first_byte p.rest in
     ⊎_elim (λ h. named_takes names.All p x h)
@@ -242,9 +242,9 @@ name_takes p x e =
     (one_of (eqb b 98) _ _ x e))
     (one_of (eqb b 97) _ _ x e)
 
-pub word_after : (w : List ℕ) (p q : Place) → after_word w p ≡ Some q → after w p ≡ Some q
+pub word_after : (w : List ℕ) (p q : Position) → after_word w p ≡ Some q → after w p ≡ Some q
 word_after w p q e = from (after w p) e
   where
-    from : (o : Option Place) → option_and_then if_ends o ≡ Some q → o ≡ Some q
+    from : (o : Option Position) → option_and_then if_ends o ≡ Some q → o ≡ Some q
     from None e = absurd cc
     from (Some r) e = let s = if_ends_is r q e in ap Some s.0

@@ -6,7 +6,7 @@ use Rattle.std.proofs.lemmas.List.{append-nil}
 use Rattle.std.proofs.lemmas.List.Elements.{All-append, All-nil, All-cons, All-head, All-tail}
 use Rattle.std.proofs.lemmas.Bool.{ne_eqb}
 use Rattle.filterset_grammar.specs.Text.{Blanks}
-use Rattle.filterset_language.specs.Parsing.Place.{Place, place, place_of, skip, skip_from}
+use Rattle.filterset_language.specs.Parsing.Position.{Position, position, position_of, skip, skip_from}
 use Rattle.filterset_language.specs.Faults.{FaultStands}
 use Rattle.filterset_language.specs.Parsed.{LiesOnBody}
 use Rattle.filterset_language.specs.Parsing.Descent.{Placed, operand_at, or_level_by, whole_by}
@@ -18,11 +18,11 @@ use Rattle.filterset_language.specs.declared.parsing.input.Input.{Input}
 use Rattle.filterset_faults.specs.declared.span.SourceSpan.{SourceSpan}
 use Rattle.filterset_faults.specs.declared.error.ParseSingleError.{ParseSingleError}
 use Rattle.filterset_faults.specs.declared.error.ParseSingleError.TheVariants.{ExpectedEndOfExpression}
-use Rattle.filterset_language.proofs.Places.{skip_again}
+use Rattle.filterset_language.proofs.Positions.{skip_again}
 use Rattle.filterset_language.proofs.RawTextFaults.{size, begins_here, rest_ends}
 use Rattle.filterset_language.proofs.StepsTakeText.{is_some}
 
-end_found : (i : Input) (s : Place) → s ≡ skip (place_of i) → s.rest ≢ [] → FaultStands i.text.now (ExpectedEndOfExpression (span i.offset (length i.rest.now)))
+end_found : (i : Input) (s : Position) → s ≡ skip (position_of i) → s.rest ≢ [] → FaultStands i.text.now (ExpectedEndOfExpression (span i.offset (length i.rest.now)))
 end_found i s skipped some = record {
   within = let e = size i in omega arith;
   begins = begins_here i;
@@ -31,9 +31,9 @@ end_found i s skipped some = record {
     size i,
     λ are.
         let blanks : Blanks i.rest.now = subst Blanks i.seam.onward are in
-        let none : skip_from i.offset (i.rest.now ++ []) ≡ place (i.offset + length i.rest.now) [] = skip_again blanks i.offset [] refl in
-        let at : skip (place_of i) ≡ place (i.offset + length i.rest.now) [] = ap (skip_from i.offset) (sym (append-nil i.rest.now)) ∙ none in
-        some (ap (λ (p : Place). p.rest) (skipped ∙ at)),
+        let none : skip_from i.offset (i.rest.now ++ []) ≡ position (i.offset + length i.rest.now) [] = skip_again blanks i.offset [] refl in
+        let at : skip (position_of i) ≡ position (i.offset + length i.rest.now) [] = ap (skip_from i.offset) (sym (append-nil i.rest.now)) ∙ none in
+        some (ap (λ (p : Position). p.rest) (skipped ∙ at)),
   );
 }
 
@@ -77,12 +77,12 @@ stands_last text s one (x ∷ f) (b ∷ before) behind each e =
 nothing_else : (f added : Faults) → f ≡ added → 0 < length added → f ≢ []
 nothing_else f added same some none = let n : length added ≡ 0 = ap length (sym same ∙ none) in omega arith
 
-module _ (text : List ℕ) (tree : Option Placed) (i : Input) (s : Place) (f : Faults) (same : i.text.now ≡ text) (skipped : s ≡ skip (place_of i)) (found : AllFound text f) where
-  read_whole : s.rest ≡ [] → (e : Placed) → or_level_by (operand_at (suc (length text))) (place 0 text) ≡ Some (e, place_of i) → whole_by (length text) text ≡ Some e
-  read_whole none e at = let end : skip (place_of i) ≡ s = sym skipped in rw (at, end, none) refl
+module _ (text : List ℕ) (tree : Option Placed) (i : Input) (s : Position) (f : Faults) (same : i.text.now ≡ text) (skipped : s ≡ skip (position_of i)) (found : AllFound text f) where
+  read_whole : s.rest ≡ [] → (e : Placed) → or_level_by (operand_at (suc (length text))) (position 0 text) ≡ Some (e, position_of i) → whole_by (length text) text ≡ Some e
+  read_whole none e at = let end : skip (position_of i) ≡ s = sym skipped in rw (at, end, none) refl
 
   -- nothing stands after the expression
-  pub whole_read : s.rest ≡ [] → GivesTree text [] f tree (place_of i) (or_level_by (operand_at (suc (length text))) (place 0 text)) → Wholly text tree f
+  pub whole_read : s.rest ≡ [] → GivesTree text [] f tree (position_of i) (or_level_by (operand_at (suc (length text))) (position 0 text)) → Wholly text tree f
   whole_read none read = record {
     stand = found_stand text f found.each;
     clean = λ empty. clean empty read;
@@ -91,12 +91,12 @@ module _ (text : List ℕ) (tree : Option Placed) (i : Input) (s : Place) (f : F
     last = λ end before behind is. absurd (never_among text end f before behind found.each is);
   }
     where
-      clean : f ≡ [] → GivesTree text [] f tree (place_of i) (or_level_by (operand_at (suc (length text))) (place 0 text)) → WhollyRead text tree
+      clean : f ≡ [] → GivesTree text [] f tree (position_of i) (or_level_by (operand_at (suc (length text))) (position 0 text)) → WhollyRead text tree
       clean empty (reads e (comes is value good) at) = record { expr = e; is = value; read = read_whole none e at; patterns = good }
       clean empty (reads e (refused added is some each nothing) at) = absurd (nothing_else f added is some empty)
       clean empty (fails lt nothing) = let n : length f ≡ 0 = ap length empty in absurd (omega arith)
 
-      fault : f ≢ [] → GivesTree text [] f tree (place_of i) (or_level_by (operand_at (suc (length text))) (place 0 text)) → (whole_by (length text) text ≡ None) ⊎ WhollyRefused text tree f
+      fault : f ≢ [] → GivesTree text [] f tree (position_of i) (or_level_by (operand_at (suc (length text))) (position 0 text)) → (whole_by (length text) text ≡ None) ⊎ WhollyRefused text tree f
       fault some (reads e (comes is value good) at) = absurd (some is)
       fault some (reads e (refused added is more each nothing) at) =
           inr (record { expr = e; no_tree = nothing; read = read_whole none e at; bodies = subst (All (LiesOnBody text e)) (sym is) each })
@@ -104,7 +104,7 @@ module _ (text : List ℕ) (tree : Option Placed) (i : Input) (s : Place) (f : F
 
   -- something does, which is reported
   pub whole_unread : s.rest ≢ [] → (g : Faults) → g ≡ f ++ (ExpectedEndOfExpression (span i.offset (length i.rest.now)) ∷ [])
-      → GivesTree text [] f tree (place_of i) (or_level_by (operand_at (suc (length text))) (place 0 text)) → Wholly text tree g
+      → GivesTree text [] f tree (position_of i) (or_level_by (operand_at (suc (length text))) (position 0 text)) → Wholly text tree g
   whole_unread some g is read = record {
     stand = rw is (All-append (FaultStands text) f _ (found_stand text f found.each) (All-cons (FaultStands text) _ [] (subst (λ (t : List ℕ). FaultStands t one) same (end_found i s skipped some)) (All-nil (FaultStands text))));
     clean = λ empty. let n : length g ≡ 0 = ap length empty in let m : length g ≡ length f + 1 = ap length is ∙ length-append f _ in absurd (omega arith);
@@ -120,17 +120,17 @@ module _ (text : List ℕ) (tree : Option Placed) (i : Input) (s : Place) (f : F
       more_length [] h = absurd (h refl)
       more_length (b ∷ t) h = ne_eqb (length (b ∷ t)) 0 (λ e. absurd (omega arith))
 
-      unread : GivesTree text [] f tree (place_of i) (or_level_by (operand_at (suc (length text))) (place 0 text)) → whole_by (length text) text ≡ None
-      unread (reads e carried at) = let end : skip (place_of i) ≡ s = sym skipped in let n = more_length s.rest some in rw (at, end, n) refl
+      unread : GivesTree text [] f tree (position_of i) (or_level_by (operand_at (suc (length text))) (position 0 text)) → whole_by (length text) text ≡ None
+      unread (reads e carried at) = let end : skip (position_of i) ≡ s = sym skipped in let n = more_length s.rest some in rw (at, end, n) refl
       unread (fails lt nothing) = rw nothing refl
 
       same_span : (a b : SourceSpan) → ExpectedEndOfExpression a ≡ ExpectedEndOfExpression b → a ≡ b
       same_span a b e = cc
 
-      front : (end : SourceSpan) (f : Faults) → f ++ (one ∷ []) ≡ ExpectedEndOfExpression end ∷ [] → GivesTree text [] f tree (place_of i) (or_level_by (operand_at (suc (length text))) (place 0 text)) → ReadUpTo text tree (offset_of end)
+      front : (end : SourceSpan) (f : Faults) → f ++ (one ∷ []) ≡ ExpectedEndOfExpression end ∷ [] → GivesTree text [] f tree (position_of i) (or_level_by (operand_at (suc (length text))) (position 0 text)) → ReadUpTo text tree (offset_of end)
       front end [] e (reads d (comes is value good) at) =
           let offset : i.offset ≡ offset_of end = ap offset_of (same_span _ _ (head_same one (ExpectedEndOfExpression end) [] [] e)) in
-          record { expr = d; is = value; rest = i.rest.now; read = at ∙ ap (λ (k : ℕ). Some (d, place k i.rest.now)) offset }
+          record { expr = d; is = value; rest = i.rest.now; read = at ∙ ap (λ (k : ℕ). Some (d, position k i.rest.now)) offset }
       front end [] e (reads d (refused added is more each nothing) at) = absurd (nothing_else [] added is more refl)
       front end [] e (fails lt nothing) = absurd (omega arith)
       front end (x ∷ f) e read =
@@ -154,9 +154,9 @@ spelled_whole text tree (x ∷ f) e w read = from (w.fault some)
     from (inr r) =
         let same : r.expr ≡ e = is_some r.expr e (sym r.read ∙ read) in inr (r.no_tree, some, subst (λ (d : Placed). All (LiesOnBody text d) (x ∷ f)) same r.bodies)
 
-pub first_gives : (t text : List ℕ) (e f : Faults) (v : Option Placed) (q : Place) (r s : Option (Placed × Place)) → t ≡ text → e ≡ [] → r ≡ s → GivesTree t e f v q r → GivesTree text [] f v q s
+pub first_gives : (t text : List ℕ) (e f : Faults) (v : Option Placed) (q : Position) (r s : Option (Placed × Position)) → t ≡ text → e ≡ [] → r ≡ s → GivesTree t e f v q r → GivesTree text [] f v q s
 first_gives t text e f v q r s same none is h =
-    subst (λ (o : Option (Placed × Place)). GivesTree text [] f v q o) is (subst (λ (x : Faults). GivesTree text x f v q r) none (subst (λ (x : List ℕ). GivesTree x e f v q r) same h))
+    subst (λ (o : Option (Placed × Position)). GivesTree text [] f v q o) is (subst (λ (x : Faults). GivesTree text x f v q r) none (subst (λ (x : List ℕ). GivesTree x e f v q r) same h))
 
 pub first_found : (t text : List ℕ) (e f : Faults) → t ≡ text → e ≡ [] → (AllFound t e → AllFound t f) → AllFound text f
 first_found t text e f same none keeps =

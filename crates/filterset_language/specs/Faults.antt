@@ -41,7 +41,7 @@ piece text s = take s.len (onward text s)
 abbrev pub behind : List ℕ → SourceSpan → List ℕ
 behind text s = drop s.len (onward text s)
 
--- a place, which has no length
+-- a position, which has no length
 abbrev pub IsPoint : SourceSpan → Type 0
 IsPoint s = s.len ≡ 0
 

@@ -2,7 +2,7 @@
 pub mod Front
 pub mod Escapes
 pub mod Seam
-pub mod Place
+pub mod Position
 pub mod RawTexts
 pub mod Bodies
 pub mod PlatformNames

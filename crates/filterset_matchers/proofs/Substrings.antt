@@ -34,9 +34,9 @@ bit_in_both a b k p q =
     not_true (nat_eq (bit_and a b) 0) (λ e. let none : bit_and a b ≡ 0 = eqb-true _ _ e in let one : bit_at (bit_and a b) k ≡ 1 = omega (arith, bit_at_and a b k) in let nil : bit_at (bit_and a b) k ≡ 0 = ap (λ x. bit_at x k) none ∙ bit_at-zero k in omega (arith, one, nil))
 
 -- a byte of a text where it stands
-pub byte_of : (text needle : List ℕ) (place k : ℕ) → StandsAt text needle place → k < length needle → get_or text (place + k) 0 ≡ get_or needle k 0
-byte_of text needle place k stands within =
-    sym (get_or-take (length needle) (drop place text) k 0 within ∙ get_or-drop place text k 0) ∙ ap (λ xs. get_or xs k 0) stands
+pub byte_of : (text needle : List ℕ) (position k : ℕ) → StandsAt text needle position → k < length needle → get_or text (position + k) 0 ≡ get_or needle k 0
+byte_of text needle position k stands within =
+    sym (get_or-take (length needle) (drop position text) k 0 within ∙ get_or-drop position text k 0) ∙ ap (λ xs. get_or xs k 0) stands
 
 -- a text stands somewhere
 pub stands_somewhere : (text needle : List ℕ) (k : ℕ) → StandsAt text needle k → HasSubslice text needle

@@ -1,6 +1,6 @@
 -- Where a text stands in another.
 use Rattle.std.specs.Prelude.{◌≡◌, ℕ, List, length, take, drop}
 
--- the text has these bytes from this place on
+-- the text has these bytes from this position on
 abbrev pub StandsAt : List ℕ → List ℕ → ℕ → Type 0
-StandsAt text needle place = take (length needle) (drop place text) ≡ needle
+StandsAt text needle position = take (length needle) (drop position text) ≡ needle

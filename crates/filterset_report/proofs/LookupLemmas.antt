@@ -16,18 +16,18 @@ use Rattle.filterset_record.specs.declared.record.binaries.BinaryEntry.{BinaryEn
 use Rattle.filterset_record.specs.declared.record.binaries.TestEntry.{TestEntry}
 
 -- one element of a list is the first
-same_place : {A : Type 0} (P : A → Type 0) (xs ys us vs : List A) (x y : A) → xs ++ x ∷ us ≡ ys ++ y ∷ vs → P x → P y →
+same_position : {A : Type 0} (P : A → Type 0) (xs ys us vs : List A) (x y : A) → xs ++ x ∷ us ≡ ys ++ y ∷ vs → P x → P y →
     All (λ z. ¬ P z) xs → All (λ z. ¬ P z) ys → x ≡ y
-same_place P [] [] us vs x y same px py none_x none_y = cc
-same_place P [] (w ∷ ws) us vs x y same px py none_x none_y =
+same_position P [] [] us vs x y same px py none_x none_y = cc
+same_position P [] (w ∷ ws) us vs x y same px py none_x none_y =
     let e : x ≡ w = cc in absurd (All-head (λ z. ¬ P z) w ws none_y (subst P e px))
-same_place P (w ∷ ws) [] us vs x y same px py none_x none_y =
+same_position P (w ∷ ws) [] us vs x y same px py none_x none_y =
     let e : y ≡ w = cc in absurd (All-head (λ z. ¬ P z) w ws none_x (subst P e py))
-same_place P (w ∷ ws) (t ∷ ts) us vs x y same px py none_x none_y =
-    same_place P ws ts us vs x y (cc) px py (All-tail (λ z. ¬ P z) w ws none_x) (All-tail (λ z. ¬ P z) t ts none_y)
+same_position P (w ∷ ws) (t ∷ ts) us vs x y same px py none_x none_y =
+    same_position P ws ts us vs x y (cc) px py (All-tail (λ z. ¬ P z) w ws none_x) (All-tail (λ z. ¬ P z) t ts none_y)
 
 pub first_same : {A : Type 0} (P : A → Type 0) (xs : List A) (x y : A) → IsFirst P xs x → IsFirst P xs y → x ≡ y
-first_same P xs x y a b = same_place P a.before b.before a.after b.after x y (sym a.place ∙ b.place) a.holds b.holds a.others b.others
+first_same P xs x y a b = same_position P a.before b.before a.after b.after x y (sym a.place ∙ b.place) a.holds b.holds a.others b.others
 
 -- where P holds of none, there is no first
 no_place : {A : Type 0} (P : A → Type 0) (xs us : List A) (x : A) → P x → ¬ All (λ z. ¬ P z) (xs ++ x ∷ us)

@@ -4,7 +4,7 @@ use Rattle.std.specs.Prelude.{Contains, Option, Some, None, length}
 use Rattle.std.specs.List.{filter, filter_map, flat_map}
 use Rattle.std.proofs.lemmas.List.Concat.{flat_map-cons}
 use Rattle.std.proofs.lemmas.List.Elements.{Contains-append_left, Contains-append_right, Contains-append_cases, Contains-push, Contains-push_cases, Contains-get_or}
-use Rattle.filterset_graph.proofs.Places.{place_from_Contains, Contains-from_place, element_from_mapped, mapped_at}
+use Rattle.filterset_graph.proofs.Positions.{position_from_Contains, Contains-from_position, element_from_mapped, mapped_at}
 use Rattle.std.proofs.lemmas.Option.{same_Some}
 
 module _ {X : Type 0} where
@@ -78,11 +78,11 @@ module _ {X Y : Type 0} where
 
 -- what a list has is mapped, and what a mapped list has stands for it
 pub mapped : {X Y : Type 0} (f : X → Y) (xs : List X) (x : X) → Contains xs x → Contains (map f xs) (f x)
-mapped f xs x c = let at = place_from_Contains xs x c in Contains-from_place (map f xs) (f x) at.0 (mapped_at f xs at.0 x at.1)
+mapped f xs x c = let at = position_from_Contains xs x c in Contains-from_position (map f xs) (f x) at.0 (mapped_at f xs at.0 x at.1)
 
 pub from_mapped : {X Y : Type 0} (f : X → Y) (xs : List X) (y : Y) → Contains (map f xs) y → (x : X) × Contains xs x × (f x ≡ y)
 from_mapped f xs y c =
-    let at = place_from_Contains (map f xs) y c in let e = element_from_mapped f xs at.0 y at.1 in (e.0, Contains-from_place xs e.0 at.0 e.1, e.2)
+    let at = position_from_Contains (map f xs) y c in let e = element_from_mapped f xs at.0 y at.1 in (e.0, Contains-from_position xs e.0 at.0 e.1, e.2)
 
 -- the element of a loop's turn
 pub here : {X : Type 0} (xs : List X) (i : ℕ) (x : X) → i < length xs → x ≡ get_or xs i x → Contains xs x

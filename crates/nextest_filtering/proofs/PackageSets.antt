@@ -12,7 +12,7 @@ use Rattle.std.proofs.lemmas.Slice.Eq.{bytes_eq-Decides}
 use Rattle.std.proofs.lemmas.Option.{same_Some, slice_get_within}
 use Rattle.std.proofs.lemmas.Bool.{cases_lt}
 use Rattle.filterset_graph.proofs.Rows.{pushed_at, pushed_keeps, pushed_cases}
-use Rattle.filterset_graph.proofs.Places.{place_from_Contains, Contains-from_place, element_from_mapped, mapped_at}
+use Rattle.filterset_graph.proofs.Positions.{position_from_Contains, Contains-from_position, element_from_mapped, mapped_at}
 use Rattle.filterset_graph.specs.Marked.{IsMarkedId, MarksReached, MarksReaching}
 use Rattle.filterset_graph.specs.Packages.{Path, ids, AllDiffer}
 use Rattle.filterset_graph.specs.Walks.{IsMarked}
@@ -59,21 +59,21 @@ module _ (id x : List ℕ) where
   pub inserted : (keys : List (List ℕ)) → Contains (with_id keys id) x ↔ (Contains keys x ⊎ (id ≡ x))
   inserted keys = (inserted_to keys, inserted_from keys)
 
--- ---- places and packages
+-- ---- positions and packages
 
--- ids that differ stand at one place each
-same_place : (names : List (List ℕ)) → AllDiffer names → (j k : ℕ) (id : List ℕ) → slice_get names j ≡ Some id → slice_get names k ≡ Some id → j ≡ k
-same_place names differ j k id at there =
+-- ids that differ stand at one position each
+same_position : (names : List (List ℕ)) → AllDiffer names → (j k : ℕ) (id : List ℕ) → slice_get names j ≡ Some id → slice_get names k ≡ Some id → j ≡ k
+same_position names differ j k id at there =
     ⊎_elim (λ less. absurd (differ k (j, less, slice_get_within names k id there, at ∙ sym there)))
     (λ not. ⊎_elim (λ less. absurd (differ j (k, less, slice_get_within names j id at, there ∙ sym at))) (λ over. omega (arith, not, over)) (cases_lt k j)) (cases_lt j k)
 
 module _ (packages : List PackageMetadata) (matcher : Matcher) where
-  -- the places of named packages
+  -- the positions of named packages
   pub named_at : (k : ℕ) (p : PackageMetadata) → slice_get packages k ≡ Some p → IsNamed packages matcher p → IsNamedAt packages matcher k
   named_at k p at is = (p, at, is.0.1, is.1)
 
   abbrev pub named_from : (k : ℕ) → IsNamedAt packages matcher k → (p : PackageMetadata) × (slice_get packages k ≡ Some p) × IsNamed packages matcher p
-  named_from k is = (is.0, is.1, ((Contains-from_place packages is.0 k is.1, is.2), is.3))
+  named_from k is = (is.0, is.1, ((Contains-from_position packages is.0 k is.1, is.2), is.3))
 
   module _ (starts : List Bool) (marked : MarksNamed packages matcher starts) where
     -- the marked ids are those of named packages
@@ -86,7 +86,7 @@ module _ (packages : List PackageMetadata) (matcher : Matcher) where
 
     pub id_marked : (p : PackageMetadata) → IsNamed packages matcher p → IsMarkedId packages starts p.id
     id_marked p is =
-        let at = place_from_Contains packages p is.0.0 in
+        let at = position_from_Contains packages p is.0.0 in
         (at.0, mapped_at (λ (q : PackageMetadata). q.id) packages at.0 p at.1, (marked at.0).1 (named_at at.0 p at.1 is))
 
     module _ (differ : AllDiffer (ids packages)) (marks : Vec Bool Global) where
@@ -95,17 +95,17 @@ module _ (packages : List PackageMetadata) (matcher : Matcher) where
       member_of id is =
           let k = is.0 in let p = is.1.0 in (
             p,
-            (Contains-from_place packages p k is.1.1, is.1.3),
+            (Contains-from_position packages p k is.1.1, is.1.3),
             is.1.4,
             (k, mapped_at (λ (q : PackageMetadata). q.id) packages k p is.1.1 ∙ ap (λ (t : List ℕ). Some t) is.1.4, is.1.2),
           )
 
       of_member : (id : List ℕ) (p : PackageMetadata) → IsMember packages p → p.id ≡ id → IsMarkedId packages marks.items id → IsMarkedMember packages marks.items id
       of_member id p member same is =
-          let at = place_from_Contains packages p member.0 in
+          let at = position_from_Contains packages p member.0 in
           let here = mapped_at (λ (q : PackageMetadata). q.id) packages at.0 p at.1 ∙ ap (λ (t : List ℕ). Some t) same in
-          let place : is.0 ≡ at.0 = same_place (ids packages) differ is.0 at.0 id is.1 here in
-          (at.0, (p, at.1, subst (λ (k : ℕ). IsMarked marks.items k) place is.2, member.1, same))
+          let position : is.0 ≡ at.0 = same_position (ids packages) differ is.0 at.0 id is.1 here in
+          (at.0, (p, at.1, subst (λ (k : ℕ). IsMarked marks.items k) position is.2, member.1, same))
 
       pub dependencies : MarksReached packages starts marks → (id : List ℕ) → IsMarkedMember packages marks.items id ↔ IsDependency packages matcher id
       dependencies reached id = (to, from)
@@ -135,8 +135,8 @@ module _ (packages : List PackageMetadata) (matcher : Matcher) where
   -- a package that is named is in each of the sets
   itself : (p : PackageMetadata) → IsNamed packages matcher p → Path packages p.id p.id
   itself p is =
-      let at = place_from_Contains packages p is.0.0 in
-      (Contains-from_place (ids packages) p.id at.0 (mapped_at (λ (q : PackageMetadata). q.id) packages at.0 p at.1), ([], refl))
+      let at = position_from_Contains packages p is.0.0 in
+      (Contains-from_position (ids packages) p.id at.0 (mapped_at (λ (q : PackageMetadata). q.id) packages at.0 p at.1), ([], refl))
 
   module _ (keys : List (List ℕ)) where
     some_key : (id : List ℕ) → Contains keys id → keys ≢ []
@@ -161,7 +161,7 @@ module _ (packages : List PackageMetadata) (matcher : Matcher) where
 -- ---- gathering sets
 
 module _ (Gives : ℕ → List ℕ → Type 0) where
-  -- a place before n gives this id
+  -- a position before n gives this id
   abbrev pub IsGivenBefore : ℕ → List ℕ → Type 0
   IsGivenBefore n id = (k : ℕ) × (k < n) × Gives k id
 
@@ -177,7 +177,7 @@ module _ (Gives : ℕ → List ℕ → Type 0) where
   none_given keys none id = ((λ c. absurd (none_in id (subst (λ (ks : List (List ℕ)). Contains ks id) none c))), (λ is. absurd (omega (arith, is.1))))
 
   module _ (keys : List (List ℕ)) (n : ℕ) (so_far : (id : List ℕ) → Contains keys id ↔ IsGivenBefore n id) where
-    -- the next place gives an id, which is put in
+    -- the next position gives an id, which is put in
     pub one_given : (new : List (List ℕ)) (key : List ℕ) → new ≡ with_id keys key → Gives n key → ((id : List ℕ) → Gives n id → key ≡ id) → (id : List ℕ) → Contains new id ↔ IsGivenBefore (n + 1) id
     one_given new key is here only id = (
       (λ c. ⊎_elim (λ old. given_still n id ((so_far id).0 old)) (λ same. (n, omega arith, subst (Gives n) same here)) ((inserted key id keys).0 (subst (λ (ks : List (List ℕ)). Contains ks id) is c))),
@@ -189,11 +189,11 @@ module _ (Gives : ℕ → List ℕ → Type 0) where
     passed_over none id =
         ((λ c. given_still n id ((so_far id).0 c)), (λ g. ⊎_elim (λ old. (so_far id).1 old) (λ now. absurd (none id now)) (given_before n id g)))
 
-    -- at the end all places were passed
+    -- at the end all positions were passed
     pub all_given : ((k : ℕ) (id : List ℕ) → Gives k id → k < n) → (id : List ℕ) → Contains keys id ↔ ((k : ℕ) × Gives k id)
     all_given within id = ((λ c. let is = (so_far id).0 c in (is.0, is.2)), (λ g. (so_far id).1 (g.0, within g.0 id g.1, g.1)))
 
--- at this place stands a package with this id whose name the matcher hits
+-- at this position stands a package with this id whose name the matcher hits
 abbrev pub IsHitAt : List (Bor PackageMetadata) → Matcher → ℕ → List ℕ → Type 0
 IsHitAt packages matcher k id =
     (p : Bor PackageMetadata) × (slice_get packages k ≡ Some p) × Hits matcher (string_bytes p.now.name) × (p.now.id ≡ id)
@@ -207,14 +207,14 @@ hit_members packages matcher members are id = (to, from)
     to is =
         let p = is.1.0 in
         let here = mapped_at (λ (q : Bor PackageMetadata). q.now) members is.0 p is.1.1 in
-        let c = subst (λ (ps : List PackageMetadata). Contains ps p.now) are (Contains-from_place _ p.now is.0 here) in
+        let c = subst (λ (ps : List PackageMetadata). Contains ps p.now) are (Contains-from_position _ p.now is.0 here) in
         (p.now, (from_filter (λ (q : PackageMetadata). q.in_workspace) packages p.now c, is.1.2), is.1.3)
 
     from : IsPackage packages matcher id → (k : ℕ) × IsHitAt members matcher k id
     from is =
         let p = is.0 in
         let c = kept (λ (q : PackageMetadata). q.in_workspace) packages p is.1.0.0 is.1.0.1 in
-        let at = place_from_Contains _ p (subst (λ (ps : List PackageMetadata). Contains ps p) (sym are) c) in
+        let at = position_from_Contains _ p (subst (λ (ps : List PackageMetadata). Contains ps p) (sym are) c) in
         let m = element_from_mapped (λ (q : Bor PackageMetadata). q.now) members at.0 p at.1 in
         (at.0, (m.0, m.1, subst (λ (q : PackageMetadata). Hits matcher (string_bytes q.name)) (sym m.2) is.1.1, ap (λ (q : PackageMetadata). q.id) m.2 ∙ is.2))
 

@@ -1,7 +1,7 @@
 -- Reading whole expressions. What is promised is said by the grammar.
 use Rattle.std.specs.Prelude.{ℕ, zero, suc, ◌-◌, List, length, take, codes, Bool, true, false, ◌==◌, Option, Some, None, Box, if◌then◌else◌}
 use Rattle.filterset_language.specs.Parsing.Front.{close_len, is_white}
-use Rattle.filterset_language.specs.Parsing.Place.{Place, place, advanced, skip, after}
+use Rattle.filterset_language.specs.Parsing.Position.{Position, position, advanced, skip, after}
 use Rattle.filterset_language.specs.Parsing.RawTexts.{raw_at, body_at}
 use Rattle.filterset_language.specs.Parsing.PlatformNames.{platform_in}
 use Rattle.filterset_language.specs.Parsing.Globs.{glob_in}
@@ -40,20 +40,20 @@ None >>= f = None
 -- ---- matchers
 
 -- the pattern of a body, as a matcher
-abbrev pub regex_at : Place → Option (Matcher × Place)
+abbrev pub regex_at : Position → Option (Matcher × Position)
 regex_at p = body_at p >>= λ x. Some (Regex x.0.0, x.1)
 
 -- the code's way of matching a text, and whether no sign stands before the text
 abbrev pub seen_sign : Sign → TextMatching × Bool
 seen_sign s = (s.matching, s.implicit)
 
--- a sign that stands here and the place after it, or the other
-abbrev pub signed_or : Option Place → TextMatching → (TextMatching × Bool) × Place → (TextMatching × Bool) × Place
+-- a sign that stands here and the position after it, or the other
+abbrev pub signed_or : Option Position → TextMatching → (TextMatching × Bool) × Position → (TextMatching × Bool) × Position
 signed_or (Some q) matching other = ((matching, false), q)
 signed_or None matching other = other
 
--- the sign that stands here, and the place after it
-abbrev pub sign_at : Predicate → Place → (TextMatching × Bool) × Place
+-- the sign that stands here, and the position after it
+abbrev pub sign_at : Predicate → Position → (TextMatching × Bool) × Position
 sign_at predicate p =
     signed_or (after (codes "#") p) ways.Glob
     (signed_or (after (codes "=") p) ways.Equal
@@ -66,15 +66,15 @@ made (ways.Contains, implicit) value = Some (Contains value implicit)
 made (ways.Glob, implicit) value = glob_in value implicit
 
 -- a sign and a text
-abbrev pub signed_text : (TextMatching × Bool) × Place → Option (Matcher × Place)
+abbrev pub signed_text : (TextMatching × Bool) × Position → Option (Matcher × Position)
 signed_text s = raw_at s.1 >>= λ x. made s.0 x.0 >>= λ m. Some (m, x.1)
 
 -- a matcher that is no regular expression
-abbrev pub text_matcher_at : Predicate → Place → Option (Matcher × Place)
+abbrev pub text_matcher_at : Predicate → Position → Option (Matcher × Position)
 text_matcher_at predicate p = signed_text (sign_at predicate p)
 
 -- a matcher
-abbrev pub matcher_at : Predicate → Place → Option (Matcher × Place)
+abbrev pub matcher_at : Predicate → Position → Option (Matcher × Position)
 matcher_at predicate p = choose (after (codes "/") p) regex_at (text_matcher_at predicate p)
 
 -- ---- predicates
@@ -84,33 +84,33 @@ abbrev pub between : ℕ → ℕ → SourceSpan
 between offset end = span offset (end - offset)
 
 -- the argument of a predicate that takes a matcher, and the closing parenthesis
-abbrev pub matching_at : Predicate → Place → Option (Leaf SourceSpan × Place)
+abbrev pub matching_at : Predicate → Position → Option (Leaf SourceSpan × Position)
 matching_at predicate p =
     matcher_at predicate (skip p) >>= λ x. after (codes ")") (skip x.1)
     >>= λ r. Some (Matching predicate x.0 (between p.at x.1.at), r)
 
 -- the argument of `platform`, and the closing parenthesis
-abbrev pub platform_at : Place → Option (Leaf SourceSpan × Place)
+abbrev pub platform_at : Position → Option (Leaf SourceSpan × Position)
 platform_at p =
     raw_at (skip p) >>= λ x. after (codes ")") (skip x.1)
     >>= λ r. platform_in x.0 >>= λ q. Some (Platform q (between p.at x.1.at), r)
 
 -- white space and a closing parenthesis
-abbrev pub bare_end_at : Place → Option Place
+abbrev pub bare_end_at : Position → Option Position
 bare_end_at p =
     if is_white (take (close_len p.rest) p.rest) then after (codes ")") (advanced (close_len p.rest) p)
     else None
 
 -- the rest of a predicate without an argument
-abbrev pub bare_at : Leaf SourceSpan → Place → Option (Leaf SourceSpan × Place)
+abbrev pub bare_at : Leaf SourceSpan → Position → Option (Leaf SourceSpan × Position)
 bare_at l p = bare_end_at p >>= λ r. Some (l, r)
 
 -- the rest of `default`, which begins at an offset
-abbrev pub default_at : ℕ → Place → Option (Leaf SourceSpan × Place)
+abbrev pub default_at : ℕ → Position → Option (Leaf SourceSpan × Position)
 default_at start p = bare_end_at p >>= λ r. Some (Default (between start r.at), r)
 
 -- what stands after a predicate's opening parenthesis; the predicate begins at the offset
-abbrev pub argument_at : PredicateName → ℕ → Place → Option (Leaf SourceSpan × Place)
+abbrev pub argument_at : PredicateName → ℕ → Position → Option (Leaf SourceSpan × Position)
 argument_at (names.Matching name) start p = matching_at name p
 argument_at names.Platform start p = platform_at p
 argument_at names.Default start p = default_at start p
@@ -118,18 +118,18 @@ argument_at names.All start p = bare_at tree.All p
 argument_at names.None start p = bare_at tree.None p
 
 -- what stands after a predicate's name
-abbrev pub leaf_at : PredicateName → ℕ → Place → Option (Leaf SourceSpan × Place)
+abbrev pub leaf_at : PredicateName → ℕ → Position → Option (Leaf SourceSpan × Position)
 leaf_at name start p = after (codes "(") (skip p) >>= λ q. argument_at name start q
 
 -- ---- expressions
 
--- what reads an expression: its tree and the place after it
+-- what reads an expression: its tree and the position after it
 abbrev pub Reader : Type 0
-Reader = Place → Option (Placed × Place)
+Reader = Position → Option (Placed × Position)
 
 -- what reads an operator of a level, without a value where it is an invalid one
 abbrev pub Next : Type 0 → Type 0
-Next O = Place → Option (Option O × Place)
+Next O = Position → Option (Option O × Position)
 
 -- what an operator makes of its operands
 abbrev pub Make : Type 0 → Type 0
@@ -163,7 +163,7 @@ abbrev pub or_level_by : Reader → Reader
 or_level_by read p = level_by or_at unite (and_level_by read) p
 
 -- a predicate after its name, as a tree; the predicate begins at the offset
-abbrev pub set_at : PredicateName → ℕ → Place → Option (Placed × Place)
+abbrev pub set_at : PredicateName → ℕ → Position → Option (Placed × Position)
 set_at name start p = leaf_at name start p >>= λ l. Some (Set l.0, l.1)
 
 -- an operand after its blanks: a predicate, a negation or parentheses
@@ -180,9 +180,9 @@ operand_at zero p = None
 operand_at (suc n) p = operand_by (operand_at n) (skip p)
 
 -- the whole text: after the expression and blanks stands nothing
-abbrev pub nothing_behind : Placed → Place → Option Placed
+abbrev pub nothing_behind : Placed → Position → Option Placed
 nothing_behind e p = if length p.rest == 0 then Some e else None
 
 -- the tree of a whole text
 abbrev pub whole_by : ℕ → List ℕ → Option Placed
-whole_by n text = or_level_by (operand_at (suc n)) (place 0 text) >>= λ x. nothing_behind x.0 (skip x.1)
+whole_by n text = or_level_by (operand_at (suc n)) (position 0 text) >>= λ x. nothing_behind x.0 (skip x.1)

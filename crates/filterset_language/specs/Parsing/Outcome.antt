@@ -3,7 +3,7 @@
 use Rattle.std.specs.Prelude.{◌≡◌, ℕ, suc, ◌+◌, ◌<◌, ◌≤◌, List, ◌++◌, length, All, Option, None, Some, Box, Result, IfOk, codes}
 use Rattle.std.specs.Option.{option_map}
 use Rattle.filterset_grammar.specs.Text.{Body}
-use Rattle.filterset_language.specs.Parsing.Place.{Place, place_of, after, skip}
+use Rattle.filterset_language.specs.Parsing.Position.{Position, position_of, after, skip}
 use Rattle.filterset_matchers.specs.Matcher.{Matcher, Regex}
 use Rattle.filterset_grammar.specs.Tree.{Leaf, Set, Not, Parens}
 use Rattle.filterset_language.specs.Views.{leaf_of}
@@ -36,14 +36,14 @@ pub data Carried {Y : Type 0} (Good : Y → Type 0) (On : Y → ParseSingleError
 
 -- What a reader gives: what reading gives, carried, or new faults where reading gives nothing.
 pub data Gives {Y : Type 0} (Good : Y → Type 0) (On : Y → ParseSingleError → Type 0) (old new : Faults)
-    (value : Option Y) (q : Place) (read : Option (Y × Place)) : Type 0 where
+    (value : Option Y) (q : Position) (read : Option (Y × Position)) : Type 0 where
   reads : (y : Y) → Carried Good On old new value y → read ≡ Some (y, q) → Gives Good On old new value q read
   fails : length old < length new → read ≡ None → Gives Good On old new value q read
 
 -- the same from the first operand of a level on, seen after the operands so far
 pub data Going {O : Type 0} (next : Next O) (make : Make O) (Good : Placed → Type 0)
-    (On : Placed → ParseSingleError → Type 0) (old new : Faults) (left : Option Placed) (p : Place) (read : Reader)
-    (total : Option (Placed × Place)) : Type 0 where
+    (On : Placed → ParseSingleError → Type 0) (old new : Faults) (left : Option Placed) (p : Position) (read : Reader)
+    (total : Option (Placed × Position)) : Type 0 where
   goes : (e : Placed) → Carried Good On old new left e → (m : ℕ) → length p.rest ≤ m → more next make read m e p ≡ total
       → Going next make Good On old new left p read total
   failed : length old < length new → total ≡ None → Going next make Good On old new left p read total
@@ -66,29 +66,29 @@ pub record LiesOnPattern (text : List ℕ) (end : ℕ) (m : Matcher) (fault : Pa
   pub ends : end ≡ at.offset + at.len + 1
 
 -- what a reader of matchers, of predicates and of expressions gives
-abbrev pub GivesMatcher : List ℕ → Faults → Faults → Option Matcher → Place → Option (Matcher × Place) → Type 0
+abbrev pub GivesMatcher : List ℕ → Faults → Faults → Option Matcher → Position → Option (Matcher × Position) → Type 0
 GivesMatcher text old new value q read = Gives MatcherIsRead (LiesOnPattern text q.at) old new value q read
 
-abbrev pub GivesLeaf : List ℕ → Faults → Faults → Option (Leaf SourceSpan) → Place → Option (Leaf SourceSpan × Place)
+abbrev pub GivesLeaf : List ℕ → Faults → Faults → Option (Leaf SourceSpan) → Position → Option (Leaf SourceSpan × Position)
     → Type 0
 GivesLeaf text old new value q read = Gives LeafIsRead (λ l. LiesOnBody text (Set l)) old new value q read
 
-abbrev pub GivesTree : List ℕ → Faults → Faults → Option Placed → Place → Option (Placed × Place) → Type 0
+abbrev pub GivesTree : List ℕ → Faults → Faults → Option Placed → Position → Option (Placed × Position) → Type 0
 GivesTree text old new value q read = Gives PatternsAreRead (LiesOnBody text) old new value q read
 
 -- The same of a reader's result, with these faults before it and after it, against what reading gives at the input.
 abbrev pub ReadsMatcher : {E : Type 0}
-    → Input → FaultList → FaultList → Result (Read NameMatcher) E → (Place → Option (Matcher × Place)) → Type 0
+    → Input → FaultList → FaultList → Result (Read NameMatcher) E → (Position → Option (Matcher × Position)) → Type 0
 ReadsMatcher input old new result read =
     IfOk result (λ r. GivesMatcher input.text.now old.items new.items
-    (option_map matcher_of r.value) (place_of r.end) (read (place_of input)))
+    (option_map matcher_of r.value) (position_of r.end) (read (position_of input)))
 
 abbrev pub ReadsLeaf : {E : Type 0}
     → Input → FaultList → FaultList → Result (Read (ParsedLeaf SourceSpan)) E
-    → (Place → Option (Leaf SourceSpan × Place)) → Type 0
+    → (Position → Option (Leaf SourceSpan × Position)) → Type 0
 ReadsLeaf input old new result read =
     IfOk result (λ r. GivesLeaf input.text.now old.items new.items
-    (option_map leaf_of r.value) (place_of r.end) (read (place_of input)))
+    (option_map leaf_of r.value) (position_of r.end) (read (position_of input)))
 
 -- Reading may nest as deeply as n tells, for every n that is at least the length of what is left.
 abbrev pub ReadsTree : {A E : Type 0}
@@ -96,14 +96,14 @@ abbrev pub ReadsTree : {A E : Type 0}
 ReadsTree input old new result read =
     IfOk result (λ r. (n : ℕ) → length input.rest.now ≤ n
     → GivesTree input.text.now old.items new.items
-    (option_map boxed_tree r.value) (place_of r.end) (read n (place_of input)))
+    (option_map boxed_tree r.value) (position_of r.end) (read n (position_of input)))
 
 -- A predicate as a tree does not nest.
 abbrev pub ReadsSet : {A E : Type 0}
     → Input → FaultList → FaultList → Result (Read (Box (ParsedExpr SourceSpan) A)) E → Reader → Type 0
 ReadsSet input old new result read =
     IfOk result (λ r. GivesTree input.text.now old.items new.items
-    (option_map boxed_tree r.value) (place_of r.end) (read (place_of input)))
+    (option_map boxed_tree r.value) (position_of r.end) (read (position_of input)))
 
 -- The negation of what reading gives of an operand.
 abbrev pub ReadsNegation : {A E : Type 0}
@@ -111,24 +111,24 @@ abbrev pub ReadsNegation : {A E : Type 0}
 ReadsNegation op input old new result =
     IfOk result (λ r. (v : Option Placed) × (option_map boxed_tree r.value ≡ option_map (λ t. Not op t) v)
     × ((n : ℕ) → length input.rest.now ≤ n
-    → GivesTree input.text.now old.items new.items v (place_of r.end) (operand_at (suc n) (place_of input))))
+    → GivesTree input.text.now old.items new.items v (position_of r.end) (operand_at (suc n) (position_of input))))
 
 -- What reading gives of an expression, in parentheses, of which the closing one was read after it.
 abbrev pub ReadsParens : {A E : Type 0}
     → Input → FaultList → FaultList → Result (Read (Box (ParsedExpr SourceSpan) A)) E → Type 0
 ReadsParens input old new result =
-    IfOk result (λ r. (v : Option Placed) × (q : Place) × (between : Faults)
+    IfOk result (λ r. (v : Option Placed) × (q : Position) × (between : Faults)
     × (option_map boxed_tree r.value ≡ option_map (λ t. Parens t) v)
     × ((n : ℕ) → length input.rest.now ≤ n
-    → GivesTree input.text.now old.items between v q (or_level_by (operand_at (suc n)) (place_of input)))
-    × Recovers between new.items (Some (place_of r.end)) (after (codes ")") (skip q)))
+    → GivesTree input.text.now old.items between v q (or_level_by (operand_at (suc n)) (position_of input)))
+    × Recovers between new.items (Some (position_of r.end)) (after (codes ")") (skip q)))
 
 -- After the first operand of a level: what comes is what reading gives from the first one on.
 abbrev pub ReadsOn : {O A E : Type 0}
     → Next O → Make O → (ℕ → Reader) → Read (Box (ParsedExpr SourceSpan) A) → FaultList → FaultList
     → Result (Read (Box (ParsedExpr SourceSpan) A)) E → Type 0
 ReadsOn next make read first old new result =
-    IfOk result (λ r. (n : ℕ) (before : Faults) (total : Option (Placed × Place)) → length first.end.rest.now ≤ n
+    IfOk result (λ r. (n : ℕ) (before : Faults) (total : Option (Placed × Position)) → length first.end.rest.now ≤ n
     → Going next make PatternsAreRead (LiesOnBody first.end.text.now) before old.items
-    (option_map boxed_tree first.value) (place_of first.end) (read n) total
-    → GivesTree first.end.text.now before new.items (option_map boxed_tree r.value) (place_of r.end) total)
+    (option_map boxed_tree first.value) (position_of first.end) (read n) total
+    → GivesTree first.end.text.now before new.items (option_map boxed_tree r.value) (position_of r.end) total)

@@ -3,7 +3,7 @@ use Rattle.std.specs.Prelude.{◌≡◌, ℕ, zero, suc, ◌+◌, ◌-◌, ◌<�
 use Rattle.std.specs.Option.{option_map, option_and_then}
 use Rattle.filterset_glob.specs.Signs.{sign, ◌∈◌}
 use Rattle.filterset_grammar.specs.Text.{is_plain, Spelled, Body, with_slashes}
-use Rattle.filterset_language.specs.Parsing.Place.{Place, place, advanced, after}
+use Rattle.filterset_language.specs.Parsing.Position.{Position, position, advanced, after}
 use Rattle.filterset_language.specs.Parsing.Escapes.{escape_at}
 use Rattle.filterset_language.specs.Faults.{EndsText}
 use Rattle.filterset_faults.specs.declared.span.SourceSpan.{SourceSpan}
@@ -28,22 +28,22 @@ raw_from (b ∷ t) zero =
     else Some ([], b ∷ t))
 
 -- a raw text is not empty
-abbrev pub unless_empty : Place → List ℕ × List ℕ → Option (List ℕ × Place)
+abbrev pub unless_empty : Position → List ℕ × List ℕ → Option (List ℕ × Position)
 unless_empty p x =
-    if length x.0 == 0 then None else Some (x.0, place (p.at + (length p.rest - length x.1)) x.1)
+    if length x.0 == 0 then None else Some (x.0, position (p.at + (length p.rest - length x.1)) x.1)
 
-abbrev pub raw_at : Place → Option (List ℕ × Place)
+abbrev pub raw_at : Position → Option (List ℕ × Position)
 raw_at p = option_and_then (unless_empty p) (raw_from p.rest zero)
 
--- the raw text between two places spells the value
-pub record SpelledTo (p : Place) (value : List ℕ) (q : Place) : Type 0 where
+-- the raw text between two positions spells the value
+pub record SpelledTo (p : Position) (value : List ℕ) (q : Position) : Type 0 where
   pub raw : List ℕ
   pub spelled : Spelled raw value
   pub parts : p.rest ≡ raw ++ q.rest
   pub offset : q.at ≡ p.at + length raw
 
 -- a raw text that is read: it spells the value, is not empty, and ends there
-pub record TextTaken (p : Place) (value : List ℕ) (q : Place) : Type 0 where
+pub record TextTaken (p : Position) (value : List ℕ) (q : Position) : Type 0 where
   pub spelled : SpelledTo p value q
   pub some : 0 < length spelled.raw
   pub ends : EndsText q.rest
@@ -54,15 +54,15 @@ abbrev pub body_len : ℕ → List ℕ → ℕ
 body_len before [] = 0
 body_len before (b ∷ t) = if (b ∈ "/") && not (before ∈ "\\") then 0 else suc (body_len b t)
 
--- the pattern and the span of a body of so many bytes, and the place after its `/`
-abbrev pub body_by : ℕ → Place → Option ((List ℕ × SourceSpan) × Place)
+-- the pattern and the span of a body of so many bytes, and the position after its `/`
+abbrev pub body_by : ℕ → Position → Option ((List ℕ × SourceSpan) × Position)
 body_by n p = option_map (λ q. ((with_slashes (take n p.rest), span p.at n), q)) (after (codes "/") (advanced n p))
 
-abbrev pub body_at : Place → Option ((List ℕ × SourceSpan) × Place)
+abbrev pub body_at : Position → Option ((List ℕ × SourceSpan) × Position)
 body_at p = body_by (body_len 0 p.rest) p
 
 -- a body that is read: the text up to its `/`
-pub record BodyTaken (p : Place) (pattern : List ℕ) (s : SourceSpan) (q : Place) : Type 0 where
+pub record BodyTaken (p : Position) (pattern : List ℕ) (s : SourceSpan) (q : Position) : Type 0 where
   pub body : List ℕ
   pub is : Body body pattern
   pub parts : p.rest ≡ body ++ (sign "/" ∷ q.rest)

@@ -2,7 +2,7 @@
 use Rattle.std.specs.Prelude.{◌≡◌, ℕ, ◌<◌, ◌≤◌, List, length, take, codes, Option, None, Some, IsSome, MatchOption, All, Bool, true, false, Result, IfOk, Vec}
 use Rattle.std.specs.Option.{option_map}
 use Rattle.std.specs.declared.alloc.Global.{Global}
-use Rattle.filterset_language.specs.Parsing.Place.{Place, place_of, skip, after, after_word, advanced, IsAtOrBehind}
+use Rattle.filterset_language.specs.Parsing.Position.{Position, position_of, skip, after, after_word, advanced, IsAtOrBehind}
 use Rattle.filterset_language.specs.Parsing.Escapes.{escape_at}
 use Rattle.filterset_language.specs.Faults.{FaultStands, BeforeOperand, EndsWith, Misplaced, misplaced_and, misplaced_or, misplaced_AND, misplaced_OR, misplaced_ampersands, misplaced_pipes}
 use Rattle.filterset_language.specs.Parsing.Words.{name_at, not_at, name_text}
@@ -41,22 +41,22 @@ pub record AllFound (text : List ℕ) (faults : List ParseSingleError) : Type 0 
 abbrev pub Keeps : List ℕ → List ParseSingleError → List ParseSingleError → Type 0
 Keeps text old new = AllFound text old → AllFound text new
 
--- a value, where there is one, and the place after it
-abbrev pub beside : {Y : Type 0} → Place → Option Y → Option (Y × Place)
+-- a value, where there is one, and the position after it
+abbrev pub beside : {Y : Type 0} → Position → Option Y → Option (Y × Position)
 beside q value = option_map (λ y. (y, q)) value
 
--- what a reader carries: the value, seen by a view, and the place after it
-abbrev pub carried : {X Y : Type 0} → (X → Y) → Read X → Option (Y × Place)
-carried view r = beside (place_of r.end) (option_map view r.value)
+-- what a reader carries: the value, seen by a view, and the position after it
+abbrev pub carried : {X Y : Type 0} → (X → Y) → Read X → Option (Y × Position)
+carried view r = beside (position_of r.end) (option_map view r.value)
 
--- a step over a text, with these faults before it and after it: the place after it is the one that reading gives, or
+-- a step over a text, with these faults before it and after it: the position after it is the one that reading gives, or
 -- a fault was added where reading gives none
-abbrev pub StepsOver : {E : Type 0} → FaultList → FaultList → Result Input E → Option Place → Type 0
-StepsOver old new result read = IfOk result (λ r. Recovers old.items new.items (Some (place_of r)) read)
+abbrev pub StepsOver : {E : Type 0} → FaultList → FaultList → Result Input E → Option Position → Type 0
+StepsOver old new result read = IfOk result (λ r. Recovers old.items new.items (Some (position_of r)) read)
 
 -- the same of what is read, seen by a view
 abbrev pub ReadsAs : {X Y E : Type 0}
-    → (X → Y) → FaultList → FaultList → Result (Read X) E → Option (Y × Place) → Type 0
+    → (X → Y) → FaultList → FaultList → Result (Read X) E → Option (Y × Position) → Type 0
 ReadsAs view old new result read = IfOk result (λ r. Recovers old.items new.items (carried view r) read)
 
 -- where all faults before were found in the text of the input, all faults after are
@@ -76,7 +76,7 @@ abbrev pub joined : {O : Type 0} → Make O → Option O → Option Placed → O
 joined make op left right = op >>= λ o. left >>= λ l. right >>= λ r. Some (make o l r)
 
 -- what stands after a backslash was passed: an escape, or nothing where none stands there, which is reported
-abbrev pub Passes : Place → Place → List ParseSingleError → List ParseSingleError → Type 0
+abbrev pub Passes : Position → Position → List ParseSingleError → List ParseSingleError → Type 0
 Passes p q old new =
     MatchOption (escape_at p.rest) ((q ≡ p) × (length old < length new)) (λ e. (q ≡ advanced e.1 p) × (new ≡ old))
 
@@ -93,8 +93,8 @@ pub record AtOperand (input : Input) : Type 0 where
 abbrev pub AtName : PredicateName → Input → Type 0
 AtName name input = EndsWith (take input.offset input.text.now) (name_text name)
 
--- what stands after the operator, where it stands at the place; a word has to end
-abbrev pub behind_misplaced : {op suggest : List ℕ} → Misplaced op suggest → Place → Option Place
+-- what stands after the operator, where it stands at the position; a word has to end
+abbrev pub behind_misplaced : {op suggest : List ℕ} → Misplaced op suggest → Position → Option Position
 behind_misplaced misplaced_and p = after_word (codes "and") p
 behind_misplaced misplaced_or p = after_word (codes "or") p
 behind_misplaced misplaced_AND p = after_word (codes "AND") p
@@ -102,31 +102,31 @@ behind_misplaced misplaced_OR p = after_word (codes "OR") p
 behind_misplaced misplaced_ampersands p = after (codes "&&") p
 behind_misplaced misplaced_pipes p = after (codes "||") p
 
--- an operator stands at a place where an operand belongs
-pub record IsMisplaced (p : Place) (op suggest : List ℕ) (q : Place) : Type 0 where
+-- an operator stands at a position where an operand belongs
+pub record IsMisplaced (p : Position) (op suggest : List ℕ) (q : Position) : Type 0 where
   pub suggested : Misplaced op suggest
   pub stands : behind_misplaced suggested p ≡ Some q
 
--- none of the words among these operators stands at the place
-pub record NoMisplacedWord (p : Place) : Type 0 where
+-- none of the words among these operators stands at the position
+pub record NoMisplacedWord (p : Position) : Type 0 where
   pub no_and : None ≡ after_word (codes "and") p
   pub no_or : None ≡ after_word (codes "or") p
   pub no_AND : None ≡ after_word (codes "AND") p
   pub no_OR : None ≡ after_word (codes "OR") p
 
 -- none of the signs does
-pub record NoMisplacedSign (p : Place) : Type 0 where
+pub record NoMisplacedSign (p : Position) : Type 0 where
   pub no_ampersands : None ≡ after (codes "&&") p
   pub no_pipes : None ≡ after (codes "||") p
 
--- `NOT` stands at a place where an operand belongs
-pub record IsCapitalNot (p : Place) (op suggest : List ℕ) (q : Place) : Type 0 where
+-- `NOT` stands at a position where an operand belongs
+pub record IsCapitalNot (p : Position) (op suggest : List ℕ) (q : Position) : Type 0 where
   pub stands : after_word op p ≡ Some q
   pub is : op ≡ codes "NOT"
   pub suggested : suggest ≡ codes "not"
 
 -- after the blanks no operand begins
-pub record NoOperand (p s : Place) : Type 0 where
+pub record NoOperand (p s : Position) : Type 0 where
   pub skipped : s ≡ skip p
   pub no_name : None ≡ name_at s
   pub no_not : None ≡ not_at s

@@ -1,6 +1,6 @@
 -- What reading a whole text gives.
 use Rattle.std.specs.Prelude.{◌≡◌, ◌≢◌, ℕ, suc, List, [], ◌∷◌, ◌++◌, ◌⊎◌, length, All, Option, None, Some}
-use Rattle.filterset_language.specs.Parsing.Place.{place}
+use Rattle.filterset_language.specs.Parsing.Position.{position}
 use Rattle.filterset_language.specs.Faults.{FaultStands}
 use Rattle.filterset_grammar.specs.Patterns.{PatternsAreRead}
 use Rattle.filterset_language.specs.Parsed.{LiesOnBody}
@@ -15,7 +15,7 @@ pub record ReadUpTo (text : List ℕ) (tree : Option Placed) (offset : ℕ) : Ty
   pub expr : Placed
   pub is : tree ≡ Some expr
   pub rest : List ℕ
-  pub read : or_level_by (operand_at (suc (length text))) (place 0 text) ≡ Some (expr, place offset rest)
+  pub read : or_level_by (operand_at (suc (length text))) (position 0 text) ≡ Some (expr, position offset rest)
 
 -- the tree that reading gives comes, and its patterns are read
 pub record WhollyRead (text : List ℕ) (tree : Option Placed) : Type 0 where

@@ -1,7 +1,7 @@
 -- Reading words from left to right. What is promised is said by the grammar.
 use Rattle.std.specs.Prelude.{ℕ, List, [], ◌∷◌, codes, Option, Some, None, if◌then◌else◌}
 use Rattle.filterset_glob.specs.Signs.{◌∈◌}
-use Rattle.filterset_language.specs.Parsing.Place.{Place, place_of, after, after_word}
+use Rattle.filterset_language.specs.Parsing.Position.{Position, position_of, after, after_word}
 use Rattle.filterset_grammar.specs.declared.operators.Joiner.{Joiner}
 use Rattle.filterset_grammar.specs.declared.operators.Joiner.TheVariants.{Both, Without, ExactlyOne}
 use Rattle.filterset_grammar.specs.declared.predicate.Predicate.TheVariants.{Package, Deps, Rdeps, Kind, Binary, BinaryId, Test, Group}
@@ -25,25 +25,25 @@ name_text names.Default = codes "default"
 name_text names.All = codes "all"
 name_text names.None = codes "none"
 
--- what was read, and the place after it
-abbrev pub seen : {X : Type 0} → X × Input → X × Place
-seen x = (x.0, place_of x.1)
+-- what was read, and the position after it
+abbrev pub seen : {X : Type 0} → X × Input → X × Position
+seen x = (x.0, position_of x.1)
 
 -- the first, where there is one, and else the second
 abbrev pub choose : {X Y : Type 0} → Option X → (X → Option Y) → Option Y → Option Y
 choose (Some x) f other = f x
 choose None f other = other
 
--- a value, and the place after it
-abbrev pub with : {X : Type 0} → X → Place → Option (X × Place)
+-- a value, and the position after it
+abbrev pub with : {X : Type 0} → X → Position → Option (X × Position)
 with x p = Some (x, p)
 
 -- the negation that stands here
-abbrev pub not_at : Place → Option (NotOperator × Place)
+abbrev pub not_at : Position → Option (NotOperator × Position)
 not_at p = choose (after_word (codes "not") p) (with LiteralNot) (choose (after (codes "!") p) (with Exclamation) None)
 
 -- the operator of the level of `and` that stands here, without a value where it is an invalid one
-abbrev pub joiner_at : Place → Option (Option Joiner × Place)
+abbrev pub joiner_at : Position → Option (Option Joiner × Position)
 joiner_at p =
     choose (after (codes "&&") p) (with None)
     (choose (after_word (codes "AND") p) (with None)
@@ -53,7 +53,7 @@ joiner_at p =
     (choose (after (codes "^") p) (with (Some (ExactlyOne Caret))) None)))))
 
 -- the operator of the level of `or` that stands here, without a value where it is an invalid one
-abbrev pub or_at : Place → Option (Option OrOperator × Place)
+abbrev pub or_at : Position → Option (Option OrOperator × Position)
 or_at p =
     choose (after (codes "||") p) (with None)
     (choose (after_word (codes "OR") p) (with None)
@@ -67,18 +67,18 @@ first_byte [] = 0
 first_byte (b ∷ t) = b
 
 -- a name whose word stands here
-abbrev pub named : List ℕ → PredicateName → Place → Option (PredicateName × Place)
+abbrev pub named : List ℕ → PredicateName → Position → Option (PredicateName × Position)
 named word name p = choose (after word p) (with name) None
 
 -- the first of two names whose word stands here
-abbrev pub either : List ℕ → PredicateName → List ℕ → PredicateName → Place → Option (PredicateName × Place)
+abbrev pub either : List ℕ → PredicateName → List ℕ → PredicateName → Position → Option (PredicateName × Position)
 either first name second other p = choose (after first p) (with name) (named second other p)
 
-abbrev pub binary_name_at : Place → Option (PredicateName × Place)
+abbrev pub binary_name_at : Position → Option (PredicateName × Position)
 binary_name_at p = either (codes "binary_id") (names.Matching BinaryId) (codes "binary") (names.Matching Binary) p
 
 -- the name that begins with this byte and stands here
-abbrev pub name_by : ℕ → Place → Option (PredicateName × Place)
+abbrev pub name_by : ℕ → Position → Option (PredicateName × Position)
 name_by b p =
     if b ∈ "a" then named (codes "all") names.All p
     else (if b ∈ "b" then binary_name_at p
@@ -92,5 +92,5 @@ name_by b p =
     else None))))))))
 
 -- the predicate's name that stands here
-abbrev pub name_at : Place → Option (PredicateName × Place)
+abbrev pub name_at : Position → Option (PredicateName × Position)
 name_at p = name_by (first_byte p.rest) p

@@ -3,7 +3,7 @@ ghost use Rattle.std.specs.Prelude.{◌≡◌, ℕ, suc, ◌<◌, ◌≤◌, len
 ghost use Rattle.std.specs.Option.{option_map};
 ghost use Rattle.filterset_grammar.specs.Tree.{Not, Parens, Set};
 ghost use Rattle.filterset_language.specs.Views.{leaf_of};
-ghost use Rattle.filterset_language.specs.Parsing.Place.{place_of, IsBehind, IsAtOrBehind};
+ghost use Rattle.filterset_language.specs.Parsing.Position.{position_of, IsBehind, IsAtOrBehind};
 ghost use Rattle.filterset_language.specs.Parsing.Words.{joiner_at, or_at};
 ghost use Rattle.filterset_language.specs.Parsing.Descent.{boxed_tree, operand_at, and_level_by, or_level_by, join, unite, set_at};
 ghost use Rattle.filterset_language.specs.Parsing.Recovery.{StillStand, GoesOn, EndsBehind, joined, Checked, AtOperand, AtName, NoOperand};
@@ -89,7 +89,7 @@ fn read_parens<'a>(
     })
 }
 
-/// No operand: what stands in its place is reported.
+/// No operand: what stands here instead is reported.
 #[inline(never)]
 fn read_nothing<'a>(
     faults: &mut Vec<ParseSingleError>,
@@ -97,7 +97,7 @@ fn read_nothing<'a>(
     start: Input<'a>,
 ) -> Result<Read<'a, Box<ParsedExpr>>, AllocError>
     requires at { AtOperand input }
-    requires nothing { NoOperand (place_of input) (place_of start) }
+    requires nothing { NoOperand (position_of input) (position_of start) }
     requires start { IsAtOrBehind input start }
     ensures more { IfOk result (λ r. length faults.old.items < length faults.new.items) }
     ensures stand { StillStand input.entry faults.old faults.new result }
@@ -109,7 +109,7 @@ fn read_nothing<'a>(
     })
 }
 
-/// Reports what stands in the place of an operand, and goes on after it.
+/// Reports what stands where an operand should, and goes on after it.
 #[inline(never)]
 fn report_no_operand<'a>(
     faults: &mut Vec<ParseSingleError>,
@@ -117,7 +117,7 @@ fn report_no_operand<'a>(
     start: Input<'a>,
 ) -> Result<Input<'a>, AllocError>
     requires at { AtOperand input }
-    requires nothing { NoOperand (place_of input) (place_of start) }
+    requires nothing { NoOperand (position_of input) (position_of start) }
     requires start { IsAtOrBehind input start }
     ensures more { IfOk result (λ r. length faults.old.items < length faults.new.items) }
     ensures stand { StillStand input.entry faults.old faults.new result }
@@ -143,7 +143,7 @@ fn report_no_operand<'a>(
     Ok(input)
 }
 
-/// Operands of the level of `and`. Where nothing was read in the place of the first one, `^` is no operator, and the
+/// Operands of the level of `and`. Where nothing was read as the first one, `^` is no operator, and the
 /// level ends there.
 #[cycle(parser)]
 fn read_and_level<'a>(
@@ -247,7 +247,7 @@ fn check_joiner<'a>(
     start: Input<'a>,
     rest: Input<'a>,
 ) -> Result<(), AllocError>
-    requires stands { Some (joiner, place_of rest) ≡ joiner_at (place_of start) }
+    requires stands { Some (joiner, position_of rest) ≡ joiner_at (position_of start) }
     requires behind { IsBehind start rest }
     ensures value { IfOk result (λ u. Checked joiner faults.old.items faults.new.items) }
     ensures stand { StillStand start.entry faults.old faults.new result }
@@ -267,7 +267,7 @@ fn check_or<'a>(
     start: Input<'a>,
     rest: Input<'a>,
 ) -> Result<(), AllocError>
-    requires stands { Some (operator, place_of rest) ≡ or_at (place_of start) }
+    requires stands { Some (operator, position_of rest) ≡ or_at (position_of start) }
     requires behind { IsBehind start rest }
     ensures value { IfOk result (λ u. Checked operator faults.old.items faults.new.items) }
     ensures stand { StillStand start.entry faults.old faults.new result }

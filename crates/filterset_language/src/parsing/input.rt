@@ -1,4 +1,4 @@
-//! Places of a text, and single steps from one to the next: blanks, words, the next `)`.
+//! Positions of a text, and single steps from one to the next: blanks, words, the next `)`.
 ghost use Rattle.std.specs.Prelude.{◌≡◌, ◌+◌, ◌-◌, ◌≤◌, ◌<◌, ◌^◌, ◌∷◌, [], ◌++◌, length, min, take, drop, IsCharBoundary, MatchOption, IfSome, chars};
 ghost use Rattle.std.specs.Option.{option_map};
 ghost use Rattle.filterset_grammar.specs.Text.{ends_word};
@@ -29,12 +29,12 @@ pub struct Read<'a, T> {
 }
 
 impl<'a> Input<'a> {
-    ghost use Rattle.filterset_language.specs.Parsing.Place.{place, advanced, skip, after, after_word, place_of, IsBehind, IsAtOrBehind};
+    ghost use Rattle.filterset_language.specs.Parsing.Position.{position, advanced, skip, after, after_word, position_of, IsBehind, IsAtOrBehind};
 
     /// The whole of a text.
-    #[tactic(auto, using(crate::proofs::Places::seam_start))]
+    #[tactic(auto, using(crate::proofs::Positions::seam_start))]
     pub fn new(text: &'a str) -> Input<'a>
-        ensures value { place_of result ≡ place 0 text.now }
+        ensures value { position_of result ≡ position 0 text.now }
         ensures text { result.text.now ≡ text.now }
     {
         Input {
@@ -45,7 +45,7 @@ impl<'a> Input<'a> {
         }
     }
 
-    /// The place here, of no length.
+    /// The position here, of no length.
     pub fn here(self) -> SourceSpan
         ensures { result ≡ span self.entry.offset 0 }
     {
@@ -59,7 +59,7 @@ impl<'a> Input<'a> {
         SourceSpan::new(self.offset, self.rest.len())
     }
 
-    /// What stands from here to a later place.
+    /// What stands from here to a later position.
     pub fn up_to(self, end: Input<'a>) -> SourceSpan
         requires { self.offset ≤ end.offset }
         ensures { result ≡ span self.entry.offset (end.entry.offset - self.entry.offset) }
@@ -77,7 +77,7 @@ impl<'a> Input<'a> {
 
     /// The input at the next `)`, or at the end.
     pub fn next_close(self) -> Input<'a>
-        ensures value { place_of result ≡ advanced (close_len self.entry.rest.now) (place_of self.entry) }
+        ensures value { position_of result ≡ advanced (close_len self.entry.rest.now) (position_of self.entry) }
         ensures behind { IsAtOrBehind self.entry result }
     {
         self.advance(close_len(self.rest.as_bytes()))
@@ -87,7 +87,7 @@ impl<'a> Input<'a> {
     pub fn advance(self, count: usize) -> Input<'a>
         requires within { count ≤ length self.rest.now }
         requires boundary { IsCharBoundary self.rest.now count }
-        ensures value { place_of result ≡ advanced count (place_of self.entry) }
+        ensures value { position_of result ≡ advanced count (position_of self.entry) }
         ensures behind { IsAtOrBehind self.entry result }
     {
         Input {
@@ -100,7 +100,7 @@ impl<'a> Input<'a> {
 
     /// The input after all blanks.
     pub fn skip_blanks(self) -> Input<'a>
-        ensures value { place_of result ≡ skip (place_of self.entry) }
+        ensures value { position_of result ≡ skip (position_of self.entry) }
         ensures behind { IsAtOrBehind self.entry result }
     {
         let mut input = self.advance(self.blanks);
@@ -113,10 +113,10 @@ impl<'a> Input<'a> {
         }
     }
 
-    /// The same place, where the blanks up to `start`, the place after them, are known and so not looked at again.
+    /// The same position, where the blanks up to `start`, the position after them, are known and so not looked at again.
     pub fn before_blanks(self, start: Input<'a>) -> Input<'a>
-        requires skipped { place_of start ≡ skip (place_of self) }
-        ensures value { place_of result ≡ place_of self.entry }
+        requires skipped { position_of start ≡ skip (position_of self) }
+        ensures value { position_of result ≡ position_of self.entry }
         ensures known { result.blanks ≡ start.entry.offset - self.entry.offset }
         ensures behind { IsAtOrBehind self.entry result }
     {
@@ -130,7 +130,7 @@ impl<'a> Input<'a> {
 
     /// The input after a text, where that text stands here.
     pub fn after(self, text: &str) -> Option<Input<'a>>
-        ensures value { option_map place_of result ≡ after text.now (place_of self.entry) }
+        ensures value { option_map position_of result ≡ after text.now (position_of self.entry) }
         ensures behind { IfSome result (λ x. 0 < length text.now → IsBehind self.entry x) }
     {
         match self.rest.strip_prefix(text) {
@@ -146,7 +146,7 @@ impl<'a> Input<'a> {
 
     /// The input after a word, where that word stands here and ends.
     pub fn after_word(self, word: &str) -> Option<Input<'a>>
-        ensures value { option_map place_of result ≡ after_word word.now (place_of self.entry) }
+        ensures value { option_map position_of result ≡ after_word word.now (position_of self.entry) }
         ensures behind { IfSome result (λ x. 0 < length word.now → IsBehind self.entry x) }
     {
         let input = self.after(word)?;

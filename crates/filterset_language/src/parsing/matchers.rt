@@ -4,7 +4,7 @@ ghost use Rattle.std.specs.Option.{option_map};
 ghost use Rattle.filterset_matchers.specs.Matcher.{Regex};
 ghost use Rattle.filterset_matchers.specs.Matchers.{matcher_of};
 ghost use Rattle.filterset_language.specs.Faults.{EndsWith};
-ghost use Rattle.filterset_language.specs.Parsing.Place.{place_of, IsAtOrBehind};
+ghost use Rattle.filterset_language.specs.Parsing.Position.{position_of, IsAtOrBehind};
 ghost use Rattle.filterset_language.specs.Parsing.RawTexts.{SpelledTo};
 ghost use Rattle.filterset_language.specs.Parsing.Descent.{made, sign_at, seen_sign, regex_at, text_matcher_at, matcher_at};
 ghost use Rattle.filterset_language.specs.Parsing.Recovery.{ReadsAs, StillStand, EndsBehind, Recovers};
@@ -91,7 +91,7 @@ fn read_text_matcher<'a>(
     name: Predicate,
     input: Input<'a>,
 ) -> Result<Read<'a, NameMatcher>, AllocError>
-    ensures value { ReadsAs matcher_of faults.old faults.new result (text_matcher_at name (place_of input.entry)) }
+    ensures value { ReadsAs matcher_of faults.old faults.new result (text_matcher_at name (position_of input.entry)) }
     ensures stand { StillStand input.entry faults.old faults.new result }
     ensures behind { EndsBehind input.entry result }
 {
@@ -106,7 +106,7 @@ fn read_text_matcher<'a>(
 
 /// The sign that stands here, and the input after it.
 fn read_sign<'a>(name: Predicate, input: Input<'a>) -> (Sign, Input<'a>)
-    ensures value { (seen_sign result.0, place_of result.1) ≡ sign_at name (place_of input.entry) }
+    ensures value { (seen_sign result.0, position_of result.1) ≡ sign_at name (position_of input.entry) }
     ensures behind { IsAtOrBehind input.entry result.1 }
 {
     if let Some(rest) = input.after("#") {
@@ -135,7 +135,7 @@ fn explicit(matching: TextMatching) -> Sign
     }
 }
 
-/// The matcher of a value that stands between two places, or none where it is to be a glob and is none, which is
+/// The matcher of a value that stands between two positions, or none where it is to be a glob and is none, which is
 /// reported.
 fn make_matcher<'a>(
     alloc: Global,
@@ -145,7 +145,7 @@ fn make_matcher<'a>(
     start: Input<'a>,
     end: Input<'a>,
 ) -> Result<Option<NameMatcher>, AllocError>
-    requires spelled { SpelledTo (place_of start) (string_bytes value) (place_of end) }
+    requires spelled { SpelledTo (position_of start) (string_bytes value) (position_of end) }
     requires behind { IsAtOrBehind start end }
     ensures value { IfOk result (λ m. Recovers faults.old.items faults.new.items (option_map matcher_of m)
         (made (seen_sign sign) (string_bytes value))) }

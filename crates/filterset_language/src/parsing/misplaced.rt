@@ -1,11 +1,11 @@
 //! Operators that stand where an operand belongs.
 ghost use Rattle.std.specs.Prelude.{◌≡◌, ℕ, List, IfSome, None};
-ghost use Rattle.filterset_language.specs.Parsing.Place.{Place, place_of, IsBehind};
+ghost use Rattle.filterset_language.specs.Parsing.Position.{Position, position_of, IsBehind};
 ghost use Rattle.filterset_language.specs.Parsing.Recovery.{IsMisplaced, NoMisplacedWord, NoMisplacedSign, IsCapitalNot};
 
 use crate::parsing::input::Input;
 
-/// An operator that stands here in the place of an operand.
+/// An operator that stands here where an operand should.
 #[derive(Clone, Copy)]
 pub struct Misplaced<'a> {
     pub op: &'static str,
@@ -15,9 +15,9 @@ pub struct Misplaced<'a> {
 
 /// The operator with two operands that stands here, where an operand belongs.
 pub fn find_misplaced(input: Input<'_>) -> Option<Misplaced<'_>>
-    ensures value { IfSome result (λ x. IsMisplaced (place_of input.entry) x.op.now x.suggest.now (place_of x.end)) }
-    ensures none { result ≡ None → (op suggest : List ℕ) (q : Place)
-        → IsMisplaced (place_of input.entry) op suggest q → ⊥ }
+    ensures value { IfSome result (λ x. IsMisplaced (position_of input.entry) x.op.now x.suggest.now (position_of x.end)) }
+    ensures none { result ≡ None → (op suggest : List ℕ) (q : Position)
+        → IsMisplaced (position_of input.entry) op suggest q → ⊥ }
     ensures behind { IfSome result (λ x. IsBehind input.entry x.end) }
 {
     match find_misplaced_word(input) {
@@ -28,8 +28,8 @@ pub fn find_misplaced(input: Input<'_>) -> Option<Misplaced<'_>>
 
 /// The word among these operators that stands here.
 fn find_misplaced_word(input: Input<'_>) -> Option<Misplaced<'_>>
-    ensures value { IfSome result (λ x. IsMisplaced (place_of input.entry) x.op.now x.suggest.now (place_of x.end)) }
-    ensures none { result ≡ None → NoMisplacedWord (place_of input.entry) }
+    ensures value { IfSome result (λ x. IsMisplaced (position_of input.entry) x.op.now x.suggest.now (position_of x.end)) }
+    ensures none { result ≡ None → NoMisplacedWord (position_of input.entry) }
     ensures behind { IfSome result (λ x. IsBehind input.entry x.end) }
 {
     if let Some(end) = input.after_word("and") {
@@ -63,8 +63,8 @@ fn find_misplaced_word(input: Input<'_>) -> Option<Misplaced<'_>>
 
 /// The sign of other languages that stands here.
 fn find_misplaced_sign(input: Input<'_>) -> Option<Misplaced<'_>>
-    ensures value { IfSome result (λ x. IsMisplaced (place_of input.entry) x.op.now x.suggest.now (place_of x.end)) }
-    ensures none { result ≡ None → NoMisplacedSign (place_of input.entry) }
+    ensures value { IfSome result (λ x. IsMisplaced (position_of input.entry) x.op.now x.suggest.now (position_of x.end)) }
+    ensures none { result ≡ None → NoMisplacedSign (position_of input.entry) }
     ensures behind { IfSome result (λ x. IsBehind input.entry x.end) }
 {
     if let Some(end) = input.after("&&") {
@@ -84,9 +84,9 @@ fn find_misplaced_sign(input: Input<'_>) -> Option<Misplaced<'_>>
 
 /// `NOT`, where it stands here.
 pub fn find_misplaced_not(input: Input<'_>) -> Option<Misplaced<'_>>
-    ensures value { IfSome result (λ x. IsCapitalNot (place_of input.entry) x.op.now x.suggest.now (place_of x.end)) }
-    ensures none { result ≡ None → (op suggest : List ℕ) (q : Place)
-        → IsCapitalNot (place_of input.entry) op suggest q → ⊥ }
+    ensures value { IfSome result (λ x. IsCapitalNot (position_of input.entry) x.op.now x.suggest.now (position_of x.end)) }
+    ensures none { result ≡ None → (op suggest : List ℕ) (q : Position)
+        → IsCapitalNot (position_of input.entry) op suggest q → ⊥ }
     ensures behind { IfSome result (λ x. IsBehind input.entry x.end) }
 {
     let end = input.after_word("NOT")?;

@@ -1,7 +1,7 @@
 //! Reading the names of predicates.
 ghost use Rattle.std.specs.Prelude.{◌≡◌, ◌<◌, length, IfSome};
 ghost use Rattle.std.specs.Option.{option_map};
-ghost use Rattle.filterset_language.specs.Parsing.Place.{place_of, IsBehind};
+ghost use Rattle.filterset_language.specs.Parsing.Position.{position_of, IsBehind};
 ghost use Rattle.filterset_language.specs.Parsing.Words.{seen, first_byte, named, either, binary_name_at, name_at};
 
 use crate::parsing::input::Input;
@@ -19,7 +19,7 @@ pub enum PredicateName {
 
 /// The predicate's name that stands here.
 pub fn read_name(input: Input<'_>) -> Option<(PredicateName, Input<'_>)>
-    ensures value { option_map seen result ≡ name_at (place_of input.entry) }
+    ensures value { option_map seen result ≡ name_at (position_of input.entry) }
     ensures behind { IfSome result (λ x. IsBehind input.entry x.1) }
 {
     match first_byte(input.rest.as_bytes()) {
@@ -50,7 +50,7 @@ pub fn read_name(input: Input<'_>) -> Option<(PredicateName, Input<'_>)>
 
 /// `binary_id` or `binary`, where one of them stands here.
 fn read_binary_name(input: Input<'_>) -> Option<(PredicateName, Input<'_>)>
-    ensures value { option_map seen result ≡ binary_name_at (place_of input.entry) }
+    ensures value { option_map seen result ≡ binary_name_at (position_of input.entry) }
     ensures behind { IfSome result (λ x. IsBehind input.entry x.1) }
 {
     let id = PredicateName::Matching(Predicate::BinaryId);
@@ -65,7 +65,7 @@ fn read_named<'a>(
     name: PredicateName,
 ) -> Option<(PredicateName, Input<'a>)>
     requires { 0 < length word.now }
-    ensures value { option_map seen result ≡ named word.now name (place_of input.entry) }
+    ensures value { option_map seen result ≡ named word.now name (position_of input.entry) }
     ensures behind { IfSome result (λ x. IsBehind input.entry x.1) }
 {
     let rest = input.after(word)?;
@@ -82,7 +82,7 @@ fn read_either<'a>(
 ) -> Option<(PredicateName, Input<'a>)>
     requires first { 0 < length first.now }
     requires second { 0 < length second.now }
-    ensures value { option_map seen result ≡ either first.now name second.now other (place_of input.entry) }
+    ensures value { option_map seen result ≡ either first.now name second.now other (position_of input.entry) }
     ensures behind { IfSome result (λ x. IsBehind input.entry x.1) }
 {
     if let Some(rest) = input.after(first) {

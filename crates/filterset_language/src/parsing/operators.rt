@@ -1,7 +1,7 @@
 //! Reading operators.
 ghost use Rattle.std.specs.Prelude.{◌≡◌, ℕ, IfSome, None, codes, false, is_some};
 ghost use Rattle.std.specs.Option.{option_map};
-ghost use Rattle.filterset_language.specs.Parsing.Place.{place, place_of, skip, after, IsBehind};
+ghost use Rattle.filterset_language.specs.Parsing.Position.{position, position_of, skip, after, IsBehind};
 ghost use Rattle.filterset_language.specs.Parsing.Words.{seen, not_at, joiner_at, or_at};
 
 use crate::parsing::input::Input;
@@ -11,7 +11,7 @@ use filterset_grammar::{
 
 /// The negation that stands here.
 pub fn read_not(input: Input<'_>) -> Option<(NotOperator, Input<'_>)>
-    ensures value { option_map seen result ≡ not_at (place_of input.entry) }
+    ensures value { option_map seen result ≡ not_at (position_of input.entry) }
     ensures behind { IfSome result (λ x. IsBehind input.entry x.1) }
 {
     if let Some(rest) = input.after_word("not") {
@@ -23,7 +23,7 @@ pub fn read_not(input: Input<'_>) -> Option<(NotOperator, Input<'_>)>
 
 /// The operator of the level of `and` that stands here, without a value where it is `&&` or `AND`.
 pub fn read_joiner(input: Input<'_>) -> Option<(Option<Joiner>, Input<'_>)>
-    ensures value { option_map seen result ≡ joiner_at (place_of input.entry) }
+    ensures value { option_map seen result ≡ joiner_at (position_of input.entry) }
     ensures behind { IfSome result (λ x. IsBehind input.entry x.1) }
 {
     if !may_begin_joiner(input.rest.as_bytes()) {
@@ -53,7 +53,7 @@ pub fn read_joiner(input: Input<'_>) -> Option<(Option<Joiner>, Input<'_>)>
 
 /// Whether the first byte is one that an operator of the level of `and` begins with. Most levels end where it is none.
 fn may_begin_joiner(text: &[u8]) -> bool
-    ensures { result ≡ false → (at : ℕ) → joiner_at (place at text.now) ≡ None }
+    ensures { result ≡ false → (at : ℕ) → joiner_at (position at text.now) ≡ None }
 {
     matches!(text, [b'&' | b'A' | b'a' | b'-' | b'^', ..])
 }
@@ -61,14 +61,14 @@ fn may_begin_joiner(text: &[u8]) -> bool
 /// Whether `^` stands after the blanks here.
 #[inline(never)]
 pub fn is_before_caret(input: &Input<'_>) -> bool
-    ensures { result ≡ is_some (after (codes "^") (skip (place_of input.now))) }
+    ensures { result ≡ is_some (after (codes "^") (skip (position_of input.now))) }
 {
     input.skip_blanks().after("^").is_some()
 }
 
 /// The operator of the level of `or` that stands here, without a value where it is `||` or `OR`.
 pub fn read_or(input: Input<'_>) -> Option<(Option<OrOperator>, Input<'_>)>
-    ensures value { option_map seen result ≡ or_at (place_of input.entry) }
+    ensures value { option_map seen result ≡ or_at (position_of input.entry) }
     ensures behind { IfSome result (λ x. IsBehind input.entry x.1) }
 {
     if let Some(rest) = input.after("||") {

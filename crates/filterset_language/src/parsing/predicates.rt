@@ -5,7 +5,7 @@ ghost use Rattle.filterset_matchers.specs.Matchers.{matcher_of};
 ghost use Rattle.filterset_grammar.specs.Tree.{Matching};
 ghost use Rattle.filterset_language.specs.Views.{leaf_of};
 ghost use Rattle.filterset_language.specs.Parsing.Front.{is_white};
-ghost use Rattle.filterset_language.specs.Parsing.Place.{place_of, skip, after, IsAtOrBehind};
+ghost use Rattle.filterset_language.specs.Parsing.Position.{position_of, skip, after, IsAtOrBehind};
 ghost use Rattle.filterset_language.specs.Parsing.Descent.{bare_end_at, bare_at, default_at, matching_at, platform_at, leaf_at};
 ghost use Rattle.filterset_language.specs.Parsing.Recovery.{StepsOver, ReadsAs, StillStand, GoesOn, EndsBehind, AtName};
 ghost use Rattle.filterset_language.specs.Parsing.Outcome.{ReadsLeaf};
@@ -28,7 +28,7 @@ fn read_open<'a>(
     input: Input<'a>,
 ) -> Result<Input<'a>, AllocError>
     requires { AtName name input }
-    ensures value { StepsOver faults.old faults.new result (after (codes "(") (skip (place_of input.entry))) }
+    ensures value { StepsOver faults.old faults.new result (after (codes "(") (skip (position_of input.entry))) }
     ensures stand { StillStand input.entry faults.old faults.new result }
     ensures behind { GoesOn input.entry result }
 {
@@ -46,7 +46,7 @@ pub fn read_close<'a>(
     faults: &mut Vec<ParseSingleError>,
     input: Input<'a>,
 ) -> Result<Input<'a>, AllocError>
-    ensures value { StepsOver faults.old faults.new result (after (codes ")") (skip (place_of input.entry))) }
+    ensures value { StepsOver faults.old faults.new result (after (codes ")") (skip (position_of input.entry))) }
     ensures stand { StillStand input.entry faults.old faults.new result }
     ensures behind { GoesOn input.entry result }
 {
@@ -64,7 +64,7 @@ fn read_argument_end<'a>(
     faults: &mut Vec<ParseSingleError>,
     input: Input<'a>,
 ) -> Result<Input<'a>, AllocError>
-    ensures value { StepsOver faults.old faults.new result (after (codes ")") (skip (place_of input.entry))) }
+    ensures value { StepsOver faults.old faults.new result (after (codes ")") (skip (position_of input.entry))) }
     ensures stand { StillStand input.entry faults.old faults.new result }
     ensures behind { GoesOn input.entry result }
 {
@@ -88,7 +88,7 @@ fn read_bare_end<'a>(
     faults: &mut Vec<ParseSingleError>,
     input: Input<'a>,
 ) -> Result<Input<'a>, AllocError>
-    ensures value { StepsOver faults.old faults.new result (bare_end_at (place_of input.entry)) }
+    ensures value { StepsOver faults.old faults.new result (bare_end_at (position_of input.entry)) }
     ensures stand { StillStand input.entry faults.old faults.new result }
     ensures behind { GoesOn input.entry result }
 {
@@ -106,7 +106,7 @@ fn read_bare<'a>(
     leaf: ParsedLeaf,
     input: Input<'a>,
 ) -> Result<Read<'a, ParsedLeaf>, AllocError>
-    ensures value { ReadsAs leaf_of faults.old faults.new result (bare_at (leaf_of leaf) (place_of input.entry)) }
+    ensures value { ReadsAs leaf_of faults.old faults.new result (bare_at (leaf_of leaf) (position_of input.entry)) }
     ensures stand { StillStand input.entry faults.old faults.new result }
     ensures behind { EndsBehind input.entry result }
 {
@@ -125,7 +125,7 @@ fn read_default<'a>(
 ) -> Result<Read<'a, ParsedLeaf>, AllocError>
     requires { IsAtOrBehind start input }
     ensures value { ReadsAs leaf_of faults.old faults.new result
-        (default_at start.entry.offset (place_of input.entry)) }
+        (default_at start.entry.offset (position_of input.entry)) }
     ensures stand { StillStand input.entry faults.old faults.new result }
     ensures behind { EndsBehind input.entry result }
 {
@@ -182,7 +182,7 @@ fn read_platform<'a>(
     faults: &mut Vec<ParseSingleError>,
     input: Input<'a>,
 ) -> Result<Read<'a, ParsedLeaf>, AllocError>
-    ensures value { ReadsAs leaf_of faults.old faults.new result (platform_at (place_of input.entry)) }
+    ensures value { ReadsAs leaf_of faults.old faults.new result (platform_at (position_of input.entry)) }
     ensures stand { StillStand input.entry faults.old faults.new result }
     ensures behind { EndsBehind input.entry result }
 {

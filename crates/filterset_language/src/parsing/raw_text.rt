@@ -3,7 +3,7 @@ ghost use Rattle.std.specs.Prelude.{◌≡◌, ◌≤◌, length, take, IfOk, If
 ghost use Rattle.std.specs.String.{string_bytes};
 ghost use Rattle.filterset_grammar.specs.Text.{is_plain};
 ghost use Rattle.filterset_language.specs.Faults.{EndsText};
-ghost use Rattle.filterset_language.specs.Parsing.Place.{place_of, after, advanced, IsAtOrBehind};
+ghost use Rattle.filterset_language.specs.Parsing.Position.{position_of, after, advanced, IsAtOrBehind};
 ghost use Rattle.filterset_language.specs.Parsing.RawTexts.{plain_len, raw_at, SpelledTo};
 ghost use Rattle.filterset_language.specs.Parsing.Recovery.{ReadsAs, StillStand, GoesOn, EndsBehind, Passes};
 
@@ -21,9 +21,9 @@ pub fn read_raw_text<'a>(
     faults: &mut Vec<ParseSingleError>,
     input: Input<'a>,
 ) -> Result<Read<'a, String>, AllocError>
-    ensures value { ReadsAs string_bytes faults.old faults.new result (raw_at (place_of input.entry)) }
+    ensures value { ReadsAs string_bytes faults.old faults.new result (raw_at (position_of input.entry)) }
     ensures spelled { IfOk result (λ r. IfSome r.value (λ v.
-        SpelledTo (place_of input.entry) (string_bytes v) (place_of r.end))) }
+        SpelledTo (position_of input.entry) (string_bytes v) (position_of r.end))) }
     ensures stand { StillStand input.entry faults.old faults.new result }
     ensures behind { EndsBehind input.entry result }
 {
@@ -52,7 +52,7 @@ pub fn read_raw_text<'a>(
 /// What stands for itself from here on, and the input after it.
 fn read_plain<'a>(input: Input<'a>) -> (&'a str, Input<'a>)
     ensures text { result.0.now ≡ take (plain_len input.entry.rest.now) input.entry.rest.now }
-    ensures value { place_of result.1 ≡ advanced (plain_len input.entry.rest.now) (place_of input.entry) }
+    ensures value { position_of result.1 ≡ advanced (plain_len input.entry.rest.now) (position_of input.entry) }
     ensures behind { IsAtOrBehind input.entry result.1 }
 {
     let count = plain_len(input.rest.as_bytes());
@@ -104,8 +104,8 @@ fn skip_escape<'a>(
     backslash: Input<'a>,
     behind: Input<'a>,
 ) -> Result<Input<'a>, AllocError>
-    requires { Some (place_of behind) ≡ after (codes "\\") (place_of backslash) }
-    ensures value { IfOk result (λ r. Passes (place_of behind.entry) (place_of r) faults.old.items faults.new.items) }
+    requires { Some (position_of behind) ≡ after (codes "\\") (position_of backslash) }
+    ensures value { IfOk result (λ r. Passes (position_of behind.entry) (position_of r) faults.old.items faults.new.items) }
     ensures stand { StillStand backslash.entry faults.old faults.new result }
     ensures behind { GoesOn behind.entry result }
 {

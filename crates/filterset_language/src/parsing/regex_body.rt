@@ -2,7 +2,7 @@
 ghost use Rattle.std.specs.Prelude.{◌≡◌, ◌≤◌, length, IfOk, IfSome};
 ghost use Rattle.std.specs.String.{string_bytes};
 ghost use Rattle.filterset_grammar.specs.Text.{with_slashes};
-ghost use Rattle.filterset_language.specs.Parsing.Place.{place_of, IsAtOrBehind};
+ghost use Rattle.filterset_language.specs.Parsing.Position.{position_of, IsAtOrBehind};
 ghost use Rattle.filterset_language.specs.Parsing.RawTexts.{body_len, body_at, BodyTaken};
 ghost use Rattle.filterset_language.specs.Parsing.Bodies.{seen_body};
 ghost use Rattle.filterset_language.specs.Parsing.Recovery.{ReadsAs, StillStand, EndsBehind};
@@ -27,9 +27,9 @@ pub fn read_regex_body<'a>(
     faults: &mut Vec<ParseSingleError>,
     input: Input<'a>,
 ) -> Result<Read<'a, RegexBody>, AllocError>
-    ensures value { ReadsAs seen_body faults.old faults.new result (body_at (place_of input.entry)) }
+    ensures value { ReadsAs seen_body faults.old faults.new result (body_at (position_of input.entry)) }
     ensures taken { IfOk result (λ r. IfSome r.value (λ b.
-        BodyTaken (place_of input.entry) (string_bytes b.pattern) b.span (place_of r.end))) }
+        BodyTaken (position_of input.entry) (string_bytes b.pattern) b.span (position_of r.end))) }
     ensures stand { StillStand input.entry faults.old faults.new result }
     ensures behind { EndsBehind input.entry result }
 {

@@ -1,7 +1,7 @@
 //! Nodes of trees, made of their parts in boxes.
 //!
 //! What copies a tree calls itself, so it takes the room of its frame at each level. A tree by value would stand in that
-//! frame, once for each place where one is made; here it stands in a frame that ends before the next level begins.
+//! frame, once for each expression that makes one; here it stands in a frame that ends before the next level begins.
 ghost use Rattle.std.specs.Prelude.{◌≡◌, IfOk};
 ghost use Rattle.filterset_grammar.specs.Tree.{Not, Union, Join, Parens, Set};
 ghost use Rattle.filterset_language.specs.Views.{leaf_of, tree_of};

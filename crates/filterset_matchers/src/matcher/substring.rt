@@ -18,10 +18,10 @@ pub(super) fn contains(text: &str, needle: &str) -> bool
     if text.len() < needle.len() {
         return false;
     }
-    let places = text.len() - needle.len() + 1;
+    let positions = text.len() - needle.len() + 1;
     let mut from = 0;
-    while from < places {
-        let to = places.min(from + 16);
+    while from < positions {
+        let to = positions.min(from + 16);
         if may_stand_before(text, needle, to) && stands_between(text, needle, from, to) {
             return true;
         }
@@ -30,31 +30,31 @@ pub(super) fn contains(text: &str, needle: &str) -> bool
     false
 }
 
-/// Whether the needle stands at one of these places, the last of which is not among them.
+/// Whether the needle stands at one of these positions, the last of which is not among them.
 fn stands_between(text: &[u8], needle: &[u8], from: usize, to: usize) -> bool
     requires some { 0 < length needle.now }
     requires within { to + length needle.now ≤ length text.now + 1 }
     ensures { IsTrue result ↔ ((k : ℕ) × (from ≤ k) × (k < to) × StandsAt text.now needle.now k) }
 {
-    for place in from..to {
-        if stands_at(text, needle, place) {
+    for position in from..to {
+        if stands_at(text, needle, position) {
             return true;
         }
     }
     false
 }
 
-/// Whether the needle stands at this place.
+/// Whether the needle stands at this position.
 #[inline(always)]
-fn stands_at(text: &[u8], needle: &[u8], place: usize) -> bool
+fn stands_at(text: &[u8], needle: &[u8], position: usize) -> bool
     requires some { 0 < length needle.now }
-    requires within { place + length needle.now ≤ length text.now }
-    ensures { IsTrue result ↔ StandsAt text.now needle.now place }
+    requires within { position + length needle.now ≤ length text.now }
+    ensures { IsTrue result ↔ StandsAt text.now needle.now position }
 {
-    text[place] == needle[0] && &text[place..place + needle.len()] == needle
+    text[position] == needle[0] && &text[position..position + needle.len()] == needle
 }
 
-/// Not where the needle stands at none of the 16 places before this one. Where there are fewer, it may.
+/// Not where the needle stands at none of the 16 positions before this one. Where there are fewer, it may.
 #[inline(always)]
 fn may_stand_before(text: &[u8], needle: &[u8], to: usize) -> bool
     requires some { 0 < length needle.now }

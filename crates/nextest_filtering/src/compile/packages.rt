@@ -90,8 +90,8 @@ fn marked_members(
     ensures { IfOk result (λ ids. (id : List ℕ) → Contains ids.keys id ↔ IsMarkedMember packages.now marks.now id) }
 {
     let mut ids = BTreeSet::new(alloc);
-    for (place, package) in packages.iter().enumerate() {
-        if marks[place] && package.in_workspace {
+    for (index, package) in packages.iter().enumerate() {
+        if marks[index] && package.in_workspace {
             ids.insert(package.id.try_clone(alloc)?)?;
         }
     }

@@ -1,7 +1,7 @@
 use Rattle.std.proofs.Common.{◌≡◌, ℕ, ◌+◌, ◌-◌, ◌≤◌, List, length, take, drop, sym, ap, subst, ◌∙◌, arith, length-drop}
 use Rattle.std.proofs.lemmas.List.{take_rest, drop-drop}
 use Rattle.filterset_glob.specs.declared.token.GlobToken.{GlobToken}
-use Rattle.filterset_glob.specs.Places.{Moves}
+use Rattle.filterset_glob.specs.Positions.{Moves}
 use Rattle.filterset_glob.specs.Matching.{Matches, node_count}
 use Rattle.filterset_glob.specs.Tokens.{token_of, tokens_of}
 use Rattle.filterset_glob.proofs.Passing.{moves_then, moves_over}
@@ -16,8 +16,8 @@ returns-then-run-gt0-clause-moved c r last =
     let tokens = c.args.tokens.now in
     let rest : List GlobToken = drop c.args.at tokens in
     let run = c.run_over-run.result in
-    moves_over_some rest run c.args.text.now c.args.places.now c.run_over-run.new.self r
-    (subst (λ (ts : List GlobToken). Moves (Matches (tokens_of (take run ts))) c.args.text.now c.args.places.now c.run_over-run.new.self) (take_rest tokens c.args.at) c.run_over-run.ensures.moved)
+    moves_over_some rest run c.args.text.now c.args.positions.now c.run_over-run.new.self r
+    (subst (λ (ts : List GlobToken). Moves (Matches (tokens_of (take run ts))) c.args.text.now c.args.positions.now c.run_over-run.new.self) (take_rest tokens c.args.at) c.run_over-run.ensures.moved)
     (subst (λ (ts : List GlobToken). Moves (Matches (tokens_of ts)) c.args.text.now c.run_over-run.new.self r) (sym (drop-drop run c.args.at tokens)) last)
 
 pub returns-then-run-gt0-clause-steps : goal.returns-then-run-gt0-clause-steps
@@ -37,9 +37,9 @@ returns-clause-moved c r last =
     let mid = c.run_over-run.new.self in
     let e = c.step_over.ensures in
     let none : c.run_over-run.result ≡ 0 = omega (arith, c.if-run-gt0.false) in
-    moves_over_some rest 0 c.args.text.now c.args.places.now mid r
-    (subst (λ (ts : List GlobToken). Moves (Matches (tokens_of (take 0 ts))) c.args.text.now c.args.places.now mid) (take_rest tokens c.args.at)
-    (subst (λ (k : ℕ). Moves (Matches (tokens_of (take k (take (length tokens - c.args.at) rest)))) c.args.text.now c.args.places.now mid) none c.run_over-run.ensures.moved))
+    moves_over_some rest 0 c.args.text.now c.args.positions.now mid r
+    (subst (λ (ts : List GlobToken). Moves (Matches (tokens_of (take 0 ts))) c.args.text.now c.args.positions.now mid) (take_rest tokens c.args.at)
+    (subst (λ (k : ℕ). Moves (Matches (tokens_of (take k (take (length tokens - c.args.at) rest)))) c.args.text.now c.args.positions.now mid) none c.run_over-run.ensures.moved))
     (subst (λ (ts : List GlobToken). Moves (Matches (tokens_of ts)) c.args.text.now mid r) (sym c.requires.here)
     (moves_then c.args.text.now mid c.step_over.new.self r (moves_one (token_of x) _ _ _ c.requires.one (moves_over (token_of x) _ _ _ e.first e.moved e.moves)) last))
 

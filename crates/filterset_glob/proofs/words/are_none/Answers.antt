@@ -1,5 +1,5 @@
 use Rattle.std.proofs.Common.{◌≡◌, length, eqb-true, sym, ◌∙◌, arith}
-use Rattle.filterset_glob.proofs.PlaceSets.{none_in}
+use Rattle.filterset_glob.proofs.PositionSets.{none_in}
 use Rattle.filterset_glob.proofs.words.are_none.Goals as goal
 
 pub returns-then-is_empty : goal.returns-then-is_empty

@@ -1,5 +1,5 @@
 use Rattle.std.proofs.Common.{arith}
-use Rattle.filterset_glob.proofs.PlaceSets.{none_in}
+use Rattle.filterset_glob.proofs.PositionSets.{none_in}
 use Rattle.filterset_glob.proofs.words.have_none.Goals as goal
 
 pub returns : goal.returns

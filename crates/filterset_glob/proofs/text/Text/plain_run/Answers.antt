@@ -11,12 +11,12 @@ loop-at-preserved c =
     let at = c.loop-at.at in
     let x = c.index-tokens-at.result in
     let tokens = c.args.tokens.now in
-    let rest : List ℕ = drop c.args.place c.args.self.now in
-    let char : ℕ = get_or c.args.self.now (c.args.place + at) 0 in
+    let rest : List ℕ = drop c.args.position c.args.self.now in
+    let char : ℕ = get_or c.args.self.now (c.args.position + at) 0 in
     let plain : c.plainly_admits.result ≡ true = search rules in
     let admits : Admits (token_of x) char = subst (Admits (token_of x)) c.number.ensures (c.plainly_admits.ensures plain) in
     let more : take (at + 1) rest ≡ take at rest ++ char ∷ [] =
-    take_more rest at 0 (omega (arith, length-drop c.args.place c.args.self.now)) ∙ ap (λ y. take at rest ++ y ∷ []) (get_or-drop c.args.place c.args.self.now at 0) in
+    take_more rest at 0 (omega (arith, length-drop c.args.position c.args.self.now)) ∙ ap (λ y. take at rest ++ y ∷ []) (get_or-drop c.args.position c.args.self.now at 0) in
     record {
       matched = subst (Matches (tokens_of (take (at + 1) tokens))) (sym more) (run_more tokens at x (take at rest) char (omega arith) c.index-tokens-at.is admits i.matched);
       one_each = run_each tokens at x char (omega arith) c.index-tokens-at.is admits i.one_each;

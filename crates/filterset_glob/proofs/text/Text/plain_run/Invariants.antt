@@ -5,6 +5,6 @@ use Rattle.filterset_glob.proofs.text.Text.plain_run.Given as goal
 
 abbrev pub invariant-loop-at : goal.invariant-loop-at
 invariant-loop-at l = record {
-  matched : Matches (tokens_of (take l.at l.tokens)) (take l.at (drop l.place l.self));
+  matched : Matches (tokens_of (take l.at l.tokens)) (take l.at (drop l.position l.self));
   one_each : (piece : List ℕ) → Matches (tokens_of (take l.at l.tokens)) piece → length piece ≡ l.at;
 }

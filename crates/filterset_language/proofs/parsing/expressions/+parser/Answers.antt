@@ -1,13 +1,13 @@
 use Rattle.std.proofs.Common.{◌≡◌, suc, ◌<◌, ◌≤◌, length, true, sym, refl, ap, ◌∙◌, arith}
 use Rattle.std.specs.Prelude.{codes, is_some}
 use Rattle.std.specs.Option.{option_map}
-use Rattle.filterset_language.specs.Parsing.Place.{Place, place_of, skip, after}
+use Rattle.filterset_language.specs.Parsing.Position.{Position, position_of, skip, after}
 use Rattle.filterset_language.specs.Parsing.Recovery.{NoOperand}
 use Rattle.filterset_grammar.specs.Patterns.{PatternsAreRead}
 use Rattle.filterset_language.specs.Parsed.{LiesOnBody}
 use Rattle.filterset_language.specs.Parsing.Descent.{boxed_tree, operand_at, and_level_by, join, unite}
 use Rattle.filterset_language.specs.Parsing.Words.{joiner_at, or_at}
-use Rattle.filterset_language.proofs.Places.{AtOrBehind-then, AtOrBehind-of, same_place}
+use Rattle.filterset_language.proofs.Positions.{AtOrBehind-then, AtOrBehind-of, same_position}
 use Rattle.filterset_language.proofs.ReadingSteps.{name_step, caret_step}
 use Rattle.filterset_language.proofs.Recovering.{if_ok, keeps_along}
 use Rattle.filterset_language.proofs.Outcomes.{gives_as}
@@ -71,8 +71,8 @@ read_operand-returns-in-Some-after-clause-stand t c =
 
 pub read_operand-returns-clause-value : goal.read_operand-returns-clause-value
 read_operand-returns-clause-value t c =
-    let nothing : NoOperand (place_of c.args.input) (place_of c.skip_blanks-start.result) = record { skipped = c.skip_blanks-start.ensures.value; no_name = c.in_default.ensures.value; no_not = c.in_default-read_not.ensures.value; no_open = c.in_default-after.ensures.value } in
-    if_ok c.read_nothing.result _ _ (λ r more n le. nothing_gives c.args.input.text.now n _ (place_of c.skip_blanks-start.result) _ _ _ _ nothing more) c.read_nothing.ensures.more
+    let nothing : NoOperand (position_of c.args.input) (position_of c.skip_blanks-start.result) = record { skipped = c.skip_blanks-start.ensures.value; no_name = c.in_default.ensures.value; no_not = c.in_default-read_not.ensures.value; no_open = c.in_default-after.ensures.value } in
+    if_ok c.read_nothing.result _ _ (λ r more n le. nothing_gives c.args.input.text.now n _ (position_of c.skip_blanks-start.result) _ _ _ _ nothing more) c.read_nothing.ensures.more
 
 pub read_negation-returns-clause-value : goal.read_negation-returns-clause-value
 read_negation-returns-clause-value t c =
@@ -81,14 +81,14 @@ read_negation-returns-clause-value t c =
 pub read_parens-returns-clause-value : goal.read_parens-returns-clause-value
 read_parens-returns-clause-value t c =
     let inner = c.in_ok-inner.inner in
-    (option_map boxed_tree inner.value, place_of inner.end, c.read_or_level.new.faults.items, c.in_ok-enclose.ensures, c.in_ok-inner.ensures.value, c.in_ok-end.ensures.value)
+    (option_map boxed_tree inner.value, position_of inner.end, c.read_or_level.new.faults.items, c.in_ok-enclose.ensures, c.in_ok-inner.ensures.value, c.in_ok-end.ensures.value)
 
 pub read_and_level-returns-then-is_before_caret-clause-value : goal.read_and_level-returns-then-is_before_caret-clause-value
 read_and_level-returns-then-is_before_caret-clause-value t c = λ n le.
     let first = c.in_ok-first in
-    let same : place_of first.first.end ≡ place_of c.args.input = same_place c.args.input first.first.end first.ensures.behind.text c.if-first-input.true in
-    let caret : is_some (after (codes "^") (skip (place_of c.args.input))) ≡ true = ap (λ (p : Place). is_some (after (codes "^") (skip p))) (sym same) ∙ sym c.is_before_caret.ensures ∙ c.if-is_before_caret.true in
-    and_misses c.args.input.text.now (operand_at (suc n)) _ _ _ _ _ (caret_step n (place_of c.args.input) caret) (first.ensures.value n le)
+    let same : position_of first.first.end ≡ position_of c.args.input = same_position c.args.input first.first.end first.ensures.behind.text c.if-first-input.true in
+    let caret : is_some (after (codes "^") (skip (position_of c.args.input))) ≡ true = ap (λ (p : Position). is_some (after (codes "^") (skip p))) (sym same) ∙ sym c.is_before_caret.ensures ∙ c.if-is_before_caret.true in
+    and_misses c.args.input.text.now (operand_at (suc n)) _ _ _ _ _ (caret_step n (position_of c.args.input) caret) (first.ensures.value n le)
 
 pub read_and_level-read_and_rest-requires : goal.read_and_level-read_and_rest-requires
 read_and_level-read_and_rest-requires t c = omega (arith, c.in_ok-first.ensures.behind.shorter)

@@ -1,5 +1,5 @@
 use Rattle.std.proofs.Common.{refl}
-use Rattle.filterset_language.specs.Parsing.Place.{place_of}
+use Rattle.filterset_language.specs.Parsing.Position.{position_of}
 use Rattle.filterset_grammar.specs.Patterns.{PatternsAreRead}
 use Rattle.filterset_language.specs.Parsed.{LiesOnBody}
 use Rattle.filterset_language.specs.Parsing.Descent.{leaf_at}
@@ -10,5 +10,5 @@ use Rattle.filterset_language.proofs.parsing.expressions.read_set.Goals as goal
 pub returns-clause-value : goal.returns-clause-value
 returns-clause-value c =
     let text = c.args.input.text.now in
-    let read = set_gives text _ _ _ (place_of c.in_ok-leaf.leaf.end) (leaf_at c.args.name c.args.start.offset (place_of c.args.input)) c.in_ok-leaf.ensures.value in
+    let read = set_gives text _ _ _ (position_of c.in_ok-leaf.leaf.end) (leaf_at c.args.name c.args.start.offset (position_of c.args.input)) c.in_ok-leaf.ensures.value in
     gives_as PatternsAreRead (LiesOnBody text) _ _ _ _ _ _ _ read c.in_ok-leaf_expr.ensures refl

@@ -2,7 +2,7 @@ use Rattle.std.proofs.Common.{◌≡◌, ◌≢◌, ◌≤◌, ℕ, suc, List, [
 use Rattle.std.specs.Prelude.{◌==◌}
 use Rattle.std.proofs.lemmas.Bool.{eqb-true}
 use Rattle.std.proofs.lemmas.List.{nil_from_length}
-use Rattle.filterset_language.specs.Parsing.Place.{Place, place_of}
+use Rattle.filterset_language.specs.Parsing.Position.{Position, position_of}
 use Rattle.filterset_language.specs.Parsing.Descent.{operand_at, or_level_by}
 use Rattle.filterset_language.proofs.FaultsStand.{at_text_start}
 use Rattle.filterset_language.proofs.WholeTextReading.{whole_read, whole_unread, first_gives, first_found}
@@ -14,9 +14,9 @@ read_or_level-requires c = at_text_start c.new.result c.args.text.now c.new.ensu
 pub returns-then-is_empty : goal.returns-then-is_empty
 returns-then-is_empty c =
     let text = c.args.text.now in
-    let le : length c.new.result.rest.now ≤ length text = let e = ap (λ (p : Place). length p.rest) c.new.ensures.value in omega (arith, e) in
+    let le : length c.new.result.rest.now ≤ length text = let e = ap (λ (p : Position). length p.rest) c.new.ensures.value in omega (arith, e) in
     let none : c.skip_blanks.result.rest.now ≡ [] = nil_from_length c.skip_blanks.result.rest.now (eqb-true _ _ (sym c.is_empty.ensures ∙ c.if-is_empty.true)) in
-    rw c.unbox-tree.ensures (whole_read text _ c.in_ok-whole.whole.end (place_of c.skip_blanks.result) _ (c.in_ok-whole.ensures.behind.text ∙ c.new.ensures.text) c.skip_blanks.ensures.value
+    rw c.unbox-tree.ensures (whole_read text _ c.in_ok-whole.whole.end (position_of c.skip_blanks.result) _ (c.in_ok-whole.ensures.behind.text ∙ c.new.ensures.text) c.skip_blanks.ensures.value
     (first_found _ _ _ _ c.new.ensures.text c.new-faults.ensures.items c.in_ok-whole.ensures.stand)
     none
     (first_gives _ _ _ _ _ _ _ _ c.new.ensures.text c.new-faults.ensures.items (ap (or_level_by (operand_at (suc (length text)))) c.new.ensures.value) (c.in_ok-whole.ensures.value (length text) le)))
@@ -24,9 +24,9 @@ returns-then-is_empty c =
 pub returns : goal.returns
 returns c =
     let text = c.args.text.now in
-    let le : length c.new.result.rest.now ≤ length text = let e = ap (λ (p : Place). length p.rest) c.new.ensures.value in omega (arith, e) in
+    let le : length c.new.result.rest.now ≤ length text = let e = ap (λ (p : Position). length p.rest) c.new.ensures.value in omega (arith, e) in
     let some : c.skip_blanks.result.rest.now ≢ [] = λ e. (let f : false ≡ true = sym c.if-is_empty.false ∙ c.is_empty.ensures ∙ ap (λ (t : List ℕ). length t == 0) e in cc) in
-    rw c.unbox-tree.ensures (whole_unread text _ c.in_ok-whole.whole.end (place_of c.skip_blanks.result) _ (c.in_ok-whole.ensures.behind.text ∙ c.new.ensures.text) c.skip_blanks.ensures.value
+    rw c.unbox-tree.ensures (whole_unread text _ c.in_ok-whole.whole.end (position_of c.skip_blanks.result) _ (c.in_ok-whole.ensures.behind.text ∙ c.new.ensures.text) c.skip_blanks.ensures.value
     (first_found _ _ _ _ c.new.ensures.text c.new-faults.ensures.items c.in_ok-whole.ensures.stand)
     some _ c.in_ok-report_rest.ensures
     (first_gives _ _ _ _ _ _ _ _ c.new.ensures.text c.new-faults.ensures.items (ap (or_level_by (operand_at (suc (length text)))) c.new.ensures.value) (c.in_ok-whole.ensures.value (length text) le)))

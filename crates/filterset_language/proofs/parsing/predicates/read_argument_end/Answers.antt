@@ -1,7 +1,7 @@
 use Rattle.std.proofs.Common.{refl, ap, sym}
 use Rattle.std.specs.Prelude.{codes}
-use Rattle.filterset_language.specs.Parsing.Place.{Place, skip, after}
-use Rattle.filterset_language.proofs.Places.{AtOrBehind-then}
+use Rattle.filterset_language.specs.Parsing.Position.{Position, skip, after}
+use Rattle.filterset_language.proofs.Positions.{AtOrBehind-then}
 use Rattle.filterset_language.proofs.Recovering.{reported, keeps_along, keeps_then, if_ok, recovers_as}
 use Rattle.filterset_language.proofs.FaultsStand.{comma_found}
 use Rattle.filterset_language.proofs.parsing.predicates.read_argument_end.Goals as goal
@@ -13,7 +13,7 @@ returns-in-Some-clause-stand c =
 
 pub returns-clause-value : goal.returns-clause-value
 returns-clause-value c =
-    let same = ap (λ (p : Place). after (codes ")") (skip p)) (sym c.before_blanks.ensures.value) in
+    let same = ap (λ (p : Position). after (codes ")") (skip p)) (sym c.before_blanks.ensures.value) in
     if_ok c.read_close-2.result _ _ (λ r v. recovers_as _ _ _ _ _ _ v refl same) c.read_close-2.ensures.value
 
 pub returns-clause-stand : goal.returns-clause-stand

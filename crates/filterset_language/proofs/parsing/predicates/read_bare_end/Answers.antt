@@ -1,6 +1,6 @@
 use Rattle.std.proofs.Common.{◌≡◌, take, refl, ap, sym, ◌∙◌, false, true}
 use Rattle.filterset_language.specs.Parsing.Front.{close_len, is_white}
-use Rattle.filterset_language.specs.Parsing.Place.{place_of}
+use Rattle.filterset_language.specs.Parsing.Position.{position_of}
 use Rattle.filterset_language.proofs.ClosingParenthesis.{close_boundary, count_is, front_is, bare_end_is, bare_end_none}
 use Rattle.filterset_language.proofs.Recovering.{reported, keeps_along, keeps_then, if_ok, refused, recovers_as}
 use Rattle.filterset_language.proofs.FaultsStand.{argument_found}
@@ -17,10 +17,10 @@ returns-clause-value c =
     elim c.if-not-is_white.branch [
       | then-not-is_white+in_ok-push w ↦
           let black : is_white (take (close_len c.args.input.rest.now) c.args.input.rest.now) ≡ false = ap is_white (sym front) ∙ sym c.is_white.ensures ∙ w.if-not-is_white.true in
-          if_ok c.read_close.result _ _ (λ r v. refused _ _ _ _ _ _ w.in_ok-push.ensures.items v.grows (bare_end_none (place_of c.args.input) black)) (rw w.faults-is at read)
+          if_ok c.read_close.result _ _ (λ r v. refused _ _ _ _ _ _ w.in_ok-push.ensures.items v.grows (bare_end_none (position_of c.args.input) black)) (rw w.faults-is at read)
       | else-not-is_white w ↦
           let white : is_white (take (close_len c.args.input.rest.now) c.args.input.rest.now) ≡ true = ap is_white (sym front) ∙ sym c.is_white.ensures ∙ w.if-not-is_white.false in
-          let same = bare_end_is (place_of c.args.input) (place_of c.next_close-end.result) c.next_close-end.ensures.value white in
+          let same = bare_end_is (position_of c.args.input) (position_of c.next_close-end.result) c.next_close-end.ensures.value white in
           if_ok c.read_close.result _ _ (λ r v. recovers_as _ _ _ _ _ _ v refl (sym same)) (rw w.faults-is at read)
     ]
 

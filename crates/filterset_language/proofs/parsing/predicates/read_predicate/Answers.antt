@@ -1,9 +1,9 @@
 use Rattle.std.proofs.Common.{refl}
-use Rattle.filterset_language.specs.Parsing.Place.{place_of}
+use Rattle.filterset_language.specs.Parsing.Position.{position_of}
 use Rattle.filterset_grammar.specs.Tree as tree
 use Rattle.filterset_language.specs.declared.parsing.names.PredicateName.TheVariants as names
 use Rattle.filterset_language.proofs.Matching.{leaf_gives, platform_gives, default_gives, bare_gives}
-use Rattle.filterset_language.proofs.Places.{AtOrBehind-then}
+use Rattle.filterset_language.proofs.Positions.{AtOrBehind-then}
 use Rattle.filterset_language.proofs.Recovering.{if_ok, keeps_then}
 use Rattle.filterset_language.proofs.parsing.predicates.read_predicate.Goals as goal
 
@@ -11,7 +11,7 @@ pub returns-in-Matching-clause-value : goal.returns-in-Matching-clause-value
 returns-in-Matching-clause-value c =
     let inside = c.in_ok-inside.inside in
     if_ok c.read_matching.result _ _
-    (λ r v. rw c.in-Matching.is (leaf_gives inside.text.now c.args.input.text.now (names.Matching c.in-Matching.name) c.args.start.offset (place_of c.args.input) (place_of r.end) (place_of inside) _ _ _ _ c.in_ok-inside.ensures.behind.text c.in_ok-inside.ensures.value v))
+    (λ r v. rw c.in-Matching.is (leaf_gives inside.text.now c.args.input.text.now (names.Matching c.in-Matching.name) c.args.start.offset (position_of c.args.input) (position_of r.end) (position_of inside) _ _ _ _ c.in_ok-inside.ensures.behind.text c.in_ok-inside.ensures.value v))
     c.read_matching.ensures.value
 
 pub returns-in-Matching-clause-stand : goal.returns-in-Matching-clause-stand
@@ -24,26 +24,26 @@ pub returns-in-Platform-clause-value : goal.returns-in-Platform-clause-value
 returns-in-Platform-clause-value c =
     let inside = c.in_ok-inside.inside in
     if_ok c.read_platform.result _ _
-    (λ r v. rw c.in-Platform.is (leaf_gives inside.text.now c.args.input.text.now names.Platform c.args.start.offset (place_of c.args.input) (place_of r.end) (place_of inside) _ _ _ _ c.in_ok-inside.ensures.behind.text c.in_ok-inside.ensures.value (platform_gives inside.text.now (place_of inside) (place_of r.end) _ _ _ v)))
+    (λ r v. rw c.in-Platform.is (leaf_gives inside.text.now c.args.input.text.now names.Platform c.args.start.offset (position_of c.args.input) (position_of r.end) (position_of inside) _ _ _ _ c.in_ok-inside.ensures.behind.text c.in_ok-inside.ensures.value (platform_gives inside.text.now (position_of inside) (position_of r.end) _ _ _ v)))
     c.read_platform.ensures.value
 
 pub returns-in-Default-clause-value : goal.returns-in-Default-clause-value
 returns-in-Default-clause-value c =
     let inside = c.in_ok-inside.inside in
     if_ok c.read_default.result _ _
-    (λ r v. rw c.in-Default.is (leaf_gives inside.text.now c.args.input.text.now names.Default c.args.start.offset (place_of c.args.input) (place_of r.end) (place_of inside) _ _ _ _ c.in_ok-inside.ensures.behind.text c.in_ok-inside.ensures.value (default_gives inside.text.now c.args.start.offset (place_of inside) (place_of r.end) _ _ _ v)))
+    (λ r v. rw c.in-Default.is (leaf_gives inside.text.now c.args.input.text.now names.Default c.args.start.offset (position_of c.args.input) (position_of r.end) (position_of inside) _ _ _ _ c.in_ok-inside.ensures.behind.text c.in_ok-inside.ensures.value (default_gives inside.text.now c.args.start.offset (position_of inside) (position_of r.end) _ _ _ v)))
     c.read_default.ensures.value
 
 pub returns-in-All-clause-value : goal.returns-in-All-clause-value
 returns-in-All-clause-value c =
     let inside = c.in_ok-inside.inside in
     if_ok c.read_bare.result _ _
-    (λ r v. rw c.in-All.is (leaf_gives inside.text.now c.args.input.text.now names.All c.args.start.offset (place_of c.args.input) (place_of r.end) (place_of inside) _ _ _ _ c.in_ok-inside.ensures.behind.text c.in_ok-inside.ensures.value (bare_gives inside.text.now tree.All (place_of inside) (place_of r.end) _ _ _ tt v)))
+    (λ r v. rw c.in-All.is (leaf_gives inside.text.now c.args.input.text.now names.All c.args.start.offset (position_of c.args.input) (position_of r.end) (position_of inside) _ _ _ _ c.in_ok-inside.ensures.behind.text c.in_ok-inside.ensures.value (bare_gives inside.text.now tree.All (position_of inside) (position_of r.end) _ _ _ tt v)))
     c.read_bare.ensures.value
 
 pub returns-in-None-clause-value : goal.returns-in-None-clause-value
 returns-in-None-clause-value c =
     let inside = c.in_ok-inside.inside in
     if_ok c.read_bare-in-None.result _ _
-    (λ r v. rw c.in-None.is (leaf_gives inside.text.now c.args.input.text.now names.None c.args.start.offset (place_of c.args.input) (place_of r.end) (place_of inside) _ _ _ _ c.in_ok-inside.ensures.behind.text c.in_ok-inside.ensures.value (bare_gives inside.text.now tree.None (place_of inside) (place_of r.end) _ _ _ tt v)))
+    (λ r v. rw c.in-None.is (leaf_gives inside.text.now c.args.input.text.now names.None c.args.start.offset (position_of c.args.input) (position_of r.end) (position_of inside) _ _ _ _ c.in_ok-inside.ensures.behind.text c.in_ok-inside.ensures.value (bare_gives inside.text.now tree.None (position_of inside) (position_of r.end) _ _ _ tt v)))
     c.read_bare-in-None.ensures.value

@@ -2,11 +2,11 @@ use Rattle.std.proofs.Common.{◌≡◌, ◌≢◌, ◌∙◌, ◌∷◌, [], �
 use Rattle.std.specs.Prelude.{encode_utf8}
 use Rattle.std.specs.String.{string_bytes}
 use Rattle.std.proofs.lemmas.Bool.{cases_lt}
-use Rattle.filterset_language.specs.Parsing.Place.{Place, place_of, after}
+use Rattle.filterset_language.specs.Parsing.Position.{Position, position_of, after}
 use Rattle.filterset_language.specs.Parsing.Escapes.{escape_at}
 use Rattle.filterset_language.specs.Parsing.RawTexts.{SpelledTo}
 use Rattle.filterset_language.proofs.EscapeReading.{escape_within, escape_boundary}
-use Rattle.filterset_language.proofs.Places.{AtOrBehind-then, AtOrBehind-of}
+use Rattle.filterset_language.proofs.Positions.{AtOrBehind-then, AtOrBehind-of}
 use Rattle.filterset_language.proofs.RawTexts.{text_start, stops_there, text_turns, text_ends, spelled_is_read, empty_is_unread, unescaped_is_unread, spelled_some, spelled_none}
 use Rattle.filterset_language.proofs.Recovering.{refused_along, recovers_along, reported, keeps_along, keeps_then, keeps_from}
 use Rattle.filterset_language.proofs.RawTextFaults.{unescaped_found, empty_found}
@@ -15,9 +15,9 @@ use Rattle.filterset_language.proofs.parsing.raw_text.read_raw_text.Goals.{then-
 
 pub loop-behind-init : goal.loop-behind-init
 loop-behind-init c = record {
-  spelled = text_start (place_of c.args.input) (place_of c.read_plain.result.1) (string_bytes c.in_ok-value.value) (c.in_ok-value.ensures.ok ∙ c.read_plain.ensures.text) c.read_plain.ensures.value;
+  spelled = text_start (position_of c.args.input) (position_of c.read_plain.result.1) (string_bytes c.in_ok-value.value) (c.in_ok-value.ensures.ok ∙ c.read_plain.ensures.text) c.read_plain.ensures.value;
   same = refl;
-  stops = stops_there (place_of c.args.input) (place_of c.read_plain.result.1) c.read_plain.ensures.value;
+  stops = stops_there (position_of c.args.input) (position_of c.read_plain.result.1) c.read_plain.ensures.value;
   behind = c.read_plain.ensures.behind;
 }
 
@@ -35,7 +35,7 @@ loop-behind-preserved c =
     let read = c.in-Some-leading_escape.ensures ∙ ap escape_at c.as_bytes.ensures.value in
     let run = c.read_plain-in-Some.result.0.now in
     let turned =
-    text_turns (place_of c.args.input) (place_of c.loop-behind.end) (place_of c.in-Some.behind) (place_of c.advance.result) (place_of c.read_plain-in-Some.result.1)
+    text_turns (position_of c.args.input) (position_of c.loop-behind.end) (position_of c.in-Some.behind) (position_of c.advance.result) (position_of c.read_plain-in-Some.result.1)
     (string_bytes c.loop-behind.value) run c.in-Some-leading_escape.escape.character c.in-Some-leading_escape.escape.len
     inv.spelled c.in-Some.ensures.value read c.advance.ensures.value c.read_plain-in-Some.ensures.text c.read_plain-in-Some.ensures.value
     in
@@ -44,9 +44,9 @@ loop-behind-preserved c =
     in
     let past = AtOrBehind-of _ _ (c.in-Some.ensures.behind (omega arith)) in
     record {
-      spelled = subst (λ (t : List ℕ). SpelledTo (place_of c.args.input) t (place_of c.read_plain-in-Some.result.1)) (sym bytes) turned;
+      spelled = subst (λ (t : List ℕ). SpelledTo (position_of c.args.input) t (position_of c.read_plain-in-Some.result.1)) (sym bytes) turned;
       same = inv.same;
-      stops = stops_there (place_of c.advance.result) (place_of c.read_plain-in-Some.result.1) c.read_plain-in-Some.ensures.value;
+      stops = stops_there (position_of c.advance.result) (position_of c.read_plain-in-Some.result.1) c.read_plain-in-Some.ensures.value;
       behind = AtOrBehind-then _ _ _ inv.behind (AtOrBehind-then _ _ _ past (AtOrBehind-then _ _ _ c.advance.ensures.behind c.read_plain-in-Some.ensures.behind));
     }
 
@@ -54,7 +54,7 @@ pub returns-in_default-leading_escape-clause-value : goal.returns-in_default-lea
 returns-in_default-leading_escape-clause-value c =
     let none : None ≡ escape_at c.in-Some.behind.rest.now = c.in_default-leading_escape.ensures ∙ ap escape_at c.as_bytes.ensures.value in
     refused_along _ _ _ _ _ _ _ c.loop-behind.invariant.same c.in_ok-push.ensures.items c.in_ok-end.ensures.grows
-    (unescaped_is_unread (place_of c.args.input) (place_of c.loop-behind.end) (place_of c.in-Some.behind) (string_bytes c.loop-behind.value) c.loop-behind.invariant.spelled c.in-Some.ensures.value none)
+    (unescaped_is_unread (position_of c.args.input) (position_of c.loop-behind.end) (position_of c.in-Some.behind) (string_bytes c.loop-behind.value) c.loop-behind.invariant.spelled c.in-Some.ensures.value none)
 
 pub returns-in_default-leading_escape-clause-stand : goal.returns-in_default-leading_escape-clause-stand
 returns-in_default-leading_escape-clause-stand c =
@@ -65,14 +65,14 @@ returns-in_default-leading_escape-clause-stand c =
     (keeps_then _ _ _ _ _ _ inv.behind.text ((c.in-Some.ensures.behind (omega arith)).text ∙ inv.behind.text) first c.in_ok-end.ensures.stand)
 
 -- nothing was read just where nothing was spelled
-empty : (p q : Place) (v : List ℕ) → SpelledTo p v q → q.at ≡ p.at → length v ≡ 0
+empty : (p q : Position) (v : List ℕ) → SpelledTo p v q → q.at ≡ p.at → length v ≡ 0
 empty p q v s same =
     ⊎_elim
     (λ some. absurd (let raw = spelled_none s.spelled some in let at = s.offset in omega arith))
     (λ none. omega arith)
     (cases_lt 0 (length v))
 
-some : (p q : Place) (v : List ℕ) → SpelledTo p v q → q.at ≢ p.at → 0 < length v
+some : (p q : Position) (v : List ℕ) → SpelledTo p v q → q.at ≢ p.at → 0 < length v
 some p q v s differ =
     let at = s.offset in
     spelled_some s.spelled (omega arith)
@@ -80,10 +80,10 @@ some p q v s differ =
 pub returns-clause-value : goal.returns-clause-value
 returns-clause-value c =
     let inv = c.loop-behind.invariant in
-    let none : None ≡ after (92 ∷ []) (place_of c.loop-behind.end) = c.in_default.ensures.value in
+    let none : None ≡ after (92 ∷ []) (position_of c.loop-behind.end) = c.in_default.ensures.value in
     let ends = text_ends c.loop-behind.end.offset c.loop-behind.end.rest.now inv.stops none in
-    let p = place_of c.args.input in
-    let q = place_of c.loop-behind.end in
+    let p = position_of c.args.input in
+    let q = position_of c.loop-behind.end in
     let v = string_bytes c.loop-behind.value in
     elim c.if-end-input.branch [
       | then-end-input+in_ok-push-3 w ↦ rw w.faults-is (refused_along _ _ _ _ _ _ _ inv.same w.in_ok-push-3.ensures.items (omega arith) (empty_is_unread p q v inv.spelled (empty p q v inv.spelled (omega arith)) ends))
@@ -93,7 +93,7 @@ returns-clause-value c =
 pub returns-clause-stand : goal.returns-clause-stand
 returns-clause-stand c =
     let inv = c.loop-behind.invariant in
-    let none : None ≡ after (92 ∷ []) (place_of c.loop-behind.end) = c.in_default.ensures.value in
+    let none : None ≡ after (92 ∷ []) (position_of c.loop-behind.end) = c.in_default.ensures.value in
     let ends = text_ends c.loop-behind.end.offset c.loop-behind.end.rest.now inv.stops none in
     elim c.if-end-input.branch [
       | then-end-input+in_ok-push-3 w ↦ rw w.faults-is (keeps_from _ _ _ _ inv.same (keeps_along _ _ _ _ inv.behind.text (reported _ _ _ _ w.in_ok-push-3.ensures.items (rw w.here.ensures (empty_found c.loop-behind.end ends)))))

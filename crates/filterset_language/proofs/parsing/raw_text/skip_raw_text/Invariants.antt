@@ -1,5 +1,5 @@
 use Rattle.std.proofs.Common.{◌≡◌, ◌≤◌, length}
-use Rattle.filterset_language.specs.Parsing.Place.{IsAtOrBehind}
+use Rattle.filterset_language.specs.Parsing.Position.{IsAtOrBehind}
 use Rattle.filterset_language.specs.Parsing.RawTexts.{plain_len}
 use Rattle.filterset_language.specs.Parsing.Recovery.{Keeps}
 use Rattle.filterset_language.proofs.parsing.raw_text.skip_raw_text.Given as goal

@@ -1,6 +1,6 @@
 use Rattle.std.proofs.Common.{◌≡◌, ◌∙◌, drop, sym, ap, subst}
 use Rattle.filterset_language.specs.Parsing.Front.{close_len}
-use Rattle.filterset_language.specs.Parsing.Place.{Place}
+use Rattle.filterset_language.specs.Parsing.Position.{Position}
 use Rattle.filterset_language.specs.Parsing.RawTexts.{body_len}
 use Rattle.filterset_language.specs.Faults.{ClosesArgument}
 use Rattle.filterset_language.proofs.BodyReading.{body_boundary, body_taken}
@@ -14,7 +14,7 @@ advance-slash-requires-clause-boundary c = body_boundary _ _ (c.body_len-count.e
 
 pub returns-in_ok-push-in-None-clause-stand : goal.returns-in_ok-push-in-None-clause-stand
 returns-in_ok-push-in-None-clause-stand c =
-    let rest : c.next_close-end.result.rest.now ≡ drop (close_len c.args.input.rest.now) c.args.input.rest.now = ap (λ (p : Place). p.rest) c.next_close-end.ensures.value in
+    let rest : c.next_close-end.result.rest.now ≡ drop (close_len c.args.input.rest.now) c.args.input.rest.now = ap (λ (p : Position). p.rest) c.next_close-end.ensures.value in
     let closes : ClosesArgument c.next_close-end.result.rest.now = subst ClosesArgument (sym rest) (close_behind c.args.input.rest.now) in
     keeps_along _ _ _ _ c.next_close-end.ensures.behind.text (reported _ _ _ _ c.in_ok-push-in-None.ensures.items (rw c.here.ensures (unclosed_found c.next_close-end.result closes)))
 

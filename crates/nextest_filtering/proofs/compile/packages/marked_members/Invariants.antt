@@ -4,6 +4,6 @@ use Rattle.nextest_filtering.proofs.PackageSets.{IsGivenBefore}
 use Rattle.nextest_filtering.proofs.compile.packages.marked_members.Given as goal
 
 -- the ids are those of such packages so far
-abbrev pub invariant-loop-place : goal.invariant-loop-place
-invariant-loop-place l =
-    (id : List ℕ) → Contains l.ids.keys id ↔ IsGivenBefore (IsMarkedMemberAt l.packages l.marks) l.place id
+abbrev pub invariant-loop-index : goal.invariant-loop-index
+invariant-loop-index l =
+    (id : List ℕ) → Contains l.ids.keys id ↔ IsGivenBefore (IsMarkedMemberAt l.packages l.marks) l.index id

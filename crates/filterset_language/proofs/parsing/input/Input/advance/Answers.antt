@@ -1,5 +1,5 @@
 use Rattle.std.proofs.Common.{rules}
-use Rattle.filterset_language.proofs.Places.{seam_on}
+use Rattle.filterset_language.proofs.Positions.{seam_on}
 use Rattle.filterset_language.proofs.parsing.input.Input.advance.Goals as goal
 
 pub invariant_of-result-clause-seam : goal.invariant_of-result-clause-seam

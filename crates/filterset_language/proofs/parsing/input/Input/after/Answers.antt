@@ -1,8 +1,8 @@
 use Rattle.std.proofs.Common.{rules, ◌≡◌, ◌≤◌, arith, length-append, drop, refl, ℕ, List, length, ◌++◌, ◌+◌, ap, sym, ◌∙◌}
 use Rattle.std.specs.Option.{option_map}
 use Rattle.std.proofs.lemmas.List.{drop_at}
-use Rattle.filterset_language.specs.Parsing.Place.{place}
-use Rattle.filterset_language.proofs.Places.{seam_on, behind_some, behind_none}
+use Rattle.filterset_language.specs.Parsing.Position.{position}
+use Rattle.filterset_language.proofs.Positions.{seam_on, behind_some, behind_none}
 use Rattle.filterset_language.proofs.parsing.input.Input.after.Goals as goal
 
 pub returns-in-Some-clause-value : goal.returns-in-Some-clause-value
@@ -10,12 +10,12 @@ returns-in-Some-clause-value c =
     let h = c.in-Some.ensures.cases in
     let word = c.args.text.now in
     let e = behind_some word c.args.self.rest.now c.in-Some.rest.now (h.1.1 ∙ ap (λ (t : List ℕ). word ++ t) (sym h.2)) in
-    sym (ap (option_map (λ (t : List ℕ). place (c.args.self.offset + length word) t)) e)
+    sym (ap (option_map (λ (t : List ℕ). position (c.args.self.offset + length word) t)) e)
 
 pub returns-in-None-clause-value : goal.returns-in-None-clause-value
 returns-in-None-clause-value c =
     let e = behind_none c.args.text.now c.args.self.rest.now c.in-None.ensures.cases in
-    sym (ap (option_map (λ (t : List ℕ). place (c.args.self.offset + length c.args.text.now) t)) e)
+    sym (ap (option_map (λ (t : List ℕ). position (c.args.self.offset + length c.args.text.now) t)) e)
 
 pub invariant_of-result-clause-seam : goal.invariant_of-result-clause-seam
 invariant_of-result-clause-seam c =

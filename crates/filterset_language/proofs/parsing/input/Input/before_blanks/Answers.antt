@@ -1,16 +1,16 @@
 use Rattle.std.proofs.Common.{◌≡◌, ℕ, ◌+◌, ◌-◌, List, length, drop, IsUtf8, IsCharBoundary, sym, ap, ◌∙◌, subst, arith}
 use Rattle.std.proofs.lemmas.List.{drop_at}
 use Rattle.std.proofs.lemmas.Str.{IsUtf8-from_is_utf8, IsCharBoundary-at_seam}
-use Rattle.filterset_language.specs.Parsing.Seam.{Place, place, skip_from, AreBlanks}
-use Rattle.filterset_language.proofs.Places.{skip_stop}
+use Rattle.filterset_language.specs.Parsing.Seam.{Position, position, skip_from, AreBlanks}
+use Rattle.filterset_language.proofs.Positions.{skip_stop}
 use Rattle.filterset_language.proofs.StepsTakeText.{Skipped, skip_takes}
 use Rattle.filterset_language.proofs.parsing.input.Input.before_blanks.Goals as goal
 
--- the blanks between a place and the one after them
-between : (at to : ℕ) (t u : List ℕ) → place to u ≡ skip_from at t → Skipped (place at t) (place to u)
-between at to t u e = subst (λ (p : Place). Skipped (place at t) p) (sym e) (skip_takes t at)
+-- the blanks between a position and the one after them
+between : (at to : ℕ) (t u : List ℕ) → position to u ≡ skip_from at t → Skipped (position at t) (position to u)
+between at to t u e = subst (λ (p : Position). Skipped (position at t) p) (sym e) (skip_takes t at)
 
-blanks_between : (at to : ℕ) (t u : List ℕ) → IsUtf8 u → place to u ≡ skip_from at t → AreBlanks at t (to - at)
+blanks_between : (at to : ℕ) (t u : List ℕ) → IsUtf8 u → position to u ≡ skip_from at t → AreBlanks at t (to - at)
 blanks_between at to t u utf8 e =
     let k = between at to t u e in
     let count : to - at ≡ length k.blanks = omega (arith, k.takes.offset) in

@@ -1,0 +1,59 @@
+use Rattle.std.proofs.Common.{◌≡◌, ℕ, ◌+◌, ◌-◌, ◌<◌, ◌≤◌, ◌⊎◌, inl, inr, Bool, true, length, get_or, ap, sym, subst, ◌∙◌, arith, ⊎_elim, refl}
+use Rattle.std.proofs.lemmas.Bool.{cases_lt, cases_eq}
+use Rattle.filterset_glob.specs.Positions.{Holds}
+use Rattle.filterset_glob.specs.Matching.{slash}
+use Rattle.filterset_glob.proofs.positions.Positions.add_behind_slashes.Goals as goal
+use Rattle.filterset_glob.proofs.positions.Positions.add_behind_slashes.Goals.{then-reached, else-reached, then-reached-2+then-is_slash, else-reached-2, else-reached-2-via-then-reached-2+else-is_slash, else-reached-2-via-else-reached-2}
+
+pub loop-position-preserved : goal.loop-position-preserved
+loop-position-preserved c =
+    let i = c.loop-position.invariant in
+    let old = c.args.self.now in
+    let self = c.loop-position.self in
+    let new = c.if-reached-2.self in
+    let at = c.loop-position.position in
+    let now : Bool = c.if-reached.reached in
+    let text = c.args.text.now in
+    let from = λ (k : ℕ) (h : Holds self k).
+    let r : (x : ℕ) × (x ≤ k) × Holds old x = ⊎_elim (λ none. (0, omega arith, i.first (subst (Holds self) none h)))
+    (λ some.
+    let back : k ≡ (k - 1) + 1 = omega arith in
+    ⊎_elim (λ h. (k, omega arith, subst (Holds old) (sym back) h)) (λ p. (p.1, omega (arith, p.2), p.3)) (i.only (k - 1) (subst (Holds self) back h))) (cases_eq k 0) in r in
+    let came : now ≡ true → (x : ℕ) × (x < at + 1) × Holds old x = elim c.if-reached.branch [
+      | then-reached w ↦ λ r. (let p = i.came w.if-reached.true in (p.0, omega (arith, p.1), p.2))
+      | else-reached w ↦ λ r. (let p = from at (w.holds-reached.ensures.0 (sym w.reached-is ∙ r)) in (p.0, omega (arith, p.1), p.2))
+    ] in
+    let comes : (x : ℕ) → x < at + 1 → Holds old x → now ≡ true = elim c.if-reached.branch [
+      | then-reached w ↦ λ x lt h. w.reached-is ∙ w.if-reached.true
+      | else-reached w ↦ λ x lt h. ⊎_elim (λ is. w.reached-is ∙ w.holds-reached.ensures.1 (subst (Holds self) is (i.kept x h))) (λ ne. absurd (let yes = i.comes x (omega arith) h in let no = w.if-reached.false in cc)) (cases_eq x at)
+    ] in
+    let long : length new ≡ length self = elim c.if-reached-2.branch [ then-reached-2+then-is_slash w ↦ ap length w.self-is ∙ w.hold.ensures.length | else-reached-2 w ↦ ap length w.self-is ] in
+    let kept : (k : ℕ) → Holds self k → Holds new k = elim c.if-reached-2.branch [
+      | then-reached-2+then-is_slash w ↦ λ k h. subst (λ p. Holds p k) (sym w.self-is) ((w.hold.ensures.held k).1 (inr h))
+      | else-reached-2 w ↦ λ k h. subst (λ p. Holds p k) (sym w.self-is) h
+    ] in
+    let only : (k : ℕ) → Holds new k → Holds self k ⊎ ((k ≡ at + 1) × (get_or text at 0 ≡ slash) × (now ≡ true)) = elim c.if-reached-2.branch [
+      | then-reached-2+then-is_slash w ↦ λ k h. ⊎_elim (λ is. inr (is, w.is_slash.ensures.0 w.if-is_slash.true, w.if-reached-2.true)) (λ h. inl h) ((w.hold.ensures.held k).0 (subst (λ p. Holds p k) w.self-is h))
+      | else-reached-2 w ↦ λ k h. inl (subst (λ p. Holds p k) w.self-is h)
+    ] in
+    let hits : get_or text at 0 ≡ slash → now ≡ true → Holds new (at + 1) = elim c.if-reached-2.branch [
+      | then-reached-2+then-is_slash w ↦ λ is r. subst (λ p. Holds p (at + 1)) (sym w.self-is) ((w.hold.ensures.held (at + 1)).1 (inl refl))
+      | else-reached-2 w ↦ λ is r. absurd (elim w.else-reached-2.branch [
+        | else-reached-2-via-then-reached-2+else-is_slash v ↦ let yes = v.is_slash.ensures.1 is in let no = v.if-is_slash.false in cc
+        | else-reached-2-via-else-reached-2 v ↦ let no = v.if-reached-2.false in cc
+      ])
+    ] in
+    record {
+      long = long ∙ i.long;
+      kept = λ k h. kept k (i.kept k h);
+      added = λ k j le lt h is. ⊎_elim (λ l. kept (j + 1) (i.added k j le l h is))
+          (λ ge. let here : j ≡ at = omega arith in
+          subst (λ m. Holds new (m + 1)) (sym here) (hits (ap (λ m. get_or text m 0) (sym here) ∙ is) (comes k (omega arith) h))) (cases_lt j at);
+      only = λ j h. ⊎_elim (λ h. i.only j h) (λ p.
+          let here : j ≡ at = omega (arith, p.0) in
+          let q = came p.2 in
+          inr (ap (λ m. get_or text m 0) here ∙ p.1, q.0, omega (arith, q.1), q.2)) (only (j + 1) h);
+      first = λ h. ⊎_elim (λ h. i.first h) (λ p. absurd (omega (arith, p.0))) (only 0 h);
+      came = came;
+      comes = comes;
+    }

@@ -1,0 +1,291 @@
+//! A set of positions in a text, one bit a position.
+
+ghost use Rattle.std.specs.Prelude.{◌≡◌, ℕ, ◌+◌, ◌-◌, ◌*◌, ◌/◌, ◌^◌, ◌<◌, ◌≤◌, ◌↔◌, ◌⊎◌, ◌∷◌, false, true, List, [], Bool, length, take, replicate, slice_index, IfNone, IfOk, IfSome, IsOk, IsTrue};
+ghost use Rattle.filterset_glob.specs.Positions.{Holds, Moves};
+ghost use Rattle.filterset_glob.specs.Matching.{slash, Admits, Matches, TakesOne};
+ghost use Rattle.filterset_glob.specs.Tokens.{token_of, tokens_of};
+ghost use Rattle.filterset_glob.specs.Words.{positions_of};
+
+use crate::steps::Steps;
+use crate::text::Text;
+use crate::token::GlobToken;
+use crate::{word, words};
+use std::alloc::{AllocError, Global};
+use std::marker::Model;
+
+/// The positions of a text that a matcher has reached. Each call of the matcher that reads, copies, writes, joins or moves
+/// positions counts them, except `holds_last`, which looks at the last one alone.
+#[derive(Drop)]
+pub(crate) struct Positions {
+    /// How many positions the text has.
+    count: usize,
+    /// The first 64 of them, the lowest bit for the first. Bits after the last position may be anything.
+    first: u64,
+    /// The others, 64 a word.
+    later: Vec<u64>,
+}
+
+impl Model for Positions {
+    ghost Value = { List Bool };
+
+    ghost view = { λ p. positions_of p.count (p.first ∷ p.later.items) };
+
+    ghost invariant = { λ p. length p.later.items ≡ (p.count - 1) / 64 };
+}
+
+impl Positions {
+    /// The set of no position of the same text.
+    #[inline(always)]
+    pub(crate) fn none_of_them(&self, alloc: Global) -> Result<Positions, AllocError>
+        ensures none { IfOk result (λ none. none ≡ replicate (length self.now) false) }
+        ensures no_memory { length self.now ≤ 64 → IsOk result }
+    {
+        Ok(Positions {
+            count: self.count,
+            first: 0,
+            later: words::none(alloc, self.later.len())?,
+        })
+    }
+
+    /// The set of the first position alone, for a text of so many characters.
+    pub(crate) fn start(alloc: Global, last: usize) -> Result<Positions, AllocError>
+        requires { last + 1 < 2 ^ 64 }
+        ensures start { IfOk result (λ positions. positions ≡ true ∷ replicate last false) }
+        ensures no_memory { last < 64 → IsOk result }
+    {
+        Ok(Positions {
+            count: last + 1,
+            first: 1,
+            later: words::none(alloc, last / 64)?,
+        })
+    }
+
+    /// A copy of the set.
+    pub(crate) fn try_clone(&self, alloc: Global, steps: &mut Steps) -> Result<Positions, AllocError>
+        ensures copy { IfOk result (λ positions. positions ≡ self.now) }
+        ensures no_memory { length self.now ≤ 64 → IsOk result }
+        ensures steps { steps.new.count ≡ steps.old.count + length self.now }
+    {
+        steps.add(self.count); // each position is copied
+        Ok(Positions {
+            count: self.count,
+            first: self.first,
+            later: words::copy(alloc, &self.later)?,
+        })
+    }
+
+    /// Makes the set the other one, of the same text.
+    pub(crate) fn set(&mut self, other: &Positions, steps: &mut Steps)
+        requires { length self.old ≡ length other.now }
+        ensures same { self.new ≡ other.now }
+        ensures steps { steps.new.count ≡ steps.old.count + length self.old }
+    {
+        steps.add(self.count); // each position is written
+        self.first = other.first;
+        self.later.copy_from_slice(&other.later);
+    }
+
+    /// The word whose bits are these positions, if a word has so many: for texts of up to 63 characters.
+    #[inline(always)]
+    pub(crate) fn word(&self) -> Option<u64>
+        ensures short { IfSome result (λ _. length self.now ≤ 64) }
+        ensures word { IfSome result (λ word. self.now ≡ positions_of (length self.now) (word ∷ [])) }
+        ensures long { IfNone result (64 < length self.now) }
+    {
+        if self.later.is_empty() {
+            Some(self.first)
+        } else {
+            None
+        }
+    }
+
+    /// Makes the set the bits of this word.
+    #[inline(always)]
+    pub(crate) fn set_word(&mut self, word: u64, steps: &mut Steps)
+        requires { length self.old ≤ 64 }
+        ensures length { length self.new ≡ length self.old }
+        ensures word { self.new ≡ positions_of (length self.old) (word ∷ []) }
+        ensures steps { steps.new.count ≡ steps.old.count + length self.old }
+    {
+        steps.add(self.count); // each position is written
+        self.first = word;
+    }
+
+    /// This word with these positions.
+    #[inline(always)]
+    pub(crate) fn joined_word(&self, word: u64, steps: &mut Steps) -> u64
+        requires { length self.now ≤ 64 }
+        ensures joined { (i : ℕ) → Holds (positions_of (length self.now) (result ∷ [])) i
+            ↔ (Holds (positions_of (length self.now) (word ∷ [])) i ⊎ Holds self.now i) }
+        ensures steps { steps.new.count ≡ steps.old.count + length self.now }
+    {
+        steps.add(self.count); // each position is joined
+        word::joined(word, self.first)
+    }
+
+    /// Adds the positions of the other set.
+    pub(crate) fn join(&mut self, other: &Positions, steps: &mut Steps)
+        requires { length self.old ≡ length other.now }
+        ensures length { length self.new ≡ length self.old }
+        ensures joined { (i : ℕ) → Holds self.new i ↔ (Holds self.old i ⊎ Holds other.now i) }
+        ensures steps { steps.new.count ≡ steps.old.count + length self.old }
+    {
+        steps.add(self.count); // each position is joined
+        self.first = word::joined(self.first, other.first);
+        words::join(&mut self.later, &other.later);
+    }
+
+    /// Adds each position after the lowest.
+    pub(crate) fn fill(&mut self, steps: &mut Steps)
+        ensures length { length self.new ≡ length self.old }
+        ensures filled { (j : ℕ) → j < length self.old → Holds self.new j → (i : ℕ) × (i ≤ j) × Holds self.old i }
+        ensures fills { (i j : ℕ) → i ≤ j → j < length self.old → Holds self.old i → Holds self.new j }
+        ensures steps { steps.new.count ≡ steps.old.count + length self.old }
+    {
+        steps.add(self.count); // each position is looked at for the lowest
+        self.first = word::filled(self.first, false);
+        words::fill(&mut self.later, word::has(self.first, 63));
+    }
+
+    /// Adds each position after a slash that is after the lowest position.
+    pub(crate) fn add_behind_slashes(&mut self, text: &Text, steps: &mut Steps)
+        requires { length self.old ≡ length text.now + 1 }
+        ensures length { length self.new ≡ length self.old }
+        ensures kept { (i : ℕ) → Holds self.old i → Holds self.new i }
+        ensures added { (i j : ℕ) → i ≤ j → Holds self.old i → slice_index text.now j ≡ slash → Holds self.new (j + 1) }
+        ensures only { (j : ℕ) → Holds self.new (j + 1)
+            → Holds self.old (j + 1) ⊎ ((slice_index text.now j ≡ slash) × (i : ℕ) × (i ≤ j) × Holds self.old i) }
+        ensures first { Holds self.new 0 → Holds self.old 0 }
+        ensures steps { steps.new.count ≡ steps.old.count + length self.old }
+    {
+        self.count_all(steps); // each position is looked at for a slash after it
+        let mut reached = false;
+        for position in 0..text.len() {
+            reached = reached || self.holds(position);
+            if reached && text.is_slash(position) {
+                self.hold(position + 1);
+            }
+        }
+    }
+
+    /// Moves each position after the next character, where the token takes that character.
+    #[inline(always)]
+    pub(crate) fn step_over(&mut self, text: &mut Text, token: &GlobToken, steps: &mut Steps)
+        requires { length self.old ≡ length text.old + 1 }
+        ensures same { text.new ≡ text.old }
+        ensures length { length self.new ≡ length self.old }
+        ensures first { ¬ Holds self.new 0 }
+        ensures moved { (i : ℕ) → i < length text.old → Holds self.new (i + 1)
+            → Holds self.old i × Admits (token_of token.now) (slice_index text.old i) }
+        ensures moves { (i : ℕ) → i < length text.old → Holds self.old i
+            → Admits (token_of token.now) (slice_index text.old i) → Holds self.new (i + 1) }
+        ensures steps { steps.new.count ≡ steps.old.count + length self.old }
+    {
+        steps.add(self.count); // each position is moved
+        let kept = words::kept(self.first, text, token);
+        self.first = word::shifted(kept, 0);
+        words::step_over(&mut self.later, text, token, word::highest(kept));
+    }
+
+    /// Moves a position that is plainly alone over several tokens at once: over `token`, which is the first of `tokens`,
+    /// and on as long as each takes the next character. Returns how many tokens that were. If `token` does not take its
+    /// character, it is one token, and no position is left. If there is plainly no position to begin with, it is all of
+    /// them. It is 0, and nothing moves, if there may be several positions, or the one is the end of the text.
+    #[inline(always)]
+    pub(crate) fn run_over(
+        &mut self,
+        text: &Text,
+        token: &GlobToken,
+        tokens: &[GlobToken],
+        steps: &mut Steps,
+    ) -> usize
+        requires long { length self.old ≡ length text.now + 1 }
+        requires first { take 1 tokens.now ≡ token.now ∷ [] }
+        requires one { TakesOne (token_of token.now) }
+        ensures length { length self.new ≡ length self.old }
+        ensures short { result ≤ length tokens.now }
+        ensures moved { Moves (Matches (tokens_of (take result tokens.now))) text.now self.old self.new }
+        // Each position is counted, and a position that is alone as often as it is moved.
+        ensures counted { steps.old.count + length self.old ≤ steps.new.count }
+        ensures exactly { (i : ℕ) → Holds self.old i → steps.new.count ≡ steps.old.count + length self.old + result }
+        ensures once { result ≡ 0 → steps.new.count ≡ steps.old.count + length self.old }
+        ensures steps { steps.new.count ≤ steps.old.count + 2 * length self.old }
+    {
+        self.count_all(steps); // each position is looked at for another
+        let word = self.first;
+        if word == 0 {
+            if self.later.is_empty() {
+                return tokens.len();
+            }
+            return 0;
+        }
+        let position = word::lowest(word);
+        if word != word::only(position) || position as usize >= text.len() {
+            return 0;
+        }
+        if !words::are_none(&self.later) {
+            return 0;
+        }
+        let run = text.run(position as usize, token, tokens);
+        self.first = 0;
+        if run == 0 {
+            steps.add(1); // the position, whose next character is not taken
+            return 1;
+        }
+        steps.add(run); // the position, moved so often
+        self.hold(position as usize + run);
+        run
+    }
+
+    /// Whether it is plain that no position is left.
+    #[inline(always)]
+    pub(crate) fn is_none(&self, steps: &mut Steps) -> bool
+        ensures none { IsTrue result → (i : ℕ) → ¬ Holds self.now i }
+        ensures steps { steps.new.count ≡ steps.old.count + length self.now }
+    {
+        self.count_all(steps); // each position is looked at
+        self.first == 0 && self.later.is_empty()
+    }
+
+    /// Whether the last position is held.
+    #[inline(always)]
+    pub(crate) fn holds_last(&self) -> bool
+        ensures { IsTrue result ↔ Holds self.now (length self.now - 1) }
+    {
+        self.count > 0 && self.holds(self.count - 1)
+    }
+
+    /// Counts a step for each position.
+    fn count_all(&self, steps: &mut Steps)
+        ensures { steps.new.count ≡ steps.old.count + length self.now }
+    {
+        steps.add(self.count);
+    }
+
+    /// Whether this position is held.
+    #[inline(always)]
+    fn holds(&self, position: usize) -> bool
+        requires { position < length self.now }
+        ensures { IsTrue result ↔ Holds self.now position }
+    {
+        if position < 64 {
+            word::has(self.first, position)
+        } else {
+            word::has(self.later[position / 64 - 1], position % 64)
+        }
+    }
+
+    /// Adds this position.
+    fn hold(&mut self, position: usize)
+        requires { position < length self.old }
+        ensures length { length self.new ≡ length self.old }
+        ensures held { (i : ℕ) → Holds self.new i ↔ ((i ≡ position) ⊎ Holds self.old i) }
+    {
+        if position < 64 {
+            self.first = word::with(self.first, position);
+        } else {
+            let word = &mut self.later[position / 64 - 1];
+            *word = word::with(*word, position % 64);
+        }
+    }
+}
