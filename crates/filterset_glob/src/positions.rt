@@ -61,7 +61,11 @@ impl Positions {
     }
 
     /// A copy of the set.
-    pub(crate) fn try_clone(&self, alloc: Global, steps: &mut Steps) -> Result<Positions, AllocError>
+    pub(crate) fn try_clone(
+        &self,
+        alloc: Global,
+        steps: &mut Steps,
+    ) -> Result<Positions, AllocError>
         ensures copy { IfOk result (λ positions. positions ≡ self.now) }
         ensures no_memory { length self.now ≤ 64 → IsOk result }
         ensures steps { steps.new.count ≡ steps.old.count + length self.now }
