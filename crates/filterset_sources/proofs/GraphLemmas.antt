@@ -10,7 +10,7 @@ use Rattle.std.proofs.lemmas.Option.{none-some, slice_get-get_or, slice_get_with
 use Rattle.filterset_graph.specs.Index.{PositionsAre, index_of}
 use Rattle.filterset_graph.specs.Packages.{Text, AllDiffer, IsUnknownLink, LinksKnown, ids}
 use Rattle.filterset_graph.specs.declared.package.PackageMetadata.{PackageMetadata}
-use Rattle.filterset_graph.proofs.Places.{place_from_Contains, Contains-from_place, element_from_mapped, mapped_at}
+use Rattle.filterset_graph.proofs.Positions.{position_from_Contains, Contains-from_position, element_from_mapped, mapped_at}
 use Rattle.filterset_graph.proofs.Rows.{PositionsAre-IsFirstRepeat, PositionsAre-push}
 use Rattle.filterset_sources.specs.Metadata.{AreLinked, HasLinksOf, IsGraphOf, IsKnown, IsLinkedAs, IsPlaced, IsWhole, NamesKnown, NamesPackages, itself, links_of, node_ids}
 use Rattle.filterset_sources.specs.declared.metadata.parts.Dependency.{Dependency}
@@ -46,11 +46,11 @@ placed_more names at id key old new earlier within read copy placed found missin
 pub IsKnown-Contains : (places : BTreeMap Text ℕ) (names : List Text) (id : Text) → PositionsAre places names → IsKnown places id → Contains names id
 IsKnown-Contains places names id placed known =
     let k = some_of (index_of places id) known in
-    Contains-from_place names id k.0 ((placed id k.0).0 k.1)
+    Contains-from_position names id k.0 ((placed id k.0).0 k.1)
 
 pub Contains-IsKnown : (places : BTreeMap Text ℕ) (names : List Text) (id : Text) → PositionsAre places names → Contains names id → IsKnown places id
 Contains-IsKnown places names id placed found =
-    let k = place_from_Contains names id found in
+    let k = position_from_Contains names id found in
     ap is_some ((placed id k.0).1 k.1)
 
 -- what holds of each element, seen through a function
@@ -89,7 +89,7 @@ All-done P xs i le all = subst (All P) (take_all i xs le) all
 -- a link that names no package is not among links that do
 pub unknown-link : (ps : List PackageMetadata) (owner link : ℕ) → IsUnknownLink ps owner link → LinksKnown ps → ⊥
 unknown-link ps owner link (p, id, at, here, unknown) known =
-    unknown (All-at (Contains (ids ps)) p.links.items id (All-at (λ (q : PackageMetadata). All (Contains (ids ps)) q.links.items) ps p known (Contains-from_place ps p owner at)) (Contains-from_place p.links.items id link here))
+    unknown (All-at (Contains (ids ps)) p.links.items id (All-at (λ (q : PackageMetadata). All (Contains (ids ps)) q.links.items) ps p known (Contains-from_position ps p owner at)) (Contains-from_position p.links.items id link here))
 
 -- members and nodes that are known stand in the list, and the other way round
 pub members-Contained : (places : BTreeMap Text ℕ) (names members : List Text) → PositionsAre places names → All (IsKnown places) members → All (Contains names) members
@@ -126,11 +126,11 @@ pub links-of_node : (places : BTreeMap Text ℕ) (nodes : List Node) (id : Text)
 links-of_node places nodes id at node links placed found read are =
     let e = element_from_mapped (λ (n : Node). n.id) nodes at id ((placed id at).0 found) in
     let same : node ≡ e.0 = read ∙ get_or_from_slice_get nodes at e.0 node e.1 in
-    inl (node, subst (Contains nodes) (sym same) (Contains-from_place nodes e.0 at e.1), ap (λ (n : Node). n.id) same ∙ e.2, are)
+    inl (node, subst (Contains nodes) (sym same) (Contains-from_position nodes e.0 at e.1), ap (λ (n : Node). n.id) same ∙ e.2, are)
 
 pub links-of_none : (places : BTreeMap Text ℕ) (nodes : List Node) (id : Text) (links : List Text) → PositionsAre places (node_ids nodes) → index_of places id ≡ None → links ≡ [] → HasLinksOf nodes id links
 links-of_none places nodes id links placed none are =
-    inr ((λ found. let k = place_from_Contains (node_ids nodes) id found in none-some k.0 (sym none ∙ (placed id k.0).1 k.1)), are)
+    inr ((λ found. let k = position_from_Contains (node_ids nodes) id found in none-some k.0 (sym none ∙ (placed id k.0).1 k.1)), are)
 
 -- one more package that is linked
 pub linked_push : (members : BTreeMap Text ℕ) (nodes : List Node) (all yielded : List PackageMetadata) (p q : PackageMetadata) → AreLinked members nodes yielded all → itself q ≡ itself p → IsLinkedAs members nodes q → AreLinked members nodes (yielded ++ p ∷ []) (all ++ q ∷ [])
@@ -188,5 +188,5 @@ found_says (Some x) N P tested says looked is = (x, says)
 -- the id of a package is among the ids
 pub Contains-id : (ps : List PackageMetadata) (p : PackageMetadata) (id : Text) → Contains ps p → p.id ≡ id → Contains (ids ps) id
 Contains-id ps p id found same =
-    let k = place_from_Contains ps p found in
-    Contains-from_place (ids ps) id k.0 (mapped_at (λ (q : PackageMetadata). q.id) ps k.0 p k.1 ∙ ap Some same)
+    let k = position_from_Contains ps p found in
+    Contains-from_position (ids ps) id k.0 (mapped_at (λ (q : PackageMetadata). q.id) ps k.0 p k.1 ∙ ap Some same)
