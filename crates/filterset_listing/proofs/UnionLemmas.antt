@@ -3,12 +3,12 @@ use Rattle.std.proofs.Common.{◌≡◌, ◌≢◌, List, [], ◌∷◌, ◌++�
 use Rattle.std.specs.Prelude.{◌↔◌, ◌⊎◌, MatchOption, Option, Some, None}
 use Rattle.std.specs.Global.{Box}
 use Rattle.filterset_expression.specs.declared.logic.Connective.TheVariants.{Disjunction}
-use Rattle.filterset_expression.specs.Expression.{CompiledLeaf, Holds, HoldsOfTest, formula, leaf_with_default}
-use Rattle.filterset_expression.specs.Formula.{Compound, Formula, TrueWhere, replaced}
+use Rattle.filterset_expression.specs.Expression.{All, CompiledLeaf, Holds, HoldsOfTest, formula, leaf_with_default}
+use Rattle.filterset_expression.specs.Formula.{Compound, Formula, Leaf, TrueWhere, replaced}
 use Rattle.filterset_expression.specs.declared.expression.CompiledExpr.{CompiledExpr}
 use Rattle.filterset_expression.specs.declared.query.TestQuery.{TestQuery}
 use Rattle.filterset_listing.specs.Asking.{in_global}
-use Rattle.filterset_listing.specs.Union.{HoldsOfAny, IsUnion, OneHolds}
+use Rattle.filterset_listing.specs.Union.{IsUnion, OneHolds}
 
 -- a formula holds of a test
 abbrev HoldsAt : TestQuery → CompiledExpr → Formula CompiledLeaf → Type 0
@@ -30,6 +30,12 @@ OneHolds-push test default (e ∷ exprs) expr =
         | inr are ↦ elim (further.1 are) [ inl these ↦ inl (inr these) | inr is ↦ inr is ]
       ],
     )
+
+-- the set holds of exactly the tests that one of the sets holds of
+abbrev pub HoldsOfAny : List CompiledExpr → CompiledExpr → Type 0
+HoldsOfAny exprs union =
+    (test : TestQuery) (default : CompiledExpr)
+    → Holds union test default in_global ↔ OneHolds test default exprs
 
 -- the first set
 pub HoldsOfAny-one : (expr union : CompiledExpr) → formula union ≡ formula expr → HoldsOfAny (expr ∷ []) union
@@ -53,9 +59,14 @@ HoldsOfAny-push exprs before expr union are is test default =
     )
 
 -- where there are sets
-pub IsUnion-of : (exprs : List CompiledExpr) (union : CompiledExpr) → exprs ≢ [] → HoldsOfAny exprs union → IsUnion exprs union
-IsUnion-of [] union some are = absurd (some refl)
-IsUnion-of (expr ∷ exprs) union some are = are
+pub IsUnion-some : (exprs : List CompiledExpr) (union : CompiledExpr) → exprs ≢ [] → HoldsOfAny exprs union → IsUnion exprs union
+IsUnion-some [] union some are = absurd (some refl)
+IsUnion-some (expr ∷ exprs) union some are = are
+
+-- where there is none
+pub IsUnion-none : (exprs : List CompiledExpr) (union : CompiledExpr) → exprs ≡ [] → formula union ≡ Leaf All → IsUnion exprs union
+IsUnion-none [] union none is test default = (λ holds. tt, λ any. subst (HoldsAt test default) (sym is) tt)
+IsUnion-none (expr ∷ exprs) union none is = cc
 
 pub snoc-some : {A : Type 0} (xs : List A) (x : A) → xs ++ x ∷ [] ≢ []
 snoc-some [] x e = cc

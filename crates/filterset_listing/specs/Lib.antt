@@ -4,3 +4,4 @@ pub mod Comparing
 pub mod Writing
 pub mod Comparison
 pub mod Union
+pub mod Selection

@@ -8,6 +8,7 @@ mod comparison;
 mod counting;
 mod global;
 mod listing;
+mod selection;
 mod union;
 mod writing;
 
@@ -16,5 +17,5 @@ pub use comparing::{Compared, compare};
 pub use comparison::{comparison_text, differ};
 pub use global::GlobalLookup;
 pub use listing::{Section, list};
-pub use union::union_of;
+pub use selection::selection_of;
 pub use writing::list_text;
