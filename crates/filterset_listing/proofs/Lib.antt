@@ -1,2 +1,3 @@
 pub mod ListingLemmas
 pub mod UnionLemmas
+pub mod SelectionLemmas

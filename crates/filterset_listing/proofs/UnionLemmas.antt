@@ -3,15 +3,15 @@ use Rattle.std.proofs.Common.{◌≡◌, ◌≢◌, List, [], ◌∷◌, ◌++�
 use Rattle.std.specs.Prelude.{◌↔◌, ◌⊎◌, MatchOption, Option, Some, None}
 use Rattle.std.specs.Global.{Box}
 use Rattle.filterset_expression.specs.declared.logic.Connective.TheVariants.{Disjunction}
-use Rattle.filterset_expression.specs.Expression.{All, CompiledLeaf, Holds, HoldsOfTest, formula, leaf_with_default}
-use Rattle.filterset_expression.specs.Formula.{Compound, Formula, Leaf, TrueWhere, replaced}
+use Rattle.filterset_expression.specs.Expression.{CompiledLeaf, Holds, HoldsOfTest, formula, leaf_with_default}
+use Rattle.filterset_expression.specs.Formula.{Compound, Formula, TrueWhere, replaced}
 use Rattle.filterset_expression.specs.declared.expression.CompiledExpr.{CompiledExpr}
 use Rattle.filterset_expression.specs.declared.query.TestQuery.{TestQuery}
 use Rattle.filterset_listing.specs.Asking.{in_global}
 use Rattle.filterset_listing.specs.Union.{IsUnion, OneHolds}
 
 -- a formula holds of a test
-abbrev HoldsAt : TestQuery → CompiledExpr → Formula CompiledLeaf → Type 0
+abbrev pub HoldsAt : TestQuery → CompiledExpr → Formula CompiledLeaf → Type 0
 HoldsAt test default f = TrueWhere (HoldsOfTest test in_global) (replaced (leaf_with_default default) f)
 
 -- one of the sets, or one more
@@ -62,11 +62,6 @@ HoldsOfAny-push exprs before expr union are is test default =
 pub IsUnion-some : (exprs : List CompiledExpr) (union : CompiledExpr) → exprs ≢ [] → HoldsOfAny exprs union → IsUnion exprs union
 IsUnion-some [] union some are = absurd (some refl)
 IsUnion-some (expr ∷ exprs) union some are = are
-
--- where there is none
-pub IsUnion-none : (exprs : List CompiledExpr) (union : CompiledExpr) → exprs ≡ [] → formula union ≡ Leaf All → IsUnion exprs union
-IsUnion-none [] union none is test default = (λ holds. tt, λ any. subst (HoldsAt test default) (sym is) tt)
-IsUnion-none (expr ∷ exprs) union none is = cc
 
 pub snoc-some : {A : Type 0} (xs : List A) (x : A) → xs ++ x ∷ [] ≢ []
 snoc-some [] x e = cc
