@@ -11,10 +11,7 @@ use filterset_expression::{CompiledExpr, Connective, FiltersetLeaf};
 use std::alloc::{AllocError, Global};
 
 /// Those tests of a set that the default filter picks too.
-fn within_default(
-    alloc: Global,
-    expr: Box<CompiledExpr>,
-) -> Result<Box<CompiledExpr>, AllocError>
+fn within_default(alloc: Global, expr: Box<CompiledExpr>) -> Result<Box<CompiledExpr>, AllocError>
     ensures { IfOk result (λ made. formula made.value ≡ Compound Conjunction (Leaf Default) (formula expr.value)) }
 {
     let default = Box::new(alloc, CompiledExpr::Set(FiltersetLeaf::Default))?;
