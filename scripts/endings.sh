@@ -58,6 +58,7 @@ data=crates/filterset_command/data
 workspace=(--cargo-metadata "$data/cargo-metadata.json" --nextest-list "$data/nextest-list.json")
 printf '{"rust-suites":{"lexer":{"package-id":"path+file:///w/lexer#0.1.0","binary-id":"lexer","binary-name":"lexer","kind":1}}}' > "$room/list"
 printf '{"rust-suites":{"lexer":{"package-id":"none","binary-id":"lexer","binary-name":"lexer","kind":"lib","build-platform":"target","status":"listed","testcases":{}}}}' > "$room/unknown"
+printf '{' > "$room/cut"
 ends "listed" "$room/lines" "$room/wrote" 0 "" "$people" list "${workspace[@]}" -E 'deps(parser)' -E 'test(~slow)'
 ends "listed, with faults" "$room/lines" "$room/wrote" 1 "" "$people" list "${workspace[@]}" -E 'package(none)'
 ends "compared, the same" "$room/lines" "$room/wrote" 0 "" "$people" compare "${workspace[@]}" 'all()' 'default()'
@@ -69,7 +70,7 @@ ends "explained of no binary" "$room/lines" "$room/wrote" 2 "error: the list has
 ends "explained of no test" "$room/lines" "$room/wrote" 2 "error: the list has no test \`none\` of the binary \`lexer\`" "$people" explain "${workspace[@]}" -E 'all()' lexer none
 ends "a list with a wrong value" "$room/lines" "$room/wrote" 2 "error: $room/list: \`rust-suites.lexer.kind\` must be a text" "$people" list --cargo-metadata "$data/cargo-metadata.json" --nextest-list "$room/list"
 ends "listed, with faults of the default filter" "$room/lines" "$room/wrote" 1 "" "$people" list "${workspace[@]}" --default-filter 'default()' -E 'all()'
-ends "a list that is no JSON" "$room/lines" "$room/wrote" 2 "error: $room/lines: not JSON: expected value at line 1 column 1" "$people" list --cargo-metadata "$data/cargo-metadata.json" --nextest-list "$room/lines"
+ends "a list that is no JSON" "$room/lines" "$room/wrote" 2 "error: $room/cut: not JSON: EOF while parsing at line 1 column 1" "$people" list --cargo-metadata "$data/cargo-metadata.json" --nextest-list "$room/cut"
 ends "a list of an unknown package" "$room/lines" "$room/wrote" 2 "error: $room/unknown: \`rust-suites.lexer.package-id\` must be the id of a package of cargo's metadata" "$people" list --cargo-metadata "$data/cargo-metadata.json" --nextest-list "$room/unknown"
 ends "explained of two filtersets" "$room/lines" "$room/wrote" 2 "error: the argument '--filterset <TEXT>' cannot be used multiple times
 

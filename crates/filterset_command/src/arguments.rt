@@ -90,7 +90,7 @@ fn with_workspace<'a>(alloc: Global, command: Command<'a>) -> Result<Command<'a>
         .long("default-filter")
         .value_name("TEXT")
         .default_value("all()")
-        .help("the filterset that stands for `default()`");
+        .help("the default filter, which stands for `default()`");
     command
         .arg(metadata(alloc).required(true))?
         .arg(list)?
@@ -110,7 +110,9 @@ fn list<'a>(alloc: Global) -> Result<Command<'a>, AllocError> {
         .long("ignore-default-filter")
         .action(ArgAction::SetTrue)
         .help("lists also what the default filter does not pick");
-    let format = message_format(alloc).help("how the tests are written: in nextest's shape as JSON");
+    let format = message_format(alloc).help(
+        "how the tests are written; `json` is nextest's own shape",
+    );
     let command = Command::new(alloc, "list").about("Lists the tests that filtersets pick");
     with_workspace(alloc, command)?
         .arg(ignore)?

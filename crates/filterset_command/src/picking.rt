@@ -112,7 +112,8 @@ fn answered(
     let context = EvalContext::new(&default);
     match question {
         Question::List {
-            ignores_default, ..
+            ignores_default,
+            ..
         } => listed(alloc, filters, *ignores_default, &context, kept, binaries),
         Question::Compare { has_names, .. } => {
             compared(alloc, filters.as_slice(), &context, binaries, *has_names)
