@@ -5,3 +5,4 @@ pub mod Writing
 pub mod Comparison
 pub mod Union
 pub mod Selection
+pub mod Marking
