@@ -1,6 +1,9 @@
 //! What is picked of a list, in the shape in which nextest wrote the list.
-ghost use Rattle.std.specs.Prelude.{◌≡◌, IfOk, List, drop, map, string_bytes};
-ghost use Rattle.serde_json.specs.Data.{Data};
+ghost use Rattle.std.specs.Prelude.{◌≡◌, IfErr, IfOk, IsTrue, List, None, OnOk, drop, false, map, string_bytes};
+ghost use Rattle.std.specs.BTreeMap.{insert_entry};
+ghost use Rattle.std.specs.String.{string_cmp};
+ghost use Rattle.serde_json.specs.Data.{Data, object};
+ghost use Rattle.serde_json.specs.Find.{as_object};
 ghost use Rattle.serde_json.specs.View.{members_view, view};
 ghost use Rattle.filterset_listing.specs.Asking.{Text};
 ghost use Rattle.filterset_listing.specs.Marking.{AreNames, IsListJson, MarksAt, MarksList, MarksObject, MarksSuite, MarksSuites, MarksTest, MarksTests, first_tests, match_data};
@@ -21,6 +24,46 @@ trait Mark {
         ensures { IfOk result (λ marked. marks self.now (view value) (view marked)) };
 }
 
+/// The members of an object, or a value that is none.
+fn members_of(value: Value) -> Result<Map<String, Value>, Value>
+    ensures members { IfOk result (λ members. view value ≡ object (members_view members.entries)) }
+    ensures other { IfErr result (λ other. (other ≡ value) × (as_object (view other) ≡ None)) }
+{
+    match value {
+        Value::Object(members) => Ok(members),
+        Value::Null => Err(Value::Null),
+        Value::Bool(answer) => Err(Value::Bool(answer)),
+        Value::Number(number) => Err(Value::Number(number)),
+        Value::String(text) => Err(Value::String(text)),
+        Value::Array(values) => Err(Value::Array(values)),
+    }
+}
+
+/// Puts a member in.
+fn put_in(members: &mut Map<String, Value>, key: String, value: Value) -> Result<(), AllocError>
+    ensures { OnOk result (members.new.entries ≡ insert_entry string_cmp members.old.entries key value) }
+{
+    members.insert(key, value)?;
+    Ok(())
+}
+
+/// Changes a value, where it is so.
+fn marked_if<M: Mark>(
+    alloc: Global,
+    mark: &M,
+    value: Value,
+    is_so: bool,
+) -> Result<Value, AllocError>
+    ensures changed { IfOk result (λ marked. IsTrue is_so → M.marks mark.now (view value) (view marked)) }
+    ensures same { IfOk result (λ marked. is_so ≡ false → marked ≡ value) }
+{
+    if is_so {
+        mark.mark(alloc, value)
+    } else {
+        Ok(value)
+    }
+}
+
 /// Changes what stands under the key.
 fn marked_at<M: Mark>(
     alloc: Global,
@@ -33,11 +76,9 @@ fn marked_at<M: Mark>(
 {
     let mut marked = Map::new(alloc);
     for (name, value) in members {
-        if name.as_str() == key {
-            marked.insert(name, mark.mark(alloc, value)?)?;
-        } else {
-            marked.insert(name, value)?;
-        }
+        let is_there = name.as_str() == key;
+        let value = marked_if(alloc, mark, value, is_there)?;
+        put_in(&mut marked, name, value)?;
     }
     Ok(marked)
 }
@@ -57,13 +98,13 @@ fn match_value(alloc: Global, is_picked: bool) -> Result<Value, AllocError>
 fn marked_test(alloc: Global, test: Value, is_picked: bool) -> Result<Value, AllocError>
     ensures { IfOk result (λ marked. MarksObject (MarksTest is_picked) (view test) (view marked)) }
 {
-    match test {
-        Value::Object(mut members) => {
+    match members_of(test) {
+        Ok(mut members) => {
             let key = String::from_str(alloc, "filter-match")?;
-            members.insert(key, match_value(alloc, is_picked)?)?;
+            put_in(&mut members, key, match_value(alloc, is_picked)?)?;
             Ok(Value::Object(members))
         }
-        other => Ok(other),
+        Err(other) => Ok(other),
     }
 }
 
@@ -80,16 +121,13 @@ fn marked_tests(
     for (name, test) in tests {
         let is_picked = names.contains(name.as_str());
         let test = marked_test(alloc, test, is_picked)?;
-        marked.insert(name, test)?;
+        put_in(&mut marked, name, test)?;
     }
     Ok(marked)
 }
 
 /// The names of tests, to look for one.
-fn names_of<'s>(
-    alloc: Global,
-    tests: &[&'s TestCaseName],
-) -> Result<BTreeSet<&'s str>, AllocError>
+fn names_of<'s>(alloc: Global, tests: &[&'s TestCaseName]) -> Result<BTreeSet<&'s str>, AllocError>
     ensures { IfOk result (λ names. AreNames (map (λ t. t.now) tests.now) names) }
 {
     let mut names = BTreeSet::new(alloc);
@@ -112,30 +150,26 @@ impl Mark for PickedTests<'_, '_> {
     ghost marks = { λ m. MarksObject (MarksTests (map (λ t. t.now) m.tests.now)) };
 
     fn mark(&self, alloc: Global, value: Value) -> Result<Value, AllocError> {
-        match value {
-            Value::Object(tests) => {
+        match members_of(value) {
+            Ok(tests) => {
                 let names = names_of(alloc, self.tests)?;
                 Ok(Value::Object(marked_tests(alloc, tests, &names)?))
             }
-            other => Ok(other),
+            Err(other) => Ok(other),
         }
     }
 }
 
 /// A suite whose tests say whether they are picked.
-fn marked_suite(
-    alloc: Global,
-    suite: Value,
-    tests: &[&TestCaseName],
-) -> Result<Value, AllocError>
+fn marked_suite(alloc: Global, suite: Value, tests: &[&TestCaseName]) -> Result<Value, AllocError>
     ensures { IfOk result (λ marked. MarksSuite (map (λ t. t.now) tests.now) (view suite) (view marked)) }
 {
-    match suite {
-        Value::Object(members) => {
+    match members_of(suite) {
+        Ok(members) => {
             let mark = PickedTests { tests };
             Ok(Value::Object(marked_at(alloc, members, "testcases", &mark)?))
         }
-        other => Ok(other),
+        Err(other) => Ok(other),
     }
 }
 
@@ -172,7 +206,7 @@ fn marked_suites(
     let mut left = sections;
     for (id, suite) in suites {
         let suite = marked_suite(alloc, suite, first_tests(left))?;
-        marked.insert(id, suite)?;
+        put_in(&mut marked, id, suite)?;
         left = other_sections(left);
     }
     Ok(marked)
@@ -190,27 +224,23 @@ impl Mark for PickedSuites<'_, '_> {
     ghost marks = { λ m. MarksObject (MarksSuites m.sections.now) };
 
     fn mark(&self, alloc: Global, value: Value) -> Result<Value, AllocError> {
-        match value {
-            Value::Object(suites) => Ok(Value::Object(marked_suites(alloc, suites, self.sections)?)),
-            other => Ok(other),
+        match members_of(value) {
+            Ok(suites) => Ok(Value::Object(marked_suites(alloc, suites, self.sections)?)),
+            Err(other) => Ok(other),
         }
     }
 }
 
 /// A list whose tests say whether they are picked.
-fn marked_list(
-    alloc: Global,
-    list: Value,
-    sections: &[Section<'_>],
-) -> Result<Value, AllocError>
+fn marked_list(alloc: Global, list: Value, sections: &[Section<'_>]) -> Result<Value, AllocError>
     ensures { IfOk result (λ marked. MarksList sections.now (view list) (view marked)) }
 {
-    match list {
-        Value::Object(members) => {
+    match members_of(list) {
+        Ok(members) => {
             let mark = PickedSuites { sections };
             Ok(Value::Object(marked_at(alloc, members, "rust-suites", &mark)?))
         }
-        other => Ok(other),
+        Err(other) => Ok(other),
     }
 }
 
@@ -219,11 +249,7 @@ fn marked_list(
 /// sections are those of the suites of the list, in the order of their ids.
 ///
 /// The only error is out of memory.
-pub fn list_json(
-    alloc: Global,
-    list: Value,
-    sections: &[Section<'_>],
-) -> Result<String, AllocError>
+pub fn list_json(alloc: Global, list: Value, sections: &[Section<'_>]) -> Result<String, AllocError>
     ensures { IfOk result (λ text. IsListJson sections.now (view list) (string_bytes text)) }
 {
     marked_list(alloc, list, sections)?.to_string(alloc)
