@@ -15,6 +15,6 @@ returns-in-List c =
     let binaries = c.args.binaries.now in
     let all : c.args.exprs.items ≡ default ∷ filters = search rules in
     IfOk-weaker c.listed.result _ _ (λ outcome lists.
-      subst (λ question. TellsOf question c.args.exprs.items kept binaries outcome.ending (string_bytes outcome.text)) (sym c.in-List.is) (
-        subst (λ exprs. TellsOf listing exprs kept binaries outcome.ending (string_bytes outcome.text)) (sym all) (rw c.new-context.ensures at lists)
-      )) c.listed.ensures
+    subst (λ question. TellsOf question c.args.exprs.items kept binaries outcome.ending (string_bytes outcome.text)) (sym c.in-List.is) (
+    subst (λ exprs. TellsOf listing exprs kept binaries outcome.ending (string_bytes outcome.text)) (sym all) (rw c.new-context.ensures at lists)
+    )) c.listed.ensures
