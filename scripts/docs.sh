@@ -50,6 +50,16 @@ drawings() {
     pass
 }
 
+# The program for people writes the list that is stored, for what filtersets pick of the stored workspace.
+listing() {
+    local list=$1 data=crates/filterset_command/data
+    shift
+    timeout 60 "$people" list --cargo-metadata "$data/cargo-metadata.json" --nextest-list "$data/nextest-list.json" "$@" > "$room/wrote" 2> "$room/said"
+    if [ -s "$room/said" ]; then fail "$list" "it said '$(head -c 200 "$room/said")'"; return; fi
+    if ! cmp "$list" "$room/wrote" > "$room/why"; then fail "$list" "another list: $(head -1 "$room/why")"; return; fi
+    pass
+}
+
 people=crates/filterset_command/out/filterset_command
 need "$program"
 need "$people"
@@ -58,6 +68,7 @@ for report in examples/*.report; do
     [ -f "${report%.report}.json" ] || fail "$report" "there is no record of it"
 done
 drawings
+listing examples/picked.list -E 'deps(parser) and not test(~slow)' --message-format json
 holds "reports that pages show" scripts/pages.py shown "$program"
 holds "answers that pages show" scripts/pages.py answers "$people"
 

@@ -57,6 +57,8 @@ ends "faults that cannot be written" "$room/lines" /dev/full 3 "write failed" "$
 data=crates/filterset_command/data
 workspace=(--cargo-metadata "$data/cargo-metadata.json" --nextest-list "$data/nextest-list.json")
 printf '{"rust-suites":{"lexer":{"package-id":"path+file:///w/lexer#0.1.0","binary-id":"lexer","binary-name":"lexer","kind":1}}}' > "$room/list"
+printf '{"rust-suites":{"lexer":{"package-id":"none","binary-id":"lexer","binary-name":"lexer","kind":"lib","build-platform":"target","status":"listed","testcases":{}}}}' > "$room/unknown"
+printf '{' > "$room/cut"
 ends "listed" "$room/lines" "$room/wrote" 0 "" "$people" list "${workspace[@]}" -E 'deps(parser)' -E 'test(~slow)'
 ends "listed, with faults" "$room/lines" "$room/wrote" 1 "" "$people" list "${workspace[@]}" -E 'package(none)'
 ends "compared, the same" "$room/lines" "$room/wrote" 0 "" "$people" compare "${workspace[@]}" 'all()' 'default()'
@@ -67,6 +69,14 @@ ends "explained, with faults" "$room/lines" "$room/wrote" 1 "" "$people" explain
 ends "explained of no binary" "$room/lines" "$room/wrote" 2 "error: the list has no test binary \`none\`" "$people" explain "${workspace[@]}" -E 'all()' none
 ends "explained of no test" "$room/lines" "$room/wrote" 2 "error: the list has no test \`none\` of the binary \`lexer\`" "$people" explain "${workspace[@]}" -E 'all()' lexer none
 ends "a list with a wrong value" "$room/lines" "$room/wrote" 2 "error: $room/list: \`rust-suites.lexer.kind\` must be a text" "$people" list --cargo-metadata "$data/cargo-metadata.json" --nextest-list "$room/list"
+ends "listed, with faults of the default filter" "$room/lines" "$room/wrote" 1 "" "$people" list "${workspace[@]}" --default-filter 'default()' -E 'all()'
+ends "a list that is no JSON" "$room/lines" "$room/wrote" 2 "error: $room/cut: not JSON: EOF while parsing at line 1 column 1" "$people" list --cargo-metadata "$data/cargo-metadata.json" --nextest-list "$room/cut"
+ends "a list of an unknown package" "$room/lines" "$room/wrote" 2 "error: $room/unknown: \`rust-suites.lexer.package-id\` must be the id of a package of cargo's metadata" "$people" list --cargo-metadata "$data/cargo-metadata.json" --nextest-list "$room/unknown"
+ends "explained of two filtersets" "$room/lines" "$room/wrote" 2 "error: the argument '--filterset <TEXT>' cannot be used multiple times
+
+Usage: filterset_command explain [OPTIONS] --cargo-metadata <FILE> --nextest-list <FILE> --filterset <TEXT> <BINARY_ID> [TEST]
+
+For more information, try '--help'." "$people" explain "${workspace[@]}" -E 'all()' -E 'none()' lexer
 ends "a file that is no text" "$room/lines" "$room/wrote" 2 "error: $room/bytes: not UTF-8" "$people" list --cargo-metadata "$room/bytes" --nextest-list "$data/nextest-list.json"
 ends "a file that is not there" "$room/lines" "$room/wrote" 3 "error: $room/none: cannot be read: No such file or directory (os error 2)" "$people" list --cargo-metadata "$room/none" --nextest-list "$data/nextest-list.json"
 ends "a list that cannot be written" "$room/lines" /dev/full 3 "write failed" "$people" list "${workspace[@]}"

@@ -32,7 +32,7 @@ default_first packages groups question default (row ∷ rows) (expr ∷ exprs) a
 -- after it there are two, where two are compared
 pub pair_after : (packages : List PackageMetadata) (groups : KnownGroups) (question : Question) (default : Text) (rows : List TextRow) (exprs : List CompiledExpr)
     → AreAskedRows default question rows → AllZip (IsExpressionOf packages groups) rows exprs → IsPairFor question exprs
-pair_after packages groups (questions.List filters) default rows exprs asked are = tt
+pair_after packages groups (questions.List filters ignores_default) default rows exprs asked are = tt
 pair_after packages groups (questions.Compare first second has_names) default [] exprs asked are = absurd asked
 pair_after packages groups (questions.Compare first second has_names) default (row ∷ rows) exprs asked are =
     let both = texts_long kinds.Test (filter_texts (questions.Compare first second has_names)) rows asked.2 in

@@ -15,7 +15,7 @@ HaveTexts kind texts rows =
 
 -- the filtersets that a question is about
 abbrev pub filter_texts : Question → List Text
-filter_texts (questions.List filters) = map (λ s. string_bytes s) filters.items
+filter_texts (questions.List filters ignores_default) = map (λ s. string_bytes s) filters.items
 filter_texts (questions.Compare first second has_names) = string_bytes first ∷ string_bytes second ∷ []
 
 -- the rows of a question: the default filter, and then the filtersets, which are to be ones of tests

@@ -2,6 +2,7 @@
 use Rattle.std.specs.Prelude.{◌≡◌, List, All, Bool, true, false, Option, Some, IfSome, string_bytes}
 use Rattle.serde_json.specs.Data.{Data}
 use Rattle.serde_json.specs.Read.{read}
+use Rattle.serde_json.specs.View.{view}
 use Rattle.filterset_drawing.specs.Columns.{Text}
 use Rattle.filterset_graph.specs.Packages.{ids}
 use Rattle.filterset_graph.specs.declared.package.PackageMetadata.{PackageMetadata}
@@ -22,16 +23,17 @@ IsJsonOf content d = IfSome content (λ bytes. read bytes ≡ Some d)
 abbrev pub ArePackagesIn : Option Text → List PackageMetadata → Type 0
 ArePackagesIn content packages = (d : Data) × IsJsonOf content d × IsMetadata d packages
 
--- the file lists these suites, each of one of the packages
-abbrev pub AreSuitesIn : Option Text → List PackageMetadata → List Suite → Type 0
-AreSuitesIn content packages suites =
-    (d : Data) × IsJsonOf content d × IsTestList d suites × All (IsOfPackage (ids packages)) suites
+-- the file is this JSON value, which lists these suites, each of one of the packages
+abbrev pub AreSuitesIn : Option Text → List PackageMetadata → Data → List Suite → Type 0
+AreSuitesIn content packages d suites =
+    IsJsonOf content d × IsTestList d suites × All (IsOfPackage (ids packages)) suites
 
 -- what the files at the paths say of the workspace
 abbrev pub IsWorkspaceIn : (Text → Option Text) → WorkspacePaths → Workspace → Type 0
 IsWorkspaceIn content paths workspace =
     ArePackagesIn (content (string_bytes paths.metadata)) workspace.graph
-    × AreSuitesIn (content (string_bytes paths.list)) workspace.graph workspace.list.suites.items
+    × AreSuitesIn (content (string_bytes paths.list)) workspace.graph (view workspace.value)
+    workspace.list.suites.items
 
 abbrev pub is_skipped : SuiteStatus → Bool
 is_skipped Listed = false

@@ -30,6 +30,15 @@ fn color<'a>(alloc: Global) -> Arg<'a> {
         .help("whether what is written has colours")
 }
 
+/// Whether what is written is for people.
+fn message_format<'a>(alloc: Global) -> Arg<'a> {
+    Arg::new(alloc, "format")
+        .long("message-format")
+        .value_name("FORMAT")
+        .value_parser(FORMATS.as_slice())
+        .default_value("human")
+}
+
 /// The file of the packages.
 fn metadata<'a>(alloc: Global) -> Arg<'a> {
     Arg::new(alloc, "metadata")
@@ -46,12 +55,7 @@ fn check<'a>(alloc: Global) -> Result<Command<'a>, AllocError> {
         .value_parser(KINDS.as_slice())
         .default_value("test")
         .help("what the filtersets are for");
-    let format = Arg::new(alloc, "format")
-        .long("message-format")
-        .value_name("FORMAT")
-        .value_parser(FORMATS.as_slice())
-        .default_value("human")
-        .help("how faults are written");
+    let format = message_format(alloc).help("how faults are written");
     let config = Arg::new(alloc, "config")
         .long("config")
         .value_name("FILE")
@@ -86,7 +90,7 @@ fn with_workspace<'a>(alloc: Global, command: Command<'a>) -> Result<Command<'a>
         .long("default-filter")
         .value_name("TEXT")
         .default_value("all()")
-        .help("the filterset that stands for `default()`");
+        .help("the default filter, which stands for `default()`");
     command
         .arg(metadata(alloc).required(true))?
         .arg(list)?
@@ -102,8 +106,18 @@ fn list<'a>(alloc: Global) -> Result<Command<'a>, AllocError> {
         .value_name("TEXT")
         .action(ArgAction::Append)
         .help("a filterset; of several the union is taken, and without any the default filter");
+    let ignore = Arg::new(alloc, "ignore")
+        .long("ignore-default-filter")
+        .action(ArgAction::SetTrue)
+        .help("lists also what the default filter does not pick");
+    let format = message_format(alloc).help(
+        "how the tests are written; `json` is nextest's own shape",
+    );
     let command = Command::new(alloc, "list").about("Lists the tests that filtersets pick");
-    with_workspace(alloc, command)?.arg(filterset)
+    with_workspace(alloc, command)?
+        .arg(ignore)?
+        .arg(format)?
+        .arg(filterset)
 }
 
 /// The command `compare`.

@@ -86,7 +86,7 @@ fn filter_entries(alloc: Global, question: &Question) -> Result<Vec<TextEntry>, 
         HaveTexts kinds.Test (filter_texts question.now) (map text_row entries.items)) }
 {
     match question {
-        Question::List { filters } => {
+        Question::List { filters, .. } => {
             given_entries(alloc, "-E", FiltersetKind::Test, filters.as_slice())
         }
         Question::Compare { first, second, .. } => {

@@ -1,8 +1,9 @@
 //! What filtersets pick of a workspace.
-ghost use Rattle.std.specs.Prelude.{◌≡◌, IfErr, IfOk, length, string_bytes};
+ghost use Rattle.std.specs.Prelude.{◌≡◌, IfErr, IfOk, length, option_map, string_bytes};
+ghost use Rattle.serde_json.specs.View.{view};
 ghost use Rattle.filterset_expression.specs.Contexts.{default_of};
 ghost use Rattle.filterset_command.specs.Files.{NotWrite};
-ghost use Rattle.filterset_command.specs.Picking.{AnswersAsked, AnswersQuestion, Compares, IsGlobalOnly, IsPairFor, Lists, MayBeDefault, TellsOf};
+ghost use Rattle.filterset_command.specs.Picking.{AnswersAsked, AnswersQuestion, Compares, IsGlobalOnly, IsPairFor, Lists, MayBeDefault, TellsOf, WritesList, kept_of};
 
 use crate::ending::{Ending, differing_ending};
 use crate::entries::asked_entries;
@@ -10,10 +11,14 @@ use crate::fault::CommandFault;
 use crate::files::FileSource;
 use crate::outcome::Outcome;
 use crate::request::{Asked, Question};
-use crate::workspace::{asked_binaries, read_workspace};
+use crate::workspace::{Workspace, asked_binaries, read_workspace};
 use filterset_answers::{Compiled, Form, TextEntry, compile_texts};
-use filterset_listing::{AskedBinary, compare, comparison_text, differ, list, list_text, union_of};
+use filterset_listing::{
+    AskedBinary, Section, compare, comparison_text, differ, list, list_json, list_text,
+    selection_of,
+};
 use nextest_filtering::{CompiledExpr, EvalContext, KnownGroups, PackageGraph, ParseContext};
+use serde_json::Value;
 use std::alloc::{AllocError, Global};
 use std::collections::HashSet;
 
@@ -26,20 +31,46 @@ pub fn global_group(alloc: Global) -> KnownGroups
     }
 }
 
-/// The tests that one of the filtersets picks.
+/// What nextest wrote of the list, where the answer is to be in its shape.
+fn kept_of(form: Form, value: Value) -> Option<Value>
+    ensures { option_map view result ≡ kept_of form (view value) }
+{
+    match form {
+        Form::Json => Some(value),
+        Form::Drawn(_) => None,
+    }
+}
+
+/// Writes what is picked: in the shape of nextest's list, where that is kept, and else for people.
+fn list_answer(
+    alloc: Global,
+    kept: Option<Value>,
+    sections: &[Section<'_>],
+) -> Result<String, AllocError>
+    ensures { IfOk result (λ text. WritesList (option_map view kept) sections.now (string_bytes text)) }
+{
+    match kept {
+        Some(value) => list_json(alloc, value, sections),
+        None => list_text(alloc, sections),
+    }
+}
+
+/// The tests that a runner runs which is given these filtersets.
 fn listed(
     alloc: Global,
     filters: Vec<CompiledExpr>,
+    ignores_default: bool,
     context: &EvalContext<'_>,
+    kept: Option<Value>,
     binaries: &[AskedBinary<'_>],
 ) -> Result<Outcome, AllocError>
-    ensures { IfOk result (λ outcome. Lists (default_of context.now) filters.items binaries.now
-        outcome.ending (string_bytes outcome.text)) }
+    ensures { IfOk result (λ outcome. Lists ignores_default (default_of context.now) filters.items
+        (option_map view kept) binaries.now outcome.ending (string_bytes outcome.text)) }
 {
-    let union = union_of(alloc, filters)?;
-    let sections = list(alloc, &union, context, binaries)?;
+    let selection = selection_of(alloc, filters, ignores_default)?;
+    let sections = list(alloc, &selection, context, binaries)?;
     Ok(Outcome {
-        text: list_text(alloc, sections.as_slice())?,
+        text: list_answer(alloc, kept, sections.as_slice())?,
         ending: Ending::Fine,
     })
 }
@@ -68,18 +99,22 @@ fn answered(
     alloc: Global,
     question: &Question,
     exprs: Vec<CompiledExpr>,
+    kept: Option<Value>,
     binaries: &[AskedBinary<'_>],
 ) -> Result<Outcome, AllocError>
     requires default { MayBeDefault exprs.items }
     requires pair { IsPairFor question.now exprs.items }
-    ensures { IfOk result (λ outcome. TellsOf question.now exprs.items binaries.now
+    ensures { IfOk result (λ outcome. TellsOf question.now exprs.items (option_map view kept) binaries.now
         outcome.ending (string_bytes outcome.text)) }
 {
     let mut filters = exprs;
     let default = filters.remove(0);
     let context = EvalContext::new(&default);
     match question {
-        Question::List { .. } => listed(alloc, filters, &context, binaries),
+        Question::List {
+            ignores_default,
+            ..
+        } => listed(alloc, filters, *ignores_default, &context, kept, binaries),
         Question::Compare { has_names, .. } => {
             compared(alloc, filters.as_slice(), &context, binaries, *has_names)
         }
@@ -89,20 +124,20 @@ fn answered(
 /// What texts answer as filtersets, or their faults. The first text is the default filter.
 fn outcome_of(
     alloc: Global,
-    question: &Question,
-    form: Form,
-    default_filter: &str,
+    asked: &Asked,
+    kept: Option<Value>,
     graph: &PackageGraph,
     binaries: &[AskedBinary<'_>],
 ) -> Result<Outcome, AllocError>
-    ensures { IfOk result (λ outcome. AnswersQuestion question.now form default_filter.now graph.now binaries.now
+    ensures { IfOk result (λ outcome. AnswersQuestion asked.now (option_map view kept) graph.now binaries.now
         outcome.ending (string_bytes outcome.text)) }
 {
-    let entries = asked_entries(alloc, default_filter, question)?;
+    let (question, form) = (&asked.question, asked.form);
+    let entries = asked_entries(alloc, asked.default_filter.as_str(), question)?;
     let context = ParseContext::new(alloc, graph)?;
     let groups = global_group(alloc);
     match compile_texts(alloc, &context, &groups, form, entries.as_slice())? {
-        Compiled::Expressions(exprs) => answered(alloc, question, exprs, binaries),
+        Compiled::Expressions(exprs) => answered(alloc, question, exprs, kept, binaries),
         Compiled::Faults(answer) => Ok(Outcome {
             text: answer.text,
             ending: Ending::Faulty,
@@ -116,14 +151,8 @@ pub fn ask<F: FileSource>(alloc: Global, files: &F, asked: &Asked) -> Result<Out
         outcome.ending (string_bytes outcome.text)) }
     ensures no_write { IfErr result NotWrite }
 {
-    let workspace = read_workspace(alloc, files, &asked.paths)?;
-    let binaries = asked_binaries(alloc, workspace.list.suites.as_slice())?;
-    Ok(outcome_of(
-        alloc,
-        &asked.question,
-        asked.form,
-        asked.default_filter.as_str(),
-        &workspace.graph,
-        binaries.as_slice(),
-    )?)
+    let Workspace { graph, list, value } = read_workspace(alloc, files, &asked.paths)?;
+    let kept = kept_of(asked.form, value);
+    let binaries = asked_binaries(alloc, list.suites.as_slice())?;
+    Ok(outcome_of(alloc, asked, kept, &graph, binaries.as_slice())?)
 }

@@ -28,9 +28,10 @@ pub enum Texts {
 /// What filtersets are asked.
 #[derive(Debug, Drop)]
 pub enum Question {
-    /// Which tests one of them picks.
+    /// Which tests a runner runs that is given them, within the default filter, unless that is ignored.
     List {
         filters: Vec<String>,
+        ignores_default: bool,
     },
     /// How two of them differ, with the names of the tests or without.
     Compare {
@@ -98,8 +99,14 @@ fn requested(alloc: Global, matches: &ArgMatches<'_>) -> Result<Request, AllocEr
             form: Form::Drawn(color_of(own)),
             texts: texts_of(alloc, own)?,
         }),
-        Some(("list", own)) => asked_of(alloc, own, list_question(alloc, own)?),
-        Some(("compare", own)) => asked_of(alloc, own, compare_question(alloc, own)?),
+        Some(("list", own)) => {
+            let question = list_question(alloc, own)?;
+            asked_of(alloc, own, form_of(own), question)
+        }
+        Some(("compare", own)) => {
+            let question = compare_question(alloc, own)?;
+            asked_of(alloc, own, Form::Drawn(color_of(own)), question)
+        }
         Some(("explain", own)) => Ok(Request::Explain(explanation_of(alloc, own)?)),
         Some((_, own)) => check_of(alloc, own),
         // A command is required.
@@ -109,13 +116,9 @@ fn requested(alloc: Global, matches: &ArgMatches<'_>) -> Result<Request, AllocEr
 
 /// What `check` asks for.
 fn check_of(alloc: Global, matches: &ArgMatches<'_>) -> Result<Request, AllocError> {
-    let form = match matches.get_str("format") {
-        Some("json") => Form::Json,
-        _ => Form::Drawn(color_of(matches)),
-    };
     Ok(Request::Check {
         kind: kind_of(matches),
-        form,
+        form: form_of(matches),
         texts: texts_of(alloc, matches)?,
         paths: CheckPaths {
             metadata: given_of(alloc, matches, "metadata")?,
@@ -147,7 +150,10 @@ fn list_question(alloc: Global, matches: &ArgMatches<'_>) -> Result<Question, Al
     for text in matches.get_strs("filterset").unwrap_or(&[]) {
         filters.push(String::from_str(alloc, *text)?)?;
     }
-    Ok(Question::List { filters })
+    Ok(Question::List {
+        filters,
+        ignores_default: matches.get_flag("ignore"),
+    })
 }
 
 /// What is to be compared.
@@ -183,14 +189,23 @@ fn explanation_of(alloc: Global, matches: &ArgMatches<'_>) -> Result<Explanation
 fn asked_of(
     alloc: Global,
     matches: &ArgMatches<'_>,
+    form: Form,
     question: Question,
 ) -> Result<Request, AllocError> {
     Ok(Request::Ask(Asked {
         paths: paths_of(alloc, matches)?,
-        form: Form::Drawn(color_of(matches)),
+        form,
         default_filter: text_of(alloc, matches, "default")?,
         question,
     }))
+}
+
+/// How an answer is written: for people, or as JSON.
+fn form_of(matches: &ArgMatches<'_>) -> Form {
+    match matches.get_str("format") {
+        Some("json") => Form::Json,
+        _ => Form::Drawn(color_of(matches)),
+    }
 }
 
 /// Whether colours are asked for.

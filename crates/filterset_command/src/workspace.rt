@@ -33,6 +33,8 @@ pub struct WorkspacePaths {
 pub struct Workspace {
     pub graph: PackageGraph,
     pub list: TestList,
+    /// What the list was read from.
+    pub value: Value,
 }
 
 /// The JSON value that a file is.
@@ -77,19 +79,20 @@ fn checked_list(
     Ok(list)
 }
 
-/// The test binaries of a workspace of these packages.
+/// The test binaries of a workspace of these packages, and what they were read from.
 fn read_list<F: FileSource>(
     alloc: Global,
     files: &F,
     path: &str,
     graph: &PackageGraph,
-) -> Result<TestList, CommandFault>
-    ensures read { IfOk result (λ list. AreSuitesIn (F.content files.now path.now) graph.now list.suites.items) }
+) -> Result<(TestList, Value), CommandFault>
+    ensures read { IfOk result (λ both. AreSuitesIn (F.content files.now path.now) graph.now
+        (view both.1) both.0.suites.items) }
     ensures no_write { IfErr result NotWrite }
 {
     let value = read_value(alloc, files, path)?;
     match checked_list(alloc, &value, graph) {
-        Ok(list) => Ok(list),
+        Ok(list) => Ok((list, value)),
         Err(refusal) => Err(CommandFault::refused(alloc, path, refusal)),
     }
 }
@@ -104,8 +107,8 @@ pub fn read_workspace<F: FileSource>(
     ensures no_write { IfErr result NotWrite }
 {
     let graph = read_graph(alloc, files, paths.metadata.as_str())?;
-    let list = read_list(alloc, files, paths.list.as_str(), &graph)?;
-    Ok(Workspace { graph, list })
+    let (list, value) = read_list(alloc, files, paths.list.as_str(), &graph)?;
+    Ok(Workspace { graph, list, value })
 }
 
 /// The binary of a suite, to ask filtersets about.

@@ -1,3 +1,4 @@
 pub mod ListingLemmas
 pub mod UnionLemmas
+pub mod SelectionLemmas
 pub mod MarkingLemmas

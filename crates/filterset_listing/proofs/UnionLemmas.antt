@@ -8,10 +8,10 @@ use Rattle.filterset_expression.specs.Formula.{Compound, Formula, TrueWhere, rep
 use Rattle.filterset_expression.specs.declared.expression.CompiledExpr.{CompiledExpr}
 use Rattle.filterset_expression.specs.declared.query.TestQuery.{TestQuery}
 use Rattle.filterset_listing.specs.Asking.{in_global}
-use Rattle.filterset_listing.specs.Union.{HoldsOfAny, IsUnion, OneHolds}
+use Rattle.filterset_listing.specs.Union.{IsUnion, OneHolds}
 
 -- a formula holds of a test
-abbrev HoldsAt : TestQuery → CompiledExpr → Formula CompiledLeaf → Type 0
+abbrev pub HoldsAt : TestQuery → CompiledExpr → Formula CompiledLeaf → Type 0
 HoldsAt test default f = TrueWhere (HoldsOfTest test in_global) (replaced (leaf_with_default default) f)
 
 -- one of the sets, or one more
@@ -30,6 +30,12 @@ OneHolds-push test default (e ∷ exprs) expr =
         | inr are ↦ elim (further.1 are) [ inl these ↦ inl (inr these) | inr is ↦ inr is ]
       ],
     )
+
+-- the set holds of exactly the tests that one of the sets holds of
+abbrev pub HoldsOfAny : List CompiledExpr → CompiledExpr → Type 0
+HoldsOfAny exprs union =
+    (test : TestQuery) (default : CompiledExpr)
+    → Holds union test default in_global ↔ OneHolds test default exprs
 
 -- the first set
 pub HoldsOfAny-one : (expr union : CompiledExpr) → formula union ≡ formula expr → HoldsOfAny (expr ∷ []) union
@@ -53,9 +59,9 @@ HoldsOfAny-push exprs before expr union are is test default =
     )
 
 -- where there are sets
-pub IsUnion-of : (exprs : List CompiledExpr) (union : CompiledExpr) → exprs ≢ [] → HoldsOfAny exprs union → IsUnion exprs union
-IsUnion-of [] union some are = absurd (some refl)
-IsUnion-of (expr ∷ exprs) union some are = are
+pub IsUnion-some : (exprs : List CompiledExpr) (union : CompiledExpr) → exprs ≢ [] → HoldsOfAny exprs union → IsUnion exprs union
+IsUnion-some [] union some are = absurd (some refl)
+IsUnion-some (expr ∷ exprs) union some are = are
 
 pub snoc-some : {A : Type 0} (xs : List A) (x : A) → xs ++ x ∷ [] ≢ []
 snoc-some [] x e = cc

@@ -4,4 +4,5 @@ pub mod Comparing
 pub mod Writing
 pub mod Comparison
 pub mod Union
+pub mod Selection
 pub mod Marking

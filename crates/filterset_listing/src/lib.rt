@@ -9,6 +9,7 @@ mod counting;
 mod global;
 mod listing;
 mod marking;
+mod selection;
 mod union;
 mod writing;
 
@@ -18,5 +19,5 @@ pub use comparison::{comparison_text, differ};
 pub use global::GlobalLookup;
 pub use listing::{Section, list};
 pub use marking::list_json;
-pub use union::union_of;
+pub use selection::selection_of;
 pub use writing::list_text;

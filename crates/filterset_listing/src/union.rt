@@ -25,19 +25,21 @@ fn union_with(
     }
 }
 
-/// The tests that are in one of the sets at least, as where a runner is given several filtersets. Where there is none,
-/// the tests of the default filter.
+/// The tests that are in one of the sets at least. Where there is no set, all tests.
 ///
 /// The only error is out of memory.
-pub fn union_of(alloc: Global, exprs: Vec<CompiledExpr>) -> Result<CompiledExpr, AllocError>
-    ensures { IfOk result (IsUnion exprs.items) }
+pub(crate) fn union_of(
+    alloc: Global,
+    exprs: Vec<CompiledExpr>,
+) -> Result<Box<CompiledExpr>, AllocError>
+    ensures { IfOk result (λ union. IsUnion exprs.items union.value) }
 {
     let mut union = None;
     for expr in exprs {
         union = Some(union_with(alloc, union, expr)?);
     }
     match union {
-        Some(union) => Ok(Box::into_inner(union)),
-        None => Ok(CompiledExpr::Set(FiltersetLeaf::Default)),
+        Some(union) => Ok(union),
+        None => Ok(Box::new(alloc, CompiledExpr::Set(FiltersetLeaf::All))?),
     }
 }

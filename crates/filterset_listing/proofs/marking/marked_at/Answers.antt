@@ -3,7 +3,7 @@ use Rattle.std.proofs.lemmas.Slice.Eq.{bytes_eq-Decides}
 use Rattle.std.specs.Bool.{Decides}
 use Rattle.std.specs.Str.{bytes_eq}
 use Rattle.serde_json.specs.View.{view}
-use Rattle.filterset_listing.specs.Marking.{MarksAt, none_at}
+use Rattle.filterset_listing.specs.Marking.{none_at}
 use Rattle.filterset_listing.proofs.MarkingLemmas.{at_one, made_one, made_all}
 use Rattle.filterset_listing.proofs.marking.marked_at.Goals as goal
 

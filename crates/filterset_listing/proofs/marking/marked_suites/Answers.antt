@@ -1,4 +1,4 @@
-use Rattle.std.proofs.Common.{rules, ◌≡◌, ◌∷◌, [], sym, subst}
+use Rattle.std.proofs.Common.{rules, ◌≡◌, ◌∷◌, [], subst}
 use Rattle.serde_json.specs.View.{members_view, view}
 use Rattle.filterset_listing.specs.Marking.{MarksSuites, MarksSuite, no_suites, next_suite}
 use Rattle.filterset_listing.proofs.MarkingLemmas.{made_one, made_all}

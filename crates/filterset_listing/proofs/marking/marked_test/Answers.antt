@@ -2,7 +2,6 @@ use Rattle.std.proofs.Common.{rules, ◌≡◌, ◌∙◌, ap, codes, string_byt
 use Rattle.serde_json.specs.Data.{put}
 use Rattle.serde_json.specs.View.{members_view, view}
 use Rattle.serde_json.proofs.Views.{members_view-insert_entry}
-use Rattle.filterset_listing.specs.Marking.{match_data}
 use Rattle.filterset_listing.proofs.MarkingLemmas.{marked_object, marked_other}
 use Rattle.filterset_listing.proofs.marking.marked_test.Goals as goal
 

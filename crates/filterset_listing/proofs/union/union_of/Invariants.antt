@@ -1,6 +1,6 @@
 use Rattle.std.proofs.Common.{◌≡◌, ◌≢◌, []}
 use Rattle.std.specs.Prelude.{MatchOption}
-use Rattle.filterset_listing.specs.Union.{HoldsOfAny}
+use Rattle.filterset_listing.proofs.UnionLemmas.{HoldsOfAny}
 use Rattle.filterset_listing.proofs.union.union_of.Given as goal
 
 -- the union of the sets so far, if there are any
