@@ -3,7 +3,8 @@ use Rattle.nextest_filtering.specs.Compiling.{packages_of}
 use Rattle.filterset_answers.specs.Answers.{TextFaults}
 use Rattle.filterset_answers.specs.Checked.{text_row}
 use Rattle.filterset_answers.specs.Compiled.{HasRefusal}
-use Rattle.filterset_answers.proofs.AnswersLemmas.{FaultsOf-push, added_twice, expressions_next, next_number, rows_more}
+use Rattle.records.proofs.PieceLemmas.{added_twice}
+use Rattle.filterset_answers.proofs.AnswersLemmas.{FaultsOf-push, expressions_next, next_number, rows_more}
 use Rattle.filterset_answers.proofs.compiling.push_outcomes.Goals as goal
 
 pub loop-i-preserved : goal.loop-i-preserved

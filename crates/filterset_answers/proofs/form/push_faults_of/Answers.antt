@@ -1,6 +1,7 @@
 use Rattle.std.proofs.Common.{arith, ◌<◌, ◌++◌, length}
 use Rattle.std.proofs.lemmas.List.{take_all}
-use Rattle.filterset_answers.proofs.AnswersLemmas.{FaultPieces-next, added_twice}
+use Rattle.records.proofs.PieceLemmas.{added_twice}
+use Rattle.filterset_answers.proofs.AnswersLemmas.{FaultPieces-next}
 use Rattle.filterset_answers.proofs.form.push_faults_of.Goals as goal
 
 pub returns : goal.returns

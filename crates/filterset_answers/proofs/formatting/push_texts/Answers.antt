@@ -1,7 +1,8 @@
 use Rattle.std.proofs.Common.{rules, arith, ◌≡◌, ◌<◌, ◌++◌, length, get_or, map, subst, sym, take}
 use Rattle.filterset_answers.specs.Answers.{TextFaults}
 use Rattle.filterset_answers.specs.Checked.{HasReadingFaults, text_row}
-use Rattle.filterset_answers.proofs.AnswersLemmas.{FaultsOf-push, FormattedLines-next, added_twice, next_number, rows_more}
+use Rattle.records.proofs.PieceLemmas.{added_twice}
+use Rattle.filterset_answers.proofs.AnswersLemmas.{FaultsOf-push, FormattedLines-next, next_number, rows_more}
 use Rattle.filterset_answers.proofs.formatting.push_texts.Goals as goal
 
 pub loop-i-preserved : goal.loop-i-preserved
