@@ -1,6 +1,7 @@
-use Rattle.std.proofs.Common.{rules, arith, ◌≡◌, ◌<◌, ◌++◌, length, get_or, map, subst, sym, take}
+use Rattle.std.proofs.Common.{rules, arith, ◌≡◌, ◌<◌, [], ◌++◌, length, get_or, map, subst, sym, take}
+use Rattle.std.proofs.lemmas.List.{append-nil}
 use Rattle.nextest_filtering.specs.Compiling.{packages_of}
-use Rattle.filterset_answers.specs.Answers.{TextFaults}
+use Rattle.filterset_answers.specs.Answers.{TextFaults, no_texts}
 use Rattle.filterset_answers.specs.Checked.{text_row}
 use Rattle.filterset_answers.specs.Compiled.{HasRefusal}
 use Rattle.records.proofs.PieceLemmas.{added_twice}
@@ -31,3 +32,6 @@ loop-i-preserved c =
         rw (c.one_if-faulty.ensures.value, rows_more text_row texts i entry lt at) more,
       ),
     )
+
+pub loop-i-init : goal.loop-i-init
+loop-i-init c = (omega arith, ([], sym (append-nil _), (λ none. search rules), no_texts))
