@@ -1,6 +1,8 @@
 -- Answers that are made piece by piece.
 use Rattle.std.proofs.Common.{◌≡◌, ◌≢◌, ℕ, suc, Bool, add-zero, arith, ◌+◌, ◌<◌, List, [], ◌∷◌, ◌++◌, length, map, take, get_or, ◌∙◌, sym, ap, subst, append_assoc, refl, true, false, inl, inr}
 use Rattle.std.proofs.lemmas.List.{append-nil, map-append, take_more, length-map, length-take-le}
+use Rattle.records.specs.Pieces.{no_pieces}
+use Rattle.records.proofs.PieceLemmas.{Pieces-push}
 use Rattle.serde_json.specs.Data.{Data}
 use Rattle.serde_json.specs.Written.{has_float}
 use Rattle.filterset_drawing.specs.Columns.{Text}
@@ -13,52 +15,29 @@ use Rattle.filterset_graph.specs.declared.package.PackageMetadata.{PackageMetada
 use Rattle.nextest_filtering.specs.Compiling.{IsRefusedWith, found, rejected, banned, unmatched}
 use Rattle.nextest_filtering.specs.declared.compile.context.KnownGroups.{KnownGroups}
 use Rattle.filterset_faults.specs.declared.error.ParseSingleError.{ParseSingleError}
-use Rattle.filterset_answers.specs.Answers.{FaultsOf, FormatsTexts, FormattedLine, FormattedLines, FormattedPart, TextFaults, has_some}
+use Rattle.filterset_answers.specs.Answers.{FaultsOf, no_texts, next_text, FormatsTexts, FormattedLine, FormattedLines, FormattedPart, TextFaults, has_some}
 use Rattle.filterset_answers.specs.Checked.{HasReadingFaults, TextRow}
 use Rattle.filterset_answers.specs.Compiled.{AddsExpression, HasRefusal, IsExpressionOf}
 use Rattle.filterset_answers.specs.Counts.{one_if}
 use Rattle.filterset_answers.specs.Forms.{FaultPiece, FaultPieces}
 use Rattle.filterset_answers.specs.declared.form.Form.{Form}
 
--- what was added twice
-pub added_twice : (old mid new text piece : Text) → mid ≡ old ++ text → new ≡ mid ++ piece → new ≡ old ++ (text ++ piece)
-added_twice old mid new text piece first second = second ∙ ap (λ t. t ++ piece) first ∙ append_assoc old text piece
-
--- one more fault
-pub FaultPieces-push : (form : Form) (origin text : Text) (number : ℕ) (faults : List ParseSingleError) (fault : ParseSingleError) (pieces piece : Text)
-    → FaultPieces form origin text number faults pieces → FaultPiece form origin text number fault piece
-    → FaultPieces form origin text number (faults ++ fault ∷ []) (pieces ++ piece)
-FaultPieces-push form origin text number [] fault pieces piece none is =
-    (piece, [], ap (λ t. t ++ piece) none ∙ sym (append-nil piece), is, refl)
-FaultPieces-push form origin text number (f ∷ faults) fault pieces piece (first, others, whole, is_first, are) is =
-    (first, others ++ piece, ap (λ t. t ++ piece) whole ∙ append_assoc first others piece, is_first, FaultPieces-push form origin text number faults fault others piece are is)
-
 -- the faults of one more text
 pub FaultsOf-push : (Has : TextRow → List ParseSingleError → Type 0) (form : Form) (n : ℕ) (rows : List TextRow) (row : TextRow) (faulty : ℕ) (has : Bool) (pieces piece : Text)
     → FaultsOf Has form n rows faulty pieces → TextFaults Has form (n + length rows) row has piece
     → FaultsOf Has form n (rows ++ row ∷ []) (faulty + one_if has) (pieces ++ piece)
-FaultsOf-push Has form n [] row faulty has pieces piece (zero, none) is =
-    (has, 0, piece, [], rw add-zero at is, omega (arith, zero), ap (λ t. t ++ piece) none ∙ sym (append-nil piece), (refl, refl))
-FaultsOf-push Has form n (u ∷ us) row faulty has pieces piece (first, others, front, rest, is_first, count, whole, are) is =
+FaultsOf-push Has form n [] row faulty has pieces piece no_texts is =
+    let one : TextFaults Has form n row has piece = rw add-zero at is in
+    let alone : FaultsOf Has form n (row ∷ []) (one_if has + 0) (piece ++ []) = next_text one no_texts in
+    let counted : one_if has + 0 ≡ 0 + one_if has = omega arith in
+    subst (λ count. FaultsOf Has form n (row ∷ []) count piece) counted (subst (FaultsOf Has form n (row ∷ []) (one_if has + 0)) (append-nil piece) alone)
+FaultsOf-push Has form n rows row faulty has pieces piece (next_text {others} {row = u} {rows = us} {has = first} {front} {rest} is_first are) is =
     let shifted : n + length (u ∷ us) ≡ suc n + length us = omega arith in
-    let further : TextFaults Has form (suc n + length us) row has piece = rw shifted at is in (
-      first,
-      others + one_if has,
-      front,
-      rest ++ piece,
-      is_first,
-      omega (arith, count),
-      ap (λ t. t ++ piece) whole ∙ append_assoc front rest piece,
-      FaultsOf-push Has form (suc n) us row others has rest piece are further,
-    )
-
--- the line of one more text
-pub FormattedLines-push : (rows : List TextRow) (row : TextRow) (lines line : Text) → FormattedLines rows lines → FormattedLine row line
-    → FormattedLines (rows ++ row ∷ []) (lines ++ line)
-FormattedLines-push [] row lines line none is =
-    (line, [], ap (λ t. t ++ line) none ∙ sym (append-nil line), is, refl)
-FormattedLines-push (u ∷ rows) row lines line (first, others, whole, is_first, are) is =
-    (first, others ++ line, ap (λ t. t ++ line) whole ∙ append_assoc first others line, is_first, FormattedLines-push rows row others line are is)
+    let further : TextFaults Has form (suc n + length us) row has piece = rw shifted at is in
+    let longer : FaultsOf Has form n (u ∷ (us ++ row ∷ [])) (one_if first + (others + one_if has)) (front ++ (rest ++ piece)) = next_text is_first (FaultsOf-push Has form (suc n) us row others has rest piece are further) in
+    let counted : one_if first + (others + one_if has) ≡ (one_if first + others) + one_if has = omega arith in
+    subst (λ count. FaultsOf Has form n (u ∷ (us ++ row ∷ [])) count ((front ++ rest) ++ piece)) counted
+    (subst (FaultsOf Has form n (u ∷ (us ++ row ∷ [])) (one_if first + (others + one_if has))) (sym (append_assoc front rest piece)) longer)
 
 -- the rows of one element more
 pub rows_more : {A B : Type 0} (f : A → B) (xs : List A) (i : ℕ) (x : A) → i < length xs → get_or xs i x ≡ x
@@ -93,14 +72,14 @@ pub FaultPieces-next : (form : Form) (origin text : Text) (number : ℕ) (faults
     → i < length faults → FaultPieces form origin text number (take i faults) pieces → FaultPiece form origin text number (get_or faults i d) piece
     → FaultPieces form origin text number (take (i + 1) faults) (pieces ++ piece)
 FaultPieces-next form origin text number faults i d pieces piece lt are is =
-    rw (take_more faults i d lt) (FaultPieces-push form origin text number (take i faults) (get_or faults i d) pieces piece are is)
+    rw (take_more faults i d lt) (Pieces-push (FaultPiece form origin text number) (take i faults) (get_or faults i d) pieces piece are is)
 
 -- the line of the next text, as long as none has faults
 pub FormattedLines-next : (rows : List TextRow) (row : TextRow) (lines line : Text) (faulty : ℕ) (has : Bool)
     → (faulty ≡ 0 → FormattedLines rows lines) → FormattedPart has row line
     → (faulty + one_if has ≡ 0 → FormattedLines (rows ++ row ∷ []) (lines ++ line))
 FormattedLines-next rows row lines line faulty true are is none = absurd (omega (arith, none))
-FormattedLines-next rows row lines line faulty false are is none = FormattedLines-push rows row lines line (are (omega (arith, none))) is
+FormattedLines-next rows row lines line faulty false are is none = Pieces-push FormattedLine rows row lines line (are (omega (arith, none))) is
 
 -- what formatting answers
 pub formats : (form : Form) (rows : List TextRow) (faulty : ℕ) (lines pieces formatted faults text : Text)
@@ -150,7 +129,7 @@ pub filterset_outcome : (packages : List PackageMetadata) (groups : KnownGroups)
     → IsExpressionOf packages groups row expression → output ≡ old → after ≡ before ++ expression ∷ []
     → (piece : Text) × (output ≡ old ++ piece) × TextFaults (HasRefusal packages groups) form number row false piece × AddsExpression packages groups row false before after
 filterset_outcome packages groups row form number expression output old before after is same added =
-    ([], same ∙ sym (append-nil old), ([], inl (is.tree, is.accepted, refl), refl, refl), (expression, added, is))
+    ([], same ∙ sym (append-nil old), ([], inl (is.tree, is.accepted, refl), refl, no_pieces), (expression, added, is))
 
 -- what becomes of a text with faults
 pub fault_outcome : (packages : List PackageMetadata) (groups : KnownGroups) (row : TextRow) (form : Form) (number : ℕ) (faults : List ParseSingleError) (output old : Text) (before after : List CompiledExpr)

@@ -6,6 +6,7 @@ use Rattle.filterset_faults.specs.declared.span.SourceSpan.{SourceSpan}
 use Rattle.filterset_grammar.specs.Printing.{printed}
 use Rattle.filterset_grammar.specs.Tree.{Tree}
 use Rattle.filterset_language.specs.Parsed.{Reads}
+use Rattle.records.specs.Pieces.{Pieces}
 use Rattle.filterset_answers.specs.Checked.{HasFaults, HasReadingFaults, TextRow}
 use Rattle.filterset_answers.specs.Counts.{one_if}
 use Rattle.filterset_answers.specs.Forms.{FaultPieces}
@@ -26,14 +27,12 @@ TextFaults Has form number row has piece =
     × FaultPieces form row.origin row.text number faults piece
 
 -- what is written of the faults of texts, of which the first has this number, and how many of them have any
-abbrev pub FaultsOf :
-    (TextRow → List ParseSingleError → Type 0) → Form → ℕ → List TextRow → ℕ → Text → Type 0
-FaultsOf Has form number [] faulty text = (faulty ≡ 0) × (text ≡ [])
-FaultsOf Has form number (row ∷ rows) faulty text =
-    (has : Bool) × (others : ℕ) × (front : Text) × (rest : Text)
-    × TextFaults Has form number row has front
-    × (faulty ≡ one_if has + others) × (text ≡ front ++ rest)
-    × FaultsOf Has form (suc number) rows others rest
+pub data FaultsOf (Has : TextRow → List ParseSingleError → Type 0) (form : Form) :
+    ℕ → List TextRow → ℕ → Text → Type 0 where
+  no_texts : {number : ℕ} → FaultsOf Has form number [] 0 []
+  next_text : {number others : ℕ} {row : TextRow} {rows : List TextRow} {has : Bool} {front rest : Text}
+      → TextFaults Has form number row has front → FaultsOf Has form (suc number) rows others rest
+      → FaultsOf Has form number (row ∷ rows) (one_if has + others) (front ++ rest)
 
 -- ---- checking
 
@@ -69,10 +68,9 @@ ChecksTexts names form rows faulty text =
 abbrev pub FormattedLine : TextRow → Text → Type 0
 FormattedLine row line = (e : Tree SourceSpan) × Reads row.text e × (line ≡ printed e ++ codes "\n")
 
+-- those of texts, one after the other
 abbrev pub FormattedLines : List TextRow → Text → Type 0
-FormattedLines [] text = text ≡ []
-FormattedLines (row ∷ rows) text =
-    (line : Text) × (others : Text) × (text ≡ line ++ others) × FormattedLine row line × FormattedLines rows others
+FormattedLines = Pieces FormattedLine
 
 -- what is written of a text that has faults or not: nothing, or its line
 abbrev pub FormattedPart : Bool → TextRow → Text → Type 0

@@ -1,5 +1,5 @@
 -- How faults are written.
-use Rattle.std.specs.Prelude.{◌≡◌, ◌++◌, ℕ, List, [], ◌∷◌, codes}
+use Rattle.std.specs.Prelude.{◌≡◌, ◌++◌, ℕ, List, codes}
 use Rattle.serde_json.specs.Data.{Data}
 use Rattle.serde_json.specs.Written.{compact_text}
 use Rattle.filterset_drawing.specs.Columns.{Text}
@@ -8,6 +8,7 @@ use Rattle.filterset_drawing.specs.Json.{FaultData}
 use Rattle.filterset_drawing.specs.declared.color.Color.{Color}
 use Rattle.filterset_drawing.specs.declared.color.Color.TheVariants.{Never}
 use Rattle.filterset_faults.specs.declared.error.ParseSingleError.{ParseSingleError}
+use Rattle.records.specs.Pieces.{Pieces}
 use Rattle.filterset_answers.specs.declared.form.Form.{Form}
 use Rattle.filterset_answers.specs.declared.form.Form.TheVariants.{Drawn, Json}
 
@@ -25,7 +26,4 @@ FaultPiece Json origin text number fault piece =
 
 -- what is written of faults, one after the other
 abbrev pub FaultPieces : Form → Text → Text → ℕ → List ParseSingleError → Text → Type 0
-FaultPieces form origin text number [] piece = piece ≡ []
-FaultPieces form origin text number (fault ∷ faults) piece =
-    (first : Text) × (others : Text) × (piece ≡ first ++ others) × FaultPiece form origin text number fault first
-    × FaultPieces form origin text number faults others
+FaultPieces form origin text number = Pieces (FaultPiece form origin text number)

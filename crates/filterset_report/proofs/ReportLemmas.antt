@@ -5,7 +5,7 @@ use Rattle.std.proofs.lemmas.List.{append-nil, map-append, take_more}
 use Rattle.std.proofs.lemmas.List.FromFn.{get_or-enumerate_from, length-enumerate_from}
 use Rattle.filterset_record.specs.Shape.{Text}
 use Rattle.filterset_report.specs.Library.{Background}
-use Rattle.filterset_report.specs.Report.{IsBackgroundOf, MakeGraph, Pieces, no_pieces, next_piece, RecordReport, Section, Sections, no_sections, next_section, outcome_of}
+use Rattle.filterset_report.specs.Report.{IsBackgroundOf, MakeGraph, RecordReport, Section, Sections, no_sections, next_section, outcome_of}
 use Rattle.filterset_record.specs.Record.{FiltersetRow, RecordRow}
 use Rattle.filterset_record.specs.declared.record.commands.Command.{Command}
 use Rattle.filterset_report.specs.declared.outcome.Outcome.{Outcome}
@@ -17,27 +17,9 @@ pub both_ok : {X Y : Type 0} (r : Result X Y) (P Q R : X → Type 0) → ((x : X
 both_ok (Ok x) P Q R more p q = more x p q
 both_ok (Err e) P Q R more p q = tt
 
--- one more piece
-pub Pieces-push : {A : Type 0} (P : A → Text → Type 0) (xs : List A) (x : A) (text added : Text) → Pieces P xs text → P x added → Pieces P (xs ++ x ∷ []) (text ++ added)
-Pieces-push P xs x text added no_pieces is = subst (Pieces P (x ∷ [])) (append-nil added) (next_piece is no_pieces)
-Pieces-push P xs x text added (next_piece {x = y} {xs = ys} {front} {rest} is_first are) is =
-    subst (Pieces P (y ∷ (ys ++ x ∷ []))) (sym (append_assoc front rest added)) (next_piece is_first (Pieces-push P ys x rest added are is))
-
--- the piece of the next element of a list
-pub Pieces-more : {A B : Type 0} (P : B → Text → Type 0) (f : A → B) (xs : List A) (i : ℕ) (x : A) (text piece : Text) →
-    i < length xs → get_or xs i x ≡ x → Pieces P (map f (take i xs)) text → P (f x) piece → Pieces P (map f (take (i + 1) xs)) (text ++ piece)
-Pieces-more P f xs i x text piece lt at are is =
-    let more : take (i + 1) xs ≡ take i xs ++ x ∷ [] = take_more xs i x lt ∙ ap (λ y. take i xs ++ y ∷ []) at in
-    let mapped : map f (take (i + 1) xs) ≡ map f (take i xs) ++ f x ∷ [] = ap (map f) more ∙ map-append f (take i xs) (x ∷ []) in
-    rw mapped (Pieces-push P (map f (take i xs)) (f x) text piece are is)
-
 -- as many elements as there are
 pub taken_all : {A B : Type 0} (f : A → B) (xs : List A) (n : ℕ) → n ≡ length xs → map f (take n xs) ≡ map f xs
 taken_all f xs n e = ap (map f) (ap (λ k. take k xs) e ∙ take-length xs)
-
--- what was added twice
-pub added_twice : (old mid new text piece : Text) → mid ≡ old ++ text → new ≡ mid ++ piece → new ≡ old ++ (text ++ piece)
-added_twice old mid new text piece first second = second ∙ ap (λ t. t ++ piece) first ∙ append_assoc old text piece
 
 -- the section of one more filterset
 pub Sections-push : (command : Command) (background : Background) (i : ℕ) (ts : List FiltersetRow) (t : FiltersetRow) (all accepted : Bool) (text added : Text) →

@@ -14,6 +14,7 @@ use Rattle.filterset_faults.specs.declared.span.SourceSpan.{SourceSpan}
 use Rattle.filterset_faults.specs.declared.error.ParseSingleError.{ParseSingleError}
 use Rattle.filterset_faults.specs.declared.kind.FiltersetKind.TheVariants as kinds
 use Rattle.filterset_record.specs.Shape.{Text}
+use Rattle.records.specs.Pieces.{Pieces}
 use Rattle.filterset_record.specs.Record.{BinaryRow, FiltersetRow, TestRow, RecordRow, IsRecord}
 use Rattle.nextest_filtering.specs.Compiling.{IsFiltersetOf, IsRefusedWith}
 use Rattle.nextest_filtering.specs.Formatting.{PrintsFilterset}
@@ -23,12 +24,6 @@ use Rattle.filterset_record.specs.declared.record.commands.Command.{Command}
 use Rattle.filterset_record.specs.declared.record.commands.Command.TheVariants as commands
 use Rattle.filterset_report.specs.declared.outcome.Outcome.{Outcome}
 use Rattle.filterset_report.specs.declared.outcome.Outcome.TheVariants.{AllAccepted, SomeRefused, RecordRefused}
-
--- a text that is made of a piece for each element of a list, in their order
-pub data Pieces {A : Type 0} (IsPiece : A → Text → Type 0) : List A → Text → Type 0 where
-  no_pieces : Pieces IsPiece [] []
-  next_piece : {x : A} {xs : List A} {front rest : Text}
-      → IsPiece x front → Pieces IsPiece xs rest → Pieces IsPiece (x ∷ xs) (front ++ rest)
 
 -- ---- an accepted filterset
 

@@ -1,7 +1,9 @@
-use Rattle.std.proofs.Common.{rules, arith, ◌≡◌, ◌<◌, ◌++◌, length, get_or, map, subst, sym, take}
-use Rattle.filterset_answers.specs.Answers.{TextFaults}
+use Rattle.std.proofs.Common.{rules, arith, ◌≡◌, ◌<◌, [], ◌++◌, length, get_or, map, subst, sym, take}
+use Rattle.filterset_answers.specs.Answers.{TextFaults, no_texts}
 use Rattle.filterset_answers.specs.Checked.{HasFaults, text_row}
-use Rattle.filterset_answers.proofs.AnswersLemmas.{FaultsOf-push, added_twice, next_number, rows_more}
+use Rattle.records.proofs.PieceLemmas.{added_twice}
+use Rattle.filterset_answers.proofs.AnswersLemmas.{FaultsOf-push, next_number, rows_more}
+use Rattle.std.proofs.lemmas.List.{append-nil}
 use Rattle.filterset_answers.proofs.checking.push_texts.Goals as goal
 
 pub loop-i-preserved : goal.loop-i-preserved
@@ -21,3 +23,6 @@ loop-i-preserved c =
       omega (arith, before.0, c.one_if-faulty.ensures.bound),
       (before.1.0 ++ piece.0, added_twice _ _ _ _ _ before.1.1 piece.1, rw (c.one_if-faulty.ensures.value, rows_more text_row texts i entry lt at) more),
     )
+
+pub loop-i-init : goal.loop-i-init
+loop-i-init c = (omega arith, ([], sym (append-nil _), no_texts))

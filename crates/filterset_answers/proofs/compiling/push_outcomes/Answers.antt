@@ -1,9 +1,11 @@
-use Rattle.std.proofs.Common.{rules, arith, ◌≡◌, ◌<◌, ◌++◌, length, get_or, map, subst, sym, take}
+use Rattle.std.proofs.Common.{rules, arith, ◌≡◌, ◌<◌, [], ◌++◌, length, get_or, map, subst, sym, take}
+use Rattle.std.proofs.lemmas.List.{append-nil}
 use Rattle.nextest_filtering.specs.Compiling.{packages_of}
-use Rattle.filterset_answers.specs.Answers.{TextFaults}
+use Rattle.filterset_answers.specs.Answers.{TextFaults, no_texts}
 use Rattle.filterset_answers.specs.Checked.{text_row}
 use Rattle.filterset_answers.specs.Compiled.{HasRefusal}
-use Rattle.filterset_answers.proofs.AnswersLemmas.{FaultsOf-push, added_twice, expressions_next, next_number, rows_more}
+use Rattle.records.proofs.PieceLemmas.{added_twice}
+use Rattle.filterset_answers.proofs.AnswersLemmas.{FaultsOf-push, expressions_next, next_number, rows_more}
 use Rattle.filterset_answers.proofs.compiling.push_outcomes.Goals as goal
 
 pub loop-i-preserved : goal.loop-i-preserved
@@ -30,3 +32,6 @@ loop-i-preserved c =
         rw (c.one_if-faulty.ensures.value, rows_more text_row texts i entry lt at) more,
       ),
     )
+
+pub loop-i-init : goal.loop-i-init
+loop-i-init c = (omega arith, ([], sym (append-nil _), (λ none. search rules), no_texts))

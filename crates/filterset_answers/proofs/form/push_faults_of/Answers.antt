@@ -1,6 +1,8 @@
-use Rattle.std.proofs.Common.{arith, ◌<◌, ◌++◌, length}
-use Rattle.std.proofs.lemmas.List.{take_all}
-use Rattle.filterset_answers.proofs.AnswersLemmas.{FaultPieces-next, added_twice}
+use Rattle.std.proofs.Common.{arith, ◌<◌, [], ◌++◌, length, sym}
+use Rattle.std.proofs.lemmas.List.{append-nil, take_all}
+use Rattle.records.proofs.PieceLemmas.{added_twice}
+use Rattle.filterset_answers.proofs.AnswersLemmas.{FaultPieces-next}
+use Rattle.records.specs.Pieces.{no_pieces}
 use Rattle.filterset_answers.proofs.form.push_faults_of.Goals as goal
 
 pub returns : goal.returns
@@ -17,3 +19,6 @@ loop-fault-preserved c =
       added_twice _ _ _ _ _ before.1 piece.1,
       FaultPieces-next _ _ _ _ c.args.faults.now c.loop-fault.fault-index _ _ _ lt before.2 piece.2,
     )
+
+pub loop-fault-init : goal.loop-fault-init
+loop-fault-init c = ([], sym (append-nil _), no_pieces)

@@ -1,5 +1,6 @@
 use Rattle.std.proofs.Common.{rules, ◌≡◌, ◌++◌, [], codes, inl, refl, sym, string_bytes}
 use Rattle.std.proofs.lemmas.List.{append-nil}
+use Rattle.records.specs.Pieces.{no_pieces}
 use Rattle.filterset_grammar.specs.Printing.{printed}
 use Rattle.filterset_language.specs.Parsed.{Reads}
 use Rattle.filterset_language.specs.Views.{tree_of}
@@ -11,4 +12,4 @@ returns-in_ok-writeln-in-Tree c =
     let line = printed e ++ codes "\n" in
     let reads : Reads (string_bytes c.args.entry.now.text) e = search rules in
     let written : string_bytes c.writeln.new.self ≡ string_bytes c.args.formatted.now ++ line = search rules in
-    (line, [], written, sym (append-nil _), (e, reads, refl), ([], inl (e, reads, refl), refl, refl))
+    (line, [], written, sym (append-nil _), (e, reads, refl), ([], inl (e, reads, refl), refl, no_pieces))

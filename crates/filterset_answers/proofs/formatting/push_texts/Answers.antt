@@ -1,7 +1,10 @@
-use Rattle.std.proofs.Common.{rules, arith, ◌≡◌, ◌<◌, ◌++◌, length, get_or, map, subst, sym, take}
-use Rattle.filterset_answers.specs.Answers.{TextFaults}
+use Rattle.std.proofs.Common.{rules, arith, ◌≡◌, ◌<◌, [], ◌++◌, length, get_or, map, subst, sym, take}
+use Rattle.filterset_answers.specs.Answers.{TextFaults, no_texts}
 use Rattle.filterset_answers.specs.Checked.{HasReadingFaults, text_row}
-use Rattle.filterset_answers.proofs.AnswersLemmas.{FaultsOf-push, FormattedLines-next, added_twice, next_number, rows_more}
+use Rattle.records.proofs.PieceLemmas.{added_twice}
+use Rattle.filterset_answers.proofs.AnswersLemmas.{FaultsOf-push, FormattedLines-next, next_number, rows_more}
+use Rattle.std.proofs.lemmas.List.{append-nil}
+use Rattle.records.specs.Pieces.{no_pieces}
 use Rattle.filterset_answers.proofs.formatting.push_texts.Goals as goal
 
 pub loop-i-preserved : goal.loop-i-preserved
@@ -28,3 +31,6 @@ loop-i-preserved c =
         rw (c.one_if-faulty.ensures.value, rows_more text_row texts i entry lt at) more,
       ),
     )
+
+pub loop-i-init : goal.loop-i-init
+loop-i-init c = (omega arith, ([], [], sym (append-nil _), sym (append-nil _), λ none. no_pieces, no_texts))

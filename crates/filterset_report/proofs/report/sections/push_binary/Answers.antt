@@ -1,9 +1,11 @@
 use Rattle.std.proofs.Common.{rules, arith, ◌≡◌, ◌<◌, ◌++◌, List, codes, length, get_or, refl, subst, sym, []}
 use Rattle.std.proofs.lemmas.List.{append-nil}
 use Rattle.filterset_record.specs.Record.{TestRow}
-use Rattle.filterset_report.specs.Report.{Pieces, TestLine, binary_answer_text, lines_of_binary, no_pieces}
+use Rattle.records.specs.Pieces.{Pieces, no_pieces}
+use Rattle.filterset_report.specs.Report.{TestLine, binary_answer_text, lines_of_binary}
 use Rattle.filterset_record.specs.Rows.{binary_row, test_row}
-use Rattle.filterset_report.proofs.ReportLemmas.{Pieces-more, added_twice, taken_all}
+use Rattle.records.proofs.PieceLemmas.{Pieces-more, added_twice}
+use Rattle.filterset_report.proofs.ReportLemmas.{taken_all}
 use Rattle.filterset_report.proofs.report.sections.push_binary.Goals as goal
 
 pub returns : goal.returns
