@@ -319,7 +319,11 @@ class Sources:
         library = [public for crate in self.library for public in self.public(crate)]
         yield f"the library: `{LIBRARY_ROOT}` and the crates below it", library
         yield f"and the program that reads a record, `{PROGRAM}`", [*self.promised(PROGRAMS), *self.own_program()]
-        yield f"and the program for people, `{COMMAND}`", [*self.promised(COMMAND)]
+        of_people = crates_below(COMMAND, self.crates) - crates_below(PROGRAM, self.crates) - {COMMAND}
+        beside = [crate for crate in self.crates if crate in of_people and crate not in self.library]
+        people = [public for crate in beside for public in self.public(crate)]
+        named = ", ".join(f"`{crate}`" for crate in beside)
+        yield f"and the program for people, `{COMMAND}`, with {named}", [*people, *self.promised(COMMAND)]
 
     def roots(self):
         for _, publics in self.parts():
