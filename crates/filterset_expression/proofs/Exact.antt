@@ -1,11 +1,11 @@
 -- A fold by the Kleene connectives is definite exactly where every list of answers agrees, and then it is the answer for
 -- every test.
-use Rattle.std.proofs.Common.{◌≡◌, ◌↔◌, ℕ, ◌+◌, Bool, true, false, refl, ap, subst, arith, Option, Some, None, List, [], ◌∷◌, ◌++◌, length, take, drop, replicate, length-append, length-take, length-drop}
+use Rattle.std.proofs.Common.{◌≡◌, ◌↔◌, ℕ, ◌+◌, Bool, true, false, refl, ap, subst, arith, Option, Some, None, List, [], ◌∷◌, ◌++◌, length, take, drop, replicate, length-append, length-take, length-drop, inl, ⊎_elim}
 use Rattle.std.proofs.lemmas.List.{length-replicate}
 use Rattle.std.proofs.Math.Seq.{take-append_seam, drop-append_seam}
 use Rattle.std.specs.Bool.{IsTrue, MatchBool, one_answer}
 use Rattle.std.specs.Prelude.{IsSomeAnd}
-use Rattle.filterset_expression.specs.Connectives.{Connective, Connects, connected, kleene, kleene_not}
+use Rattle.filterset_expression.specs.Connectives.{Connective, Conjunction, Disjunction, ExclusiveDisjunction, Connects, Decides, connected, kleene, kleene_not}
 use Rattle.filterset_expression.specs.Folds.{Folds, Settles}
 use Rattle.filterset_expression.specs.Formula.{Formula, Leaf, Negation, Compound, TrueWhere}
 use Rattle.filterset_expression.specs.Values.{occurrences, TrueUnder, CanBe, IsAlways, IsOpen}
@@ -91,11 +91,23 @@ module _ {A : Type 0} (is_asked : A → Bool) (holds : A → Type 0) where
   leaf_says leaf false None e h = absurd h
   leaf_says leaf false (Some b) e h = λ answers k. rw e h
 
-  fold_says : (f : Formula A) (x : Option Bool) → Folds kleene_not kleene (Settles is_asked holds) f x → Says f x
+  -- a value that decides the connective says of what it makes what it says of the left operand
+  decided_says : (c : Connective) (f g : Formula A) (x : Option Bool) → Decides (Some true) (Some false) c x → Says f x → Says (Compound c f g) x
+  decided_says Conjunction f g (Some false) e says = λ answers h.
+      (λ yes. absurd (let clash : false ≡ true = yes in cc), λ t. (says _ (front_length f g answers h)).1 t.0)
+  decided_says Conjunction f g (Some true) e says = absurd (let clash : Some true ≡ Some false = e in cc)
+  decided_says Conjunction f g None e says = absurd (let clash : None ≡ Some false = e in cc)
+  decided_says Disjunction f g (Some true) e says = λ answers h.
+      (λ yes. inl ((says _ (front_length f g answers h)).0 yes), λ t. refl)
+  decided_says Disjunction f g (Some false) e says = absurd (let clash : Some false ≡ Some true = e in cc)
+  decided_says Disjunction f g None e says = absurd (let clash : None ≡ Some true = e in cc)
+  decided_says ExclusiveDisjunction f g x e says = absurd e
+
+  fold_says : (f : Formula A) (x : Option Bool) → Folds kleene_not kleene (Decides (Some true) (Some false)) (Settles is_asked holds) f x → Says f x
   fold_says (Leaf leaf) x h = leaf_says leaf (is_asked leaf) x refl h
   fold_says (Negation f) x h = rw h.2 (not_says f h.0 (fold_says f h.0 h.1))
   fold_says (Compound c f g) x h =
-      rw h.4 (exact_says c f g h.0 h.1 (kleene c h.0 h.1) (kleene_exact c h.0 h.1) (fold_says f h.0 h.2) (fold_says g h.1 h.3))
+      ⊎_elim (λ both. rw both.2 (exact_says c f g h.0 both.0 (kleene c h.0 both.0) (kleene_exact c h.0 both.0) (fold_says f h.0 h.1) (fold_says g both.0 both.1))) (λ decided. rw decided.1 (decided_says c f g h.0 decided.0 (fold_says f h.0 h.1))) h.2
 
   -- definite exactly where the formula takes one value alone
   always_from_says : (f : Formula A) (b : Bool) → Says f (Some b) → IsAlways is_asked holds f b
@@ -124,11 +136,11 @@ module _ {A : Type 0} (is_asked : A → Bool) (holds : A → Type 0) where
   says_open f None says = (λ e. says, λ both. refl)
 
   -- a fold by the Kleene connectives is definite exactly where the formula takes one value alone
-  pub fold_definite : (f : Formula A) (x : Option Bool) → Folds kleene_not kleene (Settles is_asked holds) f x → (b : Bool) → (x ≡ Some b) ↔ IsAlways is_asked holds f b
+  pub fold_definite : (f : Formula A) (x : Option Bool) → Folds kleene_not kleene (Decides (Some true) (Some false)) (Settles is_asked holds) f x → (b : Bool) → (x ≡ Some b) ↔ IsAlways is_asked holds f b
   fold_definite f x h = says_definite f x (fold_says f x h)
 
   -- and unknown exactly where it takes both
-  pub fold_open : (f : Formula A) (x : Option Bool) → Folds kleene_not kleene (Settles is_asked holds) f x → (x ≡ None) ↔ IsOpen is_asked holds f
+  pub fold_open : (f : Formula A) (x : Option Bool) → Folds kleene_not kleene (Decides (Some true) (Some false)) (Settles is_asked holds) f x → (x ≡ None) ↔ IsOpen is_asked holds f
   fold_open f x h = says_open f x (fold_says f x h)
 
 -- values that cannot differ are the same

@@ -4,14 +4,12 @@ use Rattle.std.specs.List.{list_any}
 use Rattle.std.proofs.lemmas.List.{append-nil, drop_more}
 use Rattle.std.proofs.lemmas.List.Folds.{list_any-append}
 use Rattle.std.proofs.Math.Bool.{or-false}
-use Rattle.filterset_expression.specs.Connectives.{Connective}
 use Rattle.filterset_expression.specs.Expression as compiled
 use Rattle.filterset_expression.specs.Expression.{CompiledLeaf, compiled_leaf, formula, is_default, is_group, leaf_with_default, with_default, has_leaf}
 use Rattle.filterset_expression.specs.FlatExpressions.{leaf_passes}
-use Rattle.filterset_expression.specs.Folds.{Folds}
 use Rattle.filterset_expression.specs.Formula.{Formula, Leaf, Negation, Compound, leaves, replaced}
-use Rattle.filterset_expression.specs.Running.{leaf_or, one_less, height_after, finds_operands, leaves_one, greatest_height, Runs}
-use Rattle.filterset_expression.specs.FlatSteps.{Step, Push, Negate, Combine, steps_by, push_leaf, postfix, step_of, steps_of}
+use Rattle.filterset_expression.specs.Running.{leaf_or, one_less, height_after, finds_operands, leaves_one, greatest_height}
+use Rattle.filterset_expression.specs.FlatSteps.{Step, Negate, Combine, steps_by, push_leaf, postfix, step_of, steps_of}
 use Rattle.filterset_expression.specs.declared.expression.CompiledExpr.{CompiledExpr}
 use Rattle.filterset_expression.specs.declared.flat.steps.FlatStep.{FlatStep}
 use Rattle.filterset_expression.specs.declared.leaves.FiltersetLeaf.{FiltersetLeaf}
@@ -21,35 +19,20 @@ pub one_less-is : (n : ℕ) → one_less n ≡ n - 1
 one_less-is zero = omega arith
 one_less-is (suc n) = omega arith
 
-module _ {A L : Type 0} (not_of : L → L) (connect : Connective → L → L → L) (gives : A → L → Type 0) where
-  regroup : (front mid back : List (Step A)) (stack : List L) (value : L) → Runs not_of connect gives ((front ++ mid) ++ back) stack value → Runs not_of connect gives (front ++ (mid ++ back)) stack value
-  regroup front mid back stack value run =
-      subst (λ s. Runs not_of connect gives s stack value) (append_assoc front mid back) run
-
-  -- the steps of a formula put a fold of it on the stack
-  pub postfix_folds : (f : Formula A) (rest : List (Step A)) (stack : List L) (value : L) → Runs not_of connect gives (postfix f ++ rest) stack value → (x : L) × Folds not_of connect gives f x × Runs not_of connect gives rest (x ∷ stack) value
-  postfix_folds (Leaf leaf) rest stack value run = (run.0, run.1, run.2)
-  postfix_folds (Negation f) rest stack value run =
-      let one = postfix_folds f (Negate ∷ rest) stack value (regroup (postfix f) (Negate ∷ []) rest stack value run) in
-      (not_of one.0, (one.0, one.1, refl), one.2)
-  postfix_folds (Compound c f g) rest stack value run =
-      let left = postfix_folds f ((postfix g ++ Combine c ∷ []) ++ rest) stack value (regroup (postfix f) (postfix g ++ Combine c ∷ []) rest stack value run) in
-      let right = postfix_folds g (Combine c ∷ rest) (left.0 ∷ stack) value (regroup (postfix g) (Combine c ∷ []) rest (left.0 ∷ stack) value left.2) in
-      (connect c left.0 right.0, (left.0, right.0, left.1, right.1, refl), right.2)
-
-  -- the value that is left is a fold
-  pub run_folds : (f : Formula A) (value : L) → Runs not_of connect gives (postfix f) [] value → Folds not_of connect gives f value
-  run_folds f value run =
-      let one = postfix_folds f [] [] value (subst (λ s. Runs not_of connect gives s [] value) (sym (append-nil (postfix f))) run) in
-      let same : one.0 ≡ value = cc in
-      rw (← same) one.1
-
 -- each step of a formula finds its operands, and one value is left for it
 pub postfix_leaves_one : {A : Type 0} (f : Formula A) (rest : List (Step A)) (height : ℕ) → leaves_one (postfix f ++ rest) height ≡ leaves_one rest (suc height)
 postfix_leaves_one (Leaf leaf) rest height = refl
 postfix_leaves_one (Negation f) rest height = rw append_assoc (postfix_leaves_one f (Negate ∷ rest) height)
 postfix_leaves_one (Compound c f g) rest height =
     rw append_assoc (postfix_leaves_one f ((postfix g ++ Combine c ∷ []) ++ rest) height ∙ rw append_assoc (postfix_leaves_one g (Combine c ∷ rest) (suc height)))
+
+-- past the steps of a formula the stack is no higher than before
+pub greatest_past : {A : Type 0} (f : Formula A) (rest : List (Step A)) (height : ℕ) → greatest_height rest (suc height) ≤ greatest_height (postfix f ++ rest) height
+greatest_past (Leaf leaf) rest height = omega arith
+greatest_past (Negation f) rest height =
+    rw append_assoc (let inner = greatest_past f (Negate ∷ rest) height in omega (arith, inner))
+greatest_past (Compound c f g) rest height =
+    rw append_assoc (rw append_assoc (let left = greatest_past f (postfix g ++ Combine c ∷ rest) height in let right = greatest_past g (Combine c ∷ rest) (suc height) in omega (arith, left, right)))
 
 -- the steps of a formula with others in the place of its leaves
 pub steps_by_same : {A B : Type 0} (p q : A → List (Step B)) → ((leaf : A) → p leaf ≡ q leaf) → (f : Formula A) → steps_by p f ≡ steps_by q f
@@ -98,11 +81,11 @@ steps_without_default others (Compound c f g) e =
 pub default_steps : (default : CompiledExpr) (others : List (Step CompiledLeaf)) → has_leaf is_default default ≡ false → steps_by (leaf_or others) (formula default) ≡ postfix (formula default)
 default_steps default others e = steps_without_default others (formula default) e
 
-and_left : (a b : Bool) → (a && b) ≡ true → a ≡ true
+pub and_left : (a b : Bool) → (a && b) ≡ true → a ≡ true
 and_left true b e = refl
 and_left false b e = e
 
-and_right : (a b : Bool) → (a && b) ≡ true → b ≡ true
+pub and_right : (a b : Bool) → (a && b) ≡ true → b ≡ true
 and_right true b e = e
 and_right false b e = absurd (let clash : false ≡ true = e in cc)
 
@@ -123,20 +106,6 @@ greatest_above (s ∷ steps) height = omega arith
 pub steps_from : (steps : List FlatStep) (at : ℕ) (s : FlatStep) → at < length steps → s ≡ get_or steps at s → steps_of (drop at steps) ≡ step_of s ∷ steps_of (drop (at + 1) steps)
 steps_from steps at s within e = rw (drop_more steps at s within, ← e) refl
 
--- one step on a stack
-module _ {A L : Type 0} (not_of : L → L) (connect : Connective → L → L → L) (gives : A → L → Type 0) (rest : List (Step A)) (value : L) where
-  pub push_run : (leaf : A) (stack after : List L) (x : L) → gives leaf x → after ≡ x ∷ stack → Runs not_of connect gives rest after value → Runs not_of connect gives (Push leaf ∷ rest) stack value
-  push_run leaf stack after x given e run = (x, given, subst (λ s. Runs not_of connect gives rest s value) e run)
-
-  pub negate_run : (stack front after : List L) (x y : L) → stack ≡ x ∷ front → y ≡ not_of x → after ≡ y ∷ front → Runs not_of connect gives rest after value → Runs not_of connect gives (Negate ∷ rest) stack value
-  negate_run stack front after x y e d k run =
-      rw e (subst (λ s. Runs not_of connect gives rest s value) (k ∙ ap (λ t. t ∷ front) d) run)
-
-  pub combine_run : (c : Connective) (stack mid front after : List L) (x y z : L) → stack ≡ y ∷ mid → mid ≡ x ∷ front → z ≡ connect c x y → after ≡ z ∷ front → Runs not_of connect gives rest after value → Runs not_of connect gives (Combine c ∷ rest) stack value
-  combine_run c stack mid front after x y z e d m k run =
-      let two : stack ≡ y ∷ x ∷ front = e ∙ ap (λ s. y ∷ s) d in
-      rw two (subst (λ s. Runs not_of connect gives rest s value) (k ∙ ap (λ t. t ∷ front) m) run)
-
 -- the steps of an expression, made with those of the default filter
 pub made_steps : (default e : CompiledExpr) (inner outer : List FlatStep) → has_leaf is_default default ≡ false → steps_of inner ≡ steps_by (leaf_or []) (formula default) → steps_of outer ≡ steps_by (leaf_or (steps_of inner)) (formula e) → steps_of outer ≡ postfix (with_default default e)
 made_steps default e inner outer plain a b =
@@ -145,11 +114,6 @@ made_steps default e inner outer plain a b =
 
 pub postfix_runs : {A : Type 0} (f : Formula A) → leaves_one (postfix f) 0 ≡ true
 postfix_runs f = subst (λ s. leaves_one s 0 ≡ true) (append-nil (postfix f)) (postfix_leaves_one f [] 0)
-
--- a run of the steps folds the expression
-pub flat_folds : {L : Type 0} (not_of : L → L) (connect : Connective → L → L → L) (gives : CompiledLeaf → L → Type 0) (steps : List (Step CompiledLeaf)) (default e : CompiledExpr) (value : L) → steps ≡ postfix (with_default default e) → Runs not_of connect gives steps [] value → Folds not_of connect gives (with_default default e) value
-flat_folds not_of connect gives steps default e value same run =
-    run_folds not_of connect gives (with_default default e) value (subst (λ s. Runs not_of connect gives s [] value) same run)
 
 or_none : (a b : Bool) → a ≡ false → b ≡ false → (a || b) ≡ false
 or_none true b e k = e

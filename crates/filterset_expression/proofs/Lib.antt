@@ -8,4 +8,6 @@ pub mod Folding
 pub mod Exact
 pub mod Operands
 pub mod FlatSteps
+pub mod Passing
+pub mod Decoding
 pub mod LeafAnswers

@@ -1,8 +1,8 @@
 -- What a formula takes is told by what its operands take, and so the value of each operator by the values of its operands.
-use Rattle.std.proofs.Common.{◌≡◌, ◌↔◌, Bool, true, false, not, refl, sym, subst, ◌∙◌, Option, Some, None, List, length}
-use Rattle.std.specs.Bool.{IsTrue, one_answer}
+use Rattle.std.proofs.Common.{◌≡◌, Bool, true, false, not, refl, sym, subst, ◌∙◌, Option, Some, None, List, length}
+use Rattle.std.specs.Bool.{one_answer}
 use Rattle.std.proofs.lemmas.Bool.{false≢true}
-use Rattle.filterset_expression.specs.Connectives.{Connective, Connects, connected, kleene, kleene_not}
+use Rattle.filterset_expression.specs.Connectives.{Connective, connected, kleene, kleene_not}
 use Rattle.filterset_expression.specs.Formula.{Formula, Negation, Compound}
 use Rattle.filterset_expression.specs.Values.{occurrences, TrueUnder, CanBe, IsAlways, IsOpen}
 use Rattle.filterset_expression.proofs.Connectives.{Knows, Allows, Reaches, IsExact, kleene_exact}

@@ -1,6 +1,6 @@
 -- Connectives, and the rules of each: what it makes of two propositions, of two truth values, and of three. The rules
 -- stand here alone; whatever else speaks of connectives takes them from these tables.
-use Rattle.std.specs.Prelude.{◌⊎◌, ◌&&◌, ◌||◌, Bool, true, false, not, Option, Some, None}
+use Rattle.std.specs.Prelude.{◌≡◌, ◌⊎◌, ◌&&◌, ◌||◌, Bool, true, false, not, Option, Some, None}
 use Rattle.std.specs.Bool.{beq}
 pub use Rattle.filterset_expression.specs.declared.logic.Connective.{Connective}
 pub use Rattle.filterset_expression.specs.declared.logic.Connective.TheVariants.{Conjunction, Disjunction, ExclusiveDisjunction}
@@ -22,6 +22,15 @@ abbrev pub Connects : Connective → Type 0 → Type 0 → Type 0
 Connects Conjunction P Q = P × Q
 Connects Disjunction P Q = P ⊎ Q
 Connects ExclusiveDisjunction P Q = ExactlyOneHolds P Q
+
+-- ---- values of the left operand alone
+
+-- The value of a left operand decides what the connective makes, whatever the right operand's is: false a conjunction,
+-- and true a disjunction.
+abbrev pub Decides : {L : Type 0} → L → L → Connective → L → Type 0
+Decides top bottom Conjunction left = left ≡ bottom
+Decides top bottom Disjunction left = left ≡ top
+Decides top bottom ExclusiveDisjunction left = ⊥
 
 -- ---- two truth values
 

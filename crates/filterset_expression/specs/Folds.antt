@@ -1,17 +1,19 @@
 -- Folds of formulas by connectives and values of the leaves.
-use Rattle.std.specs.Prelude.{◌≡◌, ◌↔◌, Bool, Option, None, IsSomeAnd, IsTrue, MatchBool}
+use Rattle.std.specs.Prelude.{◌≡◌, ◌↔◌, ◌⊎◌, Bool, Option, None, IsSomeAnd, IsTrue, MatchBool}
 use Rattle.filterset_expression.specs.Connectives.{Connective}
 use Rattle.filterset_expression.specs.Formula.{Formula, Leaf, Negation, Compound}
 
 -- The value is a fold of the formula: what `not_of` and `connect` make of values of the leaves, of which each is one
--- that `gives` allows.
-abbrev pub Folds : {A L : Type 0} → (L → L) → (Connective → L → L → L) → (A → L → Type 0) → Formula A → L → Type 0
-Folds not_of connect gives (Leaf leaf) value = gives leaf value
-Folds {A} {L} not_of connect gives (Negation f) value =
-    (x : L) × Folds not_of connect gives f x × (value ≡ not_of x)
-Folds {A} {L} not_of connect gives (Compound connective f g) value =
-    (x : L) × (y : L) × Folds not_of connect gives f x × Folds not_of connect gives g y
-    × (value ≡ connect connective x y)
+-- that `gives` allows. Where the value of a left operand decides a connective, nothing is said of the right operand.
+abbrev pub Folds : {A L : Type 0} → (L → L) → (Connective → L → L → L) → (Connective → L → Type 0) → (A → L → Type 0)
+    → Formula A → L → Type 0
+Folds not_of connect decides gives (Leaf leaf) value = gives leaf value
+Folds {A} {L} not_of connect decides gives (Negation f) value =
+    (x : L) × Folds not_of connect decides gives f x × (value ≡ not_of x)
+Folds {A} {L} not_of connect decides gives (Compound connective f g) value =
+    (x : L) × Folds not_of connect decides gives f x
+    × (((y : L) × Folds not_of connect decides gives g y × (value ≡ connect connective x y))
+    ⊎ (decides connective x × (value ≡ x)))
 
 -- What the value of a leaf may be: unknown where the leaf is asked, and else whether it holds. (`MatchBool b P Q` is P
 -- where b is true, and Q where it is false.)

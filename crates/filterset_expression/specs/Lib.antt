@@ -11,6 +11,7 @@ pub mod Logics
 pub mod LogicLaws
 pub mod Folds
 pub mod FlatSteps
+pub mod Passing
 pub mod Running
 pub mod Stacks
 pub mod FlatExpressions

@@ -1,6 +1,5 @@
 -- How steps run on a stack.
-use Rattle.std.specs.Prelude.{◌≡◌, ℕ, zero, suc, max, Bool, true, false, ◌&&◌, List, [], ◌∷◌}
-use Rattle.filterset_expression.specs.Connectives.{Connective}
+use Rattle.std.specs.Prelude.{ℕ, zero, suc, max, Bool, true, false, ◌&&◌, List, [], ◌∷◌}
 use Rattle.filterset_expression.specs.Expression.{CompiledLeaf, Default, compiled_leaf}
 use Rattle.filterset_expression.specs.FlatSteps.{Step, Push, Negate, Combine}
 use Rattle.filterset_expression.specs.declared.flat.steps.Action.{Action}
@@ -47,18 +46,3 @@ leaves_one (s ∷ steps) height = finds_operands s height && leaves_one steps (h
 abbrev pub greatest_height : {A : Type 0} → List (Step A) → ℕ → ℕ
 greatest_height [] height = height
 greatest_height (s ∷ steps) height = max height (greatest_height steps (height_after s height))
-
--- The steps take the stack, whose top comes first, to the one value, where each leaf has a value that `gives` allows,
--- and `not_of` and `connect` say what is made of values.
-abbrev pub Runs : {A L : Type 0} → (L → L) → (Connective → L → L → L) → (A → L → Type 0)
-    → List (Step A) → List L → L → Type 0
-Runs not_of connect gives [] stack value = stack ≡ value ∷ []
-Runs {A} {L} not_of connect gives (Push leaf ∷ steps) stack value =
-    (x : L) × gives leaf x × Runs not_of connect gives steps (x ∷ stack) value
-Runs not_of connect gives (Negate ∷ steps) [] value = ⊥
-Runs not_of connect gives (Negate ∷ steps) (x ∷ stack) value =
-    Runs not_of connect gives steps (not_of x ∷ stack) value
-Runs not_of connect gives (Combine connective ∷ steps) [] value = ⊥
-Runs not_of connect gives (Combine connective ∷ steps) (y ∷ []) value = ⊥
-Runs not_of connect gives (Combine connective ∷ steps) (y ∷ x ∷ stack) value =
-    Runs not_of connect gives steps (connect connective x y ∷ stack) value

@@ -1,14 +1,19 @@
 //! Compiled expressions as lists of steps, and what they say of binaries and tests.
-ghost use Rattle.std.specs.Prelude.{◌≡◌, ◌↔◌, ◌∷◌, [], Bool, true, false, List, Ok, Some, None, IfOk, IfSome, IsTrue, ◌≤◌};
+ghost use Rattle.std.specs.Prelude.{◌≡◌, ◌↔◌, ◌∷◌, [], ◌+◌, Bool, true, false, List, Ok, Some, None, IfOk, IfSome, IsTrue};
+ghost use Rattle.std.specs.Prelude.{◌≤◌, ◌<◌, drop, length};
 ghost use Rattle.filterset_faults.specs.declared.span.SourceSpan.{SourceSpan};
 ghost use Rattle.filterset_graph.specs.declared.package.PackageMetadata.{PackageMetadata};
 ghost use Rattle.filterset_grammar.specs.Tree.{Tree};
 ghost use Rattle.filterset_expression.specs.BinaryMeaning.{IsDefiniteTree, IsUndecidedTree};
-ghost use Rattle.filterset_expression.specs.Expression.{compiled_leaf, is_default, is_group, no_groups, HoldsOfTest};
+ghost use Rattle.filterset_expression.specs.Connectives.{Decides};
+ghost use Rattle.filterset_expression.specs.Expression.{compiled_leaf, is_default, is_group, no_groups, CompiledLeaf, HoldsOfTest};
 ghost use Rattle.filterset_expression.specs.Expression.{Holds, IsDefinite, IsUndecided};
 ghost use Rattle.filterset_expression.specs.Meaning.{Meaning};
-ghost use Rattle.filterset_expression.specs.Running.{leaves_one, greatest_height, Runs};
-ghost use Rattle.filterset_expression.specs.FlatSteps.{steps_of, Push};
+ghost use Rattle.filterset_expression.specs.Running.{leaves_one, greatest_height};
+ghost use Rattle.filterset_expression.specs.FlatSteps.{postfix, steps_of, Push};
+ghost use Rattle.filterset_expression.specs.Folds.{Folds};
+ghost use Rattle.filterset_expression.specs.Formula.{Formula};
+ghost use Rattle.filterset_expression.specs.Passing.{are_passed_over, Advances};
 ghost use Rattle.filterset_expression.specs.declared.expression.CompiledExpr.{CompiledExpr};
 ghost use Rattle.filterset_expression.specs.declared.flat.asked.AskedLeaf.{AskedLeaf};
 
@@ -16,12 +21,14 @@ use crate::logic::connected;
 use crate::{BinaryQuery, CompiledExpr, EvalContext, FiltersetLeaf, GroupLookup, Logic, TestQuery};
 use asked::AskedLeaf;
 use kept::{KeptMatcher, kept_matchers};
+use passing::{RightOperand, decides, right_operands};
 use stack::{Reserved, Stack, TwoBits, Words};
 use std::alloc::{AllocError, Global};
 use steps::{Action, push_steps, reserved_height};
 
 mod asked;
 mod kept;
+mod passing;
 mod stack;
 mod steps;
 
@@ -37,6 +44,9 @@ pub struct FlatExpr<'a> {
     kept: Vec<KeptMatcher<'a>>,
     /// The greatest number of values that stand on the stack while the steps run.
     height: usize,
+    /// What may be passed over after each step; none where no operand may be.
+    right_operands: Vec<Option<RightOperand>>,
+    ghost passed_over: { are_passed_over (steps_of steps.items) right_operands.items ≡ true },
     ghost one_value: { leaves_one (steps_of steps.items) 0 ≡ true },
     ghost fits: { height ≡ greatest_height (steps_of steps.items) 0 },
 }
@@ -61,10 +71,12 @@ impl<'a> FlatExpr<'a> {
         push_steps(&mut steps, expr, &default_steps)?;
         let kept = kept_matchers(alloc, &steps)?;
         let height = reserved_height(&steps);
+        let right_operands = right_operands(alloc, &steps, expr, cx.default_filter())?;
         Ok(FlatExpr {
             steps,
             kept,
             height,
+            right_operands,
         })
     }
 
@@ -166,18 +178,22 @@ impl<'a> FlatExpr<'a> {
         of_leaf: &F,
     ) -> Result<L, AllocError>
         requires callable { F.IsAlwaysCallable of_leaf.now }
-        ensures { IfOk result (λ value. Runs L.not_of L.connect
+        ensures { IfOk result (λ value. (f : Formula CompiledLeaf) → flat_steps self.now ≡ postfix f
+            → Folds L.not_of L.connect (Decides L.top_value L.bottom_value)
             (λ leaf x. (asked : AskedLeaf) × (compiled_leaf asked.leaf.now ≡ leaf) × F.post of_leaf.now asked (Ok x))
-            (flat_steps self.now) [] value) }
+            f value) }
     {
         if let Some(leaf) = self.only_leaf() {
             let kept = self.kept.first();
             return of_leaf(AskedLeaf { leaf, kept });
         }
-        if self.height <= 64 {
+        if self.height > 64 {
+            return self.run_on(Reserved::with_room(alloc, self.height)?, of_leaf);
+        }
+        if self.right_operands.is_empty() {
             return self.run_on(Words::new(), of_leaf);
         }
-        self.run_on(Reserved::with_room(alloc, self.height)?, of_leaf)
+        self.run_passing(Words::new(), of_leaf)
     }
 
     /// The leaf that is the only step.
@@ -201,9 +217,10 @@ impl<'a> FlatExpr<'a> {
         requires callable { F.IsAlwaysCallable of_leaf.now }
         requires empty { S.values stack ≡ [] }
         requires has_room { greatest_height (flat_steps self.now) 0 ≤ S.room stack }
-        ensures { IfOk result (λ value. Runs L.not_of L.connect
+        ensures { IfOk result (λ value. (f : Formula CompiledLeaf) → flat_steps self.now ≡ postfix f
+            → Folds L.not_of L.connect (Decides L.top_value L.bottom_value)
             (λ leaf x. (asked : AskedLeaf) × (compiled_leaf asked.leaf.now ≡ leaf) × F.post of_leaf.now asked (Ok x))
-            (flat_steps self.now) [] value) }
+            f value) }
     {
         let mut all_kept = self.kept.iter();
         for step in &self.steps {
@@ -225,5 +242,51 @@ impl<'a> FlatExpr<'a> {
             }
         }
         Ok(stack.pop())
+    }
+
+    /// The same, where right operands are passed over if the left ones decide.
+    fn run_passing<
+        L: TwoBits,
+        S: Stack<L> + Drop,
+        F: Fn(AskedLeaf<'_, 'a>) -> Result<L, AllocError>,
+    >(&self, mut stack: S, of_leaf: &F) -> Result<L, AllocError>
+        requires callable { F.IsAlwaysCallable of_leaf.now }
+        requires empty { S.values stack ≡ [] }
+        requires has_room { greatest_height (flat_steps self.now) 0 ≤ S.room stack }
+        ensures { IfOk result (λ value. (f : Formula CompiledLeaf) → flat_steps self.now ≡ postfix f
+            → Folds L.not_of L.connect (Decides L.top_value L.bottom_value)
+            (λ leaf x. (asked : AskedLeaf) × (compiled_leaf asked.leaf.now ≡ leaf) × F.post of_leaf.now asked (Ok x))
+            f value) }
+    {
+        let mut at = 0usize;
+        while at < self.steps.len() {
+            let value = match self.steps[at].action() {
+                Action::Push(leaf) => {
+                    let kept = self.kept.get(at);
+                    of_leaf(AskedLeaf { leaf, kept })?
+                }
+                Action::Negate => stack.pop().logic_not(),
+                Action::Combine(connective) => {
+                    let right = stack.pop();
+                    let left = stack.pop();
+                    connected(connective, left, right)
+                }
+            };
+            stack.push(value);
+            at += self.steps_after(at, value);
+        }
+        Ok(stack.pop())
+    }
+
+    /// How many steps a run goes on after this step, whose value is on top: one, or past the right operand that stands
+    /// after it where the value decides its connective.
+    fn steps_after<L: TwoBits>(&self, at: usize, value: L) -> usize
+        requires { at < length (flat_steps self.now) }
+        ensures { Advances (Decides L.top_value L.bottom_value) (drop (at + 1) (flat_steps self.now)) value result }
+    {
+        match self.right_operands.get(at) {
+            Some(Some(operand)) if decides(operand.connective, value) => operand.steps + 1,
+            _ => 1,
+        }
     }
 }

@@ -1,37 +1,35 @@
-use Rattle.std.proofs.Common.{◌≡◌, ◌↔◌, [], Bool, List, Option, Some, None, subst, rules}
+use Rattle.std.proofs.Common.{◌≡◌, ◌↔◌, Bool, true, false, List, Option, Some, None, subst, rules}
 use Rattle.std.proofs.lemmas.Result.{IfOk-weaker}
 use Rattle.filterset_faults.specs.declared.span.SourceSpan.{SourceSpan}
 use Rattle.filterset_graph.specs.declared.package.PackageMetadata.{PackageMetadata}
 use Rattle.filterset_grammar.specs.Tree.{Tree}
 use Rattle.filterset_expression.specs.BinaryMeaning.{IsDefiniteTree, IsUndecidedTree}
-use Rattle.filterset_expression.specs.Expression.{compiled_leaf, is_of_test, with_default, HoldsOfBinary, IsDefinite, IsUndecided}
-use Rattle.filterset_expression.specs.FlatExpressions.{flat_steps, IsFlat, IsFlatOfTree}
+use Rattle.filterset_expression.specs.Expression.{CompiledLeaf, compiled_leaf, is_of_test, with_default, HoldsOfBinary, IsDefinite, IsUndecided}
+use Rattle.filterset_expression.specs.FlatExpressions.{IsFlat, IsFlatOfTree}
 use Rattle.filterset_expression.specs.Folds.{Folds, Settles}
-use Rattle.filterset_expression.specs.Running.{Runs}
-use Rattle.filterset_expression.specs.Connectives.{kleene_not, kleene}
+use Rattle.filterset_expression.specs.Formula.{Formula}
+use Rattle.filterset_expression.specs.Connectives.{Decides, kleene_not, kleene}
 use Rattle.filterset_expression.specs.declared.expression.CompiledExpr.{CompiledExpr}
-use Rattle.filterset_expression.specs.declared.flat.FlatExpr.{FlatExpr}
 use Rattle.filterset_expression.specs.declared.flat.asked.AskedLeaf.{AskedLeaf}
 use Rattle.filterset_expression.specs.declared.query.BinaryQuery.{BinaryQuery}
 use Rattle.filterset_expression.proofs.BinaryMeanings.{compiled_definite, compiled_undecided}
 use Rattle.filterset_expression.proofs.Exact.{fold_definite, fold_open}
 use Rattle.filterset_expression.proofs.Folding.{folds_more}
-use Rattle.filterset_expression.proofs.FlatSteps.{flat_folds}
 use Rattle.filterset_expression.proofs.flat.FlatExpr.matches_binary.Goals as goal
 
 -- what a run of the steps folds
-folded : (binary : BinaryQuery) (flat : FlatExpr) (of_leaf : AskedLeaf → Option Bool → Type 0) → ((asked : AskedLeaf) (x : Option Bool) → of_leaf asked x → Settles is_of_test (HoldsOfBinary binary) (compiled_leaf asked.leaf.now) x) → (value : Option Bool) → Runs kleene_not kleene (λ leaf x. (asked : AskedLeaf) × (compiled_leaf asked.leaf.now ≡ leaf) × of_leaf asked x) (flat_steps flat) [] value → (expr default : CompiledExpr) → IsFlat flat expr default → Folds kleene_not kleene (Settles is_of_test (HoldsOfBinary binary)) (with_default default expr) value
-folded binary flat of_leaf settles value run expr default is_flat =
+folded : (binary : BinaryQuery) (of_leaf : AskedLeaf → Option Bool → Type 0) → ((asked : AskedLeaf) (x : Option Bool) → of_leaf asked x → Settles is_of_test (HoldsOfBinary binary) (compiled_leaf asked.leaf.now) x) → (f : Formula CompiledLeaf) (value : Option Bool) → Folds kleene_not kleene (Decides (Some true) (Some false)) (λ leaf x. (asked : AskedLeaf) × (compiled_leaf asked.leaf.now ≡ leaf) × of_leaf asked x) f value → Folds kleene_not kleene (Decides (Some true) (Some false)) (Settles is_of_test (HoldsOfBinary binary)) f value
+folded binary of_leaf settles f value run =
     let gives = Settles is_of_test (HoldsOfBinary binary) in
-    folds_more kleene_not kleene _ gives (λ leaf x p. subst (λ l. gives l x) p.1 (settles p.0 x p.2)) (with_default default expr) value (flat_folds kleene_not kleene _ (flat_steps flat) default expr value is_flat run)
+    folds_more kleene_not kleene (Decides (Some true) (Some false)) _ gives (λ leaf x p. subst (λ l. gives l x) p.1 (settles p.0 x p.2)) f value run
 
 pub returns-clause-definite : goal.returns-clause-definite
 returns-clause-definite c =
-    IfOk-weaker c.run.result _ (λ answer. (expr default : CompiledExpr) → IsFlat c.args.self.now expr default → (b : Bool) → (answer ≡ Some b) ↔ IsDefinite expr c.args.query.now default b) (λ answer run expr default flat. fold_definite is_of_test (HoldsOfBinary c.args.query.now) (with_default default expr) answer (folded c.args.query.now c.args.self.now _ (λ asked x p. search (rules, p)) answer run expr default flat)) c.run.ensures
+    IfOk-weaker c.run.result _ (λ answer. (expr default : CompiledExpr) → IsFlat c.args.self.now expr default → (b : Bool) → (answer ≡ Some b) ↔ IsDefinite expr c.args.query.now default b) (λ answer run expr default flat. fold_definite is_of_test (HoldsOfBinary c.args.query.now) (with_default default expr) answer (folded c.args.query.now _ (λ asked x p. search (rules, p)) (with_default default expr) answer (run (with_default default expr) flat))) c.run.ensures
 
 pub returns-clause-undecided : goal.returns-clause-undecided
 returns-clause-undecided c =
-    IfOk-weaker c.run.result _ (λ answer. (expr default : CompiledExpr) → IsFlat c.args.self.now expr default → (answer ≡ None) ↔ IsUndecided expr c.args.query.now default) (λ answer run expr default flat. fold_open is_of_test (HoldsOfBinary c.args.query.now) (with_default default expr) answer (folded c.args.query.now c.args.self.now _ (λ asked x p. search (rules, p)) answer run expr default flat)) c.run.ensures
+    IfOk-weaker c.run.result _ (λ answer. (expr default : CompiledExpr) → IsFlat c.args.self.now expr default → (answer ≡ None) ↔ IsUndecided expr c.args.query.now default) (λ answer run expr default flat. fold_open is_of_test (HoldsOfBinary c.args.query.now) (with_default default expr) answer (folded c.args.query.now _ (λ asked x p. search (rules, p)) (with_default default expr) answer (run (with_default default expr) flat))) c.run.ensures
 
 pub returns-clause-meaning : goal.returns-clause-meaning
 returns-clause-meaning c =

@@ -1,25 +1,25 @@
-use Rattle.std.proofs.Common.{◌≡◌, ◌↔◌, Bool, List, not, subst, rules}
+use Rattle.std.proofs.Common.{◌≡◌, ◌↔◌, Bool, true, false, List, not, subst, rules}
 use Rattle.std.specs.Bool.{IsTrue}
 use Rattle.std.proofs.lemmas.Result.{IfOk-weaker}
 use Rattle.filterset_faults.specs.declared.span.SourceSpan.{SourceSpan}
 use Rattle.filterset_graph.specs.declared.package.PackageMetadata.{PackageMetadata}
 use Rattle.filterset_grammar.specs.Tree.{Tree}
 use Rattle.filterset_expression.specs.Expression.{no_groups, compiled_leaf, with_default, HoldsOfTest, Holds, IsDefinite}
-use Rattle.filterset_expression.specs.FlatExpressions.{flat_steps, IsFlat, IsFlatOfTree}
-use Rattle.filterset_expression.specs.Connectives.{connected}
+use Rattle.filterset_expression.specs.FlatExpressions.{IsFlat, IsFlatOfTree}
+use Rattle.filterset_expression.specs.Connectives.{Decides, connected}
 use Rattle.filterset_expression.specs.Meaning.{Meaning}
 use Rattle.filterset_expression.specs.declared.expression.CompiledExpr.{CompiledExpr}
 use Rattle.filterset_expression.proofs.Folding.{folds_more, fold_decides}
 use Rattle.filterset_expression.proofs.LeafAnswers.{definite_of_test, lookups_alike}
 use Rattle.filterset_expression.proofs.Meanings.{compiled_means}
-use Rattle.filterset_expression.proofs.FlatSteps.{flat_folds, no_group_of_steps}
+use Rattle.filterset_expression.proofs.FlatSteps.{no_group_of_steps}
 use Rattle.filterset_expression.proofs.flat.FlatExpr.matches_test_with_groups.Goals as goal
 
 pub returns-clause-holds : goal.returns-clause-holds
 returns-clause-holds g c =
     let lookup = (goal.GroupLookup-dyn g c.args.groups.now).GroupLookup.hits_group c.args.groups.now.1 in
     let holds = HoldsOfTest c.args.query.now lookup in
-    IfOk-weaker c.run.result _ (λ answer. (expr default : CompiledExpr) → IsFlat c.args.self.now expr default → (IsTrue answer ↔ (Holds expr c.args.query.now default lookup))) (λ value run expr default flat. fold_decides holds (with_default default expr) value (folds_more not connected _ _ (λ leaf x p. let own : (IsTrue x ↔ (holds (compiled_leaf p.0.leaf.now))) = search (rules, p.2) in subst (λ l. (IsTrue x ↔ (holds l))) p.1 own) (with_default default expr) value (flat_folds not connected _ (flat_steps c.args.self.now) default expr value flat run))) c.run.ensures
+    IfOk-weaker c.run.result _ (λ answer. (expr default : CompiledExpr) → IsFlat c.args.self.now expr default → (IsTrue answer ↔ (Holds expr c.args.query.now default lookup))) (λ value run expr default flat. fold_decides holds (with_default default expr) value (folds_more not connected (Decides true false) _ _ (λ leaf x p. let own : (IsTrue x ↔ (holds (compiled_leaf p.0.leaf.now))) = search (rules, p.2) in subst (λ l. (IsTrue x ↔ (holds l))) p.1 own) (with_default default expr) value (run (with_default default expr) flat))) c.run.ensures
 
 pub returns-clause-settled : goal.returns-clause-settled
 returns-clause-settled g c =

@@ -3,6 +3,7 @@ use Rattle.filterset_expression.specs.Contexts.{default_of}
 use Rattle.filterset_expression.specs.Expression.{with_default}
 use Rattle.filterset_expression.specs.FlatSteps.{steps_of, postfix}
 use Rattle.filterset_expression.proofs.FlatSteps.{made_steps, postfix_runs, no_default_step}
+use Rattle.filterset_expression.proofs.Passing.{are_passed}
 use Rattle.filterset_expression.proofs.flat.FlatExpr.new.Goals as goal
 
 pub reserved_height-height-requires : goal.reserved_height-height-requires
@@ -16,6 +17,7 @@ invariant_of-result c =
     record {
       one_value = rw made (postfix_runs (with_default (default_of c.args.cx.now) c.args.expr.now));
       fits = rw (← c.deref-3.ensures.value) c.reserved_height-height.ensures;
+      passed_over = rw made (are_passed _ _ (rw c.default_filter-2.ensures.same at c.in_ok-right_operands.ensures));
     }
 
 pub returns-clause-flat : goal.returns-clause-flat

@@ -1,9 +1,12 @@
-use Rattle.std.proofs.Common.{◌≡◌, ◌≤◌, ◌+◌, refl, sym, ◌∙◌, ap, ◌∷◌, drop, length, Ok, arith}
+use Rattle.std.proofs.Common.{◌≡◌, ◌≤◌, ◌+◌, refl, sym, ◌∙◌, ap, [], ◌∷◌, drop, length, Ok, arith}
+use Rattle.std.proofs.Math.Seq.{drop-length}
 use Rattle.filterset_expression.specs.declared.flat.asked.AskedLeaf.{AskedLeaf}
+use Rattle.filterset_expression.specs.Connectives.{Decides}
 use Rattle.filterset_expression.specs.Expression.{CompiledLeaf, compiled_leaf}
-use Rattle.filterset_expression.specs.Running.{height_after, step_of_action, Runs}
+use Rattle.filterset_expression.specs.Running.{height_after, step_of_action}
 use Rattle.filterset_expression.specs.FlatSteps.{step_of, steps_of}
-use Rattle.filterset_expression.proofs.FlatSteps.{steps_from, leaves_one_on, greatest_on, greatest_above, push_run, negate_run, combine_run}
+use Rattle.filterset_expression.proofs.FlatSteps.{steps_from, leaves_one_on, greatest_on, greatest_above}
+use Rattle.filterset_expression.proofs.Decoding.{Stands, push_stands, negate_stands, combine_stands, stands_last}
 use Rattle.filterset_expression.proofs.flat.FlatExpr.run_on.Goals as goal
 use Rattle.filterset_expression.proofs.flat.FlatExpr.run_on.Goals.{in-Push+in_ok-value-in-Push, in-Negate, in-Combine}
 
@@ -34,6 +37,7 @@ loop-step-preserved g c =
     let acts : step_of s ≡ step_of_action c.action.result = sym c.action.ensures in
     let not_of = g.L.Logic.not_of in
     let connect = g.L.Logic.connect in
+    let decides = Decides g.L.Logic.top_value g.L.Logic.bottom_value in
     let gives = λ (leaf : CompiledLeaf) (x : g.row.L.Denot). (asked : AskedLeaf) × (compiled_leaf asked.leaf.now ≡ leaf) × goal.F-post g c.args.of_leaf.now asked (Ok x) in
     let after : height_after (step_of s) (length old) ≡ length new = elim c.match-action.branch [
       | in-Push+in_ok-value-in-Push w ↦ rw (acts, w.in-Push.is, w.stack-is, w.push.ensures.values) refl
@@ -45,10 +49,10 @@ loop-step-preserved g c =
       | in-Negate w ↦ rw w.stack-is (omega (arith, w.pop-value.ensures.room, w.push-in-Negate.ensures.room))
       | in-Combine w ↦ rw w.stack-is (omega (arith, w.pop-right.ensures.room, w.pop-left.ensures.room, w.push-in-Combine.ensures.room))
     ] in
-    let on : (value : g.row.L.Denot) → Runs not_of connect gives rest new value → Runs not_of connect gives (step_of s ∷ rest) old value = λ value. elim c.match-action.branch [
-      | in-Push+in_ok-value-in-Push w ↦ rw (acts, w.in-Push.is) (push_run not_of connect gives rest value (compiled_leaf w.in-Push.leaf.now) old new w.in_ok-value-in-Push.value (record { leaf = w.in-Push.leaf; kept = c.next-kept.result }, refl, w.in_ok-value-in-Push.ensures) (ap values w.stack-is ∙ w.push.ensures.values))
-      | in-Negate w ↦ rw (acts, w.in-Negate.is) (negate_run not_of connect gives rest value old (values w.pop-value.new.self) new w.pop-value.result w.logic_not.result w.pop-value.ensures.values w.logic_not.ensures (ap values w.stack-is ∙ w.push-in-Negate.ensures.values))
-      | in-Combine w ↦ rw (acts, w.in-Combine.is) (combine_run not_of connect gives rest value w.in-Combine.connective old (values w.pop-right.new.self) (values w.pop-left.new.self) new w.pop-left.result w.pop-right.result w.connected.result w.pop-right.ensures.values w.pop-left.ensures.values w.connected.ensures (ap values w.stack-is ∙ w.push-in-Combine.ensures.values))
+    let stands : Stands not_of connect decides gives (steps_of steps) rest new = elim c.match-action.branch [
+      | in-Push+in_ok-value-in-Push w ↦ push_stands not_of connect decides gives (steps_of steps) rest (compiled_leaf w.in-Push.leaf.now) old new w.in_ok-value-in-Push.value (record { leaf = w.in-Push.leaf; kept = c.next-kept.result }, refl, w.in_ok-value-in-Push.ensures) (ap values w.stack-is ∙ w.push.ensures.values) (rw (here, acts, w.in-Push.is) at c.loop-step.invariant.so_far)
+      | in-Negate w ↦ negate_stands not_of connect decides gives (steps_of steps) rest old (values w.pop-value.new.self) new w.pop-value.result w.logic_not.result w.pop-value.ensures.values w.logic_not.ensures (ap values w.stack-is ∙ w.push-in-Negate.ensures.values) (rw (here, acts, w.in-Negate.is) at c.loop-step.invariant.so_far)
+      | in-Combine w ↦ combine_stands not_of connect decides gives (steps_of steps) rest w.in-Combine.connective old (values w.pop-right.new.self) (values w.pop-left.new.self) new w.pop-left.result w.pop-right.result w.connected.result w.pop-right.ensures.values w.pop-left.ensures.values w.connected.ensures (ap values w.stack-is ∙ w.push-in-Combine.ensures.values) (rw (here, acts, w.in-Combine.is) at c.loop-step.invariant.so_far)
     ] in
     let fits = rw (here, greatest_on (step_of s) rest (length old) (length new) after) at c.loop-step.invariant.fits in
     record {
@@ -56,5 +60,16 @@ loop-step-preserved g c =
       within = omega arith;
       runs = leaves_one_on (step_of s) rest (length old) (length new) after (rw here at c.loop-step.invariant.runs);
       fits = omega (arith, fits, room);
-      so_far = λ value run. c.loop-step.invariant.so_far value (rw here (on value run));
+      so_far = stands;
     }
+
+pub returns : goal.returns
+returns g c = λ f same.
+    let steps = c.deref-step-items.result.now in
+    let not_of = g.L.Logic.not_of in
+    let connect = g.L.Logic.connect in
+    let decides = Decides g.L.Logic.top_value g.L.Logic.bottom_value in
+    let gives = λ (leaf : CompiledLeaf) (x : g.row.L.Denot). (asked : AskedLeaf) × (compiled_leaf asked.leaf.now ≡ leaf) × goal.F-post g c.args.of_leaf.now asked (Ok x) in
+    let end : c.loop-step.step-index ≡ length steps = omega (arith, c.loop-step.invariant.within, c.loop-step-test.false) in
+    let none : drop c.loop-step.step-index steps ≡ [] = ap (λ n. drop n steps) end ∙ drop-length steps in
+    stands_last not_of connect decides gives (steps_of steps) (g.S.Stack.values c.loop-step.stack) (g.S.Stack.values c.pop.new.self) c.pop.result c.pop.ensures.values (rw none at c.loop-step.invariant.so_far) f (ap steps_of c.loop-step.invariant.same ∙ same)

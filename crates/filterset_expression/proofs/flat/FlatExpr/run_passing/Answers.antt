@@ -1,0 +1,104 @@
+use Rattle.std.proofs.Common.{◌≡◌, ◌≤◌, ◌+◌, ◌-◌, refl, sym, ◌∙◌, ap, [], ◌∷◌, drop, length, Ok, arith}
+use Rattle.std.proofs.lemmas.List.{drop-map, drop-drop, length-map}
+use Rattle.std.proofs.Math.Seq.{drop-length}
+use Rattle.filterset_expression.specs.declared.flat.asked.AskedLeaf.{AskedLeaf}
+use Rattle.filterset_expression.specs.Connectives.{Decides}
+use Rattle.filterset_expression.specs.Expression.{CompiledLeaf, compiled_leaf}
+use Rattle.filterset_expression.specs.FlatExpressions.{flat_steps}
+use Rattle.filterset_expression.specs.FlatSteps.{step_of, steps_of}
+use Rattle.filterset_expression.specs.Passing.{Advances}
+use Rattle.filterset_expression.specs.Running.{height_after, step_of_action}
+use Rattle.filterset_expression.proofs.Decoding.{Stands, advance_ready, push_stands, negate_stands, combine_stands, stands_last}
+use Rattle.filterset_expression.proofs.FlatSteps.{steps_from, leaves_one_on, greatest_on, greatest_above}
+use Rattle.filterset_expression.proofs.Passing.{advance_within, advances_some}
+use Rattle.filterset_expression.proofs.flat.FlatExpr.run_passing.Goals as goal
+use Rattle.filterset_expression.proofs.flat.FlatExpr.run_passing.Goals.{in-Push+in_ok-value-in-Push, in-Negate, in-Combine}
+
+pub push-requires : goal.push-requires
+push-requires g c =
+    let steps = c.args.self.now.steps.items in
+    let at = c.loop-at.at in
+    let s = c.index.result.now in
+    let values = g.S.Stack.values in
+    let old = values c.loop-at.stack in
+    let rest = steps_of (drop (at + 1) steps) in
+    let here : steps_of (drop at steps) ≡ step_of s ∷ rest = steps_from steps at s (omega (arith, c.len.ensures)) c.index.ensures in
+    let acts : step_of s ≡ step_of_action c.action.result = sym c.action.ensures in
+    let after : height_after (step_of s) (length old) ≡ length (values c.match-action.stack) + 1 = elim c.match-action.branch [
+      | in-Push+in_ok-value-in-Push w ↦ rw (acts, w.in-Push.is, w.stack-is) (omega arith)
+      | in-Negate w ↦ rw (acts, w.in-Negate.is, w.stack-is) (omega (arith, ap length w.pop.ensures.values))
+      | in-Combine w ↦ rw (acts, w.in-Combine.is, w.stack-is, w.pop-right.ensures.values, w.pop-left.ensures.values) (omega arith)
+    ] in
+    let room : g.S.Stack.room c.loop-at.stack ≤ g.S.Stack.room c.match-action.stack = elim c.match-action.branch [
+      | in-Push+in_ok-value-in-Push w ↦ rw w.stack-is (omega arith)
+      | in-Negate w ↦ rw w.stack-is w.pop.ensures.room
+      | in-Combine w ↦ rw w.stack-is (omega (arith, w.pop-right.ensures.room, w.pop-left.ensures.room))
+    ] in
+    let fits = rw (here, greatest_on (step_of s) rest (length old) (length (values c.match-action.stack) + 1) after) at c.loop-at.invariant.fits in
+    let above = greatest_above rest (length (values c.match-action.stack) + 1) in
+    omega (arith, fits, above, room)
+
+pub overflow_add-at : goal.overflow_add-at
+overflow_add-at g c =
+    let steps = c.args.self.now.steps.items in
+    let within = advance_within (Decides g.L.Logic.top_value g.L.Logic.bottom_value) (flat_steps c.args.self.now) c.loop-at.at c.steps_after-at.result c.match-action.value (omega (arith, c.len.ensures, length-map steps step_of)) c.steps_after-at.ensures in
+    omega (arith, within, length-map steps step_of, c.args.self.now.steps.small)
+
+pub loop-at-preserved : goal.loop-at-preserved
+loop-at-preserved g c =
+    let steps = c.args.self.now.steps.items in
+    let all = steps_of steps in
+    let at = c.loop-at.at in
+    let count = c.steps_after-at.result in
+    let s = c.index.result.now in
+    let values = g.S.Stack.values in
+    let old = values c.loop-at.stack in
+    let new = values c.push.new.self in
+    let value = c.match-action.value in
+    let rest = steps_of (drop (at + 1) steps) in
+    let here : steps_of (drop at steps) ≡ step_of s ∷ rest = steps_from steps at s (omega (arith, c.len.ensures)) c.index.ensures in
+    let acts : step_of s ≡ step_of_action c.action.result = sym c.action.ensures in
+    let not_of = g.L.Logic.not_of in
+    let connect = g.L.Logic.connect in
+    let decides = Decides g.L.Logic.top_value g.L.Logic.bottom_value in
+    let gives = λ (leaf : CompiledLeaf) (x : g.row.L.Denot). (asked : AskedLeaf) × (compiled_leaf asked.leaf.now ≡ leaf) × goal.F-post g c.args.of_leaf.now asked (Ok x) in
+    let after : height_after (step_of s) (length old) ≡ length new = elim c.match-action.branch [
+      | in-Push+in_ok-value-in-Push w ↦ rw (acts, w.in-Push.is, c.push.ensures.values, w.stack-is) refl
+      | in-Negate w ↦ rw (acts, w.in-Negate.is, c.push.ensures.values, w.stack-is, w.pop.ensures.values) refl
+      | in-Combine w ↦ rw (acts, w.in-Combine.is, c.push.ensures.values, w.stack-is, w.pop-right.ensures.values, w.pop-left.ensures.values) refl
+    ] in
+    let room : g.S.Stack.room c.loop-at.stack ≤ g.S.Stack.room c.push.new.self = elim c.match-action.branch [
+      | in-Push+in_ok-value-in-Push w ↦ rw (← w.stack-is) c.push.ensures.room
+      | in-Negate w ↦ omega (arith, w.pop.ensures.room, rw w.stack-is at c.push.ensures.room)
+      | in-Combine w ↦ omega (arith, w.pop-right.ensures.room, w.pop-left.ensures.room, rw w.stack-is at c.push.ensures.room)
+    ] in
+    let stands : Stands not_of connect decides gives all rest new = elim c.match-action.branch [
+      | in-Push+in_ok-value-in-Push w ↦ push_stands not_of connect decides gives all rest (compiled_leaf w.in-Push.leaf.now) old new w.in_ok-value-in-Push.value (record { leaf = w.in-Push.leaf; kept = w.get-kept.result }, refl, w.in_ok-value-in-Push.ensures) (rw (← w.value-is, ← w.stack-is) c.push.ensures.values) (rw (here, acts, w.in-Push.is) at c.loop-at.invariant.so_far)
+      | in-Negate w ↦ negate_stands not_of connect decides gives all rest old (values w.pop.new.self) new w.pop.result w.logic_not-value.result w.pop.ensures.values w.logic_not-value.ensures (rw (← w.value-is, ← w.stack-is) c.push.ensures.values) (rw (here, acts, w.in-Negate.is) at c.loop-at.invariant.so_far)
+      | in-Combine w ↦ combine_stands not_of connect decides gives all rest w.in-Combine.connective old (values w.pop-right.new.self) (values w.pop-left.new.self) new w.pop-left.result w.pop-right.result w.connected-value.result w.pop-right.ensures.values w.pop-left.ensures.values w.connected-value.ensures (rw (← w.value-is, ← w.stack-is) c.push.ensures.values) (rw (here, acts, w.in-Combine.is) at c.loop-at.invariant.so_far)
+    ] in
+    let fits = rw (here, greatest_on (step_of s) rest (length old) (length new) after) at c.loop-at.invariant.fits in
+    let runs = leaves_one_on (step_of s) rest (length old) (length new) after (rw here at c.loop-at.invariant.runs) in
+    let within = advance_within decides all at count value (omega (arith, c.len.ensures, length-map steps step_of)) c.steps_after-at.ensures in
+    let forward : Advances decides rest value count = rw (← drop-map step_of (at + 1) steps) c.steps_after-at.ensures in
+    let ready = advance_ready not_of connect decides gives all rest new (values c.match-action.stack) value (g.S.Stack.room c.push.new.self) count c.push.ensures.values forward (runs, omega (arith, fits, room), stands) in
+    let far : at + 1 + (count - 1) ≡ at + count = omega (arith, advances_some decides rest value count forward) in
+    let there : drop (count - 1) rest ≡ steps_of (drop (at + count) steps) = drop-map step_of (count - 1) (drop (at + 1) steps) ∙ ap steps_of (drop-drop (count - 1) (at + 1) steps ∙ ap (λ n. drop n steps) far) in
+    let on = rw there at ready in
+    record {
+      within = omega (arith, within, length-map steps step_of);
+      runs = on.0;
+      fits = on.1;
+      so_far = on.2;
+    }
+
+pub returns : goal.returns
+returns g c = λ f same.
+    let steps = c.args.self.now.steps.items in
+    let not_of = g.L.Logic.not_of in
+    let connect = g.L.Logic.connect in
+    let decides = Decides g.L.Logic.top_value g.L.Logic.bottom_value in
+    let gives = λ (leaf : CompiledLeaf) (x : g.row.L.Denot). (asked : AskedLeaf) × (compiled_leaf asked.leaf.now ≡ leaf) × goal.F-post g c.args.of_leaf.now asked (Ok x) in
+    let end : c.loop-at.at ≡ length steps = omega (arith, c.loop-at.invariant.within, c.len.ensures, c.loop-at-test.false) in
+    let none : drop c.loop-at.at steps ≡ [] = ap (λ n. drop n steps) end ∙ drop-length steps in
+    stands_last not_of connect decides gives (steps_of steps) (g.S.Stack.values c.loop-at.stack) (g.S.Stack.values c.pop-2.new.self) c.pop-2.result c.pop-2.ensures.values (rw none at c.loop-at.invariant.so_far) f same

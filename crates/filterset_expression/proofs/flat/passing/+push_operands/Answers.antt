@@ -1,0 +1,42 @@
+use Rattle.std.proofs.Common.{◌≡◌, ◌+◌, ◌-◌, ◌∙◌, ap, arith, length-append, [], ◌∷◌, ◌++◌, length}
+use Rattle.std.proofs.lemmas.Result.{on_ok_weaker}
+use Rattle.filterset_expression.specs.Connectives.{Conjunction, Disjunction, ExclusiveDisjunction}
+use Rattle.filterset_expression.specs.Expression.{with_default}
+use Rattle.filterset_expression.specs.FlatSteps.{Negate, Combine, postfix}
+use Rattle.filterset_expression.proofs.Passing.{right_passed, of_compound, of_negation, pushed}
+use Rattle.filterset_expression.proofs.flat.passing.+push_operands.Goals as goal
+
+pub returns-in_ok-push-in-Not-clause-passed : goal.returns-in_ok-push-in-Not-clause-passed
+returns-in_ok-push-in-Not-clause-passed t c =
+    on_ok_weaker c.push_operands.result (λ inner default rest e d r l. rw (c.in-Not.is, ← c.deref.ensures) (of_negation (with_default default c.deref.result.now) rest _ (inner default (Negate ∷ rest) e d (pushed rest Negate c.args.operands.now.items c.push.new.self.items c.args.last c.in_ok-push-in-Not.ensures.items l r) tt))) c.push_operands.ensures.passed
+
+pub returns-in_ok-push_operands-in-Union-clause-passed : goal.returns-in_ok-push_operands-in-Union-clause-passed
+returns-in_ok-push_operands-in-Union-clause-passed t c = λ default rest e d r l.
+    let f = with_default default c.deref-in-Union-2.result.now in
+    let g = with_default default c.deref-in-Union.result.now in
+    let start = pushed rest (Combine Disjunction) c.args.operands.now.items c.push-in-Union.new.self.items c.args.last c.in_ok-push-in-Union.ensures.items l r in
+    let right = c.in_ok-cost-in-Union.ensures.passed default (Combine Disjunction ∷ rest) e d start tt in
+    let counted : c.len.result - c.len-begin.result ≡ length (postfix g) + 1 = omega (arith, c.in_ok-cost-in-Union.ensures.length default e, c.len.ensures, c.len-begin.ensures, ap length c.in_ok-push-in-Union.ensures.items ∙ length-append c.args.operands.now.items (c.args.last ∷ [])) in
+    let passed = right_passed c.right_operand-passed.result Disjunction _ g rest c.right_operand-passed.ensures counted in
+    let both = c.in_ok-push_operands-in-Union.ensures.passed default (postfix g ++ Combine Disjunction ∷ rest) e d right passed in
+    rw (c.in-Union.is, ← c.deref-in-Union.ensures, ← c.deref-in-Union-2.ensures) (of_compound Disjunction f g rest _ both)
+
+pub returns-in_ok-push_operands-in-Intersection-clause-passed : goal.returns-in_ok-push_operands-in-Intersection-clause-passed
+returns-in_ok-push_operands-in-Intersection-clause-passed t c = λ default rest e d r l.
+    let f = with_default default c.deref-in-Intersection-2.result.now in
+    let g = with_default default c.deref-in-Intersection.result.now in
+    let start = pushed rest (Combine Conjunction) c.args.operands.now.items c.push-in-Intersection.new.self.items c.args.last c.in_ok-push-in-Intersection.ensures.items l r in
+    let right = c.in_ok-cost-in-Intersection.ensures.passed default (Combine Conjunction ∷ rest) e d start tt in
+    let counted : c.len-in-Intersection.result - c.len-begin-in-Intersection.result ≡ length (postfix g) + 1 = omega (arith, c.in_ok-cost-in-Intersection.ensures.length default e, c.len-in-Intersection.ensures, c.len-begin-in-Intersection.ensures, ap length c.in_ok-push-in-Intersection.ensures.items ∙ length-append c.args.operands.now.items (c.args.last ∷ [])) in
+    let passed = right_passed c.right_operand-passed-in-Intersection.result Conjunction _ g rest c.right_operand-passed-in-Intersection.ensures counted in
+    let both = c.in_ok-push_operands-in-Intersection.ensures.passed default (postfix g ++ Combine Conjunction ∷ rest) e d right passed in
+    rw (c.in-Intersection.is, ← c.deref-in-Intersection.ensures, ← c.deref-in-Intersection-2.ensures) (of_compound Conjunction f g rest _ both)
+
+pub returns-in_ok-push_operands-in-SymmetricDifference-clause-passed : goal.returns-in_ok-push_operands-in-SymmetricDifference-clause-passed
+returns-in_ok-push_operands-in-SymmetricDifference-clause-passed t c = λ default rest e d r l.
+    let f = with_default default c.deref-in-SymmetricDifference-2.result.now in
+    let g = with_default default c.deref-in-SymmetricDifference.result.now in
+    let start = pushed rest (Combine ExclusiveDisjunction) c.args.operands.now.items c.push-in-SymmetricDifference.new.self.items c.args.last c.in_ok-push-in-SymmetricDifference.ensures.items l r in
+    let right = c.in_ok-cost-in-SymmetricDifference.ensures.passed default (Combine ExclusiveDisjunction ∷ rest) e d start tt in
+    let both = c.in_ok-push_operands-in-SymmetricDifference.ensures.passed default (postfix g ++ Combine ExclusiveDisjunction ∷ rest) e d right tt in
+    rw (c.in-SymmetricDifference.is, ← c.deref-in-SymmetricDifference.ensures, ← c.deref-in-SymmetricDifference-2.ensures) (of_compound ExclusiveDisjunction f g rest _ both)
