@@ -180,7 +180,7 @@ fn draws_faults_of_expressions(rt: HostRuntime) -> Result<(), Fail> {
   | ^^^^^ contained an unsupported expression
 ",
             ),
-            // A fault without a span has no place.
+            // A fault without a span has no location.
             (
                 "all()",
                 ParseSingleError::Unknown,

@@ -8,6 +8,6 @@ mod faults;
 #[cfg(test)]
 mod json;
 #[cfg(test)]
-mod places;
+mod locations;
 #[cfg(test)]
 mod rows;

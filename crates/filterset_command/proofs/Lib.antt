@@ -1,3 +1,2 @@
 pub mod RowsLemmas
 pub mod PickingLemmas
-pub mod GroupLemmas

@@ -9,11 +9,11 @@ use Rattle.std.proofs.lemmas.List.Elements.{Contains-get_or}
 use Rattle.std.proofs.lemmas.List.Sums.{sum_by-cons, sum_by_more}
 use Rattle.filterset_drawing.specs.Columns.{Text}
 use Rattle.filterset_drawing.specs.Lines.{LineRow, column_of, line_row, lines_of, numbered, pieces, reaches}
-use Rattle.filterset_drawing.specs.Places.{StandsAt}
+use Rattle.filterset_drawing.specs.Locations.{StandsAt}
 use Rattle.filterset_drawing.specs.declared.line.Line.{Line}
-use Rattle.filterset_drawing.specs.declared.source.Place.{Place}
+use Rattle.filterset_drawing.specs.declared.source.Location.{Location}
 
--- the bytes of these lines, with the place at the end of each
+-- the bytes of these lines, with the position at the end of each
 abbrev pub extent : List Text → ℕ
 extent texts = sum_by (λ text. length text + 1) texts
 
@@ -33,7 +33,7 @@ numbered-push number start (t ∷ texts) text =
     (numbered-push (number + 1) (start + (length t + 1)) texts text
     ∙ ap₂ (λ m b. numbered (number + 1) (start + (length t + 1)) texts ++ row m b text ∷ []) n s)
 
--- the line at a place
+-- the line at a position
 pub numbered-at : (number start : ℕ) (texts : List Text) (k : ℕ) (d : LineRow) → k < length texts → get_or (numbered number start texts) k d ≡ row (number + k) (start + extent (take k texts)) (get_or texts k [])
 numbered-at number start [] k d h = absurd (omega arith)
 numbered-at number start (t ∷ texts) zero d h = ap₂ (λ n s. row n s t) (sym (add-zero number)) (sym (add-zero start))
@@ -54,12 +54,12 @@ split_first : (b : ℕ) (bs : List ℕ) (texts : List Text) (test : Bool) → ex
 split_first b bs texts true h = omega (arith, extent-cons [] texts)
 split_first b bs texts false h = omega (arith, extent-onto_first b texts (omega arith))
 
--- the lines of a text have its bytes, and one place more
+-- the lines of a text have its bytes, and one position more
 pub extent-slice_split : (p : ℕ → Bool) (bs : List ℕ) → extent (slice_split p bs) ≡ length bs + 1
 extent-slice_split p [] = refl
 extent-slice_split p (b ∷ bs) = split_first b bs (slice_split p bs) (p b) (extent-slice_split p bs)
 
--- there are at most as many lines as places
+-- there are at most as many lines as positions
 pub length-le-extent : (texts : List Text) → length texts ≤ extent texts
 length-le-extent [] = omega arith
 length-le-extent (t ∷ texts) = omega (arith, extent-cons t texts, length-le-extent texts)
@@ -75,7 +75,7 @@ lines-push lines line texts cut n s =
     ∙ ap₂ (λ ls (l : LineRow). ls ++ l ∷ []) cut (ap₂ (λ m b. row m b line.text.now) n (s ∙ sym (zero-add (extent texts))))
     ∙ sym (numbered-push 1 0 texts line.text.now)
 
--- the line at a place of a text that is cut into these
+-- the line at a position of a text that is cut into these
 line-at : (text : Text) (lines : List Line) (k : ℕ) (d : Line) → map line_row lines ≡ lines_of text → k < length lines → line_row (get_or lines k d) ≡ row (1 + k) (extent (take k (pieces text))) (get_or (pieces text) k [])
 line-at text lines k d cut lt =
     let texts = pieces text in
@@ -89,15 +89,15 @@ is-line text lines k d cut lt =
     let within : k < length (map line_row lines) = rw length-map lt in
     rw (get_or-map line_row lines k d (line_row d) lt, cut) at (Contains-get_or (map line_row lines) k (line_row d) within)
 
--- the first line that reaches a place is the one in which it stands
-pub stands : (text : Text) (lines : List Line) (k from : ℕ) (d : Line) (place : Place) → map line_row lines ≡ lines_of text → k < length lines → extent (take k (pieces text)) ≤ from → reaches from (line_row (get_or lines k d)) ≡ true → place.line ≡ (get_or lines k d).number → place.column ≡ column_of (line_row (get_or lines k d)) from + 1 → StandsAt text from place
-stands text lines k from d place cut lt passed reached is_line is_column =
+-- the first line that reaches a position is the one in which it stands
+pub stands : (text : Text) (lines : List Line) (k from : ℕ) (d : Line) (location : Location) → map line_row lines ≡ lines_of text → k < length lines → extent (take k (pieces text)) ≤ from → reaches from (line_row (get_or lines k d)) ≡ true → location.line ≡ (get_or lines k d).number → location.column ≡ column_of (line_row (get_or lines k d)) from + 1 → StandsAt text from location
+stands text lines k from d location cut lt passed reached is_line is_column =
     let line = get_or lines k d in
     let start : line.start ≡ extent (take k (pieces text)) = ap (λ l. l.start) (line-at text lines k d cut lt) in
     let end : from ≤ line.start + length line.text.now = leb-true from (line.start + length line.text.now) reached in
     (line_row line, is-line text lines k d cut lt, omega arith, end, is_line, is_column)
 
--- a line that does not reach a place is passed
+-- a line that does not reach a position is passed
 pub passed-more : (text : Text) (lines : List Line) (k from : ℕ) (d : Line) → map line_row lines ≡ lines_of text → k < length lines → reaches from (line_row (get_or lines k d)) ≡ false → extent (take (k + 1) (pieces text)) ≤ from
 passed-more text lines k from d cut lt missed =
     let texts = pieces text in

@@ -6,11 +6,11 @@ use Rattle.filterset_faults.specs.declared.span.SourceSpan.{SourceSpan}
 use Rattle.filterset_faults.specs.declared.error.ParseSingleError.{ParseSingleError}
 use Rattle.filterset_drawing.specs.declared.color.Color.{Color}
 use Rattle.filterset_drawing.specs.declared.drawing.Margin.{Margin}
-use Rattle.filterset_drawing.specs.declared.source.Place.{Place}
+use Rattle.filterset_drawing.specs.declared.source.Location.{Location}
 use Rattle.filterset_drawing.specs.Color.{red_of, blue_of, plain_of}
 use Rattle.filterset_drawing.specs.Columns.{Text, drawn}
 use Rattle.filterset_drawing.specs.Lines.{LineRow, caret_count, column_of, from_of, is_touched, lines_of, to_of}
-use Rattle.filterset_drawing.specs.Places.{StandsAt}
+use Rattle.filterset_drawing.specs.Locations.{StandsAt}
 
 -- what stands left of a text: as many columns as the number of its last line takes
 abbrev pub margin_of : Color → Text → Margin
@@ -24,10 +24,10 @@ abbrev pub header : Color → Text → Text → Text
 header color code message =
     red_of color ++ (codes "error" ++ (plain_of color ++ (codes ": " ++ (code ++ (codes ": " ++ message)))))
 
-abbrev pub location : Margin → Text → Place → Text
-location margin origin place =
+abbrev pub location_part : Margin → Text → Location → Text
+location_part margin origin location =
     margin_line margin ++ (codes "-->" ++ (plain_of margin.color ++ (codes " " ++ (drawn origin
-    ++ (codes ":" ++ (decimal place.line ++ (codes ":" ++ decimal place.column)))))))
+    ++ (codes ":" ++ (decimal location.line ++ (codes ":" ++ decimal location.column)))))))
 
 abbrev pub bar : Margin → Text
 bar margin = margin_line margin ++ (codes " |" ++ plain_of margin.color)
@@ -38,14 +38,14 @@ text_line margin line =
     codes "\n" ++ (replicate (margin.width - length (decimal line.number)) 32 ++ (blue_of margin.color
     ++ (decimal line.number ++ (codes " |" ++ (plain_of margin.color ++ (codes " " ++ drawn line.text))))))
 
--- The carets under a line, from the place `from` of the text to the place `to`: as many blanks as the characters of the
+-- The carets under a line, from the position `from` of the text to the position `to`: as many blanks as the characters of the
 -- line before them are wide, and then as many carets as those between them are, and at least one.
 abbrev pub caret_line : Margin → ℕ → ℕ → LineRow → Text
 caret_line margin from to line =
     bar margin ++ (codes " " ++ (replicate (column_of line from) 32
     ++ (red_of margin.color ++ (replicate (caret_count line from to) 94 ++ plain_of margin.color))))
 
--- the lines that the stretch from the one place to the other concerns, each with its carets
+-- the lines that the stretch from the one position to the other concerns, each with its carets
 abbrev pub marked_lines : Margin → ℕ → ℕ → List LineRow → Text
 marked_lines margin from to lines =
     flat_map (λ line. text_line margin line ++ caret_line margin from to line) (filter (is_touched from to) lines)
@@ -54,8 +54,8 @@ marked_lines margin from to lines =
 abbrev pub DrawnSpan : Margin → Text → Text → Option SourceSpan → Text → Type 0
 DrawnSpan margin origin text None part = part ≡ []
 DrawnSpan margin origin text (Some span) part =
-    (place : Place) × StandsAt text (from_of text span) place
-    × (part ≡ location margin origin place
+    (location : Location) × StandsAt text (from_of text span) location
+    × (part ≡ location_part margin origin location
     ++ (bar margin ++ marked_lines margin (from_of text span) (to_of text span) (lines_of text)))
 
 abbrev pub label_part : Color → Option Text → Text

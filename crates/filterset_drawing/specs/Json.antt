@@ -7,10 +7,10 @@ use Rattle.filterset_faults.specs.Span.{offset_of, length_of}
 use Rattle.filterset_faults.specs.declared.span.SourceSpan.{SourceSpan}
 use Rattle.filterset_faults.specs.declared.error.ParseSingleError.{ParseSingleError}
 use Rattle.filterset_drawing.specs.declared.json.Spot.{Spot}
-use Rattle.filterset_drawing.specs.declared.source.Place.{Place}
+use Rattle.filterset_drawing.specs.declared.source.Location.{Location}
 use Rattle.filterset_drawing.specs.Columns.{Text}
 use Rattle.filterset_drawing.specs.Lines.{from_of}
-use Rattle.filterset_drawing.specs.Places.{StandsAt}
+use Rattle.filterset_drawing.specs.Locations.{StandsAt}
 
 abbrev pub text_data : Option Text → Data
 text_data None = null
@@ -21,19 +21,19 @@ number_data None = null
 number_data (Some n) = number (unsigned n)
 
 -- where a span of the text begins, if there is a span
-abbrev pub BeginsAt : Text → Option SourceSpan → Option Place → Type 0
+abbrev pub BeginsAt : Text → Option SourceSpan → Option Location → Type 0
 BeginsAt text None None = Unit {0}
-BeginsAt text (Some span) (Some place) = StandsAt text (from_of text span) place
+BeginsAt text (Some span) (Some location) = StandsAt text (from_of text span) location
 BeginsAt text _ _ = ⊥
 
 -- the values are where a span of the text stands
 abbrev pub IsSpotOf : Text → Option SourceSpan → Spot → Type 0
 IsSpotOf text span spot =
-    (place : Option Place) × BeginsAt text span place
+    (location : Option Location) × BeginsAt text span location
     × (view spot.offset ≡ number_data (option_map offset_of span))
     × (view spot.length ≡ number_data (option_map length_of span))
-    × (view spot.line ≡ number_data (option_map (λ p. p.line) place))
-    × (view spot.column ≡ number_data (option_map (λ p. p.column) place))
+    × (view spot.line ≡ number_data (option_map (λ p. p.line) location))
+    × (view spot.column ≡ number_data (option_map (λ p. p.column) location))
 
 -- the object with these members, in the order of their keys
 abbrev pub object_with : (origin text code offset length line column label help : Data) → Data
@@ -51,15 +51,15 @@ object_with origin text code offset length line column label help =
 abbrev pub view_number : ℕ → Data
 view_number n = number (unsigned n)
 
--- the object of a fault that begins at this place, in the text with this number
-abbrev pub fault_object : Text → ℕ → ParseSingleError → Option Place → Data
-fault_object origin index fault place =
+-- the object of a fault that begins at this location, in the text with this number
+abbrev pub fault_object : Text → ℕ → ParseSingleError → Option Location → Data
+fault_object origin index fault location =
     object_with (string origin) (view_number index) (string (code_of fault))
     (number_data (option_map offset_of (span_of fault))) (number_data (option_map length_of (span_of fault)))
-    (number_data (option_map (λ p. p.line) place)) (number_data (option_map (λ p. p.column) place))
+    (number_data (option_map (λ p. p.line) location)) (number_data (option_map (λ p. p.column) location))
     (text_data (label_of fault)) (text_data (help_of fault))
 
 -- the value says what there is to say of the fault
 abbrev pub FaultData : Text → Text → ℕ → ParseSingleError → Data → Type 0
 FaultData origin text index fault d =
-    (place : Option Place) × BeginsAt text (span_of fault) place × (d ≡ fault_object origin index fault place)
+    (location : Option Location) × BeginsAt text (span_of fault) location × (d ≡ fault_object origin index fault location)

@@ -1,6 +1,6 @@
 pub mod Color
 pub mod Columns
 pub mod Lines
-pub mod Places
+pub mod Locations
 pub mod Drawings
 pub mod Json

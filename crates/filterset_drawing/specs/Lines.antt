@@ -28,7 +28,7 @@ pieces text = slice_split (λ b. b == 10) text
 abbrev pub lines_of : Text → List LineRow
 lines_of text = numbered 1 0 (pieces text)
 
--- ---- a stretch of a text, from one place to another
+-- ---- a stretch of a text, from one position to another
 
 -- where a span begins and ends: at the end of the text where that ends first
 abbrev pub from_of : Text → SourceSpan → ℕ
@@ -37,17 +37,17 @@ from_of text span = min (offset_of span) (length text)
 abbrev pub to_of : Text → SourceSpan → ℕ
 to_of text span = min (offset_of span + length_of span) (length text)
 
--- the line ends at this place or after it
+-- the line ends at this position or after it
 abbrev pub reaches : ℕ → LineRow → Bool
-reaches place line = nat_le place (line.start + length line.text)
+reaches position line = nat_le position (line.start + length line.text)
 
 -- the stretch begins in the line, or the line begins after that and before the end of the stretch
 abbrev pub is_touched : ℕ → ℕ → LineRow → Bool
 is_touched from to line = reaches from line && (nat_le line.start from || nat_lt line.start to)
 
--- the columns of a line before a place of the text
+-- the columns of a line before a position of the text
 abbrev pub column_of : LineRow → ℕ → ℕ
-column_of line place = columns_between line.text 0 (place - line.start)
+column_of line position = columns_between line.text 0 (position - line.start)
 
 -- the columns of the characters of the stretch in the line, and one where they have none
 abbrev pub caret_count : LineRow → ℕ → ℕ → ℕ

@@ -3,13 +3,13 @@ ghost use Rattle.std.specs.Prelude.{◌≡◌, ◌++◌, IfOk, OnOk, map, option
 ghost use Rattle.filterset_faults.specs.Faults.{code_of};
 ghost use Rattle.filterset_faults.specs.Label.{label_text, help_text};
 ghost use Rattle.filterset_drawing.specs.Columns.{Text};
-ghost use Rattle.filterset_drawing.specs.Drawings.{Drawing, DrawnSpan, bar, caret_line, header, help_part, label_part, location, margin_line, margin_of, marked_lines, text_line};
+ghost use Rattle.filterset_drawing.specs.Drawings.{Drawing, DrawnSpan, bar, caret_line, header, help_part, label_part, location_part, margin_line, margin_of, marked_lines, text_line};
 ghost use Rattle.filterset_drawing.specs.Lines.{line_row};
 
 use crate::color::Color;
 use crate::column::{push_drawn, push_repeated};
 use crate::line::{Line, Stretch};
-use crate::source::{Place, Source};
+use crate::source::{Location, Source};
 use filterset_faults::{Help, Label, ParseSingleError, SourceSpan};
 use std::alloc::{AllocError, Global};
 use std::fmt::Write;
@@ -82,12 +82,12 @@ fn push_location(
     drawing: &mut String,
     margin: Margin,
     source: &Source<'_>,
-    place: Place,
+    location: Location,
 ) -> Result<(), AllocError>
     ensures { OnOk result (string_bytes drawing.new
-        ≡ string_bytes drawing.old ++ location margin source.now.origin.now place) }
+        ≡ string_bytes drawing.old ++ location_part margin source.now.origin.now location) }
 {
-    let (line, column, plain) = (place.line, place.column, margin.color.plain());
+    let (line, column, plain) = (location.line, location.column, margin.color.plain());
     push_margin(drawing, margin)?;
     write!(drawing, "-->{plain} ")?;
     push_drawn(drawing, source.origin)?;
@@ -118,7 +118,7 @@ fn push_span(
     let Some(span) = span else {
         return Ok(());
     };
-    push_location(drawing, margin, source, source.place(span))?;
+    push_location(drawing, margin, source, source.location(span))?;
     push_bar(drawing, margin)?;
     push_lines(
         drawing,

@@ -83,12 +83,12 @@ fn spot_of(source: &Source<'_>, span: Option<SourceSpan>) -> Spot
 {
     match span {
         Some(span) => {
-            let place = source.place(span);
+            let location = source.location(span);
             Spot {
                 offset: Value::from(span.offset()),
                 length: Value::from(span.len()),
-                line: Value::from(place.line),
-                column: Value::from(place.column),
+                line: Value::from(location.line),
+                column: Value::from(location.column),
             }
         }
         None => Spot {

@@ -11,4 +11,4 @@ mod source;
 pub use color::Color;
 pub use drawing::draw;
 pub use json::fault_json;
-pub use source::{Place, Source};
+pub use source::{Location, Source};

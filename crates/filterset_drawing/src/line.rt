@@ -16,7 +16,7 @@ pub struct Line<'t> {
     pub text: &'t str,
 }
 
-/// A stretch of a text: the bytes from one place to another.
+/// A stretch of a text: the bytes from one position to another.
 #[derive(Clone, Copy, Debug)]
 pub struct Stretch {
     pub from: usize,
@@ -24,26 +24,26 @@ pub struct Stretch {
 }
 
 impl Line<'_> {
-    /// Whether the line ends at this place of the text or after it.
-    pub fn reaches(&self, place: usize) -> bool
-        ensures { result ≡ reaches place (line_row self.now) }
+    /// Whether the line ends at this position of the text or after it.
+    pub fn reaches(&self, position: usize) -> bool
+        ensures { result ≡ reaches position (line_row self.now) }
     {
-        place.saturating_sub(self.start) <= self.text.len()
+        position.saturating_sub(self.start) <= self.text.len()
     }
 
-    /// Whether a stretch of the text has a place in the line.
+    /// Whether a stretch of the text has a position in the line.
     pub fn is_touched(&self, stretch: Stretch) -> bool
         ensures { result ≡ is_touched stretch.from stretch.to (line_row self.now) }
     {
         self.reaches(stretch.from) && (self.start <= stretch.from || self.start < stretch.to)
     }
 
-    /// The columns of the line before a place of the text.
-    pub fn column(&self, place: usize) -> usize
-        ensures value { result ≡ column_of (line_row self.now) place }
+    /// The columns of the line before a position of the text.
+    pub fn column(&self, position: usize) -> usize
+        ensures value { result ≡ column_of (line_row self.now) position }
         ensures bound { result ≤ 2 * length self.now.text.now }
     {
-        columns_between(self.text, 0, place.saturating_sub(self.start))
+        columns_between(self.text, 0, position.saturating_sub(self.start))
     }
 
     /// How many carets mark a stretch of the text in the line.

@@ -8,9 +8,9 @@ use crate::line::{Line, Stretch, lines_of};
 use filterset_faults::SourceSpan;
 use std::alloc::{AllocError, Global};
 
-/// A place of a text: its line, and its column as a terminal shows it. Both count from 1 on.
+/// A location in a text: its line, and its column as a terminal shows it. Both count from 1 on.
 #[derive(Clone, Copy, Debug, PartialEq, Eq)]
-pub struct Place {
+pub struct Location {
     pub line: usize,
     pub column: usize,
 }
@@ -29,7 +29,7 @@ pub struct Source<'t> {
 
 impl<'t> Source<'t> {
     ghost use Rattle.filterset_drawing.specs.Lines.{from_of, to_of};
-    ghost use Rattle.filterset_drawing.specs.Places.{StandsAt};
+    ghost use Rattle.filterset_drawing.specs.Locations.{StandsAt};
 
     /// A text that stands where `origin` says.
     pub fn new(
@@ -64,13 +64,13 @@ impl<'t> Source<'t> {
     }
 
     /// Where a span begins; at the end of the text, where it begins after that.
-    pub fn place(&self, span: SourceSpan) -> Place
+    pub fn location(&self, span: SourceSpan) -> Location
         ensures { StandsAt self.now.text.now (from_of self.now.text.now span) result }
     {
         let from = self.stretch(span).from;
         for line in &self.lines {
             if line.reaches(from) {
-                return Place {
+                return Location {
                     line: line.number,
                     column: line.column(from) + 1,
                 };

@@ -102,7 +102,7 @@ pub greatest_above : {A : Type 0} (steps : List (Step A)) (height : ℕ) → hei
 greatest_above [] height = omega arith
 greatest_above (s ∷ steps) height = omega arith
 
--- the steps from one place on
+-- the steps from one position on
 pub steps_from : (steps : List FlatStep) (at : ℕ) (s : FlatStep) → at < length steps → s ≡ get_or steps at s → steps_of (drop at steps) ≡ step_of s ∷ steps_of (drop (at + 1) steps)
 steps_from steps at s within e = rw (drop_more steps at s within, ← e) refl
 

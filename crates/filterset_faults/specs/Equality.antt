@@ -50,10 +50,10 @@ abbrev pub seen : ParseSingleError → Seen
 seen a = record { code = code_of a; span = span_of a; held = held_of a }
 
 -- whether both have the same span, or none
-abbrev pub same_place : Option SourceSpan → Option SourceSpan → Bool
-same_place (Some a) (Some b) = same_span a b
-same_place None None = true
-same_place _ _ = false
+abbrev pub same_optional_span : Option SourceSpan → Option SourceSpan → Bool
+same_optional_span (Some a) (Some b) = same_span a b
+same_optional_span None None = true
+same_optional_span _ _ = false
 
 abbrev pub same_held : Held → Held → Bool
 same_held nothing nothing = true
@@ -63,7 +63,7 @@ same_held (operators op suggest) (operators other also) = bytes_eq op other && b
 same_held _ _ = false
 
 abbrev pub same_seen : Seen → Seen → Bool
-same_seen a b = bytes_eq a.code b.code && (same_place a.span b.span && same_held a.held b.held)
+same_seen a b = bytes_eq a.code b.code && (same_optional_span a.span b.span && same_held a.held b.held)
 
 -- whether faults are equal
 abbrev pub same_fault : ParseSingleError → ParseSingleError → Bool

@@ -16,7 +16,7 @@ use Rattle.filterset_faults.specs.declared.kind.BannedPredicateReason.{BannedPre
 use Rattle.filterset_faults.specs.declared.kind.BannedPredicateReason.TheVariants.{DefaultInfiniteRecursion, GroupCircularDependency, GroupNotAvailableInDefaultFilter, GroupNotAvailableInArchive, TestNotAvailableInArchive}
 use Rattle.filterset_faults.specs.declared.error.Details.{Details}
 use Rattle.filterset_faults.specs.declared.error.Details.TheVariants as details
-use Rattle.filterset_faults.specs.Equality.{same_span, same_glob_fault, same_kind, same_reason, Held, nothing, glob_fault, ban, operators, Seen, seen, same_place, same_held, same_seen, same_fault}
+use Rattle.filterset_faults.specs.Equality.{same_span, same_glob_fault, same_kind, same_reason, Held, nothing, glob_fault, ban, operators, Seen, seen, same_optional_span, same_held, same_seen, same_fault}
 
 span_is : (a b : SourceSpan) → same_span a b ≡ true → a ≡ b
 span_is a b e =
@@ -83,14 +83,14 @@ bytes_is a b = (bytes_eq-Decides a b).0
 bytes_self : (a : List ℕ) → bytes_eq a a ≡ true
 bytes_self a = (bytes_eq-Decides a a).1 refl
 
-place_is : (a b : Option SourceSpan) → same_place a b ≡ true → a ≡ b
-place_is (Some a) (Some b) e = ap Some (span_is a b e)
-place_is None None e = refl
-place_is _ _ e = absurd (false≢true e)
+optional_span_is : (a b : Option SourceSpan) → same_optional_span a b ≡ true → a ≡ b
+optional_span_is (Some a) (Some b) e = ap Some (span_is a b e)
+optional_span_is None None e = refl
+optional_span_is _ _ e = absurd (false≢true e)
 
-place_self : (a : Option SourceSpan) → same_place a a ≡ true
-place_self (Some a) = span_self a
-place_self None = refl
+optional_span_self : (a : Option SourceSpan) → same_optional_span a a ≡ true
+optional_span_self (Some a) = span_self a
+optional_span_self None = refl
 
 held_is : (a b : Held) → same_held a b ≡ true → a ≡ b
 held_is nothing nothing e = refl
@@ -111,18 +111,18 @@ held_self (operators op suggest) = and_from (bytes_eq op op) (bytes_eq suggest s
 
 seen_is : (a b : Seen) → same_seen a b ≡ true → a ≡ b
 seen_is a b e =
-    let parts = and_parts (bytes_eq a.code b.code) (same_place a.span b.span && same_held a.held b.held) e in
-    let others = and_parts (same_place a.span b.span) (same_held a.held b.held) parts.1 in
+    let parts = and_parts (bytes_eq a.code b.code) (same_optional_span a.span b.span && same_held a.held b.held) e in
+    let others = and_parts (same_optional_span a.span b.span) (same_held a.held b.held) parts.1 in
     λ i. record {
       code = bytes_is a.code b.code parts.0 i;
-      span = place_is a.span b.span others.0 i;
+      span = optional_span_is a.span b.span others.0 i;
       held = held_is a.held b.held others.1 i;
     }
 
 seen_self : (a : Seen) → same_seen a a ≡ true
 seen_self a =
-    and_from (bytes_eq a.code a.code) (same_place a.span a.span && same_held a.held a.held) (bytes_self a.code)
-    (and_from (same_place a.span a.span) (same_held a.held a.held) (place_self a.span) (held_self a.held))
+    and_from (bytes_eq a.code a.code) (same_optional_span a.span a.span && same_held a.held a.held) (bytes_self a.code)
+    (and_from (same_optional_span a.span a.span) (same_held a.held a.held) (optional_span_self a.span) (held_self a.held))
 
 -- so equality says exactly that these are the same
 pub same_seen_Decides : (a b : Seen) → Decides (same_seen a b) (a ≡ b)

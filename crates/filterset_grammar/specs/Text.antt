@@ -1,6 +1,6 @@
 -- Texts, and the small pieces that the language is made of.
 -- A text is the list of its bytes in UTF-8, as every contract sees a `&str`; so the byte offset of a
--- place is the number of bytes before it.
+-- position is the number of bytes before it.
 use Rattle.std.specs.Prelude.{◌≡◌, ℕ, ◌+◌, ◌-◌, ◌*◌, ◌<◌, ◌≤◌, List, [], ◌∷◌, ◌++◌, codes, length, All, Bool, true, false, cond, IsTrue, encode_utf8, encode_utf8_all, ◌&&◌, ◌||◌, nat_lt}
 use Rattle.std.specs.Char.{IsScalar, is_whitespace}
 use Rattle.filterset_glob.specs.Signs.{sign, ◌∈◌}

@@ -22,7 +22,7 @@ IsBoolean d b = d ≡ boolean b
 abbrev pub IsNumber : Data → ℕ → Type 0
 IsNumber d n = d ≡ number (unsigned n)
 
--- P holds of each item and the entry at its place, and there are as many of both
+-- P holds of each item and the entry at its position, and there are as many of both
 abbrev pub Each : {A : Type 0} → (Data → A → Type 0) → Items → List A → Type 0
 Each P no_items [] = Unit {0}
 Each P no_items (x ∷ xs) = ⊥

@@ -27,15 +27,15 @@ same_position P (w ∷ ws) (t ∷ ts) us vs x y same px py none_x none_y =
     same_position P ws ts us vs x y (cc) px py (All-tail (λ z. ¬ P z) w ws none_x) (All-tail (λ z. ¬ P z) t ts none_y)
 
 pub first_same : {A : Type 0} (P : A → Type 0) (xs : List A) (x y : A) → IsFirst P xs x → IsFirst P xs y → x ≡ y
-first_same P xs x y a b = same_position P a.before b.before a.after b.after x y (sym a.place ∙ b.place) a.holds b.holds a.others b.others
+first_same P xs x y a b = same_position P a.before b.before a.after b.after x y (sym a.position ∙ b.position) a.holds b.holds a.others b.others
 
 -- where P holds of none, there is no first
-no_place : {A : Type 0} (P : A → Type 0) (xs us : List A) (x : A) → P x → ¬ All (λ z. ¬ P z) (xs ++ x ∷ us)
-no_place P [] us x holds none = All-head (λ z. ¬ P z) x us none holds
-no_place P (w ∷ ws) us x holds none = no_place P ws us x holds (All-tail (λ z. ¬ P z) w (ws ++ x ∷ us) none)
+not_among : {A : Type 0} (P : A → Type 0) (xs us : List A) (x : A) → P x → ¬ All (λ z. ¬ P z) (xs ++ x ∷ us)
+not_among P [] us x holds none = All-head (λ z. ¬ P z) x us none holds
+not_among P (w ∷ ws) us x holds none = not_among P ws us x holds (All-tail (λ z. ¬ P z) w (ws ++ x ∷ us) none)
 
 pub no_first : {A : Type 0} (P : A → Type 0) (xs : List A) (x : A) → All (λ z. ¬ P z) xs → ¬ IsFirst P xs x
-no_first P xs x none first = no_place P first.before first.after x first.holds (subst (All (λ z. ¬ P z)) first.place none)
+no_first P xs x none first = not_among P first.before first.after x first.holds (subst (All (λ z. ¬ P z)) first.position none)
 
 -- what `find` finds is the first of which P holds, where the test says whether it does
 found_step : {A B : Type 0} (f : A → B) (P : B → Type 0) (b : Bool) (y x : A) (ys : List A) (rest : Option A) → Decides b (P (f y)) →
@@ -44,7 +44,7 @@ found_step f P true y x ys rest says at further =
     let e : y ≡ x = same_Some y x at in record {
       before = [];
       after = map f ys;
-      place = ap (λ z. f z ∷ map f ys) e;
+      position = ap (λ z. f z ∷ map f ys) e;
       others = All-nil (λ z. ¬ P z);
       holds = subst (λ z. P (f z)) e (says.0 refl);
     }
@@ -52,7 +52,7 @@ found_step f P false y x ys rest says at further =
     let first = further at in record {
       before = f y ∷ first.before;
       after = first.after;
-      place = ap (λ zs. f y ∷ zs) first.place;
+      position = ap (λ zs. f y ∷ zs) first.position;
       others = All-cons (λ z. ¬ P z) (f y) first.before (λ holds. let e : false ≡ true = says.1 holds in cc) first.others;
       holds = first.holds;
     }

@@ -51,9 +51,9 @@ map-pairs {A} f ps xs h = sym (passed_on ps) ∙ ap (map (λ (p : ℕ × A). f p
     passed_on [] = refl
     passed_on (q ∷ qs) = ap (λ ys. f q.1 ∷ ys) (passed_on qs)
 
--- each text is numbered by its place
-pub number_is_place : {A : Type 0} (xs : List A) (n : ℕ) (p : ℕ × A) → n < length (enumerate_from 0 xs) → p ≡ get_or (enumerate_from 0 xs) n p → p.0 ≡ n
-number_is_place xs n p lt at =
+-- each text is numbered by its position
+pub number_is_position : {A : Type 0} (xs : List A) (n : ℕ) (p : ℕ × A) → n < length (enumerate_from 0 xs) → p ≡ get_or (enumerate_from 0 xs) n p → p.0 ≡ n
+number_is_position xs n p lt at =
     let below : n < length xs = rw length-enumerate_from at lt in
     ap (λ q. q.0) (at ∙ get_or-enumerate_from 0 xs n p below) ∙ zero-add n
 

@@ -10,7 +10,7 @@ use Rattle.filterset_record.specs.Record.{BinaryRow, TestRow}
 pub record IsFirst {A : Type 0} (P : A → Type 0) (xs : List A) (x : A) : Type 0 where
   pub before : List A
   pub after : List A
-  pub place : xs ≡ before ++ x ∷ after
+  pub position : xs ≡ before ++ x ∷ after
   pub others : All (λ y. ¬ P y) before
   pub holds : P x
 

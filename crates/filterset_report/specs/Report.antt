@@ -78,9 +78,9 @@ Accepted commands.Format background index filterset tree section =
 -- ---- a refused filterset
 
 -- offset and length
-abbrev pub place_text : Option SourceSpan → Text
-place_text None = []
-place_text (Some span) = decimal (offset_of span) ++ (codes " " ++ (decimal (length_of span) ++ codes " "))
+abbrev pub span_text : Option SourceSpan → Text
+span_text None = []
+span_text (Some span) = decimal (offset_of span) ++ (codes " " ++ (decimal (length_of span) ++ codes " "))
 
 abbrev pub label_text : Option Text → Text
 label_text None = []
@@ -93,7 +93,7 @@ help_line (Some help) = codes "  help: " ++ (help ++ codes "\n")
 -- the lines of a fault
 abbrev pub fault_lines : ParseSingleError → Text
 fault_lines fault =
-    codes "  fault " ++ (place_text (span_of fault) ++ (code_of fault
+    codes "  fault " ++ (span_text (span_of fault) ++ (code_of fault
     ++ (label_text (label_of fault) ++ (codes "\n" ++ help_line (help_of fault)))))
 
 -- how many faults there are, and their lines

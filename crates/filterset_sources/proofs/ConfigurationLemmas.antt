@@ -68,7 +68,7 @@ ItemRows-push section path at (w ∷ vs) v rows more h s =
       ItemRows-push section path (suc at) vs v h.1 more h.4 (subst (λ n. SectionRows section (item_path path n) (view v) more) next s),
     )
 
--- the rows of the section at a place
+-- the rows of the section at a position
 pub ItemRows-at : (section : Section) (path : Text) (at : ℕ) (vs : List Value) (i : ℕ) (v : Value) (rows : Rows) → i < length vs → ItemRows section path at (items_view vs) rows →
     (found : Rows) × SectionRows section (item_path path (at + i)) (view (get_or vs i v)) found
 ItemRows-at section path at [] i v rows lt h = absurd (omega arith)

@@ -1,4 +1,4 @@
--- Places of ids, and packages that are linked.
+-- Positions of ids, and packages that are linked.
 use Rattle.std.proofs.Common.{◌≡◌, ℕ, zero, suc, ◌+◌, ◌<◌, ◌≤◌, inl, inr, Bool, true, false, cond, List, [], ◌∷◌, ◌++◌, length, get_or, map, take, Option, Some, None, is_some, refl, sym, ◌∙◌, ap, subst, arith}
 use Rattle.std.specs.Prelude.{All, Contains, MatchOption, not, slice_get}
 use Rattle.std.specs.BTreeMap.{BTreeMap}
@@ -25,15 +25,15 @@ none_of : (o : Option ℕ) → is_some o ≡ false → o ≡ None
 none_of (Some k) e = absurd (cc)
 none_of None e = refl
 
--- an id whose look-up found an earlier place stands twice
-pub repeated_at : (names : List Text) (at : ℕ) (id key : Text) (places : BTreeMap Text ℕ) (earlier : Option ℕ) → at < length names → id ≡ get_or names at id → key ≡ id → PositionsAre places (take at names) → earlier ≡ index_of places key → is_some earlier ≡ true → AllDiffer names → ⊥
-repeated_at names at id key places earlier within read copy placed old found differ =
+-- an id whose look-up found an earlier position stands twice
+pub repeated_at : (names : List Text) (at : ℕ) (id key : Text) (positions : BTreeMap Text ℕ) (earlier : Option ℕ) → at < length names → id ≡ get_or names at id → key ≡ id → PositionsAre positions (take at names) → earlier ≡ index_of positions key → is_some earlier ≡ true → AllDiffer names → ⊥
+repeated_at names at id key positions earlier within read copy placed old found differ =
     let k = some_of earlier found in
     let here : slice_get names at ≡ Some id = slice_get-get_or names at id within ∙ ap Some (sym read) in
-    let first = PositionsAre-IsFirstRepeat places names at id k.0 placed here (ap (index_of places) (sym copy) ∙ sym old ∙ k.1) in
+    let first = PositionsAre-IsFirstRepeat positions names at id k.0 placed here (ap (index_of positions) (sym copy) ∙ sym old ∙ k.1) in
     differ at first.0
 
--- an id whose look-up found none has its own place now
+-- an id whose look-up found none has its own position now
 pub placed_more : (names : List Text) (at : ℕ) (id key : Text) (old new : BTreeMap Text ℕ) (earlier : Option ℕ) → at < length names → id ≡ get_or names at id → key ≡ id → PositionsAre old (take at names) → earlier ≡ index_of old key → is_some earlier ≡ false → ((q : Text) → index_of new q ≡ cond (is_eq (slice_cmp nat_cmp key q)) (Some at) (index_of old q)) → PositionsAre new (take (at + 1) names)
 placed_more names at id key old new earlier within read copy placed found missing updates =
     let long : length (take at names) ≡ at = length-take-le at names (omega (arith, within)) in
@@ -42,14 +42,14 @@ placed_more names at id key old new earlier within read copy placed found missin
     rw (take_more names at [] within, named)
     (PositionsAre-push old new (take at names) key (sym found ∙ none_of earlier missing) (λ q. rw long (updates q)) placed)
 
--- an id has a place exactly where it stands in the list
-pub IsKnown-Contains : (places : BTreeMap Text ℕ) (names : List Text) (id : Text) → PositionsAre places names → IsKnown places id → Contains names id
-IsKnown-Contains places names id placed known =
-    let k = some_of (index_of places id) known in
+-- an id has a position exactly where it stands in the list
+pub IsKnown-Contains : (positions : BTreeMap Text ℕ) (names : List Text) (id : Text) → PositionsAre positions names → IsKnown positions id → Contains names id
+IsKnown-Contains positions names id placed known =
+    let k = some_of (index_of positions id) known in
     Contains-from_position names id k.0 ((placed id k.0).0 k.1)
 
-pub Contains-IsKnown : (places : BTreeMap Text ℕ) (names : List Text) (id : Text) → PositionsAre places names → Contains names id → IsKnown places id
-Contains-IsKnown places names id placed found =
+pub Contains-IsKnown : (positions : BTreeMap Text ℕ) (names : List Text) (id : Text) → PositionsAre positions names → Contains names id → IsKnown positions id
+Contains-IsKnown positions names id placed found =
     let k = position_from_Contains names id found in
     ap is_some ((placed id k.0).1 k.1)
 
@@ -78,7 +78,7 @@ All-not P xs i x lt is refuted all = refuted (subst P (sym is) (all i x lt))
 pub All-next : {X : Type 0} (P : X → Type 0) (xs : List X) (i : ℕ) (x : X) → i < length xs → x ≡ get_or xs i x → All P (take i xs) → P x → All P (take (i + 1) xs)
 All-next P xs i x lt is all p = All-more P xs i x lt all (subst P is p)
 
--- what holds of all elements holds of the one at a place
+-- what holds of all elements holds of the one at a position
 pub All-here : {X : Type 0} (P : X → Type 0) (xs : List X) (i : ℕ) (x : X) → i < length xs → x ≡ get_or xs i x → All P xs → P x
 All-here P xs i x lt is all = subst P (sym is) (all i x lt)
 
@@ -92,44 +92,44 @@ unknown-link ps owner link (p, id, at, here, unknown) known =
     unknown (All-at (Contains (ids ps)) p.links.items id (All-at (λ (q : PackageMetadata). All (Contains (ids ps)) q.links.items) ps p known (Contains-from_position ps p owner at)) (Contains-from_position p.links.items id link here))
 
 -- members and nodes that are known stand in the list, and the other way round
-pub members-Contained : (places : BTreeMap Text ℕ) (names members : List Text) → PositionsAre places names → All (IsKnown places) members → All (Contains names) members
-members-Contained places names members placed h = All-if (IsKnown places) (Contains names) members (λ id. IsKnown-Contains places names id placed) h
+pub members-Contained : (positions : BTreeMap Text ℕ) (names members : List Text) → PositionsAre positions names → All (IsKnown positions) members → All (Contains names) members
+members-Contained positions names members placed h = All-if (IsKnown positions) (Contains names) members (λ id. IsKnown-Contains positions names id placed) h
 
-pub members-Known : (places : BTreeMap Text ℕ) (names members : List Text) → PositionsAre places names → All (Contains names) members → All (IsKnown places) members
-members-Known places names members placed h = All-if (Contains names) (IsKnown places) members (λ id. Contains-IsKnown places names id placed) h
+pub members-Known : (positions : BTreeMap Text ℕ) (names members : List Text) → PositionsAre positions names → All (Contains names) members → All (IsKnown positions) members
+members-Known positions names members placed h = All-if (Contains names) (IsKnown positions) members (λ id. Contains-IsKnown positions names id placed) h
 
-node-Contained : (places : BTreeMap Text ℕ) (names : List Text) → PositionsAre places names → (node : Node) → NamesKnown places node → NamesPackages names node
-node-Contained places names placed node h = (
-  IsKnown-Contains places names node.id placed h.0,
-  All-mapped (Contains names) (λ (d : Dependency). d.package) node.dependencies.items (All-if (λ (d : Dependency). IsKnown places d.package) (λ (d : Dependency). Contains names d.package) node.dependencies.items (λ d. IsKnown-Contains places names d.package placed) h.1),
+node-Contained : (positions : BTreeMap Text ℕ) (names : List Text) → PositionsAre positions names → (node : Node) → NamesKnown positions node → NamesPackages names node
+node-Contained positions names placed node h = (
+  IsKnown-Contains positions names node.id placed h.0,
+  All-mapped (Contains names) (λ (d : Dependency). d.package) node.dependencies.items (All-if (λ (d : Dependency). IsKnown positions d.package) (λ (d : Dependency). Contains names d.package) node.dependencies.items (λ d. IsKnown-Contains positions names d.package placed) h.1),
 )
 
-node-Known : (places : BTreeMap Text ℕ) (names : List Text) → PositionsAre places names → (node : Node) → NamesPackages names node → NamesKnown places node
-node-Known places names placed node h = (
-  Contains-IsKnown places names node.id placed h.0,
-  All-if (λ (d : Dependency). Contains names d.package) (λ (d : Dependency). IsKnown places d.package) node.dependencies.items (λ d. Contains-IsKnown places names d.package placed) (All-unmapped (Contains names) (λ (d : Dependency). d.package) node.dependencies.items h.1),
+node-Known : (positions : BTreeMap Text ℕ) (names : List Text) → PositionsAre positions names → (node : Node) → NamesPackages names node → NamesKnown positions node
+node-Known positions names placed node h = (
+  Contains-IsKnown positions names node.id placed h.0,
+  All-if (λ (d : Dependency). Contains names d.package) (λ (d : Dependency). IsKnown positions d.package) node.dependencies.items (λ d. Contains-IsKnown positions names d.package placed) (All-unmapped (Contains names) (λ (d : Dependency). d.package) node.dependencies.items h.1),
 )
 
-pub nodes-Contained : (places : BTreeMap Text ℕ) (names : List Text) (nodes : List Node) → PositionsAre places names → All (NamesKnown places) nodes → All (NamesPackages names) nodes
-nodes-Contained places names nodes placed h = All-if (NamesKnown places) (NamesPackages names) nodes (node-Contained places names placed) h
+pub nodes-Contained : (positions : BTreeMap Text ℕ) (names : List Text) (nodes : List Node) → PositionsAre positions names → All (NamesKnown positions) nodes → All (NamesPackages names) nodes
+nodes-Contained positions names nodes placed h = All-if (NamesKnown positions) (NamesPackages names) nodes (node-Contained positions names placed) h
 
-pub nodes-Known : (places : BTreeMap Text ℕ) (names : List Text) (nodes : List Node) → PositionsAre places names → All (NamesPackages names) nodes → All (NamesKnown places) nodes
-nodes-Known places names nodes placed h = All-if (NamesPackages names) (NamesKnown places) nodes (node-Known places names placed) h
+pub nodes-Known : (positions : BTreeMap Text ℕ) (names : List Text) (nodes : List Node) → PositionsAre positions names → All (NamesPackages names) nodes → All (NamesKnown positions) nodes
+nodes-Known positions names nodes placed h = All-if (NamesPackages names) (NamesKnown positions) nodes (node-Known positions names placed) h
 
--- the links of an id with a place are those of the node there
-pub links-found : (places : BTreeMap Text ℕ) (nodes : List Node) (id : Text) (at : ℕ) → PositionsAre places (node_ids nodes) → index_of places id ≡ Some at → at < length nodes
-links-found places nodes id at placed found =
+-- the links of an id with a position are those of the node there
+pub links-found : (positions : BTreeMap Text ℕ) (nodes : List Node) (id : Text) (at : ℕ) → PositionsAre positions (node_ids nodes) → index_of positions id ≡ Some at → at < length nodes
+links-found positions nodes id at placed found =
     let e = element_from_mapped (λ (node : Node). node.id) nodes at id ((placed id at).0 found) in
     slice_get_within nodes at e.0 e.1
 
-pub links-of_node : (places : BTreeMap Text ℕ) (nodes : List Node) (id : Text) (at : ℕ) (node : Node) (links : List Text) → PositionsAre places (node_ids nodes) → index_of places id ≡ Some at → node ≡ get_or nodes at node → links ≡ links_of node → HasLinksOf nodes id links
-links-of_node places nodes id at node links placed found read are =
+pub links-of_node : (positions : BTreeMap Text ℕ) (nodes : List Node) (id : Text) (at : ℕ) (node : Node) (links : List Text) → PositionsAre positions (node_ids nodes) → index_of positions id ≡ Some at → node ≡ get_or nodes at node → links ≡ links_of node → HasLinksOf nodes id links
+links-of_node positions nodes id at node links placed found read are =
     let e = element_from_mapped (λ (n : Node). n.id) nodes at id ((placed id at).0 found) in
     let same : node ≡ e.0 = read ∙ get_or_from_slice_get nodes at e.0 node e.1 in
     inl (node, subst (Contains nodes) (sym same) (Contains-from_position nodes e.0 at e.1), ap (λ (n : Node). n.id) same ∙ e.2, are)
 
-pub links-of_none : (places : BTreeMap Text ℕ) (nodes : List Node) (id : Text) (links : List Text) → PositionsAre places (node_ids nodes) → index_of places id ≡ None → links ≡ [] → HasLinksOf nodes id links
-links-of_none places nodes id links placed none are =
+pub links-of_none : (positions : BTreeMap Text ℕ) (nodes : List Node) (id : Text) (links : List Text) → PositionsAre positions (node_ids nodes) → index_of positions id ≡ None → links ≡ [] → HasLinksOf nodes id links
+links-of_none positions nodes id links placed none are =
     inr ((λ found. let k = position_from_Contains (node_ids nodes) id found in none-some k.0 (sym none ∙ (placed id k.0).1 k.1)), are)
 
 -- one more package that is linked
@@ -170,9 +170,9 @@ whole-graph parts all whole graph =
       All-if (IsPlaced parts.members.items parts.resolve.nodes.items) (λ p. All (Contains (ids all)) p.links.items) all (λ p placed. rw same (links-known (ids parts.packages.items) parts.resolve.nodes.items p.id p.links.items whole.4 placed.1)) graph.1,
     )
 
--- an id that was looked up and not found has no place
-pub not_known : (tested : Bool) (place : Option ℕ) → tested ≡ is_some place → tested ≡ false → is_some place ≡ true → ⊥
-not_known tested place looked missing found = absurd (cc (looked, missing, found))
+-- an id that was looked up and not found has no position
+pub not_known : (tested : Bool) (position : Option ℕ) → tested ≡ is_some position → tested ≡ false → is_some position ≡ true → ⊥
+not_known tested position looked missing found = absurd (cc (looked, missing, found))
 
 -- what an answer that may be missing says
 pub missing_says : {X : Type 0} (o : Option X) (N : Type 0) (P : X → Type 0) (tested : Bool) → MatchOption o N P → is_some o ≡ not tested → tested ≡ true → N

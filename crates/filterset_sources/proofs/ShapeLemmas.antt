@@ -29,7 +29,7 @@ Each-map P f no_items (x ∷ xs) h = absurd h
 Each-map P f (item d ds) [] h = absurd h
 Each-map P f (item d ds) (x ∷ xs) h = (h.0, Each-map P f ds xs h.1)
 
--- the entry of the item at a place
+-- the entry of the item at a position
 pub Each-at : {A : Type 0} (P : Data → A → Type 0) (vs : List Value) (xs : List A) (i : ℕ) (d : Value) → i < length vs → Each P (items_view vs) xs → (x : A) × P (view (get_or vs i d)) x
 Each-at P [] xs i d lt h = absurd (omega arith)
 Each-at P (v ∷ vs) [] i d lt h = absurd h

@@ -33,7 +33,7 @@ configured_rows filtersets = map configured_row filtersets
 abbrev pub IsTable : Data → Type 0
 IsTable d = (ms : Members) × (d ≡ table ms)
 
--- the path to what stands under a key of what stands at a path, and to the item at a place of it
+-- the path to what stands under a key of what stands at a path, and to the item at a position of it
 abbrev pub below : Text → Text → Text
 below path key = path ++ (codes "." ++ key)
 
@@ -65,7 +65,7 @@ abbrev pub SectionRows : Section → Text → Data → Rows → Type 0
 SectionRows Override path d rows = IsTable d × OverrideRows path d rows
 SectionRows Script path d rows = IsTable d × FilterUnder path (codes "filter") OverrideFilter d rows
 
--- the filtersets of sections, of which the first has this place
+-- the filtersets of sections, of which the first has this position
 abbrev pub ItemRows : Section → Text → ℕ → Items → Rows → Type 0
 ItemRows section path at no_items rows = rows ≡ []
 ItemRows section path at (item d ds) rows =

@@ -105,7 +105,7 @@ itself p = (p.id, p.name, p.build_targets)
 abbrev pub IsPlaced : List Text → List Node → PackageMetadata → Type 0
 IsPlaced members nodes p = (IsTrue p.in_workspace ↔ Contains members p.id) × HasLinksOf nodes p.id p.links.items
 
--- the same packages, each in its place
+-- the same packages, each at its position
 abbrev pub IsGraphOf : Parts → List PackageMetadata → Type 0
 IsGraphOf parts packages =
     (map itself packages ≡ map itself parts.packages.items)
@@ -121,7 +121,7 @@ RefusesMetadata d refusal =
     Refuses ((parts : Parts) × IsParts d parts) refusal
     ⊎ ((parts : Parts) × IsParts d parts × Refuses (IsWhole parts) refusal)
 
--- the id has a place
+-- the id has a position
 abbrev pub IsKnown : BTreeMap Text ℕ → Text → Type 0
 IsKnown known id = IsSome (index_of known id)
 

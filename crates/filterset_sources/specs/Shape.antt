@@ -15,7 +15,7 @@ IsText d text = d ≡ string text
 abbrev pub IsAnyText : Data → Type 0
 IsAnyText d = (text : Text) × IsText d text
 
--- P holds of each item and the entry at its place, and there are as many of both
+-- P holds of each item and the entry at its position, and there are as many of both
 abbrev pub Each : {A : Type 0} → (Data → A → Type 0) → Items → List A → Type 0
 Each P no_items [] = Unit {0}
 Each P no_items (x ∷ xs) = ⊥
@@ -26,7 +26,7 @@ Each P (item d ds) (x ∷ xs) = P d x × Each P ds xs
 abbrev pub IsListOf : {A : Type 0} → (Data → A → Type 0) → Data → List A → Type 0
 IsListOf P d xs = (ds : Items) × (d ≡ array ds) × Each P ds xs
 
--- P holds of what stands under each key and of the entry at its place, and there are as many of both
+-- P holds of what stands under each key and of the entry at its position, and there are as many of both
 abbrev pub EachMember : {A : Type 0} → (Data → A → Type 0) → Members → List A → Type 0
 EachMember P no_members [] = Unit {0}
 EachMember P no_members (x ∷ xs) = ⊥

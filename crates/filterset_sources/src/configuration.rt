@@ -272,7 +272,7 @@ fn configured(alloc: Global, file: &Value) -> Result<Configuration, SourceRefusa
     })
 }
 
-/// The line of a text in which this place is, from 1 on.
+/// The line of a text in which this position is, from 1 on.
 fn line_of(text: &str, at: usize) -> usize {
     let before = text.bytes().take(at);
     before.filter(|b| *b == b'\n').count().saturating_add(1)

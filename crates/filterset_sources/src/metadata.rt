@@ -27,7 +27,7 @@ fn wrong(path: Result<String, AllocError>, expected: Expected) -> SourceRefusal
     }
 }
 
-/// The refusal of what stands at a place of a list, below it at `key`.
+/// The refusal of what stands at a position of a list, below it at `key`.
 fn wrong_item(alloc: Global, list: &str, at: usize, key: &str, expected: Expected) -> SourceRefusal
     ensures { Refuses ⊥ result }
 {
@@ -42,24 +42,24 @@ fn wrong_link(alloc: Global, node: usize, link: usize) -> SourceRefusal
     wrong(path, Expected::PackageId)
 }
 
-/// Where each id stands. The id at a place stands in the file at that place of the list, below it at `key`.
-fn places_of(
+/// Where each id stands. The id at a position stands in the file at that position of the list, below it at `key`.
+fn positions_of(
     alloc: Global,
     ids: &[PackageId],
     list: &str,
     key: &str,
 ) -> Result<BTreeMap<PackageId, usize>, SourceRefusal>
-    ensures ok { IfOk result (λ places. PositionsAre places ids.now) }
+    ensures ok { IfOk result (λ positions. PositionsAre positions ids.now) }
     ensures refused { IfErr result (Refuses (AllDiffer ids.now)) }
 {
-    let mut places = BTreeMap::new(alloc);
+    let mut positions = BTreeMap::new(alloc);
     for (at, id) in ids.iter().enumerate() {
-        let earlier = places.insert(id.try_clone(alloc)?, at)?;
+        let earlier = positions.insert(id.try_clone(alloc)?, at)?;
         if earlier.is_some() {
             return Err(wrong_item(alloc, list, at, key, Expected::OwnId));
         }
     }
-    Ok(places)
+    Ok(positions)
 }
 
 /// The packages that a node depends on.
@@ -96,17 +96,17 @@ fn node_ids(alloc: Global, nodes: &[Node]) -> Result<Vec<PackageId>, AllocError>
 }
 
 /// Where an id stands.
-fn place_of(places: &BTreeMap<PackageId, usize>, id: &PackageId) -> Option<usize>
-    ensures { result ≡ index_of places.now id.now }
+fn position_of(positions: &BTreeMap<PackageId, usize>, id: &PackageId) -> Option<usize>
+    ensures { result ≡ index_of positions.now id.now }
 {
-    places.get(id).copied()
+    positions.get(id).copied()
 }
 
 /// Whether an id stands somewhere.
 fn is_known(known: &BTreeMap<PackageId, usize>, id: &PackageId) -> bool
     ensures { result ≡ is_some (index_of known.now id.now) }
 {
-    place_of(known, id).is_some()
+    position_of(known, id).is_some()
 }
 
 /// Refuses a member of the workspace that is no package.
@@ -126,7 +126,7 @@ fn check_members(
     Ok(())
 }
 
-/// Refuses a dependency of the node at a place that is no package.
+/// Refuses a dependency of the node at a position that is no package.
 fn check_dependencies(
     alloc: Global,
     known: &BTreeMap<PackageId, usize>,
@@ -178,14 +178,14 @@ fn check_nodes(
 /// The links of the package with this id: those of its node, none where it has no node.
 fn links_from(
     alloc: Global,
-    places: &BTreeMap<PackageId, usize>,
+    positions: &BTreeMap<PackageId, usize>,
     nodes: &[Node],
     id: &PackageId,
 ) -> Result<Vec<PackageId>, AllocError>
-    requires { PositionsAre places.now (node_ids nodes.now) }
+    requires { PositionsAre positions.now (node_ids nodes.now) }
     ensures { IfOk result (λ links. HasLinksOf nodes.now id.now links.items) }
 {
-    match place_of(places, id) {
+    match position_of(positions, id) {
         Some(at) => node_links(alloc, &nodes[at]),
         None => Ok(Vec::new(alloc)),
     }
@@ -196,17 +196,17 @@ fn linked(
     alloc: Global,
     packages: Vec<PackageMetadata>,
     members: &BTreeMap<PackageId, usize>,
-    places: &BTreeMap<PackageId, usize>,
+    positions: &BTreeMap<PackageId, usize>,
     nodes: &[Node],
 ) -> Result<Vec<PackageMetadata>, AllocError>
-    requires { PositionsAre places.now (node_ids nodes.now) }
+    requires { PositionsAre positions.now (node_ids nodes.now) }
     ensures { IfOk result (λ all. AreLinked members.now nodes.now packages.items all.items) }
 {
     let mut all = Vec::with_capacity(alloc, packages.len())?;
     for package in packages {
         all.push(PackageMetadata {
             in_workspace: is_known(members, &package.id),
-            links: links_from(alloc, places, nodes, &package.id)?,
+            links: links_from(alloc, positions, nodes, &package.id)?,
             ..package
         })?;
     }
@@ -242,13 +242,13 @@ fn joined(alloc: Global, parts: Parts) -> Result<PackageGraph, SourceRefusal>
     } = parts;
     let nodes = resolve.nodes.as_slice();
     let ids = package_ids(alloc, packages.as_slice())?;
-    let known = places_of(alloc, ids.as_slice(), "packages", ".id")?;
+    let known = positions_of(alloc, ids.as_slice(), "packages", ".id")?;
     check_members(alloc, &known, members.as_slice())?;
     check_nodes(alloc, &known, nodes)?;
-    let members = places_of(alloc, members.as_slice(), "workspace_members", "")?;
+    let members = positions_of(alloc, members.as_slice(), "workspace_members", "")?;
     let ids = node_ids(alloc, nodes)?;
-    let places = places_of(alloc, ids.as_slice(), "resolve.nodes", ".id")?;
-    let packages = linked(alloc, packages, &members, &places, nodes)?;
+    let positions = positions_of(alloc, ids.as_slice(), "resolve.nodes", ".id")?;
+    let packages = linked(alloc, packages, &members, &positions, nodes)?;
     graph_of(alloc, packages)
 }
 

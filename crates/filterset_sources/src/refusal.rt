@@ -118,7 +118,7 @@ impl<T: Drop> From<AllocFailed<T>> for SourceRefusal {
 pub enum Step<'k> {
     /// To what stands under a key.
     Key(&'k str),
-    /// To the item at a place of a list.
+    /// To the item at a position of a list.
     Item(usize),
 }
 

@@ -42,7 +42,7 @@ const NEEDED: [(&str, &str); 18] = [
     ("not ! all() and not none()", "not ! all() and not none()"),
 ];
 
-/// A text with each predicate that needs its parentheses at each place where an operand may stand.
+/// A text with each predicate that needs its parentheses at each position where an operand may stand.
 const WHOLE: &str =
     "not (test(a) or binary(#b*)) - (deps(=c) - default()) & !(kind(d) and all()) | (platform(host) + none() | (group(/e/) or rdeps(f)) and package(g) | (all() + none()) ^ (all() ^ none()))";
 

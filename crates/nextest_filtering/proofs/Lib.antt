@@ -3,6 +3,7 @@ pub mod Binaries
 pub mod Banned
 pub mod Unmatched
 pub mod Groups
+pub mod GroupNames
 pub mod PackageSets
 pub mod Refusals
 pub mod Filtered

@@ -68,9 +68,9 @@ pub fn list_of<T: Entry>(alloc: Global, value: &Value) -> Result<Vec<T>, RowRefu
     Ok(all)
 }
 
-/// The item of a list at a place, which has to be there.
-pub fn part<T: Entry>(alloc: Global, values: &[Value], place: usize) -> Result<T, RowRefusal> {
-    match values.get(place) {
+/// The item of a list at a position, which has to be there.
+pub fn part<T: Entry>(alloc: Global, values: &[Value], position: usize) -> Result<T, RowRefusal> {
+    match values.get(position) {
         Some(found) => T::read(alloc, found),
         None => Err(RowRefusal::NotARow),
     }

@@ -6,7 +6,7 @@ use crate::pieces::Written;
 use serde_json::Value;
 use std::alloc::Global;
 
-/// A fault: its code, and its place in bytes.
+/// A fault: its code, and its span in bytes.
 #[derive(Drop)]
 pub struct FaultRow {
     pub code: String,

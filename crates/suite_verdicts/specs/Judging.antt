@@ -12,7 +12,7 @@ abbrev pub IsFaultOf : ParseSingleError → FaultRow → Type 0
 IsFaultOf fault row =
     (code_of fault ≡ string_bytes row.code) × (span_of fault ≡ Some (span row.offset row.length))
 
--- the faults are those of the rows, place by place, and there are as many of both
+-- the faults are those of the rows, one by one, and there are as many of both
 abbrev pub AreFaultsOf : List ParseSingleError → List FaultRow → Type 0
 AreFaultsOf = AllZip IsFaultOf
 

@@ -9,8 +9,8 @@ Text = List ℕ
 
 -- the line of a thing that was found otherwise than its row says
 abbrev pub note_line : ℕ → Text → Text → Text → Text → Text
-note_line place what kind subject found =
-    codes "at " ++ (decimal place ++ (codes ": " ++ (what ++ (codes " of the " ++ (kind
+note_line number what kind subject found =
+    codes "at " ++ (decimal number ++ (codes ": " ++ (what ++ (codes " of the " ++ (kind
     ++ (codes " " ++ (subject ++ (codes ": " ++ (found ++ codes "\n")))))))))
 
 -- the last line

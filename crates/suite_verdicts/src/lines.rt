@@ -15,12 +15,12 @@ pub enum Outcome {
 }
 
 /// The lines so far, one for each thing that was found otherwise than its row says, and the row that is being judged:
-/// its kind, and its place among all rows, from one on.
+/// its kind, and its number among all rows, from one on.
 #[derive(Drop)]
 pub struct Lines {
     text: String,
     kind: &'static str,
-    place: usize,
+    number: usize,
 }
 
 impl Lines {
@@ -29,7 +29,7 @@ impl Lines {
         Lines {
             text: String::new(alloc),
             kind: "",
-            place: 0,
+            number: 0,
         }
     }
 
@@ -38,7 +38,7 @@ impl Lines {
         ensures { self.new.text ≡ self.old.text }
     {
         self.kind = kind;
-        self.place = self.place.wrapping_add(1);
+        self.number = self.number.wrapping_add(1);
     }
 
     /// Adds a line where something does not hold: what it is, of which text, and what was found of it.
@@ -51,29 +51,29 @@ impl Lines {
     ) -> Result<(), AllocError>
         ensures held { IsTrue holds → OnOk result (self.new ≡ self.old) }
         ensures differs { holds ≡ false → OnOk result (string_bytes self.new.text ≡ string_bytes self.old.text
-            ++ note_line self.old.place what.now self.old.kind.now subject.now found.now) }
+            ++ note_line self.old.number what.now self.old.kind.now subject.now found.now) }
         ensures clean { OnOk result (IsClean self.new → IsTrue holds × IsClean self.old) }
-        ensures place { (self.new.kind ≡ self.old.kind) × (self.new.place ≡ self.old.place) }
+        ensures number { (self.new.kind ≡ self.old.kind) × (self.new.number ≡ self.old.number) }
     {
         if holds {
             return Ok(());
         }
         let kind = self.kind;
-        let place = self.place;
+        let number = self.number;
         writeln!(
             self.text,
-            "at {place}: {what} of the {kind} {subject}: {found}"
+            "at {number}: {what} of the {kind} {subject}: {found}"
         )
     }
 
     /// All lines, and after them how many rows there were. All rows hold where there is no line.
     pub fn counted(self) -> Result<(String, Outcome), AllocError>
-        ensures text { IfOk result (λ made. string_bytes made.0 ≡ string_bytes self.text ++ count_line self.place) }
+        ensures text { IfOk result (λ made. string_bytes made.0 ≡ string_bytes self.text ++ count_line self.number) }
         ensures outcome { IfOk result (λ made. made.1 ≡ outcome_of (string_bytes self.text)) }
     {
         let Lines {
             mut text,
-            place,
+            number,
             ..
         } = self;
         let outcome = if text.is_empty() {
@@ -81,7 +81,7 @@ impl Lines {
         } else {
             Outcome::SomeDiffer
         };
-        writeln!(text, "{place} rows")?;
+        writeln!(text, "{number} rows")?;
         Ok((text, outcome))
     }
 }

@@ -62,7 +62,7 @@ impl<'a> KeptMatcher<'a> {
     }
 }
 
-/// Room for what searches for the patterns of leaves, one at the place of each step, and none where no leaf has a
+/// Room for what searches for the patterns of leaves, one at the position of each step, and none where no leaf has a
 /// pattern. The only error is out of memory.
 pub fn kept_matchers<'a>(
     alloc: Global,

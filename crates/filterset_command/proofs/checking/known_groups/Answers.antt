@@ -1,5 +1,5 @@
 use Rattle.std.proofs.Common.{rules}
-use Rattle.filterset_command.proofs.GroupLemmas.{collected_names}
+use Rattle.nextest_filtering.proofs.GroupNames.{collected_names}
 use Rattle.filterset_command.proofs.checking.known_groups.Goals as goal
 
 pub returns-clause-groups : goal.returns-clause-groups

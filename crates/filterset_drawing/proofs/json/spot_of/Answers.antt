@@ -3,4 +3,4 @@ use Rattle.filterset_drawing.proofs.json.spot_of.Goals as goal
 
 pub returns-in-Some : goal.returns-in-Some
 returns-in-Some c =
-    (Some c.place-place.result, (rw c.in-Some.is c.place-place.ensures), search rules, search rules, search rules, search rules)
+    (Some c.location-location.result, (rw c.in-Some.is c.location-location.ensures), search rules, search rules, search rules, search rules)

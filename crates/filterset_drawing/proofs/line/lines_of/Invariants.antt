@@ -3,7 +3,7 @@ use Rattle.filterset_drawing.specs.Lines.{line_row, numbered}
 use Rattle.filterset_drawing.proofs.LineLemmas.{extent}
 use Rattle.filterset_drawing.proofs.line.lines_of.Given as goal
 
--- the lines so far, and the number and the place of the next
+-- the lines so far, and the number and the position of the next
 abbrev pub invariant-loop-piece : goal.invariant-loop-piece
 invariant-loop-piece l = record {
   number_is : l.number ≡ 1 + length l.yielded;

@@ -1,5 +1,5 @@
 use Rattle.std.proofs.Common.{rules}
-use Rattle.filterset_report.proofs.GroupLemmas.{collected_names}
+use Rattle.nextest_filtering.proofs.GroupNames.{collected_names}
 use Rattle.filterset_report.proofs.report.known_groups.Goals as goal
 
 pub returns-clause-groups : goal.returns-clause-groups

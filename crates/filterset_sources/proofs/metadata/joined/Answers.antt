@@ -31,10 +31,10 @@ returns-in_err-members-clause-refused c =
     handed_on c.from_residual-in_err-members.result c.in_err-members.field-0.0 c.from_residual-in_err-members.ensures.1 (λ whole. whole.1)
     (rw c.as_slice-4.ensures.value at c.in_err-members.ensures.refused)
 
-pub returns-in_err-places-clause-refused : goal.returns-in_err-places-clause-refused
-returns-in_err-places-clause-refused c =
-    handed_on c.from_residual-in_err-places.result c.in_err-places.field-0.0 c.from_residual-in_err-places.ensures.1 (λ whole. whole.2)
-    (rw (c.as_slice-5.ensures.value, c.in_ok-ids-2.ensures, c.as_slice-nodes.ensures.value) at c.in_err-places.ensures.refused)
+pub returns-in_err-positions-clause-refused : goal.returns-in_err-positions-clause-refused
+returns-in_err-positions-clause-refused c =
+    handed_on c.from_residual-in_err-positions.result c.in_err-positions.field-0.0 c.from_residual-in_err-positions.ensures.1 (λ whole. whole.2)
+    (rw (c.as_slice-5.ensures.value, c.in_ok-ids-2.ensures, c.as_slice-nodes.ensures.value) at c.in_err-positions.ensures.refused)
 
 pub returns-clause-ok : goal.returns-clause-ok
 returns-clause-ok c =
@@ -42,11 +42,11 @@ returns-clause-ok c =
     let names = ids parts.packages.items in
     let placed = rw (c.as_slice-2.ensures.value, c.in_ok-ids.ensures, c.as_slice.ensures.value) at c.in_ok-known.ensures.ok in
     let members = rw c.as_slice-4.ensures.value at c.in_ok-members.ensures.ok in
-    let nodes = rw (c.as_slice-5.ensures.value, c.in_ok-ids-2.ensures, c.as_slice-nodes.ensures.value) at c.in_ok-places.ensures.ok in
+    let nodes = rw (c.as_slice-5.ensures.value, c.in_ok-ids-2.ensures, c.as_slice-nodes.ensures.value) at c.in_ok-positions.ensures.ok in
     let whole : IsWhole parts = (
       PositionsAre-AllDiffer c.in_ok-known.known names placed,
       PositionsAre-AllDiffer c.in_ok-members.members parts.members.items members,
-      PositionsAre-AllDiffer c.in_ok-places.places _ nodes,
+      PositionsAre-AllDiffer c.in_ok-positions.positions _ nodes,
       members-Contained c.in_ok-known.known names parts.members.items placed (rw c.as_slice-3.ensures.value at c.in_ok-check_members.ensures.ok),
       nodes-Contained c.in_ok-known.known names parts.resolve.nodes.items placed (rw c.as_slice-nodes.ensures.value at c.in_ok-check_nodes.ensures.ok),
     ) in

@@ -7,7 +7,7 @@ use Rattle.filterset_report.specs.Report.{no_sections}
 use Rattle.filterset_record.specs.Rows.{filterset_row}
 use Rattle.filterset_record.specs.declared.record.filtersets.FiltersetEntry.{FiltersetEntry}
 use Rattle.records.proofs.PieceLemmas.{added_twice}
-use Rattle.filterset_report.proofs.ReportLemmas.{Sections-push, map-pairs, number_is_place}
+use Rattle.filterset_report.proofs.ReportLemmas.{Sections-push, map-pairs, number_is_position}
 use Rattle.filterset_report.proofs.report.sections.push_sections.Goals as goal
 
 pub returns : goal.returns
@@ -31,7 +31,7 @@ loop-index-preserved c =
     let section = c.in_ok-all_accepted.ensures in
     let row_of = λ (p : ℕ × FiltersetEntry). filterset_row p.1 in
     let rows = map row_of c.loop-index.yielded in
-    let place : c.in-Some.index ≡ length c.loop-index.yielded = number_is_place items (length c.loop-index.yielded) item turn.0 turn.1 in
-    let index : c.in-Some.index ≡ 0 + length rows = place ∙ sym (length-map c.loop-index.yielded row_of) ∙ sym (zero-add (length rows)) in
+    let position : c.in-Some.index ≡ length c.loop-index.yielded = number_is_position items (length c.loop-index.yielded) item turn.0 turn.1 in
+    let index : c.in-Some.index ≡ 0 + length rows = position ∙ sym (length-map c.loop-index.yielded row_of) ∙ sym (zero-add (length rows)) in
     let pushed = Sections-push c.args.setting.now.command (background_of c.args.setting.now) 0 rows (filterset_row c.in-Some.filterset) _ _ _ _ before.1 (rw index at section.1) in
     (before.0 ++ section.0, (rw (map-append row_of c.loop-index.yielded (item ∷ [])) pushed), added_twice _ _ _ _ _ before.2 section.2)

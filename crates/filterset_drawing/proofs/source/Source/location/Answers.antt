@@ -2,7 +2,7 @@ use Rattle.std.proofs.Common.{◌≡◌, ◌+◌, ◌≤◌, [], length, map, re
 use Rattle.filterset_drawing.specs.Lines.{line_row, lines_of}
 use Rattle.filterset_drawing.specs.declared.line.Line.{Line}
 use Rattle.filterset_drawing.proofs.LineLemmas.{not_past, passed-more, stands}
-use Rattle.filterset_drawing.proofs.source.Source.place.Goals as goal
+use Rattle.filterset_drawing.proofs.source.Source.location.Goals as goal
 
 -- what an index past the end reads
 no_line : Line

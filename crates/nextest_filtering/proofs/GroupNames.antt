@@ -9,7 +9,7 @@ use Rattle.std.proofs.lemmas.List.Folds.{Any-from_list_any}
 use Rattle.std.proofs.lemmas.Map.Made.{is_member-Decides}
 use Rattle.std.proofs.lemmas.Map.Views.{list_any-from_Contains}
 use Rattle.std.proofs.lemmas.Slice.Eq.{bytes_eq-Decides}
-use Rattle.filterset_record.specs.Shape.{Text}
+use Rattle.filterset_graph.specs.Packages.{Text}
 
 abbrev texts : List (String Global) → List Text
 texts names = map (λ s. string_bytes s) names
