@@ -19,6 +19,7 @@ texts-packages 1000
 tests-plain 20
 tests-globs 20
 tests-regex 20
+tests-passed 20
 graph-deps-layers 20
 graph-deps-chain 20
 graph-names 20
@@ -56,6 +57,7 @@ texts = {
     "tests-plain": lambda i: f"test(~case_{i}) and not test(=test_case_{i}) or package(crate-{i % 2})",
     "tests-globs": lambda i: f"test(#*::test_case_{i}*) and not test(#*sub_[12]::*)",
     "tests-regex": lambda i: f"test(/sub_[12]::test_case_\\d+_of_3\\d\\d$/) and not test(/case_{i}/)",
+    "tests-passed": lambda i: f"package(crate-{i % 2}) and test(/sub_[12]::test_case_\\d+_of_3\\d\\d$/) or test(=test_case_{i})",
     "graph-deps-layers": lambda i: f"deps(=crate-{i}) or rdeps(=crate-{1999 - i})",
     "graph-deps-chain": lambda i: f"deps(=crate-{i}) or rdeps(=crate-{1999 - i})",
     "graph-names": lambda i: f"package(crate-{i}) or package(=crate-{i + 7}) or package(~te-{i}) or package(#crate-*{i})",
