@@ -63,10 +63,7 @@ fn packages_text(alloc: Global, packages: &NamedPackages<'_>) -> Result<String, 
 }
 
 /// What stands after the value of a node.
-fn packages_part(
-    alloc: Global,
-    packages: &Option<NamedPackages<'_>>,
-) -> Result<String, AllocError>
+fn packages_part(alloc: Global, packages: &Option<NamedPackages<'_>>) -> Result<String, AllocError>
     ensures { IfOk result (λ text. string_bytes text ≡ packages_part packages.now) }
 {
     match packages {
