@@ -123,6 +123,18 @@ fn want_of_memory_of_a_lookup_is_the_answer(rt: HostRuntime) -> Result<(), Fail>
     Ok(())
 }
 
+#[test]
+fn operands_that_are_passed_over_ask_no_lookup(rt: HostRuntime) -> Result<(), Fail> {
+    let alloc = rt.alloc();
+    let all = Box::new(alloc, CompiledExpr::ALL)?;
+    let either = CompiledExpr::Union(all, Box::new(alloc, group(alloc, "a")?)?);
+    assert!(rt; both_answer(alloc, &either, "x", &Refusing, Ok(true))?);
+    let none = Box::new(alloc, CompiledExpr::Set(FiltersetLeaf::None))?;
+    let both = CompiledExpr::Intersection(none, Box::new(alloc, group(alloc, "a")?)?);
+    assert!(rt; both_answer(alloc, &both, "x", &Refusing, Ok(false))?);
+    Ok(())
+}
+
 /// Whether each call of the expression answers that the test is in the group and the binary may have it, or wants
 /// memory.
 fn own_calls_tell(
