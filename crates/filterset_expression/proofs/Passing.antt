@@ -3,7 +3,9 @@ use Rattle.std.proofs.Common.{◌≡◌, ◌+◌, ◌-◌, ◌<◌, ◌≤◌, g
 use Rattle.std.specs.Prelude.{IfSome}
 use Rattle.std.proofs.lemmas.List.{append-nil, reverse-append, length-reverse, take-append-drop}
 use Rattle.std.proofs.Math.Seq.{take-append_seam, drop-append_seam}
-use Rattle.filterset_expression.specs.Connectives.{Connective, Conjunction, Disjunction, ExclusiveDisjunction, same_connective}
+use Rattle.filterset_expression.specs.Connectives.{Connective}
+use Rattle.std.proofs.lemmas.Bool.{and_from}
+use Rattle.filterset_expression.specs.EqualityLaws.{connective_is, connective_self}
 use Rattle.filterset_expression.specs.FlatSteps.{Step, Push, Negate, Combine, postfix}
 use Rattle.filterset_expression.specs.Expression as compiled
 use Rattle.filterset_expression.specs.Expression.{CompiledLeaf, leaf_with_default}
@@ -71,30 +73,10 @@ own_default (Compound c f g) = let left = own_default f in let right = own_defau
 
 -- ---- as truth values
 
-same_itself : (c : Connective) → same_connective c c ≡ true
-same_itself Conjunction = refl
-same_itself Disjunction = refl
-same_itself ExclusiveDisjunction = refl
-
-the_same : (c d : Connective) → same_connective c d ≡ true → c ≡ d
-the_same Conjunction Conjunction e = refl
-the_same Disjunction Disjunction e = refl
-the_same ExclusiveDisjunction ExclusiveDisjunction e = refl
-the_same Conjunction Disjunction e = absurd (let clash : false ≡ true = e in cc)
-the_same Conjunction ExclusiveDisjunction e = absurd (let clash : false ≡ true = e in cc)
-the_same Disjunction Conjunction e = absurd (let clash : false ≡ true = e in cc)
-the_same Disjunction ExclusiveDisjunction e = absurd (let clash : false ≡ true = e in cc)
-the_same ExclusiveDisjunction Conjunction e = absurd (let clash : false ≡ true = e in cc)
-the_same ExclusiveDisjunction Disjunction e = absurd (let clash : false ≡ true = e in cc)
-
-both_true : (a b : Bool) → a ≡ true → b ≡ true → (a && b) ≡ true
-both_true true b e k = k
-both_true false b e k = e
-
 is_of_right : {A : Type 0} (c : Connective) (count : ℕ) (steps : List (Step A)) → IsRightOperand c count steps → is_right_operand c count steps ≡ true
 is_of_right c count steps h =
     let n : count - 1 ≡ length (postfix h.0) = omega (arith, h.3) in
-    rw (n, h.2, take-append_seam (postfix h.0) (Combine c ∷ h.1), drop-append_seam (postfix h.0) (Combine c ∷ h.1)) (both_true _ _ (postfix_runs h.0) (same_itself c))
+    rw (n, h.2, take-append_seam (postfix h.0) (Combine c ∷ h.1), drop-append_seam (postfix h.0) (Combine c ∷ h.1)) (and_from _ _ (postfix_runs h.0) (connective_self c))
 
 is_passed : {A : Type 0} (operand : Option RightOperand) (steps : List (Step A)) → IsPassedOver operand steps → is_passed_over operand steps ≡ true
 is_passed None steps h = refl
@@ -104,7 +86,7 @@ pub are_passed : {A : Type 0} (steps : List (Step A)) (operands : List (Option R
 are_passed steps [] h = refl
 are_passed [] (operand ∷ operands) h = absurd h
 are_passed (s ∷ steps) (operand ∷ operands) h =
-    both_true _ _ (is_passed operand steps h.0) (are_passed steps operands h.1)
+    and_from _ _ (is_passed operand steps h.0) (are_passed steps operands h.1)
 
 -- the steps of formulas, of which the last comes first
 abbrev all_steps : {A : Type 0} → List (Formula A) → List (Step A)
@@ -139,7 +121,7 @@ begins : {A : Type 0} (c : Connective) (steps : List (Step A)) → begins_with c
 begins c [] e = absurd (let clash : false ≡ true = e in cc)
 begins c (Push leaf ∷ steps) e = absurd (let clash : false ≡ true = e in cc)
 begins c (Negate ∷ steps) e = absurd (let clash : false ≡ true = e in cc)
-begins c (Combine d ∷ steps) e = (steps, ap (λ k. Combine k ∷ steps) (sym (the_same c d e)))
+begins c (Combine d ∷ steps) e = (steps, ap (λ k. Combine k ∷ steps) (sym (connective_is c d e)))
 
 -- a right operand is told by its truth value
 right_of_is : {A : Type 0} (c : Connective) (count : ℕ) (steps : List (Step A)) → is_right_operand c count steps ≡ true → IsRightOperand c count steps

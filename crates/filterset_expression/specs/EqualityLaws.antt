@@ -91,13 +91,13 @@ same_compiled_leaf_Decides a b =
 pub same_compiled_leaf_equiv : IsEquivalence same_compiled_leaf
 same_compiled_leaf_equiv = by_compared compared_compiled same_compiled_leaf same_compiled_leaf_Decides
 
-connective_is : (c d : Connective) → same_connective c d ≡ true → c ≡ d
+pub connective_is : (c d : Connective) → same_connective c d ≡ true → c ≡ d
 connective_is Conjunction Conjunction h = refl
 connective_is Disjunction Disjunction h = refl
 connective_is ExclusiveDisjunction ExclusiveDisjunction h = refl
 connective_is _ _ h = absurd (false≢true h)
 
-connective_self : (c : Connective) → same_connective c c ≡ true
+pub connective_self : (c : Connective) → same_connective c c ≡ true
 connective_self Conjunction = refl
 connective_self Disjunction = refl
 connective_self ExclusiveDisjunction = refl
