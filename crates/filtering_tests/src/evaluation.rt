@@ -84,6 +84,21 @@ fn both_answer(
     Ok(own == wanted && kept == wanted)
 }
 
+/// Whether the call that is handed what the steps tell of the binary answers this of the test `x`.
+fn told_answers(
+    alloc: Global,
+    expr: &CompiledExpr,
+    groups: &dyn GroupLookup,
+    wanted: Result<bool, AllocError>,
+) -> Result<bool, AllocError> {
+    let all = CompiledExpr::ALL;
+    let asked = Asked::new(alloc, "x")?;
+    let query = asked.query();
+    let flat = FlatExpr::new(alloc, expr, &EvalContext::new(&all))?;
+    let told = flat.matches_binary(alloc, &query.binary_query)?;
+    Ok(flat.matches_test_of_told(alloc, told, &query, groups) == wanted)
+}
+
 /// The test `x` is in the group `serial`, and no other test is in a group.
 const KNOWN: OneMember = OneMember {
     test: "x",
@@ -132,6 +147,21 @@ fn operands_that_are_passed_over_ask_no_lookup(rt: HostRuntime) -> Result<(), Fa
     let none = Box::new(alloc, CompiledExpr::Set(FiltersetLeaf::None))?;
     let both = CompiledExpr::Intersection(none, Box::new(alloc, group(alloc, "a")?)?);
     assert!(rt; both_answer(alloc, &both, "x", &Refusing, Ok(false))?);
+    Ok(())
+}
+
+#[test]
+fn what_is_told_of_a_binary_is_the_answer(rt: HostRuntime) -> Result<(), Fail> {
+    let alloc = rt.alloc();
+    let of_group = group(alloc, "serial")?;
+    assert!(rt; told_answers(alloc, &of_group, &KNOWN, Ok(true))?);
+    assert!(rt; told_answers(alloc, &of_group, &Refusing, Err(AllocError))?);
+    let all = Box::new(alloc, CompiledExpr::ALL)?;
+    let either = CompiledExpr::Union(Box::new(alloc, group(alloc, "a")?)?, all);
+    assert!(rt; told_answers(alloc, &either, &Refusing, Ok(true))?);
+    let none = Box::new(alloc, CompiledExpr::Set(FiltersetLeaf::None))?;
+    let both = CompiledExpr::Intersection(Box::new(alloc, group(alloc, "a")?)?, none);
+    assert!(rt; told_answers(alloc, &both, &Refusing, Ok(false))?);
     Ok(())
 }
 

@@ -13,8 +13,6 @@ mod equality;
 mod evaluation;
 #[cfg(test)]
 mod filtersets;
-#[cfg(test)]
-mod graph;
 mod judging;
 #[cfg(test)]
 mod matchers;

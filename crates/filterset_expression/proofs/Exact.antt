@@ -10,7 +10,7 @@ use Rattle.filterset_expression.specs.Folds.{Folds, Settles}
 use Rattle.filterset_expression.specs.Formula.{Formula, Leaf, Negation, Compound, TrueWhere}
 use Rattle.filterset_expression.specs.Values.{occurrences, TrueUnder, CanBe, IsAlways, IsOpen}
 use Rattle.filterset_expression.proofs.Connectives.{connects_alike, connected_decides, Knows, Allows, Reaches, IsExact, kleene_exact}
-use Rattle.filterset_expression.proofs.Folding.{decides_not}
+use Rattle.filterset_expression.proofs.Folding.{decides_not, decided_truth}
 
 module _ {A : Type 0} (is_asked : A → Bool) (holds : A → Type 0) where
   -- what a value of three says of the values that the formula takes
@@ -143,6 +143,23 @@ module _ {A : Type 0} (is_asked : A → Bool) (holds : A → Type 0) where
   pub fold_open : (f : Formula A) (x : Option Bool) → Folds kleene_not kleene (Decides (Some true) (Some false)) (Settles is_asked holds) f x → (x ≡ None) ↔ IsOpen is_asked holds f
   fold_open f x h = says_open f x (fold_says f x h)
 
+-- what values of three know of propositions, they know of what is made of them
+not_knows : (x : Option Bool) (P : Type 0) → Knows x P → Knows (kleene_not x) (¬ P)
+not_knows None P knows = tt
+not_knows (Some b) P knows = decides_not b P knows
+
+exact_knows : (c : Connective) (x y z : Option Bool) (P Q : Type 0) → IsExact c x y P Q z → Knows x P → Knows y Q → Knows z (Connects c P Q)
+exact_knows c x y None P Q exact p q = tt
+exact_knows c x y (Some value) P Q exact p q = exact p q
+
+connected_knows : (c : Connective) (x y : Option Bool) (P Q : Type 0) → Knows x P → Knows y Q → Knows (kleene c x y) (Connects c P Q)
+connected_knows c x y P Q = exact_knows c x y (kleene c x y) P Q (kleene_exact c x y P Q)
+
+decided_knows : (c : Connective) (x : Option Bool) (P Q : Type 0) → Decides (Some true) (Some false) c x → Knows x P → Knows x (Connects c P Q)
+decided_knows Conjunction x P Q e knows = rw e (decided_truth Conjunction false P Q refl (rw e at knows))
+decided_knows Disjunction x P Q e knows = rw e (decided_truth Disjunction true P Q refl (rw e at knows))
+decided_knows ExclusiveDisjunction x P Q e knows = absurd e
+
 -- values that cannot differ are the same
 pub same_unless : (a b : Bool) → ¬ (¬ (a ≡ b)) → a ≡ b
 same_unless true true h = refl
@@ -152,6 +169,11 @@ same_unless false true h = absurd (h (λ e. let clash : false ≡ true = e in cc
 
 -- of_test says what `holds` says, where a leaf is not asked
 module _ {A : Type 0} (is_asked : A → Bool) (holds of_test : A → Type 0) (agree : (leaf : A) → is_asked leaf ≡ false → holds leaf ↔ of_test leaf) where
+  leaf_knows : (leaf : A) (asked : Bool) (x : Option Bool) → is_asked leaf ≡ asked → MatchBool asked (x ≡ None) (IsSomeAnd x (λ b. (IsTrue b ↔ holds leaf))) → Knows x (of_test leaf)
+  leaf_knows leaf true x e h = rw h tt
+  leaf_knows leaf false None e h = absurd h
+  leaf_knows leaf false (Some b) e h = let own = agree leaf e in (λ yes. own.0 (h.0 yes), λ t. h.1 (own.1 t))
+
   -- answers under which the formula is true exactly where it is true of the test
   abbrev Answered : Formula A → Type 0
   Answered f = (answers : List Bool) × (length answers ≡ occurrences is_asked f) × (TrueUnder is_asked holds f answers ↔ TrueWhere of_test f)
@@ -173,3 +195,10 @@ module _ {A : Type 0} (is_asked : A → Bool) (holds of_test : A → Type 0) (ag
   pub definite_answer : (f : Formula A) (value answer : Bool) → IsAlways is_asked holds f value → (IsTrue answer ↔ TrueWhere of_test f) → answer ≡ value
   definite_answer f value answer always is =
       same_unless answer value (λ apart. answered f (λ a. apart ((always answer).0 (a.0, a.1, (λ t. a.2.1 (is.0 t), λ t. is.1 (a.2.0 t))))))
+
+  -- a value by the Kleene connectives that is known says whether the formula is true of the test
+  pub fold_knows : (f : Formula A) (x : Option Bool) → Folds kleene_not kleene (Decides (Some true) (Some false)) (Settles is_asked holds) f x → Knows x (TrueWhere of_test f)
+  fold_knows (Leaf leaf) x h = leaf_knows leaf (is_asked leaf) x refl h
+  fold_knows (Negation f) x h = rw h.2 (not_knows h.0 _ (fold_knows f h.0 h.1))
+  fold_knows (Compound c f g) x h =
+      ⊎_elim (λ both. rw both.2 (connected_knows c h.0 both.0 _ _ (fold_knows f h.0 h.1) (fold_knows g both.0 both.1))) (λ decided. rw decided.1 (decided_knows c h.0 _ _ decided.0 (fold_knows f h.0 h.1))) h.2

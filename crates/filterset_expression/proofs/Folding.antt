@@ -20,7 +20,7 @@ decides_not true P d = (λ e. cc, λ n. absurd (n (d.0 refl)))
 decides_not false P d = (λ e p. let clash : false ≡ true = d.1 p in cc, λ n. refl)
 
 -- a value that decides the connective says of what it makes what it says of the left operand
-decided_truth : (c : Connective) (x : Bool) (P Q : Type 0) → Decides true false c x → (IsTrue x ↔ P) → (IsTrue x ↔ Connects c P Q)
+pub decided_truth : (c : Connective) (x : Bool) (P Q : Type 0) → Decides true false c x → (IsTrue x ↔ P) → (IsTrue x ↔ Connects c P Q)
 decided_truth Conjunction x P Q e d = (λ h. absurd (false≢true (sym e ∙ h)), λ t. d.1 t.0)
 decided_truth Disjunction x P Q e d = (λ h. inl (d.0 h), λ t. e)
 decided_truth ExclusiveDisjunction x P Q e d = absurd e

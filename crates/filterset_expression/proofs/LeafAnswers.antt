@@ -1,5 +1,5 @@
 -- What leaves say of a test, and what the test's binary and its group tell of it.
-use Rattle.std.proofs.Common.{◌↔◌, ◌≡◌, ◌∙◌, sym, Bool, true, false, refl}
+use Rattle.std.proofs.Common.{◌↔◌, ◌≡◌, ◌∙◌, sym, Bool, true, false, refl, Some}
 use Rattle.std.specs.Bool.{IsTrue}
 use Rattle.std.specs.List.{list_any}
 use Rattle.std.proofs.lemmas.Bool.{or_parts}
@@ -8,13 +8,15 @@ use Rattle.filterset_faults.specs.declared.span.SourceSpan.{SourceSpan}
 use Rattle.filterset_matchers.specs.declared.matcher.NameMatcher.{NameMatcher}
 use Rattle.filterset_expression.specs.Expression as compiled
 use Rattle.filterset_expression.specs.Expression.{CompiledLeaf, compiled_leaf, is_group, is_of_test, Lookup, no_groups, with_default, HoldsOfBinary, HoldsOfTest, Holds, IsDefinite}
+use Rattle.filterset_expression.specs.Connectives.{Decides, kleene, kleene_not}
+use Rattle.filterset_expression.specs.Folds.{Folds, Settles}
 use Rattle.filterset_expression.specs.Formula.{Formula, Leaf, Negation, Compound, leaves, TrueWhere}
 use Rattle.filterset_expression.specs.declared.expression.CompiledExpr.{CompiledExpr}
 use Rattle.filterset_expression.specs.declared.leaves.FiltersetLeaf.{FiltersetLeaf}
 use Rattle.filterset_expression.specs.declared.leaves.FiltersetLeaf.TheVariants as leaf
 use Rattle.filterset_expression.specs.declared.query.TestQuery.{TestQuery}
 use Rattle.filterset_expression.proofs.Connectives.{connects_alike}
-use Rattle.filterset_expression.proofs.Exact.{definite_answer}
+use Rattle.filterset_expression.proofs.Exact.{definite_answer, fold_knows}
 use Rattle.filterset_expression.proofs.Meanings.{alike}
 
 -- what the arm for the other leaves knows
@@ -45,6 +47,11 @@ binary_tells test lookup l e = alike (HoldsOfBinary test.binary_query l)
 pub definite_of_test : (e default : CompiledExpr) (test : TestQuery) (lookup : Lookup) (answer value : Bool) → (IsTrue answer ↔ Holds e test default lookup) → IsDefinite e test.binary_query default value → answer ≡ value
 definite_of_test e default test lookup answer value is definite =
     definite_answer is_of_test (HoldsOfBinary test.binary_query) (HoldsOfTest test lookup) (binary_tells test lookup) (with_default default e) value answer definite is
+
+-- what is told of a test's binary, where it is known, says whether the expression holds of the test
+pub told_of_test : (f : Formula CompiledLeaf) (test : TestQuery) (lookup : Lookup) (value : Bool) → Folds kleene_not kleene (Decides (Some true) (Some false)) (Settles is_of_test (HoldsOfBinary test.binary_query)) f (Some value) → IsTrue value ↔ TrueWhere (HoldsOfTest test lookup) f
+told_of_test f test lookup value =
+    fold_knows is_of_test (HoldsOfBinary test.binary_query) (HoldsOfTest test lookup) (binary_tells test lookup) f (Some value)
 
 -- a formula is true alike where its leaves that pass no test hold alike
 module _ {A : Type 0} (p : A → Bool) (P Q : A → Type 0) (agree : (leaf : A) → p leaf ≡ false → P leaf ↔ Q leaf) where

@@ -1,14 +1,17 @@
 -- What a flat expression stands for.
-use Rattle.std.specs.Prelude.{◌≡◌, Bool, false, List}
+use Rattle.std.specs.Prelude.{◌≡◌, Bool, false, true, List, Option, Some}
 use Rattle.std.specs.List.{list_any}
 use Rattle.filterset_faults.specs.declared.span.SourceSpan.{SourceSpan}
 use Rattle.filterset_graph.specs.declared.package.PackageMetadata.{PackageMetadata}
 use Rattle.filterset_grammar.specs.Tree.{Tree}
-use Rattle.filterset_expression.specs.Expression.{CompiledLeaf, with_default}
+use Rattle.filterset_expression.specs.Connectives.{Decides, kleene, kleene_not}
+use Rattle.filterset_expression.specs.Expression.{CompiledLeaf, is_of_test, with_default, HoldsOfBinary}
+use Rattle.filterset_expression.specs.Folds.{Folds, Settles}
 use Rattle.filterset_expression.specs.Meaning.{IsCompiled}
 use Rattle.filterset_expression.specs.FlatSteps.{Step, Push, step_of, steps_of, postfix}
 use Rattle.filterset_expression.specs.declared.expression.CompiledExpr.{CompiledExpr}
 use Rattle.filterset_expression.specs.declared.flat.FlatExpr.{FlatExpr}
+use Rattle.filterset_expression.specs.declared.query.BinaryQuery.{BinaryQuery}
 
 abbrev pub flat_steps : FlatExpr → List (Step CompiledLeaf)
 flat_steps flat = steps_of flat.steps.items
@@ -30,3 +33,11 @@ leaf_passes test _ = false
 -- whether a leaf among the steps passes the test
 abbrev pub has_step : (CompiledLeaf → Bool) → FlatExpr → Bool
 has_step test flat = list_any (λ s. leaf_passes test (step_of s)) flat.steps.items
+
+-- What is told of a binary: the value that Kleene's connectives give the expression, where what depends on the test is
+-- unknown. Its evidence is kept for asking about tests: a value that is known is that of each test of the binary, also
+-- where it is not known how a lookup would be answered.
+abbrev pub IsTold : FlatExpr → BinaryQuery → Option Bool → Type 0
+IsTold flat binary told = (expr default : CompiledExpr) → IsFlat flat expr default
+    → Folds kleene_not kleene (Decides (Some true) (Some false)) (Settles is_of_test (HoldsOfBinary binary))
+    (with_default default expr) told

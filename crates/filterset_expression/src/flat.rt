@@ -53,7 +53,7 @@ pub struct FlatExpr<'a> {
 
 impl<'a> FlatExpr<'a> {
     ghost use Rattle.filterset_expression.specs.Contexts.{default_of};
-    ghost use Rattle.filterset_expression.specs.FlatExpressions.{flat_steps, has_step, IsFlat, IsFlatOfTree};
+    ghost use Rattle.filterset_expression.specs.FlatExpressions.{flat_steps, has_step, IsFlat, IsFlatOfTree, IsTold};
 
     /// The steps of the expression, with those of the context's default filter in the place of each `default` leaf. It
     /// is an error only if it is out of memory.
@@ -95,11 +95,14 @@ impl<'a> FlatExpr<'a> {
     }
 
     /// What the expression says of a binary, as [`CompiledExpr::matches_binary`] says it.
+    ///
+    /// Who keeps the answer asks [`FlatExpr::matches_test_of_told`] about the binary's tests.
     pub fn matches_binary(
         &self,
         alloc: Global,
         query: &BinaryQuery<'_>,
     ) -> Result<Option<bool>, AllocError>
+        ensures told { IfOk result (λ answer. IsTold self.now query.now answer) }
         ensures definite { IfOk result (λ answer. (expr default : CompiledExpr) → IsFlat self.now expr default
             → (b : Bool) → (answer ≡ Some b) ↔ IsDefinite expr query.now default b) }
         ensures undecided { IfOk result (λ answer. (expr default : CompiledExpr) → IsFlat self.now expr default
@@ -168,6 +171,31 @@ impl<'a> FlatExpr<'a> {
                     HoldsOfTest query.entry.now (hits_group groups.entry.now) (compiled_leaf asked.entry.leaf.now)) }
             { asked.matches_test_with_groups(alloc, query, groups) },
         )
+    }
+
+    /// Whether the expression holds of a test of a binary of which this was told, by [`FlatExpr::matches_binary`]. Where
+    /// that is yes or no, it is the answer, and nothing is asked of the test. The lookup tells the test's group. The only
+    /// error is out of memory, the lookup's too.
+    pub fn matches_test_of_told(
+        &self,
+        alloc: Global,
+        told: Option<bool>,
+        query: &TestQuery<'_>,
+        groups: &dyn GroupLookup,
+    ) -> Result<bool, AllocError>
+        requires { IsTold self.now query.now.binary_query told }
+        ensures holds { IfOk result (λ answer. (expr default : CompiledExpr) → IsFlat self.now expr default
+            → IsTrue answer ↔ Holds expr query.now default (hits_group groups.now)) }
+
+        // Where it is made of what a tree is compiled to, the answer is the tree's meaning.
+        ensures meaning { IfOk result (λ answer. (packages : List PackageMetadata) (e : Tree SourceSpan)
+            (default : CompiledExpr) → IsFlatOfTree self.now packages e default
+            → IsTrue answer ↔ Meaning e packages query.now default (hits_group groups.now)) }
+    {
+        match told {
+            Some(answer) => Ok(answer),
+            None => self.matches_test_with_groups(alloc, query, groups),
+        }
     }
 
     /// The value that the steps leave, where `of_leaf` gives the value of each leaf. A single leaf needs no stack, and

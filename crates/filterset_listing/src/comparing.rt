@@ -51,12 +51,15 @@ fn divided<'s>(
         → IsFlat second.now other default → IsComparison one other default binary.now compared) }
 {
     let lookup = GlobalLookup;
+    let query = &binary.query;
+    let first_told = first.matches_binary(alloc, query)?;
+    let second_told = second.matches_binary(alloc, query)?;
     let mut only_first = Vec::new(alloc);
     let mut only_second = Vec::new(alloc);
     let mut both = Vec::new(alloc);
     for test in binary.tests {
-        let is_first = picks(alloc, first, &lookup, &binary.query, test)?;
-        let is_second = picks(alloc, second, &lookup, &binary.query, test)?;
+        let is_first = picks(alloc, first, &lookup, query, first_told, test)?;
+        let is_second = picks(alloc, second, &lookup, query, second_told, test)?;
         push_if(&mut only_first, test, only(is_first, is_second))?;
         push_if(&mut only_second, test, only(is_second, is_first))?;
         push_if(&mut both, test, both_of(is_first, is_second))?;

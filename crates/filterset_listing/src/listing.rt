@@ -2,12 +2,12 @@
 ghost use Rattle.std.specs.Prelude.{◌≡◌, ◌++◌, IfOk, OnOk, map};
 ghost use Rattle.std.specs.List.{AllZip};
 ghost use Rattle.filterset_expression.specs.Contexts.{default_of};
-ghost use Rattle.filterset_expression.specs.FlatExpressions.{IsFlat};
+ghost use Rattle.filterset_expression.specs.FlatExpressions.{IsFlat, IsTold};
 ghost use Rattle.filterset_expression.specs.declared.expression.CompiledExpr.{CompiledExpr};
 ghost use Rattle.filterset_listing.specs.Asking.{Tells};
 ghost use Rattle.filterset_listing.specs.Listing.{IsSection, Picked, one_of};
 
-use crate::asking::{leaves_out, picks};
+use crate::asking::{is_no, picks};
 use crate::binary::AskedBinary;
 use crate::global::GlobalLookup;
 use filterset_expression::{BinaryQuery, CompiledExpr, EvalContext, FlatExpr};
@@ -39,20 +39,22 @@ pub(crate) fn push_if<'s>(
     Ok(())
 }
 
-/// The tests that are picked of these tests of a binary, in their order.
+/// The tests that are picked of these tests of a binary, of which this was told, in their order.
 fn picked<'s>(
     alloc: Global,
     flat: &FlatExpr<'_>,
     query: &BinaryQuery<'_>,
+    told: Option<bool>,
     tests: &'s [TestCaseName],
 ) -> Result<Vec<&'s TestCaseName>, AllocError>
+    requires { IsTold flat.now query.now told }
     ensures { IfOk result (λ picked. (expr default : CompiledExpr) → IsFlat flat.now expr default
         → Picked (Tells expr default query.now) tests.now (map (λ t. t.now) picked.items)) }
 {
     let lookup = GlobalLookup;
     let mut picked = Vec::new(alloc);
     for test in tests {
-        let is_picked = picks(alloc, flat, &lookup, query, test)?;
+        let is_picked = picks(alloc, flat, &lookup, query, told, test)?;
         push_if(&mut picked, test, is_picked)?;
     }
     Ok(picked)
@@ -67,7 +69,8 @@ fn section_of<'s>(
     ensures { IfOk result (λ section. (expr default : CompiledExpr) → IsFlat flat.now expr default
         → IsSection expr default binary.now section) }
 {
-    if leaves_out(alloc, flat, &binary.query)? {
+    let told = flat.matches_binary(alloc, &binary.query)?;
+    if is_no(told) {
         return Ok(Section {
             binary: *binary,
             is_left_out: true,
@@ -77,7 +80,7 @@ fn section_of<'s>(
     Ok(Section {
         binary: *binary,
         is_left_out: false,
-        tests: picked(alloc, flat, &binary.query, binary.tests)?,
+        tests: picked(alloc, flat, &binary.query, told, binary.tests)?,
     })
 }
 
@@ -97,9 +100,9 @@ fn sections_of<'s>(
     Ok(sections)
 }
 
-/// What a filterset picks of each binary: exactly those of its tests that the filterset holds of, in their order. The
-/// tests of a binary are not asked about only where the binary alone tells that the filterset holds of none. Every test
-/// is in the group `@global`. The only error is out of memory.
+/// What a filterset picks of each binary: exactly those of its tests that the filterset holds of, in their order. Each
+/// binary is asked about first: where it alone tells that the filterset holds of all of its tests, or of none, nothing is
+/// asked of these. Every test is in the group `@global`. The only error is out of memory.
 pub fn list<'s>(
     alloc: Global,
     expr: &CompiledExpr,

@@ -1,4 +1,4 @@
--- The steps that make the index of binaries by their ids.
+-- The steps that make an index of items by texts of theirs.
 use Rattle.std.proofs.Common.{◌≡◌, ◌<◌, ◌+◌, ◌∙◌, ◌++◌, ◌∷◌, [], ℕ, Bool, true, false, cond, List, Option, None, Some, is_some, length, get_or, take, sym, ap, refl}
 use Rattle.std.specs.Prelude.{option_map}
 use Rattle.std.specs.Borrow.{Bor}
@@ -11,57 +11,62 @@ use Rattle.std.proofs.lemmas.List.{take_more}
 use Rattle.std.proofs.lemmas.List.Folds.{find-append}
 use Rattle.std.proofs.lemmas.Slice.Eq.{bytes_eq-Decides}
 use Rattle.filterset_record.specs.Shape.{Text}
-use Rattle.filterset_record.specs.declared.record.binaries.BinaryEntry.{BinaryEntry}
-use Rattle.filterset_report.specs.Index.{IsIndexOf, entry_at}
+use Rattle.filterset_record.specs.declared.record.binaries.TestEntry.{TestEntry}
+use Rattle.filterset_report.specs.Index.{HasFirsts, IsIndexOf, entry_at}
 
--- the first binary with an id, among one more
-first_more : (binaries : List BinaryEntry) (i : ℕ) (binary : BinaryEntry) (id : Text) → i < length binaries → get_or binaries i binary ≡ binary →
-    find (λ (b : BinaryEntry). bytes_eq b.id id) (take (i + 1) binaries)
-    ≡ option_or (find (λ (b : BinaryEntry). bytes_eq b.id id) (take i binaries)) (cond (bytes_eq binary.id id) (Some binary) None)
-first_more binaries i binary id lt at =
-    let test = λ (b : BinaryEntry). bytes_eq b.id id in
-    ap (find test) (take_more binaries i binary lt ∙ ap (λ (b : BinaryEntry). take i binaries ++ b ∷ []) at) ∙ find-append test (take i binaries) (binary ∷ [])
+module _ {A V : Type 0} (text_of : A → Text) (item_of : V → A) where
+  -- the first item with a text, among one more
+  first_more : (items : List A) (i : ℕ) (item : A) (text : Text) → i < length items → get_or items i item ≡ item →
+      find (λ (x : A). bytes_eq (text_of x) text) (take (i + 1) items)
+      ≡ option_or (find (λ (x : A). bytes_eq (text_of x) text) (take i items)) (cond (bytes_eq (text_of item) text) (Some item) None)
+  first_more items i item text lt at =
+      let test = λ (x : A). bytes_eq (text_of x) text in
+      ap (find test) (take_more items i item lt ∙ ap (λ (x : A). take i items ++ x ∷ []) at) ∙ find-append test (take i items) (item ∷ [])
 
--- what was found first stays
-found_stays : (found : Option BinaryEntry) (equal : Bool) (binary : BinaryEntry) → (equal ≡ true → is_some found ≡ true) →
-    found ≡ option_or found (cond equal (Some binary) None)
-found_stays (Some b) equal binary there = refl
-found_stays None true binary there = let e : false ≡ true = there refl in cc
-found_stays None false binary there = refl
+  -- what was found first stays
+  found_stays : (found : Option A) (equal : Bool) (item : A) → (equal ≡ true → is_some found ≡ true) →
+      found ≡ option_or found (cond equal (Some item) None)
+  found_stays (Some x) equal item there = refl
+  found_stays None true item there = let e : false ≡ true = there refl in cc
+  found_stays None false item there = refl
 
--- what is found where nothing was
-found_now : (found : Option BinaryEntry) (old : Option (Bor BinaryEntry)) (equal : Bool) (entry : Bor BinaryEntry) (binary : BinaryEntry) → entry.now ≡ binary →
-    option_map (λ (b : Bor BinaryEntry). b.now) old ≡ found → (equal ≡ true → found ≡ None) →
-    option_map (λ (b : Bor BinaryEntry). b.now) (cond equal (Some entry) old) ≡ option_or found (cond equal (Some binary) None)
-found_now found old true entry binary is before none = rw (none refl) (ap Some is)
-found_now None old false entry binary is before none = before
-found_now (Some b) old false entry binary is before none = before
+  -- what is found where nothing was
+  found_now : (found : Option A) (old : Option V) (equal : Bool) (entry : V) (item : A) → item_of entry ≡ item →
+      option_map item_of old ≡ found → (equal ≡ true → found ≡ None) →
+      option_map item_of (cond equal (Some entry) old) ≡ option_or found (cond equal (Some item) None)
+  found_now found old true entry item is before none = rw (none refl) (ap Some is)
+  found_now None old false entry item is before none = before
+  found_now (Some x) old false entry item is before none = before
 
-mapped_none : (o : Option (Bor BinaryEntry)) → is_some o ≡ false → option_map (λ (b : Bor BinaryEntry). b.now) o ≡ None
-mapped_none None is_none = refl
-mapped_none (Some b) is_none = cc
+  mapped_none : (o : Option V) → is_some o ≡ false → option_map item_of o ≡ None
+  mapped_none None is_none = refl
+  mapped_none (Some v) is_none = cc
 
-mapped_some : (o : Option (Bor BinaryEntry)) → is_some o ≡ true → is_some (option_map (λ (b : Bor BinaryEntry). b.now) o) ≡ true
-mapped_some None is_there = cc
-mapped_some (Some b) is_there = refl
+  mapped_some : (o : Option V) → is_some o ≡ true → is_some (option_map item_of o) ≡ true
+  mapped_some None is_there = cc
+  mapped_some (Some v) is_there = refl
 
--- an id that is there keeps its binary
-pub index_kept : (binaries : List BinaryEntry) (i : ℕ) (binary : BinaryEntry) (index : BTreeMap (Bor Text) (Bor BinaryEntry)) → i < length binaries → get_or binaries i binary ≡ binary →
-    is_some (entry_at index binary.id) ≡ true → IsIndexOf (take i binaries) index → IsIndexOf (take (i + 1) binaries) index
-index_kept binaries i binary index lt at there is id =
-    let found = find (λ (b : BinaryEntry). bytes_eq b.id id) (take i binaries) in
-    let stays = found_stays found (bytes_eq binary.id id) binary (λ equal.
-    let same : binary.id ≡ id = (bytes_eq-Decides binary.id id).0 equal in
-    ap is_some (sym (is id)) ∙ ap (λ (t : Text). is_some (option_map (λ (b : Bor BinaryEntry). b.now) (entry_at index t))) (sym same) ∙ mapped_some (entry_at index binary.id) there) in
-    is id ∙ stays ∙ sym (first_more binaries i binary id lt at)
+  -- a text that is there keeps its item
+  pub index_kept : (items : List A) (i : ℕ) (item : A) (index : BTreeMap (Bor Text) V) → i < length items → get_or items i item ≡ item →
+      is_some (entry_at index (text_of item)) ≡ true → IsIndexOf text_of item_of (take i items) index → IsIndexOf text_of item_of (take (i + 1) items) index
+  index_kept items i item index lt at there is text =
+      let found = find (λ (x : A). bytes_eq (text_of x) text) (take i items) in
+      let stays = found_stays found (bytes_eq (text_of item) text) item (λ equal.
+      let same : text_of item ≡ text = (bytes_eq-Decides (text_of item) text).0 equal in
+      ap is_some (sym (is text)) ∙ ap (λ (t : Text). is_some (option_map item_of (entry_at index t))) (sym same) ∙ mapped_some (entry_at index (text_of item)) there) in
+      is text ∙ stays ∙ sym (first_more items i item text lt at)
 
--- an id that is not there gets this binary
-pub index_added : (binaries : List BinaryEntry) (i : ℕ) (binary : BinaryEntry) (entry : Bor BinaryEntry) (old new : BTreeMap (Bor Text) (Bor BinaryEntry)) → i < length binaries →
-    get_or binaries i binary ≡ binary → entry.now ≡ binary → is_some (entry_at old binary.id) ≡ false →
-    ((id : Text) → entry_at new id ≡ update bytes_eq (entry_at old) binary.id (Some entry) id) → IsIndexOf (take i binaries) old → IsIndexOf (take (i + 1) binaries) new
-index_added binaries i binary entry old new lt at lent absent updates is id =
-    let found = find (λ (b : BinaryEntry). bytes_eq b.id id) (take i binaries) in
-    let now = found_now found (entry_at old id) (bytes_eq binary.id id) entry binary lent (is id) (λ equal.
-    let same : binary.id ≡ id = (bytes_eq-Decides binary.id id).0 equal in
-    sym (is id) ∙ ap (λ (t : Text). option_map (λ (b : Bor BinaryEntry). b.now) (entry_at old t)) (sym same) ∙ mapped_none (entry_at old binary.id) absent) in
-    ap (option_map (λ (b : Bor BinaryEntry). b.now)) (updates id) ∙ now ∙ sym (first_more binaries i binary id lt at)
+  -- a text that is not there gets this item
+  pub index_added : (items : List A) (i : ℕ) (item : A) (entry : V) (old new : BTreeMap (Bor Text) V) → i < length items →
+      get_or items i item ≡ item → item_of entry ≡ item → is_some (entry_at old (text_of item)) ≡ false →
+      ((text : Text) → entry_at new text ≡ update bytes_eq (entry_at old) (text_of item) (Some entry) text) → IsIndexOf text_of item_of (take i items) old → IsIndexOf text_of item_of (take (i + 1) items) new
+  index_added items i item entry old new lt at is_entry absent updates is text =
+      let found = find (λ (x : A). bytes_eq (text_of x) text) (take i items) in
+      let now = found_now found (entry_at old text) (bytes_eq (text_of item) text) entry item is_entry (is text) (λ equal.
+      let same : text_of item ≡ text = (bytes_eq-Decides (text_of item) text).0 equal in
+      sym (is text) ∙ ap (λ (t : Text). option_map item_of (entry_at old t)) (sym same) ∙ mapped_none (entry_at old (text_of item)) absent) in
+      ap (option_map item_of) (updates text) ∙ now ∙ sym (first_more items i item text lt at)
+
+-- an index of all tests has first ones
+pub all_firsts : (tests : List TestEntry) (index : BTreeMap (Bor Text) (Bor TestEntry)) → IsIndexOf (λ (t : TestEntry). t.name) (λ (t : Bor TestEntry). t.now) tests index → HasFirsts tests index
+all_firsts tests index is name test at = sym (is name) ∙ ap (option_map (λ (t : Bor TestEntry). t.now)) at

@@ -1,4 +1,3 @@
 pub mod ReportLemmas
 pub mod LookupLemmas
 pub mod IndexLemmas
-pub mod SettledLemmas

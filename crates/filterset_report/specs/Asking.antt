@@ -1,12 +1,12 @@
 -- What filtersets are asked for.
-use Rattle.std.specs.Prelude.{◌≡◌, Bool, false, List, Option, Some, map}
+use Rattle.std.specs.Prelude.{◌≡◌, List, map}
 use Rattle.filterset_expression.specs.FlatExpressions.{IsFlatOfTree}
 use Rattle.filterset_expression.specs.declared.flat.FlatExpr.{FlatExpr}
 use Rattle.filterset_grammar.specs.Tree.{Tree}
 use Rattle.filterset_faults.specs.declared.span.SourceSpan.{SourceSpan}
 use Rattle.filterset_report.specs.declared.lookup.RecordLookup.{RecordLookup}
-use Rattle.filterset_report.specs.Library.{Background, Tells}
-use Rattle.filterset_record.specs.Record.{BinaryRow, TestRow}
+use Rattle.filterset_report.specs.Library.{Background}
+use Rattle.filterset_record.specs.Record.{BinaryRow}
 use Rattle.filterset_record.specs.Rows.{binary_row}
 
 -- P holds of each tree that the expression may be asked for, and of the background that it is asked against
@@ -17,8 +17,3 @@ ForItsTree flat P = (background : Background) (tree : Tree SourceSpan)
 -- the lookup tells the groups of the tests of these binaries
 abbrev pub IsLookupOf : List BinaryRow → RecordLookup → Type 0
 IsLookupOf binaries lookup = binaries ≡ map binary_row lookup.binaries.now
-
--- where no is told of the binary, no is the answer for each of its tests
-abbrev pub SettlesTests : FlatExpr → BinaryRow → Option Bool → Type 0
-SettlesTests flat binary told = told ≡ Some false
-    → ForItsTree flat (λ background tree. (test : TestRow) → Tells background tree binary test false)

@@ -1,5 +1,5 @@
--- The binaries of a record by their ids.
-use Rattle.std.specs.Prelude.{◌≡◌, List, Option, option_map}
+-- Indexes of a record's binaries by their ids, and of a binary's tests by their names.
+use Rattle.std.specs.Prelude.{◌≡◌, List, Option, Some, option_map}
 use Rattle.std.specs.Borrow.{Bor}
 use Rattle.std.specs.BTreeMap.{BTreeMap, get_by}
 use Rattle.std.specs.Cmp.Lexicographic.{slice_cmp}
@@ -7,13 +7,19 @@ use Rattle.std.specs.List.{find}
 use Rattle.std.specs.Ordering.{nat_cmp}
 use Rattle.std.specs.Str.{bytes_eq}
 use Rattle.filterset_record.specs.Shape.{Text}
-use Rattle.filterset_record.specs.declared.record.binaries.BinaryEntry.{BinaryEntry}
+use Rattle.filterset_record.specs.declared.record.binaries.TestEntry.{TestEntry}
 
--- what the index has under this id
-abbrev pub entry_at : BTreeMap (Bor Text) (Bor BinaryEntry) → Text → Option (Bor BinaryEntry)
-entry_at index id = get_by (λ key. slice_cmp nat_cmp id key.now) index
+-- what the index has under this text
+abbrev pub entry_at : {V : Type 0} → BTreeMap (Bor Text) V → Text → Option V
+entry_at index text = get_by (λ key. slice_cmp nat_cmp text key.now) index
 
--- under each id the index has the first binary with that id
-abbrev pub IsIndexOf : List BinaryEntry → BTreeMap (Bor Text) (Bor BinaryEntry) → Type 0
-IsIndexOf binaries index =
-    (id : Text) → option_map (λ b. b.now) (entry_at index id) ≡ find (λ b. bytes_eq b.id id) binaries
+-- under each text the index has the first item with that text; an item's text is what `text_of` gives, and what the index
+-- has of an item is seen by `item_of`
+abbrev pub IsIndexOf : {A V : Type 0} → (A → Text) → (V → A) → List A → BTreeMap (Bor Text) V → Type 0
+IsIndexOf text_of item_of items index =
+    (text : Text) → option_map item_of (entry_at index text) ≡ find (λ item. bytes_eq (text_of item) text) items
+
+-- what the index has under a name is the first test with that name; it may have none where there is one
+abbrev pub HasFirsts : List TestEntry → BTreeMap (Bor Text) (Bor TestEntry) → Type 0
+HasFirsts tests index = (name : Text) (test : Bor TestEntry)
+    → entry_at index name ≡ Some test → find (λ t. bytes_eq t.name name) tests ≡ Some test.now

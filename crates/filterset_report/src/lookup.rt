@@ -2,7 +2,7 @@
 ghost use Rattle.std.specs.Prelude.{◌≡◌, IfOk, MatchOption, map, option_map};
 ghost use Rattle.std.specs.List.{find};
 ghost use Rattle.std.specs.Str.{bytes_eq};
-ghost use Rattle.filterset_report.specs.Index.{IsIndexOf};
+ghost use Rattle.filterset_report.specs.Index.{HasFirsts, IsIndexOf};
 ghost use Rattle.filterset_report.specs.Lookup.{IsInGroup, hits_recorded_group};
 ghost use Rattle.filterset_record.specs.Rows.{binary_row};
 ghost use Rattle.filterset_record.specs.Shape.{Text};
@@ -12,64 +12,121 @@ use nextest_filtering::{GroupLookup, NameMatcher, RustBinaryId, TestCaseName, Te
 use std::alloc::{AllocError, Global};
 use std::collections::BTreeMap;
 
+/// A binary has an index of its tests only if it has more of them than this: fewer are as soon looked through.
+const FEW_TESTS: usize = 8;
+
+/// A binary, and its tests by their names.
+#[derive(Debug, Drop)]
+struct IndexedBinary<'a> {
+    binary: &'a BinaryEntry,
+    /// The first test with each name, or nothing where no index is made.
+    by_name: BTreeMap<&'a str, &'a TestEntry>,
+    ghost firsts: { HasFirsts binary.now.tests.items by_name },
+}
+
+/// The first test with each name.
+fn tests_by_name<'a>(
+    alloc: Global,
+    tests: &'a [TestEntry],
+) -> Result<BTreeMap<&'a str, &'a TestEntry>, AllocError>
+    ensures { IfOk result (λ index. IsIndexOf (λ t. t.name) (λ t. t.now) tests.now index) }
+{
+    let mut index = BTreeMap::new(alloc);
+    for test in tests {
+        let name = test.name.as_str();
+        if !index.contains_key(name) {
+            index.insert(name, test)?;
+        }
+    }
+    Ok(index)
+}
+
+/// The first test with each name where an index is wanted and the tests are not few, and else nothing.
+fn wanted_tests<'a>(
+    alloc: Global,
+    tests: &'a [TestEntry],
+    is_wanted: bool,
+) -> Result<BTreeMap<&'a str, &'a TestEntry>, AllocError>
+    ensures { IfOk result (λ index. HasFirsts tests.now index) }
+{
+    if is_wanted && tests.len() > FEW_TESTS {
+        tests_by_name(alloc, tests)
+    } else {
+        Ok(BTreeMap::new(alloc))
+    }
+}
+
+impl IndexedBinary<'_> {
+    /// The first test with this name.
+    fn test_with(&self, name: &TestCaseName) -> Option<&TestEntry>
+        ensures { option_map (λ t. t.now) result ≡ find (λ t. bytes_eq t.name name.now) self.now.binary.now.tests.items }
+    {
+        match self.by_name.get(name.as_str()) {
+            Some(test) => Some(*test),
+            None => self.binary.tests.iter().find(|test| test.name == *name),
+        }
+    }
+}
+
 /// Tells the groups of a record's tests: a test is in the group of the first test with its name in the first binary
 /// with its binary's id.
 #[derive(Debug, Drop)]
 pub struct RecordLookup<'a> {
     pub binaries: &'a [BinaryEntry],
     /// The first binary with each id.
-    by_id: BTreeMap<&'a str, &'a BinaryEntry>,
-    ghost indexed: { IsIndexOf binaries.now by_id },
+    by_id: BTreeMap<&'a str, IndexedBinary<'a>>,
+    ghost indexed: { IsIndexOf (λ b. b.id) (λ b. b.binary.now) binaries.now by_id },
 }
 
-/// The first binary with each id.
-fn index_of<'a>(
+/// The first binary with each id, and their tests by their names where that is wanted.
+fn binaries_by_id<'a>(
     alloc: Global,
     binaries: &'a [BinaryEntry],
-) -> Result<BTreeMap<&'a str, &'a BinaryEntry>, AllocError>
-    ensures { IfOk result (λ index. IsIndexOf binaries.now index) }
+    is_wanted: bool,
+) -> Result<BTreeMap<&'a str, IndexedBinary<'a>>, AllocError>
+    ensures { IfOk result (λ index. IsIndexOf (λ b. b.id) (λ b. b.binary.now) binaries.now index) }
 {
     let mut index = BTreeMap::new(alloc);
     for binary in binaries {
         let id = binary.id.as_str();
         if !index.contains_key(id) {
-            index.insert(id, binary)?;
+            let by_name = wanted_tests(alloc, &binary.tests, is_wanted)?;
+            index.insert(id, IndexedBinary { binary, by_name })?;
         }
     }
     Ok(index)
 }
 
-/// The first test with this name.
-fn test_with<'a>(tests: &'a [TestEntry], name: &TestCaseName) -> Option<&'a TestEntry>
-    ensures { option_map (λ t. t.now) result ≡ find (λ t. bytes_eq t.name name.now) tests.now }
-{
-    tests.iter().find(|test| test.name == *name)
-}
-
 impl<'a> RecordLookup<'a> {
-    /// The lookup among these binaries. The only error is out of memory.
-    pub fn new(alloc: Global, binaries: &'a [BinaryEntry]) -> Result<RecordLookup<'a>, AllocError>
+    /// The lookup among these binaries. Groups are found faster, and it takes longer to make, where an index of the tests
+    /// is wanted. The only error is out of memory.
+    pub fn new(
+        alloc: Global,
+        binaries: &'a [BinaryEntry],
+        is_wanted: bool,
+    ) -> Result<RecordLookup<'a>, AllocError>
         ensures { IfOk result (λ lookup. lookup.binaries.now ≡ binaries.now) }
     {
-        let by_id = index_of(alloc, binaries)?;
+        let by_id = binaries_by_id(alloc, binaries, is_wanted)?;
         Ok(RecordLookup { binaries, by_id })
     }
 
     /// The first binary with this id.
-    fn binary_with(&self, id: &RustBinaryId) -> Option<&'a BinaryEntry>
-        ensures { option_map (λ b. b.now) result ≡ find (λ b. bytes_eq b.id id.now) self.now.binaries.now }
+    fn binary_with(&self, id: &RustBinaryId) -> Option<&IndexedBinary<'a>>
+        ensures { option_map (λ b. b.now.binary.now) result
+            ≡ find (λ b. bytes_eq b.id id.now) self.now.binaries.now }
     {
-        self.by_id.get(id.as_str()).copied()
+        self.by_id.get(id.as_str())
     }
 
     /// The group of the test, where the record has the test.
-    fn group_of(&self, test: &TestQuery<'_>) -> Option<&'a str>
+    fn group_of(&self, test: &TestQuery<'_>) -> Option<&str>
         ensures { MatchOption result
             ((group : Text) → ¬ IsInGroup (map binary_row self.now.binaries.now) test.now group)
             (λ group. IsInGroup (map binary_row self.now.binaries.now) test.now group.now) }
     {
         let binary = self.binary_with(test.binary_query.binary_id)?;
-        let entry = test_with(&binary.tests, test.test_name)?;
+        let entry = binary.test_with(test.test_name)?;
         Some(entry.group.as_str())
     }
 }

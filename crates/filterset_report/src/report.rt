@@ -112,6 +112,13 @@ fn known_groups(alloc: Global, names: Vec<String>) -> Result<KnownGroups, AllocE
     })
 }
 
+/// Whether one of the filtersets may ask for the groups of tests, since its text has the word.
+fn speak_of_groups(filtersets: &[FiltersetEntry]) -> bool {
+    filtersets
+        .iter()
+        .any(|filterset| filterset.text.contains("group"))
+}
+
 /// The report of filtersets, over these packages and groups, and about these binaries. It is the refusal of the default
 /// filter where the text is none.
 fn report_filtersets(
@@ -138,7 +145,7 @@ fn report_filtersets(
     let kind = FiltersetKind::DefaultFilter;
     match Filterset::parse(alloc, default_filter, &parse_context, kind, &known_groups) {
         Ok(default_filter) => {
-            let lookup = RecordLookup::new(alloc, binaries)?;
+            let lookup = RecordLookup::new(alloc, binaries, speak_of_groups(&filtersets))?;
             let setting = Setting {
                 command,
                 parse_context,

@@ -13,7 +13,8 @@ use std::collections::HashSet;
 use std::fmt::Debug;
 use std::process::Abort;
 use std::test::Fail;
-use test_parts::{FOUR, Failure, OneMember, Parts, Refusing, Row, id, packages};
+use test_parts::{OneMember, Parts, Refusing};
+use test_workspaces::{FOUR, Failure, Row, id, packages};
 
 /// Whether the call answered. Its answer is then the wanted one.
 fn answers<T: PartialEq + Debug + Drop>(

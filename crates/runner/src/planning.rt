@@ -1,15 +1,15 @@
 //! Which tests a filterset picks, binary by binary.
-ghost use Rattle.std.specs.Prelude.{◌≡◌, IfOk, IsTrue, List};
+ghost use Rattle.std.specs.Prelude.{◌≡◌, IfOk, List};
 ghost use Rattle.std.specs.List.{AllZip};
 ghost use Rattle.filterset_faults.specs.declared.span.SourceSpan.{SourceSpan};
 ghost use Rattle.filterset_graph.specs.declared.package.PackageMetadata.{PackageMetadata};
 ghost use Rattle.filterset_grammar.specs.Tree.{Tree};
 ghost use Rattle.filterset_expression.specs.Contexts.{default_of};
-ghost use Rattle.filterset_expression.specs.FlatExpressions.{IsFlatOfTree};
+ghost use Rattle.filterset_expression.specs.FlatExpressions.{IsFlatOfTree, IsTold};
 ghost use Rattle.filterset_expression.specs.Meaning.{IsCompiled};
 ghost use Rattle.nextest_filtering.specs.Compiling.{packages_of};
 ghost use Rattle.nextest_filtering.specs.Groups.{IsKnown};
-ghost use Rattle.runner.specs.Planning.{IsChoice, IsPlanned, IsRefused, IsTestOf, PicksNone, Tells};
+ghost use Rattle.runner.specs.Planning.{IsChoice, IsPlanned, IsRefused, IsTestOf, Tells};
 
 use crate::groups::Groups;
 use nextest_filtering::{
@@ -100,7 +100,8 @@ fn choices_by(
     Ok(choices)
 }
 
-/// What is to be done with a binary. Its tests are looked at only if some of them may be picked.
+/// What is to be done with a binary, which is asked about once. Where the filterset is false of it, and so of each of its
+/// tests, they are not looked at; and where it is true of it, none of them is asked about.
 fn choice_of(
     alloc: Global,
     flat: &FlatExpr<'_>,
@@ -111,43 +112,31 @@ fn choice_of(
         → IsFlatOfTree flat.now packages e (default_of groups.now.eval_context)
         → IsChoice packages e groups.now binary.now choice) }
 {
-    if may_be_skipped(alloc, flat, groups, binary)? {
+    laws::skipping_loses_no_test(groups);
+    let told = flat.matches_binary(alloc, &binary.query)?;
+    if told == Some(false) {
         return Ok(Choice::Skip);
     }
-    let picked = picked_of(alloc, flat, groups, binary)?;
+    let picked = picked_of(alloc, flat, groups, binary, told)?;
     Ok(Choice::Pick(picked))
 }
 
-/// Whether the filterset is false of the binary, and so of each of its tests.
-fn may_be_skipped(
-    alloc: Global,
-    flat: &FlatExpr<'_>,
-    groups: &Groups<'_>,
-    binary: &Binary<'_>,
-) -> Result<bool, AllocError>
-    ensures { IfOk result (λ skipped. (packages : List PackageMetadata) (e : Tree SourceSpan)
-        → IsFlatOfTree flat.now packages e (default_of groups.now.eval_context)
-        → IsTrue skipped → PicksNone packages e groups.now binary.now) }
-{
-    laws::skipping_loses_no_test(groups);
-    let answer = flat.matches_binary(alloc, &binary.query)?;
-    Ok(answer == Some(false))
-}
-
-/// For each test of a binary whether it is picked.
+/// For each test of a binary, of which this was told, whether it is picked.
 fn picked_of(
     alloc: Global,
     flat: &FlatExpr<'_>,
     groups: &Groups<'_>,
     binary: &Binary<'_>,
+    told: Option<bool>,
 ) -> Result<Vec<bool>, AllocError>
+    requires { IsTold flat.now binary.now.query told }
     ensures { IfOk result (λ picked. (packages : List PackageMetadata) (e : Tree SourceSpan)
         → IsFlatOfTree flat.now packages e (default_of groups.now.eval_context)
         → AllZip (Tells packages e groups.now binary.now) binary.now.tests.now picked.items) }
 {
     let mut picked = Vec::with_capacity(alloc, binary.tests.len())?;
     for name in binary.tests {
-        picked.push(is_picked(alloc, flat, groups, binary, name)?)?;
+        picked.push(is_picked(alloc, flat, groups, binary, told, name)?)?;
     }
     Ok(picked)
 }
@@ -162,18 +151,20 @@ fn test_of<'a>(binary: &Binary<'a>, name: &'a TestCaseName) -> TestQuery<'a>
     }
 }
 
-/// Whether the test of the binary that has this name is picked.
+/// Whether the test of the binary that has this name is picked, where this was told of the binary.
 fn is_picked(
     alloc: Global,
     flat: &FlatExpr<'_>,
     groups: &Groups<'_>,
     binary: &Binary<'_>,
+    told: Option<bool>,
     name: &TestCaseName,
 ) -> Result<bool, AllocError>
+    requires { IsTold flat.now binary.now.query told }
     ensures { IfOk result (λ answer. (packages : List PackageMetadata) (e : Tree SourceSpan)
         → IsFlatOfTree flat.now packages e (default_of groups.now.eval_context)
         → Tells packages e groups.now binary.now name.now answer) }
 {
     let test = test_of(binary, name);
-    flat.matches_test_with_groups(alloc, &test, groups)
+    flat.matches_test_of_told(alloc, told, &test, groups)
 }

@@ -17,8 +17,8 @@ ghost use Rattle.filterset_record.specs.Shape.{Text};
 
 use crate::lookup::RecordLookup;
 use crate::report::faults::push_faults;
-use crate::report::lines::{push_binary_line, push_test_line, told_of_binary};
-use crate::report::setting::Setting;
+use crate::report::lines::{push_binary_line, push_test_line};
+use crate::report::setting::{Setting, query_of};
 use filterset_record::{BinaryEntry, Command, FiltersetEntry};
 use nextest_filtering::{Filterset, FlatExpr, ParseRefusal, ParseSingleError, laws};
 use std::alloc::{AllocError, Global};
@@ -36,10 +36,11 @@ fn push_binary(
         × ForItsTree flat.now (λ background tree. IsLookupOf background.binaries lookup.now
         → BinaryLines background tree (binary_row binary.now) text)) }
 {
-    let told = told_of_binary(alloc, flat, binary)?;
+    let query = query_of(binary);
+    let told = flat.matches_binary(alloc, &query)?;
     push_binary_line(lines, binary, told)?;
     for test in &binary.tests {
-        push_test_line(lines, alloc, flat, lookup, binary, told, test)?;
+        push_test_line(lines, alloc, flat, lookup, &query, told, test)?;
     }
     Ok(())
 }

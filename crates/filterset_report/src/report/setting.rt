@@ -1,4 +1,6 @@
 //! What the filtersets of a record are read and asked with.
+ghost use Rattle.std.specs.Prelude.{◌≡◌};
+ghost use Rattle.filterset_record.specs.Record.{BinaryRow};
 ghost use Rattle.filterset_record.specs.Rows.{binary_row, test_row};
 ghost use Rattle.filterset_report.specs.Library.{IsAbout, IsAboutBinary};
 
@@ -17,7 +19,7 @@ pub struct Setting<'a, 'r> {
 }
 
 /// The question about a binary.
-pub fn binary_query_of(binary: &BinaryEntry) -> BinaryQuery<'_>
+pub fn query_of(binary: &BinaryEntry) -> BinaryQuery<'_>
     ensures { IsAboutBinary result (binary_row binary.now) }
 {
     BinaryQuery {
@@ -29,12 +31,13 @@ pub fn binary_query_of(binary: &BinaryEntry) -> BinaryQuery<'_>
     }
 }
 
-/// The question about a test of a binary.
-pub fn query_of<'a>(binary: &'a BinaryEntry, test: &'a TestEntry) -> TestQuery<'a>
-    ensures { IsAbout result (binary_row binary.now) (test_row test.now) }
+/// The question about a test of the binary that this is a question about.
+pub fn test_query_of<'a>(binary: &BinaryQuery<'a>, test: &'a TestEntry) -> TestQuery<'a>
+    ensures binary { result.binary_query ≡ binary.now }
+    ensures about { (row : BinaryRow) → IsAboutBinary binary.now row → IsAbout result row (test_row test.now) }
 {
     TestQuery {
-        binary_query: binary_query_of(binary),
+        binary_query: *binary,
         test_name: &test.name,
     }
 }

@@ -5,7 +5,7 @@ use Rattle.filterset_graph.specs.declared.package.PackageMetadata.{PackageMetada
 use Rattle.filterset_grammar.specs.Tree.{Tree}
 use Rattle.filterset_expression.specs.BinaryMeaning.{IsDefiniteTree, IsUndecidedTree}
 use Rattle.filterset_expression.specs.Expression.{CompiledLeaf, compiled_leaf, is_of_test, with_default, HoldsOfBinary, IsDefinite, IsUndecided}
-use Rattle.filterset_expression.specs.FlatExpressions.{IsFlat, IsFlatOfTree}
+use Rattle.filterset_expression.specs.FlatExpressions.{IsFlat, IsFlatOfTree, IsTold}
 use Rattle.filterset_expression.specs.Folds.{Folds, Settles}
 use Rattle.filterset_expression.specs.Formula.{Formula}
 use Rattle.filterset_expression.specs.Connectives.{Decides, kleene_not, kleene}
@@ -23,13 +23,17 @@ folded binary of_leaf settles f value run =
     let gives = Settles is_of_test (HoldsOfBinary binary) in
     folds_more kleene_not kleene (Decides (Some true) (Some false)) _ gives (λ leaf x p. subst (λ l. gives l x) p.1 (settles p.0 x p.2)) f value run
 
+pub returns-clause-told : goal.returns-clause-told
+returns-clause-told c =
+    IfOk-weaker c.run.result _ (λ answer. IsTold c.args.self.now c.args.query.now answer) (λ answer run expr default flat. folded c.args.query.now _ (λ asked x p. search (rules, p)) (with_default default expr) answer (run (with_default default expr) flat)) c.run.ensures
+
 pub returns-clause-definite : goal.returns-clause-definite
 returns-clause-definite c =
-    IfOk-weaker c.run.result _ (λ answer. (expr default : CompiledExpr) → IsFlat c.args.self.now expr default → (b : Bool) → (answer ≡ Some b) ↔ IsDefinite expr c.args.query.now default b) (λ answer run expr default flat. fold_definite is_of_test (HoldsOfBinary c.args.query.now) (with_default default expr) answer (folded c.args.query.now _ (λ asked x p. search (rules, p)) (with_default default expr) answer (run (with_default default expr) flat))) c.run.ensures
+    IfOk-weaker c.run.result _ (λ answer. (expr default : CompiledExpr) → IsFlat c.args.self.now expr default → (b : Bool) → (answer ≡ Some b) ↔ IsDefinite expr c.args.query.now default b) (λ answer told expr default flat. fold_definite is_of_test (HoldsOfBinary c.args.query.now) (with_default default expr) answer (told expr default flat)) (returns-clause-told c)
 
 pub returns-clause-undecided : goal.returns-clause-undecided
 returns-clause-undecided c =
-    IfOk-weaker c.run.result _ (λ answer. (expr default : CompiledExpr) → IsFlat c.args.self.now expr default → (answer ≡ None) ↔ IsUndecided expr c.args.query.now default) (λ answer run expr default flat. fold_open is_of_test (HoldsOfBinary c.args.query.now) (with_default default expr) answer (folded c.args.query.now _ (λ asked x p. search (rules, p)) (with_default default expr) answer (run (with_default default expr) flat))) c.run.ensures
+    IfOk-weaker c.run.result _ (λ answer. (expr default : CompiledExpr) → IsFlat c.args.self.now expr default → (answer ≡ None) ↔ IsUndecided expr c.args.query.now default) (λ answer told expr default flat. fold_open is_of_test (HoldsOfBinary c.args.query.now) (with_default default expr) answer (told expr default flat)) (returns-clause-told c)
 
 pub returns-clause-meaning : goal.returns-clause-meaning
 returns-clause-meaning c =

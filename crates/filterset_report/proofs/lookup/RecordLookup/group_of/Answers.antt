@@ -16,18 +16,18 @@ pub returns-in_err-entry : goal.returns-in_err-entry
 returns-in_err-entry c =
     let query = c.args.test.now in
     let binaries = c.args.self.now.binaries.now in
-    let binary = c.in_ok-binary.binary.now in
+    let binary = c.in_ok-binary.binary.now.binary.now in
     let found = first_binary query.binary_query.binary_id.now binaries binary (sym c.in_ok-binary.ensures) in
-    let nothing : find (λ (t : TestEntry). bytes_eq t.name query.test_name.now) binary.tests.items ≡ None = rw c.deref.ensures.value at (sym c.in_err-entry.ensures) in
+    let nothing : find (λ (t : TestEntry). bytes_eq t.name query.test_name.now) binary.tests.items ≡ None = sym c.in_err-entry.ensures in
     rw c.from_residual-in_err-entry.ensures (λ group. no_test (map binary_row binaries) query (binary_row binary) group found (none_of_name query.test_name.now binary.tests.items nothing))
 
 pub returns : goal.returns
 returns c =
     let query = c.args.test.now in
     let binaries = c.args.self.now.binaries.now in
-    let binary = c.in_ok-binary.binary.now in
+    let binary = c.in_ok-binary.binary.now.binary.now in
     let test = c.in_ok-entry.entry.now in
-    let something : find (λ (t : TestEntry). bytes_eq t.name query.test_name.now) binary.tests.items ≡ Some test = rw c.deref.ensures.value at (sym c.in_ok-entry.ensures) in record {
+    let something : find (λ (t : TestEntry). bytes_eq t.name query.test_name.now) binary.tests.items ≡ Some test = sym c.in_ok-entry.ensures in record {
       binary = binary_row binary;
       test = test_row test;
       first_binary = first_binary query.binary_query.binary_id.now binaries binary (sym c.in_ok-binary.ensures);

@@ -5,7 +5,7 @@ use filterset_graph::{
 };
 use std::alloc::{AllocError, Global};
 use std::process::Abort;
-use test_parts::{FOUR, Failure, graph, id};
+use test_workspaces::{FOUR, Failure, graph, id};
 
 #[test]
 fn keeps_the_list_of_packages(rt: HostRuntime) -> Result<(), Failure> {
