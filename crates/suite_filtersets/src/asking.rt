@@ -83,7 +83,8 @@ impl<'a> Asked<'a> {
         let query = test_query(test);
         let own = self.own_calls_give(alloc, &query, test, wanted)?;
         let kept = self.kept_calls_give(alloc, &query, test, wanted)?;
-        Ok(own && kept)
+        let told = self.told_call_gives(alloc, &query, test, wanted)?;
+        Ok(own && kept && told)
     }
 
     /// The same of the filterset's own calls: the one that takes no lookup is asked where it may be.
@@ -126,6 +127,24 @@ impl<'a> Asked<'a> {
         }
         let ungrouped = self.flat.matches_test(alloc, query)?;
         Ok(answer == wanted && ungrouped == wanted)
+    }
+
+    /// The same of the call that is handed what its steps tell of the test's binary.
+    fn told_call_gives(
+        &self,
+        alloc: Global,
+        query: &TestQuery<'_>,
+        test: &TestRow,
+        wanted: bool,
+    ) -> Result<bool, AllocError>
+        requires { HasItsSteps self.now }
+        ensures { IfOk result (λ yes. IsTrue yes ↔ (IsTrue wanted
+            ↔ Holds self.now.filterset.now.compiled query.now (default_of self.now.cx) (group_of test.now))) }
+    {
+        let known = KnownTest::new(test);
+        let told = self.flat.matches_binary(alloc, &query.binary_query)?;
+        let answer = self.flat.matches_test_of_told(alloc, told, query, &known)?;
+        Ok(answer == wanted)
     }
 }
 

@@ -1,4 +1,6 @@
 //! Rows of graphs of packages: which depend on which, or why a list of packages is no graph.
+ghost use Rattle.std.specs.Prelude.{◌≡◌, IfOk, string_bytes};
+
 use crate::entry::{
     Entry, RowRefusal, object_with, optional, optional_list, part, parts_of, required,
     required_list,
@@ -147,7 +149,9 @@ impl Entry for GraphRow {
 }
 
 /// The id with this text.
-pub fn package_id(alloc: Global, text: &str) -> Result<PackageId, AllocError> {
+pub fn package_id(alloc: Global, text: &str) -> Result<PackageId, AllocError>
+    ensures { IfOk result (λ id. id ≡ text.now) }
+{
     Ok(PackageId::new(String::from_str(alloc, text)?))
 }
 
@@ -161,7 +165,11 @@ pub fn packages(alloc: Global, rows: &[PackageRow]) -> Result<Vec<PackageMetadat
 }
 
 /// The package of the row.
-fn package(alloc: Global, row: &PackageRow) -> Result<PackageMetadata, AllocError> {
+fn package(alloc: Global, row: &PackageRow) -> Result<PackageMetadata, AllocError>
+    ensures id { IfOk result (λ made. made.id ≡ string_bytes row.now.name) }
+    ensures name { IfOk result (λ made. string_bytes made.name ≡ string_bytes row.now.name) }
+    ensures member { IfOk result (λ made. made.in_workspace ≡ row.now.in_workspace) }
+{
     Ok(PackageMetadata {
         id: package_id(alloc, row.name.as_str())?,
         name: String::from_str(alloc, row.name.as_str())?,

@@ -1,4 +1,6 @@
 //! Packages and graphs written out, and why a test ends early.
+ghost use Rattle.std.specs.Prelude.{◌≡◌, IfOk, string_bytes};
+
 use filterset_graph::{DependsRefusal, GraphRefusal, PackageGraph, PackageId, PackageMetadata};
 use std::alloc::{AllocError, AllocFailed, Global};
 
@@ -35,7 +37,9 @@ impl From<DependsRefusal> for Failure {
 }
 
 /// The id with this text.
-pub fn id(alloc: Global, text: &str) -> Result<PackageId, AllocError> {
+pub fn id(alloc: Global, text: &str) -> Result<PackageId, AllocError>
+    ensures { IfOk result (λ id. id ≡ text.now) }
+{
     Ok(PackageId::new(String::from_str(alloc, text)?))
 }
 
@@ -45,7 +49,11 @@ pub fn package(
     name: &str,
     in_workspace: bool,
     links: &[&str],
-) -> Result<PackageMetadata, AllocError> {
+) -> Result<PackageMetadata, AllocError>
+    ensures id { IfOk result (λ made. made.id ≡ name.now) }
+    ensures name { IfOk result (λ made. string_bytes made.name ≡ name.now) }
+    ensures member { IfOk result (λ made. made.in_workspace ≡ in_workspace) }
+{
     let mut ids = Vec::new(alloc);
     for link in links {
         ids.push(id(alloc, link)?)?;
