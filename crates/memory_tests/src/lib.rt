@@ -4,5 +4,6 @@
 //! `_or_wants_memory` passes where a call is out of memory too, since a script refuses each request in turn.
 #![tactic(auto)]
 
+mod judging;
 #[cfg(test)]
 mod memory;

@@ -2,6 +2,7 @@
 //! form that it is out of memory, and what it was lent is what it was.
 //!
 //! Calls stand in two tests: one passes where a call wants memory, and one does not.
+use crate::judging::hands_back;
 use nextest_filtering::{
     BuildPlatform, BuildTarget, BuildTargetId, CompiledExpr, DependsRefusal, EvalContext,
     Filterset, FiltersetKind, FiltersetLeaf, FiltersetParseErrors, FlatExpr, FlatStep,
@@ -85,6 +86,25 @@ fn graph_of(rt: &(impl AllocGlobal + Abort), rows: &[Row<'_>]) -> Option<Package
     }
 }
 
+/// A refusal of a text that has these faults, or none if it is out of memory.
+fn refused_with(
+    rt: &impl Abort,
+    refusal: ParseRefusal,
+    text: &str,
+    faults: &[ParseSingleError],
+) -> Option<FiltersetParseErrors> {
+    match refusal {
+        ParseRefusal::Faults(found) => {
+            assert!(rt;
+                !faults.is_empty() && found.errors.as_slice() == faults,
+                "{text}"
+            );
+            Some(found)
+        }
+        ParseRefusal::OutOfMemory { .. } => None,
+    }
+}
+
 /// What is read of a text: a filterset where no fault is wanted, and else a refusal for these. None where memory is
 /// wanting. The text comes back in each case.
 fn read(
@@ -108,17 +128,9 @@ fn read(
             );
             Some(Ok(filterset))
         }
-        Err(ParseRefusal::Faults(found)) => {
-            assert!(rt;
-                !faults.is_empty() && found.errors.as_slice() == faults,
-                "{text}"
-            );
-            assert!(rt; found.input.as_str() == text, "{text}");
-            Some(Err(found))
-        }
-        Err(ParseRefusal::OutOfMemory { input }) => {
-            assert!(rt; input.as_str() == text, "{text}");
-            None
+        Err(refusal) => {
+            assert!(rt; hands_back(&refusal, text), "{text}");
+            refused_with(rt, refusal, text, faults).map(Err)
         }
     }
 }
