@@ -1,5 +1,6 @@
 //! Deep trees are read, copied, compared, printed, listed and dropped on the stack that a program is given.
-use crate::support::{becomes, is_copied, prints, tree_of};
+use crate::judging::prints;
+use crate::support::{becomes, is_copied, tree_of};
 use nextest_filtering::ParsedExpr;
 use std::alloc::{AllocError, Global};
 use std::process::Abort;

@@ -7,6 +7,7 @@
 
 #[cfg(test)]
 mod depth;
+mod judging;
 #[cfg(test)]
 mod language;
 #[cfg(test)]

@@ -1,5 +1,6 @@
 //! Parentheses that are added to trees: where operands ask for them, and nowhere else.
-use crate::support::{becomes, is_tree_of, prints, tree_of};
+use crate::judging::prints;
+use crate::support::{becomes, is_tree_of, tree_of};
 use nextest_filtering::ParsedExpr;
 use std::alloc::{AllocError, Global};
 use std::process::Abort;

@@ -25,12 +25,6 @@ pub fn is_tree_of(rt: &(impl AllocGlobal + Abort), tree: &ParsedExpr, text: &str
     }
 }
 
-/// Whether the tree prints so.
-pub fn prints(alloc: Global, tree: &ParsedExpr, wanted: &str) -> Result<bool, AllocError> {
-    let print = format!(in alloc; "{tree}")?;
-    Ok(print.as_str() == wanted)
-}
-
 /// Whether a copy of the tree is equal to it.
 pub fn is_copied(alloc: Global, tree: &ParsedExpr) -> Result<bool, AllocError> {
     Ok(tree.try_clone(alloc)? == *tree)
