@@ -20,6 +20,7 @@ pub struct AskedLeaf<'s, 'a> {
 
 impl<'s, 'a> AskedLeaf<'s, 'a> {
     /// Whether the leaf's matcher hits the name.
+    #[inline(always)]
     fn hits(&self, alloc: Global, matcher: &'a NameMatcher, name: &str) -> Result<bool, AllocError>
         ensures { IfOk result (λ hit. IsTrue hit ↔ Hits (matcher_of matcher.now) name.now) }
     {
@@ -70,8 +71,28 @@ impl<'s, 'a> AskedLeaf<'s, 'a> {
         }
     }
 
-    /// Whether the leaf holds of a test, whose group the lookup tells.
+    /// Whether the leaf holds of a test, whose group the lookup tells. A whole name is compared here without a further
+    /// call: unions may be of a thousand names.
     pub fn matches_test_with_groups(
+        &self,
+        alloc: Global,
+        query: &TestQuery<'_>,
+        groups: &dyn GroupLookup,
+    ) -> Result<bool, AllocError>
+        ensures { IfOk result (λ answer.
+            IsTrue answer ↔ HoldsOfTest query.now (hits_group groups.now) (compiled_leaf self.now.leaf.now)) }
+    {
+        match self.leaf {
+            FiltersetLeaf::Test(NameMatcher::Equal { value, .. }, _) => {
+                Ok(query.test_name.as_str() == value.as_str())
+            }
+            _ => self.matches_otherwise(alloc, query, groups),
+        }
+    }
+
+    /// The same, of any leaf.
+    #[inline(never)]
+    fn matches_otherwise(
         &self,
         alloc: Global,
         query: &TestQuery<'_>,

@@ -6,7 +6,7 @@ ghost use Rattle.filterset_record.specs.Rows.{test_row};
 ghost use Rattle.filterset_record.specs.Shape.{Text};
 ghost use Rattle.filterset_report.specs.Asking.{ForItsTree, IsLookupOf};
 ghost use Rattle.filterset_report.specs.Library.{IsAboutBinary, Tells};
-ghost use Rattle.filterset_report.specs.Report.{TestLine, binary_answer_text};
+ghost use Rattle.filterset_report.specs.Report.{TestLine, answer_text, binary_answer_text};
 
 use crate::lookup::RecordLookup;
 use crate::report::setting::test_query_of;
@@ -51,6 +51,13 @@ fn holds_of_test(
     flat.matches_test_of_told(alloc, told, &query, lookup)
 }
 
+/// How the line of a test ends, by whether the expression holds of the test.
+fn line_end(holds: bool) -> &'static str
+    ensures { result.now ≡ codes ": " ++ (answer_text holds ++ codes "\n") }
+{
+    if holds { ": yes\n" } else { ": no\n" }
+}
+
 /// Adds the line of a test of the binary that the question is about, of which this is told: whether the expression holds
 /// of the test.
 pub fn push_test_line(
@@ -68,8 +75,9 @@ pub fn push_test_line(
         → (row : BinaryRow) → IsAboutBinary binary.now row → TestLine background tree row (test_row test.now) line)) }
 {
     let holds = holds_of_test(alloc, flat, lookup, binary, told, test)?;
-    let id = binary.binary_id.as_str();
-    let name = test.name.as_str();
-    let answer = if holds { "yes" } else { "no" };
-    writeln!(lines, "  test {id} {name}: {answer}")
+    lines.push_str("  test ")?;
+    lines.push_str(binary.binary_id.as_str())?;
+    lines.push_str(" ")?;
+    lines.push_str(test.name.as_str())?;
+    lines.push_str(line_end(holds))
 }

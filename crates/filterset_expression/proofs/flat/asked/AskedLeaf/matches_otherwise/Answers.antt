@@ -3,7 +3,7 @@ use Rattle.std.specs.Bool.{IsTrue}
 use Rattle.std.proofs.lemmas.Result.{IfOk-weaker}
 use Rattle.filterset_expression.specs.Expression.{compiled_leaf, HoldsOfTest}
 use Rattle.filterset_expression.proofs.LeafAnswers.{no_group, decides_with_groups}
-use Rattle.filterset_expression.proofs.flat.asked.AskedLeaf.matches_test_with_groups.Goals as goal
+use Rattle.filterset_expression.proofs.flat.asked.AskedLeaf.matches_otherwise.Goals as goal
 
 pub returns-in_default : goal.returns-in_default
 returns-in_default g c =
