@@ -6,8 +6,8 @@ use crate::judging::hands_back;
 use nextest_filtering::{
     BuildPlatform, BuildTarget, BuildTargetId, CompiledExpr, DependsRefusal, EvalContext,
     Filterset, FiltersetKind, FiltersetLeaf, FiltersetParseErrors, FlatExpr, FlatStep,
-    GraphRefusal, KnownGroups, NameMatcher, PackageGraph, PackageMetadata, ParseContext,
-    ParseRefusal, ParseSingleError, ParsedLeaf, SourceSpan,
+    GraphRefusal, KnownGroups, NameMatcher, PackageGraph, PackageId, PackageMetadata, ParseContext,
+    ParseRefusal, ParseSingleError, ParsedLeaf, SourceSpan, TestQuery,
 };
 use std::alloc::{AllocError, Global};
 use std::collections::HashSet;
@@ -43,15 +43,21 @@ const CRATES: [Row<'static>; 7] = [
     ("crate_g", true, &["crate_e"]),
 ];
 
+/// Adds a library of its name to the package.
+fn add_library(alloc: Global, package: &mut PackageMetadata) -> Result<(), AllocError> {
+    let name = String::from_str(alloc, package.name())?;
+    package.build_targets.push(BuildTarget {
+        id: BuildTargetId::Library,
+        name,
+    })?;
+    Ok(())
+}
+
 /// The graph of these packages, with a library of its name in each.
 fn with_libraries(alloc: Global, rows: &[Row<'_>]) -> Result<PackageGraph, Failure> {
     let mut all = packages(alloc, rows)?;
     for package in &mut all {
-        let name = String::from_str(alloc, package.name.as_str())?;
-        package.build_targets.push(BuildTarget {
-            id: BuildTargetId::Library,
-            name,
-        })?;
+        add_library(alloc, package)?;
     }
     Ok(PackageGraph::new(alloc, all)?)
 }
@@ -135,7 +141,24 @@ fn read(
     }
 }
 
-/// Whether the graph told from one package whether it depends on another.
+/// Whether the graph told whether one package depends on the other.
+fn tells(
+    rt: &(impl AllocGlobal + Abort),
+    graph: &PackageGraph,
+    one: &PackageId,
+    other: &PackageId,
+    wanted: Option<bool>,
+) -> bool {
+    let said = match graph.depends_on(rt.alloc(), one, other) {
+        Ok(said) => Some(said),
+        Err(DependsRefusal::UnknownPackage) => None,
+        Err(DependsRefusal::OutOfMemory(AllocError)) => return false,
+    };
+    assert!(rt; said == wanted, "{one:?} and {other:?}");
+    true
+}
+
+/// The same of the packages with these ids, where there is memory for them.
 fn depends(
     rt: &(impl AllocGlobal + Abort),
     graph: &PackageGraph,
@@ -143,17 +166,14 @@ fn depends(
     to: &str,
     wanted: Option<bool>,
 ) -> bool {
-    let alloc = rt.alloc();
-    let (Ok(one), Ok(other)) = (id(alloc, from), id(alloc, to)) else {
-        return false;
-    };
-    match graph.depends_on(alloc, &one, &other) {
-        Ok(said) => assert!(rt; wanted == Some(said), "{from} and {to}"),
-        Err(DependsRefusal::UnknownPackage) => assert!(rt; wanted.is_none(), "{from} and {to}"),
-        Err(DependsRefusal::OutOfMemory(AllocError)) => return false,
+    match (id(rt.alloc(), from), id(rt.alloc(), to)) {
+        (Ok(one), Ok(other)) => {
+            let told = tells(rt, graph, &one, &other, wanted);
+            assert!(rt; one.repr() == from && other.repr() == to);
+            told
+        }
+        _ => false,
     }
-    assert!(rt; one.repr() == from && other.repr() == to);
-    true
 }
 
 /// Whether each call over the graph of four packages answered.
@@ -187,8 +207,56 @@ fn four_packages_are_told(rt: HostRuntime) {
     assert!(rt; asks_four_packages(&rt));
 }
 
-/// Whether each call that matches answered of this test: those of the filterset, of its expression, and of its
-/// steps.
+/// The test `x` is in the group `@global`, and no other test is in a group.
+const GROUPS: OneMember = OneMember {
+    test: "x",
+    group: "@global",
+};
+
+/// Whether the calls of the filterset and of its expression answered of this test.
+fn own_calls_answer(
+    rt: &(impl AllocGlobal + Abort),
+    filterset: &Filterset,
+    query: &TestQuery<'_>,
+    of_binary: Option<bool>,
+    of_test: bool,
+) -> bool {
+    let (alloc, all, compiled) = (rt.alloc(), CompiledExpr::ALL, &filterset.compiled);
+    let cx = EvalContext::new(&all);
+    let said = filterset.matches_binary(alloc, &query.binary_query, &cx);
+    let mut whole = answers(rt, said, &of_binary);
+    let said = filterset.matches_test_with_groups(alloc, query, &cx, &GROUPS);
+    whole &= answers(rt, said, &of_test);
+    if !compiled.has_group_matchers() {
+        whole &= answers(rt, compiled.matches_test(alloc, query, &cx), &of_test);
+    }
+    whole
+}
+
+/// The same of the calls of its steps, of which one is handed what the steps tell of the binary.
+fn kept_calls_answer(
+    rt: &impl Abort,
+    alloc: Global,
+    flat: &FlatExpr<'_>,
+    query: &TestQuery<'_>,
+    of_binary: Option<bool>,
+    of_test: bool,
+) -> bool {
+    let Ok(told) = flat.matches_binary(alloc, &query.binary_query) else {
+        return false;
+    };
+    assert!(rt; told == of_binary);
+    let said = flat.matches_test_of_told(alloc, told, query, &GROUPS);
+    let mut whole = answers(rt, said, &of_test);
+    let said = flat.matches_test_with_groups(alloc, query, &GROUPS);
+    whole &= answers(rt, said, &of_test);
+    if !flat.has_group_matchers() {
+        whole &= answers(rt, flat.matches_test(alloc, query), &of_test);
+    }
+    whole
+}
+
+/// Whether each call that matches answered of this test: those of the filterset, of its expression, and of its steps.
 fn matches(
     rt: &(impl AllocGlobal + Abort),
     filterset: &Filterset,
@@ -196,31 +264,12 @@ fn matches(
     of_binary: Option<bool>,
     of_test: bool,
 ) -> bool {
-    let (alloc, all) = (rt.alloc(), CompiledExpr::ALL);
-    let (cx, query) = (EvalContext::new(&all), asked.query());
-    let groups = OneMember {
-        test: "x",
-        group: "@global",
-    };
-    let compiled = &filterset.compiled;
-    let said = filterset.matches_binary(alloc, &query.binary_query, &cx);
-    let mut whole = answers(rt, said, &of_binary);
-    let said = filterset.matches_test_with_groups(alloc, &query, &cx, &groups);
-    whole &= answers(rt, said, &of_test);
-    if !compiled.has_group_matchers() {
-        whole &= answers(rt, compiled.matches_test(alloc, &query, &cx), &of_test);
+    let (alloc, all, query) = (rt.alloc(), CompiledExpr::ALL, asked.query());
+    let whole = own_calls_answer(rt, filterset, &query, of_binary, of_test);
+    match FlatExpr::new(alloc, &filterset.compiled, &EvalContext::new(&all)) {
+        Ok(flat) => kept_calls_answer(rt, alloc, &flat, &query, of_binary, of_test) && whole,
+        Err(AllocError) => false,
     }
-    let Ok(flat) = FlatExpr::new(alloc, compiled, &cx) else {
-        return false;
-    };
-    let said = flat.matches_binary(alloc, &query.binary_query);
-    whole &= answers(rt, said, &of_binary);
-    let said = flat.matches_test_with_groups(alloc, &query, &groups);
-    whole &= answers(rt, said, &of_test);
-    if !flat.has_group_matchers() {
-        whole &= answers(rt, flat.matches_test(alloc, &query), &of_test);
-    }
-    whole
 }
 
 /// Filtersets over the workspace, and of some tests what is known of the binary that holds the test, and whether the
@@ -353,18 +402,24 @@ fn copies_leaf(rt: &(impl AllocGlobal + Abort), leaf: &ParsedLeaf) -> bool {
     }
 }
 
+/// Whether each copy of the ids that a leaf holds was made.
+fn copies_ids(rt: &(impl AllocGlobal + Abort), leaf: &FiltersetLeaf) -> bool {
+    match leaf {
+        FiltersetLeaf::Packages(ids) => {
+            (ids.iter()).all(|id| answers(rt, id.try_clone(rt.alloc()), id))
+        }
+        _ => true,
+    }
+}
+
 /// Whether each copy of a step's leaf, and of the ids that it holds, was made.
 fn copies_step(rt: &(impl AllocGlobal + Abort), step: &FlatStep<'_>) -> bool {
-    let FlatStep::Leaf(leaf) = step else {
-        return true;
-    };
-    let mut whole = answers(rt, leaf.try_clone(rt.alloc()), leaf);
-    if let FiltersetLeaf::Packages(ids) = leaf {
-        for id in ids {
-            whole &= answers(rt, id.try_clone(rt.alloc()), id);
+    match step {
+        FlatStep::Leaf(leaf) => {
+            answers(rt, leaf.try_clone(rt.alloc()), leaf) && copies_ids(rt, leaf)
         }
+        _ => true,
     }
-    whole
 }
 
 /// Whether each copy of what a filterset holds was made.
