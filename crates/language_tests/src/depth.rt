@@ -1,24 +1,38 @@
 //! Deep trees are read, copied, compared, printed, listed and dropped on the stack that a program is given.
 use crate::judging::prints;
 use crate::support::{becomes, is_copied, tree_of};
-use nextest_filtering::ParsedExpr;
+use nextest_filtering::{ParsedExpr, ParsedLeaf};
 use std::alloc::{AllocError, Global};
 use std::process::Abort;
 use std::test::Fail;
 
+/// Any predicate is one.
+fn is_leaf(_leaf: &ParsedLeaf) -> bool {
+    true
+}
+
 /// Whether a tree has so many predicates, and none that only a test decides.
 fn lists(alloc: Global, tree: &ParsedExpr, leaves: usize) -> Result<bool, AllocError> {
-    let every = tree.leaves_where(alloc, |_| true)?.len();
+    let every = tree.leaves_where(alloc, is_leaf)?.len();
     Ok(every == leaves && tree.runtime_only_leaves(alloc)?.is_empty())
 }
 
-/// The tree of a text is copied, compared, printed as the text, given the parentheses that it has, and listed.
-fn stands(rt: &(impl AllocGlobal + Abort), text: &str, leaves: usize) -> Result<(), Fail> {
-    let alloc = rt.alloc();
-    let tree = tree_of(rt, text).ok_or("out of memory")?;
-    assert!(rt; is_copied(alloc, &tree)? && becomes(alloc, &tree, &tree)?);
-    assert!(rt; prints(alloc, &tree, text)? && lists(alloc, &tree, leaves)?);
-    Ok(())
+/// Whether the tree of a text is copied, compared, printed as the text, given the parentheses that it has, and listed.
+fn stands(alloc: Global, tree: &ParsedExpr, text: &str, leaves: usize) -> Result<bool, AllocError> {
+    Ok(
+        is_copied(alloc, tree)?
+            && becomes(alloc, tree, tree)?
+            && prints(alloc, tree, text)?
+            && lists(alloc, tree, leaves)?,
+    )
+}
+
+/// The same of a text that has a tree.
+fn is_read(rt: &(impl AllocGlobal + Abort), text: &str, leaves: usize) -> Result<bool, Fail> {
+    match tree_of(rt, text) {
+        Some(tree) => Ok(stands(rt.alloc(), &tree, text, leaves)?),
+        None => Err(Fail::from("out of memory")),
+    }
 }
 
 /// What stands so often before `all()` and behind it, and how many predicates that makes.
@@ -38,7 +52,10 @@ fn deep_trees(rt: HostRuntime) -> Result<(), Fail> {
         let openings = opening.repeat(alloc, depth)?;
         let closings = closing.repeat(alloc, depth)?;
         let text = format!(in alloc; "{openings}all(){closings}")?;
-        stands(&rt, text.as_str(), leaves)?;
+        assert!(rt;
+            is_read(&rt, text.as_str(), leaves)?,
+            "{depth} of {opening}{closing}"
+        );
     }
     Ok(())
 }

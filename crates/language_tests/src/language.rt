@@ -21,21 +21,37 @@ fn writes_texts_anew(rt: HostRuntime) -> Result<(), Fail> {
     Ok(())
 }
 
+/// Whether both trees print one text, which has no faults.
+fn are_read_alike(
+    alloc: Global,
+    bare: &ParsedExpr<()>,
+    placed: &ParsedExpr,
+) -> Result<bool, AllocError> {
+    Ok(print_alike(alloc, bare, placed)? && read_back(alloc, bare)?.faults.is_empty())
+}
+
 #[test]
 fn spans_of_any_type_print_alike(rt: HostRuntime) -> Result<(), Fail> {
-    let alloc = rt.alloc();
     let bare = ParsedExpr::Set(ParsedLeaf::Default(()));
     let placed = ParsedExpr::Set(ParsedLeaf::Default(SourceSpan::new(3, 9)));
-    assert!(rt; print_alike(alloc, &bare, &placed)?);
-    assert!(rt; read_back(alloc, &bare)?.faults.is_empty());
+    assert!(rt; are_read_alike(rt.alloc(), &bare, &placed)?);
     Ok(())
+}
+
+/// Whether the tree is equal to that of the text.
+fn equals(rt: &(impl AllocGlobal + Abort), tree: &ParsedExpr, text: &str) -> Result<bool, Fail> {
+    match tree_of(rt, text) {
+        Some(other) => Ok(*tree == other),
+        None => Err(Fail::from("out of memory")),
+    }
 }
 
 /// Whether the trees of two texts are equal.
 fn are_equal(rt: &(impl AllocGlobal + Abort), one: &str, other: &str) -> Result<bool, Fail> {
-    let left = tree_of(rt, one).ok_or("out of memory")?;
-    let right = tree_of(rt, other).ok_or("out of memory")?;
-    Ok(left == right)
+    match tree_of(rt, one) {
+        Some(tree) => equals(rt, &tree, other),
+        None => Err(Fail::from("out of memory")),
+    }
 }
 
 /// Pairs of texts, and whether their trees are equal.
@@ -69,15 +85,18 @@ fn contains(alloc: Global, value: &str, implicit: bool) -> Result<NameMatcher, A
     Ok(NameMatcher::Contains { value, implicit })
 }
 
+/// Whether the predicate prints so.
+fn leaf_prints(alloc: Global, leaf: ParsedLeaf, wanted: &str) -> Result<bool, AllocError> {
+    let print = format!(in alloc; "{leaf}")?;
+    Ok(print.as_str() == wanted)
+}
+
 #[test]
 fn predicates_print_that_no_text_is_read_as(rt: HostRuntime) -> Result<(), Fail> {
-    let alloc = rt.alloc();
-    let span = SourceSpan::new(0, 0);
+    let (alloc, span) = (rt.alloc(), SourceSpan::new(0, 0));
     let package = ParsedLeaf::Package(contains(alloc, "a", true)?, span);
-    let print = format!(in alloc; "{package}")?;
-    assert!(rt; print.as_str() == "package(a)", "{print}");
+    assert!(rt; leaf_prints(alloc, package, "package(a)")?);
     let test = ParsedLeaf::Test(contains(alloc, "", false)?, span);
-    let print = format!(in alloc; "{test}")?;
-    assert!(rt; print.as_str() == "test(~)", "{print}");
+    assert!(rt; leaf_prints(alloc, test, "test(~)")?);
     Ok(())
 }

@@ -26,15 +26,19 @@ fn is_of_packages(leaf: &ParsedLeaf) -> bool {
     )
 }
 
+/// What the predicates of a tree print that are of packages.
+fn of_packages(alloc: Global, tree: &ParsedExpr) -> Result<String, AllocError> {
+    written(alloc, &tree.leaves_where(alloc, is_of_packages)?)
+}
+
 #[test]
 fn lists_what_a_test_of_leaves_keeps(rt: HostRuntime) -> Result<(), Fail> {
-    let alloc = rt.alloc();
     let text = "rdeps(a) - (test(b) or !package(c)) & deps(d) | package(c) + all()";
     let tree = tree_of(&rt, text).ok_or("out of memory")?;
-    let of_packages = written(alloc, &tree.leaves_where(alloc, is_of_packages)?)?;
+    let found = of_packages(rt.alloc(), &tree)?;
     assert!(rt;
-        of_packages.as_str() == "rdeps(a) package(c) deps(d) package(c)",
-        "{of_packages}"
+        found.as_str() == "rdeps(a) package(c) deps(d) package(c)",
+        "{found}"
     );
     Ok(())
 }
