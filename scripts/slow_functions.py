@@ -6,8 +6,9 @@
 checks the crate with one job, its tests too where that is asked for, and prints the ten slowest functions, how long each
 took, and how long all took. `rt check` tells of each function when it has been checked: what was used between two such
 lines is put down to the second one. So the first function has the lemmas of the crate too, and what is read of the
-libraries below. It sets aside what earlier checks of the crate kept; those of another checkout on the machine have to be
-set aside by hand, since a check begins with them.
+libraries below, and a later one may have what else was checked meanwhile: check a function that seems slow by itself
+(`rt check --only FUNCTION`) before its form is changed. It sets aside what earlier checks of the crate kept; those of
+another checkout on the machine have to be set aside by hand, since a check begins with them.
 """
 
 import os
