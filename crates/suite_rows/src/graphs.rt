@@ -1,5 +1,5 @@
 //! Rows of graphs of packages: which depend on which, or why a list of packages is no graph.
-ghost use Rattle.std.specs.Prelude.{◌≡◌, IfOk, string_bytes};
+ghost use Rattle.std.specs.Prelude.{◌≡◌, IfOk, map, string_bytes};
 
 use crate::entry::{
     Entry, RowRefusal, object_with, optional, optional_list, part, parts_of, required,
@@ -156,7 +156,13 @@ pub fn package_id(alloc: Global, text: &str) -> Result<PackageId, AllocError>
 }
 
 /// The packages of the rows, each with its name for its id.
-pub fn packages(alloc: Global, rows: &[PackageRow]) -> Result<Vec<PackageMetadata>, AllocError> {
+pub fn packages(alloc: Global, rows: &[PackageRow]) -> Result<Vec<PackageMetadata>, AllocError>
+    ensures ids { IfOk result (λ made. map (λ p. p.id) made.items ≡ map (λ r. string_bytes r.name) rows.now) }
+    ensures members { IfOk result (λ made. map (λ p. p.in_workspace) made.items
+        ≡ map (λ r. r.in_workspace) rows.now) }
+    ensures links { IfOk result (λ made. map (λ p. p.links.items) made.items
+        ≡ map (λ r. map (λ link. string_bytes link) r.links.items) rows.now) }
+{
     let mut all = Vec::new(alloc);
     for row in rows {
         all.push(package(alloc, row)?)?;
@@ -169,6 +175,11 @@ fn package(alloc: Global, row: &PackageRow) -> Result<PackageMetadata, AllocErro
     ensures id { IfOk result (λ made. made.id ≡ string_bytes row.now.name) }
     ensures name { IfOk result (λ made. string_bytes made.name ≡ string_bytes row.now.name) }
     ensures member { IfOk result (λ made. made.in_workspace ≡ row.now.in_workspace) }
+    ensures kinds { IfOk result (λ made. map (λ t. t.id) made.build_targets.items
+        ≡ map (λ t. t.id) row.now.targets.items) }
+    ensures names { IfOk result (λ made. map (λ t. string_bytes t.name) made.build_targets.items
+        ≡ map (λ t. string_bytes t.name) row.now.targets.items) }
+    ensures links { IfOk result (λ made. made.links.items ≡ map (λ link. string_bytes link) row.now.links.items) }
 {
     Ok(PackageMetadata {
         id: package_id(alloc, row.name.as_str())?,
@@ -180,7 +191,11 @@ fn package(alloc: Global, row: &PackageRow) -> Result<PackageMetadata, AllocErro
 }
 
 /// The build targets of the rows.
-fn targets(alloc: Global, rows: &[TargetRow]) -> Result<Vec<BuildTarget>, AllocError> {
+fn targets(alloc: Global, rows: &[TargetRow]) -> Result<Vec<BuildTarget>, AllocError>
+    ensures kinds { IfOk result (λ made. map (λ t. t.id) made.items ≡ map (λ t. t.id) rows.now) }
+    ensures names { IfOk result (λ made. map (λ t. string_bytes t.name) made.items
+        ≡ map (λ t. string_bytes t.name) rows.now) }
+{
     let mut all = Vec::new(alloc);
     for row in rows {
         all.push(BuildTarget {
@@ -192,7 +207,9 @@ fn targets(alloc: Global, rows: &[TargetRow]) -> Result<Vec<BuildTarget>, AllocE
 }
 
 /// The ids with these texts.
-fn ids(alloc: Global, texts: &[String]) -> Result<Vec<PackageId>, AllocError> {
+fn ids(alloc: Global, texts: &[String]) -> Result<Vec<PackageId>, AllocError>
+    ensures { IfOk result (λ ids. ids.items ≡ map (λ text. string_bytes text) texts.now) }
+{
     let mut all = Vec::new(alloc);
     for text in texts {
         all.push(package_id(alloc, text.as_str())?)?;
