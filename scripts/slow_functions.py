@@ -1,63 +1,53 @@
 #!/usr/bin/env python3
-"""Tells which functions of a crate take longest to check, in seconds of processor time.
+"""Tells which functions of a crate take longest to check, in seconds by the clock.
 
     scripts/slow_functions.py NAME [--test]
 
 checks the crate with one job, its tests too where that is asked for, and prints the ten slowest functions, how long each
-took, and how long all took. `rt check` tells of each function when it has been checked: what was used between two such
-lines is put down to the second one. So the first function has the lemmas of the crate too, and what is read of the
-libraries below, and a later one may have what else was checked meanwhile: check a function that seems slow by itself
-(`rt check --only FUNCTION`) before its form is changed. It sets aside what earlier checks of the crate kept; those of
-another checkout on the machine have to be set aside by hand, since a check begins with them.
+took, and how long all took. What a check has proved it keeps as files, several for each function, and writes each as soon
+as it is proved: the time between two of them is put down to the function of the second. What the check takes over from an
+earlier one is not counted, that of another checkout on the machine neither, so a table of the whole crate wants a check
+from nothing. It should run beside no other check.
 """
 
+import collections
+import glob
 import os
-import re
-import shutil
 import subprocess
 import sys
+import time
 
-CHECKED = re.compile(r"^checked (\S+), \d+ of \d+$")
-TICKS = os.sysconf("SC_CLK_TCK")
 SHOWN = 10
 
 
-def used(folder, seen):
-    """Returns the processor time of the commands that run or ran in the folder, in seconds; `seen` keeps that of each."""
-    for pid in filter(str.isdigit, os.listdir("/proc")):
-        try:
-            if os.readlink(f"/proc/{pid}/cwd") != folder:
-                continue
-            with open(f"/proc/{pid}/stat") as file:
-                fields = file.read().rpartition(")")[2].split()
-        except OSError:
-            continue
-        seen[pid] = (int(fields[11]) + int(fields[12])) / TICKS
-    return sum(seen.values())
+def function_of(path, crate):
+    """Returns the name of the function, or of the file of lemmas, that a kept file belongs to."""
+    _, _, name = os.path.basename(path).removesuffix(".oantt").partition(f"Rattle-{crate}-")
+    parts = [part for part in name.split(".") if part != "decls"]
+    while len(parts) > 1 and not parts[-1][0].islower():
+        parts.pop()
+    return "::".join(parts[1:] or [crate])
 
 
-def times(folder, words):
-    """Checks the crate in the folder, and returns how long each function took, in order."""
-    shutil.rmtree(f"{folder}/out", ignore_errors=True)
-    took, seen, last = {}, {}, 0.0
-    check = subprocess.Popen(["rt", "check", "--jobs", "1", *words], cwd=folder, stdout=subprocess.PIPE,
-                             stderr=subprocess.STDOUT, text=True)
-    for line in check.stdout:
-        found = CHECKED.match(line)
-        if found:
-            now = used(folder, seen)
-            took[found[1]], last = now - last, now
-    return took
+def kept_since(start, folder):
+    """Returns the files of proofs that were kept since then, each after its time, in the order of these."""
+    files = glob.glob(f"{folder}/out/incremental/*/*.oantt")
+    times = [(os.stat(path).st_mtime, path) for path in files]
+    return sorted(it for it in times if it[0] >= start)
 
 
 def main():
     """Prints the slowest functions of the crate that is named."""
-    name, *words = sys.argv[1:]
+    crate, *words = sys.argv[1:]
     root = os.path.dirname(os.path.dirname(os.path.realpath(__file__)))
-    took = times(f"{root}/crates/{name}", words)
-    for function, seconds in sorted(took.items(), key=lambda it: -it[1])[:SHOWN]:
-        print(f"{seconds:7.1f}  {function}")
-    print(f"{sum(took.values()):7.1f}  all {len(took)} functions")
+    folder, start = f"{root}/crates/{crate}", time.time()
+    subprocess.run(["rt", "check", "--jobs", "1", *words], cwd=folder, stdout=subprocess.DEVNULL, check=True)
+    kept, took = kept_since(start, folder), collections.Counter()
+    for (before, _), (at, path) in zip(kept, kept[1:]):
+        took[function_of(path, crate)] += at - before
+    for name, seconds in took.most_common(SHOWN):
+        print(f"{seconds:7.1f}  {name}")
+    print(f"{sum(took.values()):7.1f}  all of {len(took)}")
 
 
 if __name__ == "__main__":

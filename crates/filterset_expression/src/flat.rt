@@ -37,7 +37,7 @@ pub use steps::FlatStep;
 /// An expression as a list of steps, with those of the default filter in the place of each `default` leaf.
 ///
 /// It is made for a caller that asks an expression of many binaries or tests.
-#[derive(Debug, Drop)]
+#[derive(Debug)]
 pub struct FlatExpr<'a> {
     steps: Vec<FlatStep<'a>>,
     /// What searches for the pattern of a leaf, in the leaf's place; none where no leaf has a pattern.
@@ -49,6 +49,18 @@ pub struct FlatExpr<'a> {
     ghost passed_over: { are_passed_over (steps_of steps.items) right_operands.items ≡ true },
     ghost one_value: { leaves_one (steps_of steps.items) 0 ≡ true },
     ghost fits: { height ≡ greatest_height (steps_of steps.items) 0 },
+}
+
+// Written out, so that a proof of who lets the list go has one call, and not the drop of each field.
+impl Drop for FlatExpr<'_> {
+    fn drop(self) {
+        let FlatExpr {
+            steps: _steps,
+            kept: _kept,
+            height: _,
+            right_operands: _right_operands,
+        } = self;
+    }
 }
 
 impl<'a> FlatExpr<'a> {

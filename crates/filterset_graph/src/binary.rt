@@ -20,7 +20,7 @@ enum KindText {
 
 /// The kind of a test binary: one of the six that the build tool knows, or any other text. Contracts
 /// see it as its text, and kinds are equal exactly where their texts are.
-#[derive(Debug, Drop)]
+#[derive(Debug)]
 pub struct RustTestBinaryKind {
     text: KindText,
 }
@@ -32,6 +32,13 @@ impl Model for RustTestBinaryKind {
     ghost Value = { List ℕ };
 
     ghost view = { λ kind. text_of kind.text };
+}
+
+// Written out, so that a proof of who lets a kind go has one call, and not the drop of each field.
+impl Drop for RustTestBinaryKind {
+    fn drop(self) {
+        let RustTestBinaryKind { text: _text } = self;
+    }
 }
 
 impl RustTestBinaryKind {

@@ -14,7 +14,7 @@ pub use pattern::{PatternMatcher, PatternRefusal, PatternRegex};
 ///
 /// Two matchers are equal where they are of one variant and hold the same: an `Equal` or a `Contains` in both fields,
 /// a `Glob` in its tokens, whatever its text and `implicit` are, and a `Regex` in the text of its pattern.
-#[derive(Debug, Drop)]
+#[derive(Debug)]
 pub enum NameMatcher {
     /// The name is the value.
     Equal {
@@ -34,6 +34,27 @@ pub enum NameMatcher {
     },
     /// The pattern matches somewhere in the name.
     Regex(Rc<PatternRegex>),
+}
+
+// Written out, so that a proof of who lets a matcher go has one call, and not a branch a variant.
+impl Drop for NameMatcher {
+    fn drop(self) {
+        match self {
+            NameMatcher::Equal {
+                value: _value,
+                implicit: _,
+            }
+            | NameMatcher::Contains {
+                value: _value,
+                implicit: _,
+            } => {}
+            NameMatcher::Glob {
+                glob: _glob,
+                implicit: _,
+            } => {}
+            NameMatcher::Regex(_pattern) => {}
+        }
+    }
 }
 
 /// What is compared of the two is the same: of globs their tokens alone.

@@ -7,7 +7,7 @@ use nextest_filtering::{
     BuildPlatform, BuildTarget, BuildTargetId, CompiledExpr, DependsRefusal, EvalContext,
     Filterset, FiltersetKind, FiltersetLeaf, FiltersetParseErrors, FlatExpr, FlatStep,
     GraphRefusal, KnownGroups, NameMatcher, PackageGraph, PackageId, PackageMetadata, ParseContext,
-    ParseRefusal, ParseSingleError, ParsedLeaf, SourceSpan, TestQuery,
+    ParseRefusal, ParseSingleError, ParsedExpr, ParsedLeaf, SourceSpan, TestQuery,
 };
 use std::alloc::{AllocError, Global};
 use std::collections::HashSet;
@@ -176,23 +176,42 @@ fn depends(
     }
 }
 
+/// Whether the text was read, or refused for these faults, where there is memory.
+fn reads(
+    rt: &(impl AllocGlobal + Abort),
+    cx: &ParseContext<'_>,
+    text: &str,
+    faults: &[ParseSingleError],
+) -> bool {
+    read(rt, cx, text, faults).is_some()
+}
+
+/// Whether each call answered that reads a text over the graph of four packages.
+fn reads_over_four(rt: &(impl AllocGlobal + Abort), graph: &PackageGraph) -> bool {
+    let Ok(cx) = ParseContext::new(rt.alloc(), graph) else {
+        return false;
+    };
+    assert!(rt; is_of_rows(cx.graph(), &FOUR));
+    let outside = [ParseSingleError::NoPackageMatch(SourceSpan::new(8, 1))];
+    let whole = reads(rt, &cx, "deps(a)", &[]);
+    reads(rt, &cx, "package(x)", &outside) && whole
+}
+
+/// Whether each call answered that tells of two of the four packages whether one depends on the other.
+fn tells_of_four(rt: &(impl AllocGlobal + Abort), graph: &PackageGraph) -> bool {
+    let mut whole = depends(rt, graph, "a", "x", Some(false));
+    whole &= depends(rt, graph, "c", "b", Some(true));
+    whole &= depends(rt, graph, "a", "zz", None);
+    whole
+}
+
 /// Whether each call over the graph of four packages answered.
 fn asks_four_packages(rt: &(impl AllocGlobal + Abort)) -> bool {
     let Some(graph) = graph_of(rt, &FOUR) else {
         return false;
     };
-    let mut whole = depends(rt, &graph, "a", "x", Some(false));
-    whole &= depends(rt, &graph, "c", "b", Some(true));
-    whole &= depends(rt, &graph, "a", "zz", None);
-    match ParseContext::new(rt.alloc(), &graph) {
-        Ok(cx) => {
-            assert!(rt; is_of_rows(cx.graph(), &FOUR));
-            let outside = [ParseSingleError::NoPackageMatch(SourceSpan::new(8, 1))];
-            whole &= read(rt, &cx, "deps(a)", &[]).is_some();
-            whole &= read(rt, &cx, "package(x)", &outside).is_some();
-        }
-        Err(AllocError) => whole = false,
-    }
+    let mut whole = tells_of_four(rt, &graph);
+    whole &= reads_over_four(rt, &graph);
     assert!(rt; is_of_rows(&graph, &FOUR));
     whole
 }
@@ -341,6 +360,30 @@ const OF_GROUPED: [Told; 2] = [
     ),
 ];
 
+/// The filterset of this text, or none if it is out of memory.
+fn filterset_of(
+    rt: &(impl AllocGlobal + Abort),
+    cx: &ParseContext<'_>,
+    text: &str,
+) -> Option<Filterset> {
+    match read(rt, cx, text, &[]) {
+        Some(Ok(filterset)) => Some(filterset),
+        _ => None,
+    }
+}
+
+/// Whether each call answered that asks the filterset of these tests.
+fn asks_tests(rt: &(impl AllocGlobal + Abort), filterset: &Filterset, rows: &[Told]) -> bool {
+    let mut whole = true;
+    for (texts, platform, of_binary, of_test) in rows {
+        match Parts::new(rt.alloc(), *texts, *platform) {
+            Ok(asked) => whole &= matches(rt, filterset, &asked, *of_binary, *of_test),
+            Err(AllocError) => whole = false,
+        }
+    }
+    whole
+}
+
 /// Whether each call answered that reads this filterset over the workspace and asks it of these tests.
 fn asks_filterset(rt: &(impl AllocGlobal + Abort), text: &str, rows: &[Told]) -> bool {
     let Some(graph) = graph_of(rt, &CRATES) else {
@@ -349,17 +392,13 @@ fn asks_filterset(rt: &(impl AllocGlobal + Abort), text: &str, rows: &[Told]) ->
     let Ok(cx) = ParseContext::new(rt.alloc(), &graph) else {
         return false;
     };
-    let (Some(Ok(one)), Some(Ok(other))) = (read(rt, &cx, text, &[]), read(rt, &cx, text, &[]))
-    else {
+    let Some(one) = filterset_of(rt, &cx, text) else {
         return false;
     };
-    let mut whole = true;
-    for (texts, platform, of_binary, of_test) in rows {
-        match Parts::new(rt.alloc(), *texts, *platform) {
-            Ok(asked) => whole &= matches(rt, &one, &asked, *of_binary, *of_test),
-            Err(AllocError) => whole = false,
-        }
-    }
+    let Some(other) = filterset_of(rt, &cx, text) else {
+        return false;
+    };
+    let whole = asks_tests(rt, &one, rows);
     assert!(rt; one == other && is_of_rows(&graph, &CRATES));
     whole
 }
@@ -422,22 +461,34 @@ fn copies_step(rt: &(impl AllocGlobal + Abort), step: &FlatStep<'_>) -> bool {
     }
 }
 
-/// Whether each copy of what a filterset holds was made.
+/// Whether each copy of the leaves of a tree was made.
+fn copies_leaves(rt: &(impl AllocGlobal + Abort), tree: &ParsedExpr) -> bool {
+    let Ok(leaves) = tree.leaves_where(rt.alloc(), |_| true) else {
+        return false;
+    };
+    assert!(rt; leaves.len() == 6);
+    (leaves.iter()).all(|leaf| copies_leaf(rt, leaf))
+}
+
+/// Whether each copy of the steps of an expression was made.
+fn copies_steps(rt: &(impl AllocGlobal + Abort), expr: &CompiledExpr) -> bool {
+    let all = CompiledExpr::ALL;
+    let Ok(flat) = FlatExpr::new(rt.alloc(), expr, &EvalContext::new(&all)) else {
+        return false;
+    };
+    assert!(rt; flat.steps().len() == 13);
+    (flat.steps().iter()).all(|step| copies_step(rt, step))
+}
+
+/// Whether each copy of a filterset, and of what it holds, was made.
 fn copies_filterset(rt: &(impl AllocGlobal + Abort), filterset: &Filterset) -> bool {
-    let (alloc, all) = (rt.alloc(), CompiledExpr::ALL);
-    let (tree, expr) = (&filterset.parsed, &filterset.compiled);
+    let (alloc, tree, expr) = (rt.alloc(), &filterset.parsed, &filterset.compiled);
     let mut whole = answers(rt, filterset.try_clone(alloc), filterset);
     whole &= answers(rt, tree.try_clone(alloc), tree);
     whole &= answers(rt, expr.try_clone(alloc), expr);
-    let Ok(leaves) = tree.leaves_where(alloc, |_| true) else {
-        return false;
-    };
-    whole &= (leaves.iter()).all(|leaf| copies_leaf(rt, leaf));
-    let Ok(flat) = FlatExpr::new(alloc, expr, &EvalContext::new(&all)) else {
-        return false;
-    };
-    assert!(rt; leaves.len() == 6 && flat.steps().len() == 13);
-    whole && (flat.steps().iter()).all(|step| copies_step(rt, step))
+    whole &= copies_leaves(rt, tree);
+    whole &= copies_steps(rt, expr);
+    whole
 }
 
 /// Whether each copy of a refusal, and of its faults, was made.
@@ -461,6 +512,35 @@ const ESCAPED: &str = r"package(foobar\$\#\@baz)";
 
 const UNCLOSED: &str = "all) + package(/not) - deps(expr none)";
 
+/// Whether each call answered that reads this text, and copies what was read.
+fn copies_text(
+    rt: &(impl AllocGlobal + Abort),
+    cx: &ParseContext<'_>,
+    text: &str,
+    faults: &[ParseSingleError],
+) -> bool {
+    match read(rt, cx, text, faults) {
+        Some(Ok(filterset)) => copies_filterset(rt, &filterset),
+        Some(Err(refusal)) => copies_refusal(rt, &refusal),
+        None => false,
+    }
+}
+
+/// The same of each of these texts.
+fn copies_texts(rt: &(impl AllocGlobal + Abort), cx: &ParseContext<'_>) -> bool {
+    let escapes = [14, 16, 18].map(|offset| ParseSingleError::InvalidEscapeCharacter(
+        SourceSpan::new(offset, 2),
+    ));
+    let unclosed = [
+        ParseSingleError::ExpectedOpenParenthesis(SourceSpan::new(3, 0)),
+        ParseSingleError::ExpectedCloseRegex(SourceSpan::new(19, 0)),
+    ];
+    let mut whole = copies_text(rt, cx, MIXED, &[]);
+    whole &= copies_text(rt, cx, ESCAPED, &escapes);
+    whole &= copies_text(rt, cx, UNCLOSED, &unclosed);
+    whole
+}
+
 /// Whether each call answered that reads texts over the workspace, and copies what was read.
 fn copies(rt: &(impl AllocGlobal + Abort)) -> bool {
     let Some(graph) = graph_of(rt, &CRATES) else {
@@ -469,26 +549,7 @@ fn copies(rt: &(impl AllocGlobal + Abort)) -> bool {
     let Ok(cx) = ParseContext::new(rt.alloc(), &graph) else {
         return false;
     };
-    let escapes = [14, 16, 18].map(|offset| ParseSingleError::InvalidEscapeCharacter(
-        SourceSpan::new(offset, 2),
-    ));
-    let unclosed = [
-        ParseSingleError::ExpectedOpenParenthesis(SourceSpan::new(3, 0)),
-        ParseSingleError::ExpectedCloseRegex(SourceSpan::new(19, 0)),
-    ];
-    let mut whole = true;
-    for (text, faults) in [
-        (MIXED, [].as_slice()),
-        (ESCAPED, escapes.as_slice()),
-        (UNCLOSED, unclosed.as_slice()),
-    ] {
-        whole &= match read(rt, &cx, text, faults) {
-            Some(Ok(filterset)) => copies_filterset(rt, &filterset),
-            Some(Err(refusal)) => copies_refusal(rt, &refusal),
-            None => false,
-        };
-    }
-    whole
+    copies_texts(rt, &cx)
 }
 
 #[test]
@@ -501,23 +562,45 @@ fn copies_are_made(rt: HostRuntime) {
     assert!(rt; copies(&rt));
 }
 
+/// The name of one group.
+fn one_name(alloc: Global) -> Result<HashSet<String>, AllocError> {
+    let mut names = HashSet::new(alloc);
+    names.insert(String::from_str(alloc, "a")?)?;
+    Ok(names)
+}
+
+/// The filterset of a text that may name the group `a`.
+fn of_one_group(alloc: Global, cx: &ParseContext<'_>, text: &str) -> Result<Filterset, Fail> {
+    let input = String::from_str(alloc, text)?;
+    let groups = KnownGroups::Known {
+        custom_groups: one_name(alloc)?,
+    };
+    match Filterset::parse(alloc, input, cx, FiltersetKind::Test, &groups) {
+        Ok(filterset) => Ok(filterset),
+        Err(_) => Err(Fail::from("refused")),
+    }
+}
+
+/// Whether the filterset answers so of a test, where the lookup of its group is out of memory.
+fn says(
+    alloc: Global,
+    filterset: &Filterset,
+    wanted: Result<bool, AllocError>,
+) -> Result<bool, AllocError> {
+    let asked = Parts::new(alloc, ["p", "p", "p", "lib", "x"], BuildPlatform::Host)?;
+    let (all, query) = (CompiledExpr::ALL, asked.query());
+    let cx = EvalContext::new(&all);
+    Ok(filterset.matches_test_with_groups(alloc, &query, &cx, &Refusing) == wanted)
+}
+
 #[test]
 fn want_of_memory_of_a_lookup_is_the_answer_of_a_filterset(rt: HostRuntime) -> Result<(), Fail> {
     let alloc = rt.alloc();
-    let all = CompiledExpr::ALL;
-    let cx = EvalContext::new(&all);
     let graph = with_libraries(alloc, &CRATES).ok().ok_or("no graph")?;
-    let mut custom_groups = HashSet::new(alloc);
-    custom_groups.insert(String::from_str(alloc, "a")?)?;
-    let known = KnownGroups::Known { custom_groups };
-    let asked = Parts::new(alloc, ["p", "p", "p", "lib", "x"], BuildPlatform::Host)?;
+    let cx = ParseContext::new(alloc, &graph)?;
     for (text, wanted) in [("group(a)", Err(AllocError)), ("all()", Ok(true))] {
-        let input = String::from_str(alloc, text)?;
-        let context = ParseContext::new(alloc, &graph)?;
-        let read = Filterset::parse(alloc, input, &context, FiltersetKind::Test, &known);
-        let filterset = read.ok().ok_or("refused")?;
-        let said = filterset.matches_test_with_groups(alloc, &asked.query(), &cx, &Refusing);
-        assert!(rt; said == wanted, "{text}: {said:?}");
+        let filterset = of_one_group(alloc, &cx, text)?;
+        assert!(rt; says(alloc, &filterset, wanted)?, "{text}");
     }
     Ok(())
 }

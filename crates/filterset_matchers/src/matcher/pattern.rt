@@ -21,7 +21,7 @@ pub enum PatternRefusal {
 /// A pattern: its text, and the regex that was built of it. Contracts see the text.
 ///
 /// The regex is large, and stands in a box: a function clears the room of all its locals whenever it is called.
-#[derive(Debug, Drop)]
+#[derive(Debug)]
 pub struct PatternRegex {
     pattern: String,
     regex: Box<Regex>,
@@ -85,6 +85,16 @@ impl PatternRegex {
     }
 }
 
+// Written out, so that a proof of who lets a pattern go has one call, and not the drop of each field.
+impl Drop for PatternRegex {
+    fn drop(self) {
+        let PatternRegex {
+            pattern: _pattern,
+            regex: _regex,
+        } = self;
+    }
+}
+
 /// The regex of a text. It is not inlined, since a regex is large.
 #[cold]
 #[inline(never)]
@@ -134,7 +144,6 @@ impl Eq for PatternRegex {
 
 /// What searches for a pattern, for whoever asks more than once: making it costs as much as a hundred searches, and it
 /// keeps its room from one search to the next. Contracts see the pattern's text.
-#[derive(Drop)]
 pub struct PatternMatcher<'p> {
     pattern: &'p PatternRegex,
     matcher: Box<Matcher<'p>>,
@@ -150,6 +159,16 @@ impl<'p> Model for PatternMatcher<'p> {
     ghost view = { λ m. m.pattern.now };
 
     ghost invariant = { λ m. FindsAs m.pattern.now (matcher_pattern m.matcher.value) };
+}
+
+// Written out, as for `PatternRegex`.
+impl Drop for PatternMatcher<'_> {
+    fn drop(self) {
+        let PatternMatcher {
+            pattern: _,
+            matcher: _matcher,
+        } = self;
+    }
 }
 
 impl<'p> PatternMatcher<'p> {
