@@ -5,9 +5,10 @@
 
 checks the crate with one job, its tests too where that is asked for, and prints the ten slowest functions, how long each
 took, and how long all took. What a check has proved it keeps as files, several for each function, and writes each as soon
-as it is proved: the time between two of them is put down to the function of the second. What the check takes over from an
-earlier one is not counted, that of another checkout on the machine neither, so a table of the whole crate wants a check
-from nothing. It should run beside no other check.
+as it is proved: the time between two of them is put down to the function of the second. What comes before the first file,
+as reading the libraries, is not counted, nor what the check takes over from an earlier one, here or in another checkout
+on the machine: so a table of the whole crate wants a check from nothing. It should run beside no other check. It ends
+with the status of the check.
 """
 
 import collections
@@ -24,7 +25,7 @@ def function_of(path, crate):
     """Returns the name of the function, or of the file of lemmas, that a kept file belongs to."""
     _, _, name = os.path.basename(path).removesuffix(".oantt").partition(f"Rattle-{crate}-")
     parts = [part for part in name.split(".") if part != "decls"]
-    while len(parts) > 1 and not parts[-1][0].islower():
+    while len(parts) > 2 and parts[-1][:1].isupper():
         parts.pop()
     return "::".join(parts[1:] or [crate])
 
@@ -41,13 +42,14 @@ def main():
     crate, *words = sys.argv[1:]
     root = os.path.dirname(os.path.dirname(os.path.realpath(__file__)))
     folder, start = f"{root}/crates/{crate}", time.time()
-    subprocess.run(["rt", "check", "--jobs", "1", *words], cwd=folder, stdout=subprocess.DEVNULL, check=True)
+    check = subprocess.run(["rt", "check", "--jobs", "1", *words], cwd=folder, stdout=subprocess.DEVNULL, check=False)
     kept, took = kept_since(start, folder), collections.Counter()
     for (before, _), (at, path) in zip(kept, kept[1:]):
         took[function_of(path, crate)] += at - before
     for name, seconds in took.most_common(SHOWN):
         print(f"{seconds:7.1f}  {name}")
     print(f"{sum(took.values()):7.1f}  all of {len(took)}")
+    sys.exit(check.returncode)
 
 
 if __name__ == "__main__":
