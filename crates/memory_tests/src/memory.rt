@@ -562,7 +562,7 @@ fn copies_are_made(rt: HostRuntime) {
     assert!(rt; copies(&rt));
 }
 
-/// The name of one group.
+/// The name `a` of a group, alone.
 fn one_name(alloc: Global) -> Result<HashSet<String>, AllocError> {
     let mut names = HashSet::new(alloc);
     names.insert(String::from_str(alloc, "a")?)?;
