@@ -3,7 +3,6 @@ use Rattle.std.specs.Prelude.{◌≡◌, ◌++◌, ℕ, List, [], false, Option,
 use Rattle.std.specs.Global.{Global}
 use Rattle.std.specs.List.{AllZip, find, flat_map}
 use Rattle.std.specs.Str.{bytes_eq}
-use Rattle.filterset_answers.specs.Checked.{TextRow}
 use Rattle.filterset_answers.specs.Forms.{FaultPieces}
 use Rattle.filterset_answers.specs.declared.form.Form.{Form}
 use Rattle.filterset_drawing.specs.Columns.{Text}
@@ -23,12 +22,15 @@ use Rattle.filterset_listing.specs.declared.binary.AskedBinary.{AskedBinary}
 use Rattle.nextest_filtering.specs.Compiling.{IsFiltersetOf, IsRefusedWith}
 use Rattle.nextest_filtering.specs.declared.compile.context.KnownGroups.{KnownGroups}
 use Rattle.nextest_filtering.specs.declared.filterset.Filterset.{Filterset}
+use Rattle.nextest_filtering.specs.declared.filterset.ParseRefusal.{ParseRefusal}
+use Rattle.nextest_filtering.specs.declared.filterset.ParseRefusal.TheVariants.{Faults, OutOfMemory}
 use Rattle.records.specs.declared.fault.RunFault.TheVariants.{Memory}
 use Rattle.filterset_command.specs.Picking.{IsGlobalOnly}
 use Rattle.filterset_command.specs.Workspaces.{IsAsked, IsWorkspaceIn}
 use Rattle.filterset_command.specs.declared.ending.Ending.{Ending}
 use Rattle.filterset_command.specs.declared.ending.Ending.TheVariants.{Fine, Faulty}
 use Rattle.filterset_command.specs.declared.explaining.Explanation.{Explanation}
+use Rattle.filterset_command.specs.declared.explaining.NumberedText.{NumberedText}
 use Rattle.filterset_command.specs.declared.fault.CommandFault.{CommandFault}
 use Rattle.filterset_command.specs.declared.fault.CommandFault.TheVariants.{NoBinary, NoTest, Run}
 use Rattle.filterset_command.specs.declared.workspace.Workspace.{Workspace}
@@ -59,18 +61,37 @@ IsMissing binaries id (Some test) (NoTest own name) =
 IsMissing binaries id test (Run (Memory refused)) = Unit {0}
 IsMissing binaries id test _ = ⊥
 
--- What a text with this number is read as, and what is written of it: a filterset and nothing, or its faults. A default
--- filter has neither a `default` nor a `group` leaf.
+-- What a text is read as, and what is written of it: a filterset and nothing, or its faults. A default filter has neither
+-- a `default` nor a `group` leaf.
 abbrev pub IsReadAs :
-    List PackageMetadata → KnownGroups → Form → ℕ → TextRow → Option Filterset → Text → Type 0
-IsReadAs packages groups form number row (Some made) piece =
-    (piece ≡ []) × IsFiltersetOf row.text row.kind packages groups (tree_of made.parsed)
+    List PackageMetadata → KnownGroups → Form → NumberedText → Option Filterset → Text → Type 0
+IsReadAs packages groups form asked (Some made) piece =
+    (piece ≡ []) × IsFiltersetOf asked.text.now asked.kind packages groups (tree_of made.parsed)
     × IsCompiled packages (tree_of made.parsed) made.compiled
-    × (row.kind ≡ kinds.DefaultFilter → has_leaf is_default made.compiled ≡ false)
-    × (row.kind ≡ kinds.DefaultFilter → has_leaf is_group made.compiled ≡ false)
-IsReadAs packages groups form number row None piece =
-    (faults : List ParseSingleError) × IsRefusedWith row.text row.kind packages groups faults
-    × FaultPieces form row.origin row.text number faults piece
+    × (asked.kind ≡ kinds.DefaultFilter → has_leaf is_default made.compiled ≡ false)
+    × (asked.kind ≡ kinds.DefaultFilter → has_leaf is_group made.compiled ≡ false)
+IsReadAs packages groups form asked None piece =
+    (faults : List ParseSingleError) × IsRefusedWith asked.text.now asked.kind packages groups faults
+    × FaultPieces form asked.origin.now asked.text.now asked.number faults piece
+
+-- what is written of a text that is refused: its faults
+abbrev pub WritesRefusal : Form → NumberedText → ParseRefusal → Text → Type 0
+WritesRefusal form asked (Faults refused) piece =
+    FaultPieces form asked.origin.now asked.text.now asked.number refused.errors.items piece
+WritesRefusal form asked (OutOfMemory input) piece = ⊥
+
+-- What the default filter and the filterset are read as, whose texts name these packages, and no group but `@global`, and
+-- what is written of both.
+abbrev pub AreRead :
+    Explanation → List PackageMetadata → Option Filterset → Option Filterset → Text → Type 0
+AreRead asked packages default filter written =
+    (groups : KnownGroups) × (first : NumberedText) × (second : NumberedText) × (front : Text) × (rest : Text)
+    × IsGlobalOnly groups
+    × (first.number ≡ 1) × (first.kind ≡ kinds.DefaultFilter) × (first.text.now ≡ string_bytes asked.default_filter)
+    × (second.number ≡ 2) × (second.kind ≡ kinds.Test) × (second.text.now ≡ string_bytes asked.filter)
+    × IsReadAs packages groups asked.form first default front
+    × IsReadAs packages groups asked.form second filter rest
+    × (written ≡ front ++ rest)
 
 -- the answer is the value of each node of the filterset's tree, a line each
 abbrev pub IsExplanation : Candidate → List PackageMetadata → Filterset → Filterset → Ending → Text → Type 0
@@ -86,18 +107,11 @@ ExplainsRead candidate packages (Some default) (Some filter) written ending text
     IsExplanation candidate packages default filter ending text
 ExplainsRead candidate packages _ _ written ending text = (text ≡ written) × (ending ≡ Faulty)
 
--- What the default filter and the filterset are answered, whose texts name these packages, and no group but `@global`:
--- the explanation, or the faults of both.
+-- what the default filter and the filterset are answered: the explanation, or the faults of both
 abbrev pub AnswersExplanation : Explanation → List PackageMetadata → Candidate → Ending → Text → Type 0
 AnswersExplanation asked packages candidate ending text =
-    (groups : KnownGroups) × (first : TextRow) × (second : TextRow)
-    × (default : Option Filterset) × (filter : Option Filterset) × (front : Text) × (rest : Text)
-    × IsGlobalOnly groups
-    × (first.kind ≡ kinds.DefaultFilter) × (first.text ≡ string_bytes asked.default_filter)
-    × (second.kind ≡ kinds.Test) × (second.text ≡ string_bytes asked.filter)
-    × IsReadAs packages groups asked.form 1 first default front
-    × IsReadAs packages groups asked.form 2 second filter rest
-    × ExplainsRead candidate packages default filter (front ++ rest) ending text
+    (default : Option Filterset) × (filter : Option Filterset) × (written : Text)
+    × AreRead asked packages default filter written × ExplainsRead candidate packages default filter written ending text
 
 -- what is answered of the binary or the test in the workspace that the files tell of
 abbrev pub AnswersExplained : (Text → Option Text) → Explanation → Ending → Text → Type 0

@@ -59,12 +59,18 @@ abbrev pub WritesList : Option Data → List Section → Text → Type 0
 WritesList None sections text = text ≡ list_text sections
 WritesList (Some list) sections text = IsListJson sections list text
 
--- The answer is what one of the filtersets holds of, where there are any, and the default filter, unless it is ignored.
+-- the sections tell what one of the filtersets holds of, where there are any, and the default filter, unless it is ignored
+abbrev pub AreSections : Bool → CompiledExpr → List CompiledExpr → List AskedBinary → List Section → Type 0
+AreSections ignores_default default filters binaries sections =
+    (selection : CompiledExpr) × IsSelection ignores_default filters selection
+    × AllZip (IsSection selection default) binaries sections
+
+-- The answer is these sections.
 abbrev pub Lists :
     Bool → CompiledExpr → List CompiledExpr → Option Data → List AskedBinary → Ending → Text → Type 0
 Lists ignores_default default filters kept binaries ending text =
-    (selection : CompiledExpr) × (sections : List Section) × IsSelection ignores_default filters selection
-    × AllZip (IsSection selection default) binaries sections × WritesList kept sections text × (ending ≡ Fine)
+    (sections : List Section) × AreSections ignores_default default filters binaries sections
+    × WritesList kept sections text × (ending ≡ Fine)
 
 -- The answer is how two filtersets differ.
 abbrev pub Compares : Bool → CompiledExpr → List CompiledExpr → List AskedBinary → Ending → Text → Type 0

@@ -1,9 +1,10 @@
 //! Answering a request.
-ghost use Rattle.std.specs.Prelude.{◌≡◌, IfErr, IfOk, map, string_bytes};
+ghost use Rattle.std.specs.Prelude.{◌≡◌, IfErr, IfOk, IfSome, map, string_bytes};
 ghost use Rattle.filterset_answers.specs.Checked.{text_row};
 ghost use Rattle.filterset_command.specs.Ending.{ending_of};
 ghost use Rattle.filterset_command.specs.Files.{NotWrite};
 ghost use Rattle.filterset_command.specs.Requests.{AreRows, IsAnswered};
+ghost use Rattle.filterset_command.specs.declared.request.Texts.TheVariants.{StandardInput};
 
 use crate::checking::check_texts;
 use crate::ending::{Ending, ending_of};
@@ -22,11 +23,11 @@ use std::alloc::Global;
 /// Answers a request, for which standard input and files may be read.
 pub fn answer<F: FileSource, R: Source>(
     alloc: Global,
-    request: Request,
+    request: &Request,
     files: &F,
     input: &mut R,
 ) -> Result<Outcome, CommandFault>
-    ensures answered { IfOk result (λ outcome. IsAnswered (F.content files.now) request (R.left input.old)
+    ensures answered { IfOk result (λ outcome. IsAnswered (F.content files.now) request.now (R.left input.old)
         outcome.ending (string_bytes outcome.text)) }
     ensures no_write { IfErr result NotWrite }
 {
@@ -37,17 +38,17 @@ pub fn answer<F: FileSource, R: Source>(
             texts,
             paths,
         } => {
-            let given = entries_of(alloc, kind, texts, input)?;
-            Ok(outcome(check_texts(alloc, files, form, &paths, given)?))
+            let given = entries_of(alloc, *kind, texts, input)?;
+            Ok(outcome(check_texts(alloc, files, *form, paths, given)?))
         }
         Request::Format { form, texts } => {
             let entries = entries_of(alloc, FiltersetKind::Test, texts, input)?;
-            Ok(outcome(format_texts(alloc, form, entries.as_slice())?))
+            Ok(outcome(format_texts(alloc, *form, entries.as_slice())?))
         }
-        Request::Ask(asked) => ask(alloc, files, &asked),
-        Request::Explain(asked) => explain_asked(alloc, files, &asked),
+        Request::Ask(asked) => ask(alloc, files, asked),
+        Request::Explain(asked) => explain_asked(alloc, files, asked),
         Request::Show(text) => Ok(Outcome {
-            text,
+            text: String::from_str(alloc, text.as_str())?,
             ending: Ending::Fine,
         }),
     }
@@ -64,24 +65,43 @@ fn outcome(answer: Answer) -> Outcome
     }
 }
 
+/// The text that standard input has left.
+fn read_input<R: Source>(alloc: Global, input: &mut R) -> Result<String, CommandFault>
+    ensures whole { IfOk result (λ text. IfSome (R.left input.old) (λ left. string_bytes text ≡ left)) }
+    ensures no_write { IfErr result NotWrite }
+{
+    let bytes = read_all(alloc, input)?;
+    match String::from_utf8(bytes) {
+        Ok(text) => Ok(text),
+        Err(_) => Err(CommandFault::NotText),
+    }
+}
+
+/// The lines that standard input has left.
+fn input_entries<R: Source>(
+    alloc: Global,
+    kind: FiltersetKind,
+    input: &mut R,
+) -> Result<Vec<TextEntry>, CommandFault>
+    ensures rows { IfOk result (λ entries. AreRows kind StandardInput (R.left input.old) (map text_row entries.items)) }
+    ensures no_write { IfErr result NotWrite }
+{
+    let text = read_input(alloc, input)?;
+    Ok(line_entries(alloc, kind, text.as_str())?)
+}
+
 /// The texts that are asked about.
 fn entries_of<R: Source>(
     alloc: Global,
     kind: FiltersetKind,
-    texts: Texts,
+    texts: &Texts,
     input: &mut R,
 ) -> Result<Vec<TextEntry>, CommandFault>
-    ensures rows { IfOk result (λ entries. AreRows kind texts (R.left input.old) (map text_row entries.items)) }
+    ensures rows { IfOk result (λ entries. AreRows kind texts.now (R.left input.old) (map text_row entries.items)) }
     ensures no_write { IfErr result NotWrite }
 {
     match texts {
         Texts::Given(texts) => Ok(given_entries(alloc, "argument", kind, texts.as_slice())?),
-        Texts::StandardInput => {
-            let bytes = read_all(alloc, input)?;
-            let Ok(text) = String::from_utf8(bytes) else {
-                return Err(CommandFault::NotText);
-            };
-            Ok(line_entries(alloc, kind, text.as_str())?)
-        }
+        Texts::StandardInput => input_entries(alloc, kind, input),
     }
 }

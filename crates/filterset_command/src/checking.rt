@@ -15,12 +15,21 @@ use nextest_filtering::{GraphRefusal, KnownGroups, PackageGraph, ParseContext};
 use std::alloc::{AllocError, Global};
 
 /// Where the files are that say which names there are.
-#[derive(Debug, Drop)]
 pub struct CheckPaths {
     /// What `cargo metadata` wrote.
     pub metadata: Option<String>,
     /// Nextest's configuration, whose filtersets are checked too.
     pub configuration: Option<String>,
+}
+
+// Written out, so that a proof of who lets paths go has one call, and not the drop of each field.
+impl Drop for CheckPaths {
+    fn drop(self) {
+        let CheckPaths {
+            metadata: _metadata,
+            configuration: _configuration,
+        } = self;
+    }
 }
 
 /// The workspace without packages.

@@ -53,7 +53,7 @@ pub fn line_entries(
 }
 
 /// A text that is called so.
-pub fn entry(
+fn entry(
     alloc: Global,
     origin: &str,
     kind: FiltersetKind,

@@ -1,24 +1,22 @@
 //! Explaining why a filterset picks a test or not, or what a binary's answer hangs on.
-ghost use Rattle.std.specs.Prelude.{◌≡◌, ◌++◌, IfErr, IfOk, false, option_map, string_bytes};
-ghost use Rattle.filterset_answers.specs.Checked.{text_row};
+ghost use Rattle.std.specs.Prelude.{◌≡◌, ◌++◌, IfErr, IfOk, OnOk, false, option_map, string_bytes};
 ghost use Rattle.filterset_drawing.specs.Columns.{Text};
 ghost use Rattle.filterset_expression.specs.Expression.{has_leaf, is_default, is_group};
 ghost use Rattle.filterset_expression.specs.Meaning.{IsCompiled};
 ghost use Rattle.filterset_language.specs.Views.{tree_of};
 ghost use Rattle.nextest_filtering.specs.Compiling.{packages_of};
 ghost use Rattle.nextest_filtering.specs.Groups.{IsKnown};
-ghost use Rattle.filterset_command.specs.ExplainingAsked.{AnswersExplained, AnswersExplanation, IsCandidate, IsExplanation, IsMissing, IsReadAs};
+ghost use Rattle.filterset_command.specs.ExplainingAsked.{AnswersExplained, AnswersExplanation, AreRead, IsCandidate, IsExplanation, IsMissing, IsReadAs, WritesRefusal};
 ghost use Rattle.filterset_command.specs.ExplainingAsked.{binary_called, name_called};
 ghost use Rattle.filterset_command.specs.Files.{NotWrite};
 
 use crate::ending::Ending;
-use crate::entries::entry;
 use crate::fault::CommandFault;
 use crate::files::FileSource;
 use crate::outcome::Outcome;
 use crate::picking::global_group;
 use crate::workspace::{WorkspacePaths, asked_binaries, read_workspace};
-use filterset_answers::{Form, TextEntry, push_faults};
+use filterset_answers::{Form, push_faults};
 use filterset_explaining::{Candidate, explain, explain_text};
 use filterset_listing::AskedBinary;
 use nextest_filtering::{
@@ -28,7 +26,6 @@ use nextest_filtering::{
 use std::alloc::{AllocError, Global};
 
 /// What is to be explained.
-#[derive(Debug, Drop)]
 pub struct Explanation {
     pub paths: WorkspacePaths,
     pub form: Form,
@@ -39,6 +36,20 @@ pub struct Explanation {
     pub binary: String,
     /// The name of the test, where it is explained of a test of the binary.
     pub test: Option<String>,
+}
+
+// Written out, so that a proof of who lets an explanation go has one call, and not the drop of each field.
+impl Drop for Explanation {
+    fn drop(self) {
+        let Explanation {
+            paths: _paths,
+            form: _,
+            default_filter: _default_filter,
+            filter: _filter,
+            binary: _binary,
+            test: _test,
+        } = self;
+    }
 }
 
 /// The first binary with this id.
@@ -85,6 +96,36 @@ fn candidate_of<'s>(
     }))
 }
 
+/// A text that is to be a filterset, with its number, from 1 on, and what it is called.
+#[derive(Clone, Copy)]
+struct NumberedText<'t> {
+    number: usize,
+    origin: &'t str,
+    kind: FiltersetKind,
+    text: &'t str,
+}
+
+/// Writes the faults of a text that is refused.
+fn push_refusal(
+    output: &mut String,
+    alloc: Global,
+    form: Form,
+    asked: NumberedText<'_>,
+    refusal: &ParseRefusal,
+) -> Result<(), AllocError>
+    ensures { OnOk result ((piece : Text) × (string_bytes output.new ≡ string_bytes output.old ++ piece)
+        × WritesRefusal form asked.entry refusal.now piece) }
+{
+    match refusal {
+        ParseRefusal::Faults(refused) => {
+            let (origin, text, number) = (asked.origin, asked.text, asked.number);
+            let faults = refused.errors.as_slice();
+            push_faults(output, alloc, form, origin, text, number, faults)
+        }
+        ParseRefusal::OutOfMemory { .. } => Err(AllocError),
+    }
+}
+
 /// Reads a text as a filterset, or writes its faults.
 fn read_filterset(
     output: &mut String,
@@ -92,24 +133,66 @@ fn read_filterset(
     context: &ParseContext<'_>,
     groups: &KnownGroups,
     form: Form,
-    number: usize,
-    entry: &TextEntry,
+    asked: NumberedText<'_>,
 ) -> Result<Option<Filterset>, AllocError>
     requires { IsKnown groups.now }
     ensures { IfOk result (λ made. (piece : Text) × (string_bytes output.new ≡ string_bytes output.old ++ piece)
-        × IsReadAs (packages_of context.now) groups.now form number (text_row entry.now) made piece) }
+        × IsReadAs (packages_of context.now) groups.now form asked.entry made piece) }
 {
-    let text = String::from_str(alloc, entry.text.as_str())?;
-    match Filterset::parse(alloc, text, context, entry.kind, groups) {
+    let input = String::from_str(alloc, asked.text)?;
+    match Filterset::parse(alloc, input, context, asked.kind, groups) {
         Ok(filterset) => Ok(Some(filterset)),
-        Err(ParseRefusal::Faults(refused)) => {
-            let (origin, text) = (entry.origin.as_str(), entry.text.as_str());
-            let faults = refused.errors.as_slice();
-            push_faults(output, alloc, form, origin, text, number, faults)?;
+        Err(refusal) => {
+            push_refusal(output, alloc, form, asked, &refusal)?;
             Ok(None)
         }
-        Err(ParseRefusal::OutOfMemory { .. }) => Err(AllocError),
     }
+}
+
+/// What the default filter and the filterset are, as far as their texts are filtersets.
+struct ReadTexts {
+    default: Option<Filterset>,
+    filter: Option<Filterset>,
+}
+
+// Written out, as for `Explanation`.
+impl Drop for ReadTexts {
+    fn drop(self) {
+        let ReadTexts {
+            default: _default,
+            filter: _filter,
+        } = self;
+    }
+}
+
+/// Reads the default filter and the filterset, or writes their faults.
+fn read_texts(
+    output: &mut String,
+    alloc: Global,
+    graph: &PackageGraph,
+    asked: &Explanation,
+) -> Result<ReadTexts, AllocError>
+    ensures { IfOk result (λ read. (piece : Text) × (string_bytes output.new ≡ string_bytes output.old ++ piece)
+        × AreRead asked.now graph.now read.default read.filter piece) }
+{
+    let default = NumberedText {
+        number: 1,
+        origin: "--default-filter",
+        kind: FiltersetKind::DefaultFilter,
+        text: asked.default_filter.as_str(),
+    };
+    let filter = NumberedText {
+        number: 2,
+        origin: "-E",
+        kind: FiltersetKind::Test,
+        text: asked.filter.as_str(),
+    };
+    let context = ParseContext::new(alloc, graph)?;
+    let groups = global_group(alloc);
+    Ok(ReadTexts {
+        default: read_filterset(output, alloc, &context, &groups, asked.form, default)?,
+        filter: read_filterset(output, alloc, &context, &groups, asked.form, filter)?,
+    })
 }
 
 /// The values of a filterset's nodes, where the first filterset stands for `default()`.
@@ -151,24 +234,9 @@ fn outcome_for(
     ensures { IfOk result (λ outcome. AnswersExplanation asked.now graph.now candidate.entry
         outcome.ending (string_bytes outcome.text)) }
 {
-    let (form, default, filter) = (
-        asked.form,
-        asked.default_filter.as_str(),
-        asked.filter.as_str(),
-    );
-    let first = entry(
-        alloc,
-        "--default-filter",
-        FiltersetKind::DefaultFilter,
-        default,
-    )?;
-    let second = entry(alloc, "-E", FiltersetKind::Test, filter)?;
-    let context = ParseContext::new(alloc, graph)?;
-    let groups = global_group(alloc);
     let mut text = String::new(alloc);
-    let default = read_filterset(&mut text, alloc, &context, &groups, form, 1, &first)?;
-    let filter = read_filterset(&mut text, alloc, &context, &groups, form, 2, &second)?;
-    match (&default, &filter) {
+    let read = read_texts(&mut text, alloc, graph, asked)?;
+    match (&read.default, &read.filter) {
         (Some(default), Some(filter)) => explained(alloc, graph, candidate, default, filter),
         _ => Ok(Outcome {
             text,

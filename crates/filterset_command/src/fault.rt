@@ -8,7 +8,6 @@ use std::alloc::{AllocError, Global};
 use std::{fmt, io};
 
 /// What is wrong with a file.
-#[derive(Debug, Drop)]
 pub enum FileFault {
     /// It could not be read.
     Unread(io::Error),
@@ -16,6 +15,17 @@ pub enum FileFault {
     NotText,
     /// It is not what it must be.
     Refused(SourceRefusal),
+}
+
+// Written out, so that a proof of who lets a fault go has one call, and not a branch a variant.
+impl Drop for FileFault {
+    fn drop(self) {
+        match self {
+            FileFault::Unread(_error) => {}
+            FileFault::NotText => {}
+            FileFault::Refused(_refusal) => {}
+        }
+    }
 }
 
 impl fmt::Display for FileFault {
@@ -29,7 +39,6 @@ impl fmt::Display for FileFault {
 }
 
 /// Why a command gave no answer.
-#[derive(Debug, Drop)]
 pub enum CommandFault {
     /// The words of the command line are none that the program takes.
     Words(Error),
@@ -45,6 +54,25 @@ pub enum CommandFault {
     NoTest { binary: String, test: String },
     /// There was not enough memory, or a read or a write failed.
     Run(RunFault),
+}
+
+// Written out, as for `FileFault`.
+impl Drop for CommandFault {
+    fn drop(self) {
+        match self {
+            CommandFault::Words(_error) => {}
+            CommandFault::NoWords | CommandFault::NotText | CommandFault::Run(_) => {}
+            CommandFault::File {
+                path: _path,
+                fault: _fault,
+            } => {}
+            CommandFault::NoBinary(_id) => {}
+            CommandFault::NoTest {
+                binary: _binary,
+                test: _test,
+            } => {}
+        }
+    }
 }
 
 impl CommandFault {

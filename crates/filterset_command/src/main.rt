@@ -46,7 +46,7 @@ fn command(rt: &HostRuntime) -> Result<Ending, CommandFault> {
     let mut output = ToWriter::new(rt.stdout());
     run(
         alloc,
-        request,
+        &request,
         &HostFiles { runtime: rt },
         &mut input,
         &mut output,

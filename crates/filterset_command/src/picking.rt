@@ -3,7 +3,7 @@ ghost use Rattle.std.specs.Prelude.{◌≡◌, IfErr, IfOk, length, option_map, 
 ghost use Rattle.serde_json.specs.View.{view};
 ghost use Rattle.filterset_expression.specs.Contexts.{default_of};
 ghost use Rattle.filterset_command.specs.Files.{NotWrite};
-ghost use Rattle.filterset_command.specs.Picking.{AnswersAsked, AnswersQuestion, Compares, IsGlobalOnly, IsPairFor, Lists, MayBeDefault, TellsOf, WritesList, kept_of};
+ghost use Rattle.filterset_command.specs.Picking.{AnswersAsked, AnswersQuestion, AreSections, Compares, IsGlobalOnly, IsPairFor, Lists, MayBeDefault, TellsOf, WritesList, kept_of};
 
 use crate::ending::{Ending, differing_ending};
 use crate::entries::asked_entries;
@@ -55,7 +55,22 @@ fn list_answer(
     }
 }
 
-/// The tests that a runner runs which is given these filtersets.
+/// The tests that a runner runs which is given these filtersets, a section a binary.
+fn sections_of<'s>(
+    alloc: Global,
+    filters: Vec<CompiledExpr>,
+    ignores_default: bool,
+    context: &EvalContext<'_>,
+    binaries: &[AskedBinary<'s>],
+) -> Result<Vec<Section<'s>>, AllocError>
+    ensures { IfOk result (λ sections. AreSections ignores_default (default_of context.now) filters.items binaries.now
+        sections.items) }
+{
+    let selection = selection_of(alloc, filters, ignores_default)?;
+    list(alloc, &selection, context, binaries)
+}
+
+/// What is written of the tests that a runner runs which is given these filtersets.
 fn listed(
     alloc: Global,
     filters: Vec<CompiledExpr>,
@@ -67,8 +82,7 @@ fn listed(
     ensures { IfOk result (λ outcome. Lists ignores_default (default_of context.now) filters.items
         (option_map view kept) binaries.now outcome.ending (string_bytes outcome.text)) }
 {
-    let selection = selection_of(alloc, filters, ignores_default)?;
-    let sections = list(alloc, &selection, context, binaries)?;
+    let sections = sections_of(alloc, filters, ignores_default, context, binaries)?;
     Ok(Outcome {
         text: list_answer(alloc, kept, sections.as_slice())?,
         ending: Ending::Fine,

@@ -17,7 +17,6 @@ use records::RunFault;
 use std::alloc::{AllocError, Global};
 
 /// The texts that are asked about.
-#[derive(Debug, Drop)]
 pub enum Texts {
     /// Those of the command line.
     Given(Vec<String>),
@@ -25,8 +24,17 @@ pub enum Texts {
     StandardInput,
 }
 
+// Written out, so that a proof of who lets texts go has one call, and not a branch a variant.
+impl Drop for Texts {
+    fn drop(self) {
+        match self {
+            Texts::Given(_texts) => {}
+            Texts::StandardInput => {}
+        }
+    }
+}
+
 /// What filtersets are asked.
-#[derive(Debug, Drop)]
 pub enum Question {
     /// Which tests a runner runs that is given them, within the default filter, unless that is ignored.
     List {
@@ -41,8 +49,24 @@ pub enum Question {
     },
 }
 
+// Written out, as for `Texts`.
+impl Drop for Question {
+    fn drop(self) {
+        match self {
+            Question::List {
+                filters: _filters,
+                ignores_default: _,
+            } => {}
+            Question::Compare {
+                first: _first,
+                second: _second,
+                has_names: _,
+            } => {}
+        }
+    }
+}
+
 /// What filtersets are asked of a workspace.
-#[derive(Debug, Drop)]
 pub struct Asked {
     pub paths: WorkspacePaths,
     pub form: Form,
@@ -51,8 +75,19 @@ pub struct Asked {
     pub question: Question,
 }
 
+// Written out, as for `Texts`.
+impl Drop for Asked {
+    fn drop(self) {
+        let Asked {
+            paths: _paths,
+            form: _,
+            default_filter: _default_filter,
+            question: _question,
+        } = self;
+    }
+}
+
 /// What is asked for.
-#[derive(Debug, Drop)]
 pub enum Request {
     Check {
         kind: FiltersetKind,
@@ -68,6 +103,27 @@ pub enum Request {
     Explain(Explanation),
     /// Writing this text: the help, or the version.
     Show(String),
+}
+
+// Written out, as for `Texts`.
+impl Drop for Request {
+    fn drop(self) {
+        match self {
+            Request::Check {
+                kind: _,
+                form: _,
+                texts: _texts,
+                paths: _paths,
+            } => {}
+            Request::Format {
+                form: _,
+                texts: _texts,
+            } => {}
+            Request::Ask(_asked) => {}
+            Request::Explain(_explanation) => {}
+            Request::Show(_text) => {}
+        }
+    }
 }
 
 /// What the words of the command line ask for.
@@ -95,23 +151,39 @@ fn unmatched(alloc: Global, error: Error) -> Result<Request, CommandFault>
 /// What the words ask for, as they were read.
 fn requested(alloc: Global, matches: &ArgMatches<'_>) -> Result<Request, AllocError> {
     match matches.subcommand() {
-        Some(("format", own)) => Ok(Request::Format {
-            form: Form::Drawn(color_of(own)),
-            texts: texts_of(alloc, own)?,
-        }),
-        Some(("list", own)) => {
-            let question = list_question(alloc, own)?;
-            asked_of(alloc, own, form_of(own), question)
-        }
-        Some(("compare", own)) => {
-            let question = compare_question(alloc, own)?;
-            asked_of(alloc, own, Form::Drawn(color_of(own)), question)
-        }
-        Some(("explain", own)) => Ok(Request::Explain(explanation_of(alloc, own)?)),
+        Some(("format", own)) => format_of(alloc, own),
+        Some(("list", own)) => list_of(alloc, own),
+        Some(("compare", own)) => compare_of(alloc, own),
+        Some(("explain", own)) => explain_of(alloc, own),
         Some((_, own)) => check_of(alloc, own),
         // A command is required.
         None => check_of(alloc, matches),
     }
+}
+
+/// What `format` asks for.
+fn format_of(alloc: Global, matches: &ArgMatches<'_>) -> Result<Request, AllocError> {
+    Ok(Request::Format {
+        form: Form::Drawn(color_of(matches)),
+        texts: texts_of(alloc, matches)?,
+    })
+}
+
+/// What `list` asks for.
+fn list_of(alloc: Global, matches: &ArgMatches<'_>) -> Result<Request, AllocError> {
+    let question = list_question(alloc, matches)?;
+    asked_of(alloc, matches, form_of(matches), question)
+}
+
+/// What `compare` asks for.
+fn compare_of(alloc: Global, matches: &ArgMatches<'_>) -> Result<Request, AllocError> {
+    let question = compare_question(alloc, matches)?;
+    asked_of(alloc, matches, Form::Drawn(color_of(matches)), question)
+}
+
+/// What `explain` asks for.
+fn explain_of(alloc: Global, matches: &ArgMatches<'_>) -> Result<Request, AllocError> {
+    Ok(Request::Explain(explanation_of(alloc, matches)?))
 }
 
 /// What `check` asks for.

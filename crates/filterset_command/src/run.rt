@@ -18,18 +18,18 @@ use std::alloc::Global;
 /// Answers a request, and then writes the answer. It is made before the first byte of it is written.
 pub fn run<F: FileSource, R: Source, W: Sink>(
     alloc: Global,
-    request: Request,
+    request: &Request,
     files: &F,
     input: &mut R,
     output: &mut W,
 ) -> Result<Ending, CommandFault>
     // Where the writer tells its bytes, the answer of the request is written, and nothing else.
     ensures answer { IfOk result (λ ending. (text : Text)
-        × IsAnswered (F.content files.now) request (R.left input.old) ending text
+        × IsAnswered (F.content files.now) request.now (R.left input.old) ending text
         × Appends (W.taken output.old) (W.taken output.new) text) }
     // After a failed write a beginning of such an answer is.
     ensures beginning { result ≡ Err (Run Write) → (ending : endings.Ending) × (front : Text) × (rest : Text)
-        × IsAnswered (F.content files.now) request (R.left input.old) ending (front ++ rest)
+        × IsAnswered (F.content files.now) request.now (R.left input.old) ending (front ++ rest)
         × Appends (W.taken output.old) (W.taken output.new) front }
     // After every other fault the writer is what it was.
     ensures silent { IfErr result (λ fault. fault ≢ Run Write → output.new ≡ output.old) }

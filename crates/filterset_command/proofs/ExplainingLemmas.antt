@@ -1,0 +1,30 @@
+-- What is answered of two texts that are read.
+use Rattle.std.proofs.Common.{◌≡◌, List, Option, Some, None, subst, sym}
+use Rattle.filterset_drawing.specs.Columns.{Text}
+use Rattle.filterset_explaining.specs.declared.candidate.Candidate.{Candidate}
+use Rattle.filterset_graph.specs.declared.package.PackageMetadata.{PackageMetadata}
+use Rattle.nextest_filtering.specs.declared.filterset.Filterset.{Filterset}
+use Rattle.filterset_command.specs.ExplainingAsked.{ExplainsRead, IsExplanation}
+use Rattle.filterset_command.specs.declared.ending.Ending.{Ending}
+use Rattle.filterset_command.specs.declared.ending.Ending.TheVariants.{Faulty}
+
+-- the explanation, where both are filtersets
+pub both_explained : (candidate : Candidate) (packages : List PackageMetadata) (default filter : Option Filterset) (one other : Filterset) (written : Text) (ending : Ending) (text : Text)
+    → default ≡ Some one → filter ≡ Some other → IsExplanation candidate packages one other ending text
+    → ExplainsRead candidate packages default filter written ending text
+both_explained candidate packages default filter one other written ending text is_one is_other explains =
+    subst (λ d. ExplainsRead candidate packages d filter written ending text) (sym is_one)
+    (subst (λ f. ExplainsRead candidate packages (Some one) f written ending text) (sym is_other) explains)
+
+-- what is written of both, where the first is none
+pub first_told : (candidate : Candidate) (packages : List PackageMetadata) (default filter : Option Filterset) (written : Text) (ending : Ending) (text : Text)
+    → default ≡ None → text ≡ written → ending ≡ Faulty → ExplainsRead candidate packages default filter written ending text
+first_told candidate packages default filter written ending text none same faulty =
+    subst (λ d. ExplainsRead candidate packages d filter written ending text) (sym none) (same, faulty)
+
+-- the same, where the second is none
+pub second_told : (candidate : Candidate) (packages : List PackageMetadata) (default filter : Option Filterset) (written : Text) (ending : Ending) (text : Text)
+    → filter ≡ None → text ≡ written → ending ≡ Faulty → ExplainsRead candidate packages default filter written ending text
+second_told candidate packages None filter written ending text none same faulty = (same, faulty)
+second_told candidate packages (Some default) filter written ending text none same faulty =
+    subst (λ f. ExplainsRead candidate packages (Some default) f written ending text) (sym none) (same, faulty)
