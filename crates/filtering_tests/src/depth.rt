@@ -1,13 +1,13 @@
 //! Deep filtersets are read, compiled, copied, compared, asked and dropped on the stack that a program is given.
-use crate::filtersets::{Asked, read};
-use crate::judging::filtersets_agree;
-use nextest_filtering::{CompiledExpr, EvalContext, Filterset};
+use crate::questions::Asked;
+use crate::readings::{Reading, is_copied};
+use nextest_filtering::Filterset;
 use std::alloc::{AllocError, Global};
 use std::process::Abort;
 use std::test::Fail;
 
 /// A text made by repetition, and what it says of a binary and of its test `a`.
-#[derive(Drop)]
+#[derive(Clone, Copy)]
 struct Deep<'a> {
     depth: usize,
     opening: &'a str,
@@ -40,28 +40,26 @@ fn says(alloc: Global, filterset: &Filterset, deep: &Deep<'_>) -> Result<bool, A
     if compiled.has_default_leaf() || compiled.has_group_matchers() {
         return Ok(false);
     }
-    let all = CompiledExpr::ALL;
-    let cx = EvalContext::new(&all);
     let asked = Asked::new(alloc, "a")?;
-    let query = asked.query();
+    let (query, cx) = (asked.query(), asked.context());
     let of_binary = filterset.matches_binary(alloc, &query.binary_query, &cx)?;
     let of_test = filterset.matches_test(alloc, &query, &cx)?;
     Ok(of_binary == deep.binary && of_test == deep.test)
 }
 
-/// Whether a copy is equal to the filterset.
-fn is_copied(alloc: Global, filterset: &Filterset) -> Result<bool, AllocError> {
-    let copy = filterset.try_clone(alloc)?;
-    Ok(filtersets_agree(&copy, filterset))
+/// Whether there is a filterset, it says what is wanted, and a copy is equal to it.
+fn is_wanted(alloc: Global, reading: &Reading, deep: &Deep<'_>) -> Result<bool, AllocError> {
+    match reading.filterset() {
+        Some(filterset) => Ok(says(alloc, filterset, deep)? && is_copied(alloc, filterset)?),
+        None => Ok(false),
+    }
 }
 
 /// Whether the text is read, the filterset says what is wanted, and a copy is equal to it.
 fn stands(alloc: Global, deep: &Deep<'_>) -> Result<bool, AllocError> {
     let text = text_of(alloc, deep)?;
-    match &read(alloc, text.as_str())? {
-        Ok(filterset) => Ok(says(alloc, filterset, deep)? && is_copied(alloc, filterset)?),
-        Err(_) => Ok(false),
-    }
+    let reading = Reading::new(alloc, text.as_str())?;
+    is_wanted(alloc, &reading, deep)
 }
 
 #[test]

@@ -1,5 +1,5 @@
 //! Evaluation: logics by their tables, and lookups of the tests' own.
-use crate::filtersets::Asked;
+use crate::questions::Asked;
 use nextest_filtering::{
     CompiledExpr, EvalContext, FiltersetLeaf, FlatExpr, GroupLookup, Logic, NameMatcher,
     SourceSpan, TestQuery,
@@ -57,46 +57,111 @@ fn three_values_answer_by_their_tables(rt: HostRuntime) {
     }
 }
 
-/// The expression `group(=name)`.
-fn group(alloc: Global, name: &str) -> Result<CompiledExpr, AllocError> {
+/// A leaf as plain data.
+#[derive(Clone, Copy)]
+enum Operand {
+    All,
+    None,
+    /// `group(=name)`.
+    Group(&'static str),
+}
+
+/// An expression as plain data.
+#[derive(Clone, Copy)]
+enum Plain {
+    Only(Operand),
+    Either(Operand, Operand),
+    Both(Operand, Operand),
+}
+
+/// The leaf `group(=name)`.
+fn group(alloc: Global, name: &str) -> Result<FiltersetLeaf, AllocError> {
     let matcher = NameMatcher::Equal {
         value: String::from_str(alloc, name)?,
         implicit: false,
     };
-    Ok(CompiledExpr::Set(FiltersetLeaf::Group(matcher, SourceSpan::new(0, 1))))
+    Ok(FiltersetLeaf::Group(matcher, SourceSpan::new(0, 1)))
 }
 
-/// Whether an expression's own call and that of its steps both answer this of the test `name`.
+/// The leaf that is described.
+fn leaf(alloc: Global, operand: Operand) -> Result<FiltersetLeaf, AllocError> {
+    match operand {
+        Operand::All => Ok(FiltersetLeaf::All),
+        Operand::None => Ok(FiltersetLeaf::None),
+        Operand::Group(name) => group(alloc, name),
+    }
+}
+
+/// The same as an operand.
+fn boxed(alloc: Global, operand: Operand) -> Result<Box<CompiledExpr>, AllocError> {
+    let expr = CompiledExpr::Set(leaf(alloc, operand)?);
+    Ok(Box::new(alloc, expr)?)
+}
+
+/// The expression that is described.
+fn made(alloc: Global, plain: Plain) -> Result<CompiledExpr, AllocError> {
+    Ok(match plain {
+        Plain::Only(operand) => CompiledExpr::Set(leaf(alloc, operand)?),
+        Plain::Either(left, right) => {
+            CompiledExpr::Union(boxed(alloc, left)?, boxed(alloc, right)?)
+        }
+        Plain::Both(left, right) => {
+            CompiledExpr::Intersection(boxed(alloc, left)?, boxed(alloc, right)?)
+        }
+    })
+}
+
+/// Whether an expression's own call and that of its steps both answer this.
 fn both_answer(
     alloc: Global,
     expr: &CompiledExpr,
-    name: &str,
+    asked: &Asked,
     groups: &dyn GroupLookup,
     wanted: Result<bool, AllocError>,
 ) -> Result<bool, AllocError> {
-    let all = CompiledExpr::ALL;
-    let cx = EvalContext::new(&all);
-    let asked = Asked::new(alloc, name)?;
-    let query = asked.query();
+    let (query, cx) = (asked.query(), asked.context());
     let flat = FlatExpr::new(alloc, expr, &cx)?;
     let own = expr.matches_test_with_groups(alloc, &query, &cx, groups);
     let kept = flat.matches_test_with_groups(alloc, &query, groups);
     Ok(own == wanted && kept == wanted)
 }
 
-/// Whether the call that is handed what the steps tell of the binary answers this of the test `x`.
-fn told_answers(
+/// Whether both calls of the expression that is described answer this of the test `name`.
+fn says(
     alloc: Global,
-    expr: &CompiledExpr,
+    plain: Plain,
+    name: &str,
     groups: &dyn GroupLookup,
     wanted: Result<bool, AllocError>,
 ) -> Result<bool, AllocError> {
-    let all = CompiledExpr::ALL;
-    let asked = Asked::new(alloc, "x")?;
-    let query = asked.query();
-    let flat = FlatExpr::new(alloc, expr, &EvalContext::new(&all))?;
+    let asked = Asked::new(alloc, name)?;
+    let expr = made(alloc, plain)?;
+    both_answer(alloc, &expr, &asked, groups, wanted)
+}
+
+/// Whether the call that is handed what the steps tell of the binary answers this.
+fn told_answers(
+    alloc: Global,
+    flat: &FlatExpr<'_>,
+    query: &TestQuery<'_>,
+    groups: &dyn GroupLookup,
+    wanted: Result<bool, AllocError>,
+) -> Result<bool, AllocError> {
     let told = flat.matches_binary(alloc, &query.binary_query)?;
-    Ok(flat.matches_test_of_told(alloc, told, &query, groups) == wanted)
+    Ok(flat.matches_test_of_told(alloc, told, query, groups) == wanted)
+}
+
+/// Whether that call answers this of the test `x` and the expression that is described.
+fn says_of_told(
+    alloc: Global,
+    plain: Plain,
+    groups: &dyn GroupLookup,
+    wanted: Result<bool, AllocError>,
+) -> Result<bool, AllocError> {
+    let asked = Asked::new(alloc, "x")?;
+    let expr = made(alloc, plain)?;
+    let flat = FlatExpr::new(alloc, &expr, &asked.context())?;
+    told_answers(alloc, &flat, &asked.query(), groups, wanted)
 }
 
 /// The test `x` is in the group `serial`, and no other test is in a group.
@@ -107,61 +172,56 @@ const KNOWN: OneMember = OneMember {
 
 #[test]
 fn lookups_tell_the_groups(rt: HostRuntime) -> Result<(), Fail> {
-    let alloc = rt.alloc();
-    for (name, of_group, answer) in [
-        ("x", "serial", true),
-        ("x", "db", false),
-        ("y", "serial", false),
-        ("y", "db", false),
+    for (name, operand, answer) in [
+        ("x", Operand::Group("serial"), true),
+        ("x", Operand::Group("db"), false),
+        ("y", Operand::Group("serial"), false),
+        ("y", Operand::Group("db"), false),
+        ("x", Operand::All, true),
+        ("y", Operand::All, true),
     ] {
-        let expr = group(alloc, of_group)?;
-        assert!(rt;
-            both_answer(alloc, &expr, name, &KNOWN, Ok(answer))?,
-            "{name} in {of_group}"
-        );
-    }
-    for name in ["x", "y"] {
-        assert!(rt;
-            both_answer(alloc, &CompiledExpr::ALL, name, &KNOWN, Ok(true))?,
-            "{name}"
-        );
+        let said = says(rt.alloc(), Plain::Only(operand), name, &KNOWN, Ok(answer))?;
+        assert!(rt; said, "{name}, wanted {answer}");
     }
     Ok(())
 }
 
 #[test]
 fn want_of_memory_of_a_lookup_is_the_answer(rt: HostRuntime) -> Result<(), Fail> {
-    let alloc = rt.alloc();
-    let of_group = group(alloc, "a")?;
-    assert!(rt; both_answer(alloc, &of_group, "x", &Refusing, Err(AllocError))?);
-    assert!(rt; both_answer(alloc, &CompiledExpr::ALL, "x", &Refusing, Ok(true))?);
+    for (operand, wanted) in [
+        (Operand::Group("a"), Err(AllocError)),
+        (Operand::All, Ok(true)),
+    ] {
+        let said = says(rt.alloc(), Plain::Only(operand), "x", &Refusing, wanted)?;
+        assert!(rt; said, "{wanted:?}");
+    }
     Ok(())
 }
 
 #[test]
 fn operands_that_are_passed_over_ask_no_lookup(rt: HostRuntime) -> Result<(), Fail> {
-    let alloc = rt.alloc();
-    let all = Box::new(alloc, CompiledExpr::ALL)?;
-    let either = CompiledExpr::Union(all, Box::new(alloc, group(alloc, "a")?)?);
-    assert!(rt; both_answer(alloc, &either, "x", &Refusing, Ok(true))?);
-    let none = Box::new(alloc, CompiledExpr::Set(FiltersetLeaf::None))?;
-    let both = CompiledExpr::Intersection(none, Box::new(alloc, group(alloc, "a")?)?);
-    assert!(rt; both_answer(alloc, &both, "x", &Refusing, Ok(false))?);
+    for (plain, answer) in [
+        (Plain::Either(Operand::All, Operand::Group("a")), true),
+        (Plain::Both(Operand::None, Operand::Group("a")), false),
+    ] {
+        let said = says(rt.alloc(), plain, "x", &Refusing, Ok(answer))?;
+        assert!(rt; said, "{answer}");
+    }
     Ok(())
 }
 
 #[test]
 fn what_is_told_of_a_binary_is_the_answer(rt: HostRuntime) -> Result<(), Fail> {
-    let alloc = rt.alloc();
-    let of_group = group(alloc, "serial")?;
-    assert!(rt; told_answers(alloc, &of_group, &KNOWN, Ok(true))?);
-    assert!(rt; told_answers(alloc, &of_group, &Refusing, Err(AllocError))?);
-    let all = Box::new(alloc, CompiledExpr::ALL)?;
-    let either = CompiledExpr::Union(Box::new(alloc, group(alloc, "a")?)?, all);
-    assert!(rt; told_answers(alloc, &either, &Refusing, Ok(true))?);
-    let none = Box::new(alloc, CompiledExpr::Set(FiltersetLeaf::None))?;
-    let both = CompiledExpr::Intersection(Box::new(alloc, group(alloc, "a")?)?, none);
-    assert!(rt; told_answers(alloc, &both, &Refusing, Ok(false))?);
+    let serial = Plain::Only(Operand::Group("serial"));
+    assert!(rt; says_of_told(rt.alloc(), serial, &KNOWN, Ok(true))?);
+    for (plain, wanted) in [
+        (serial, Err(AllocError)),
+        (Plain::Either(Operand::Group("a"), Operand::All), Ok(true)),
+        (Plain::Both(Operand::Group("a"), Operand::None), Ok(false)),
+    ] {
+        let said = says_of_told(rt.alloc(), plain, &Refusing, wanted)?;
+        assert!(rt; said, "{wanted:?}");
+    }
     Ok(())
 }
 
@@ -186,12 +246,9 @@ fn kept_calls_tell(alloc: Global, flat: &FlatExpr<'_>, query: &TestQuery<'_>) ->
     is_whole && !matches!(of_test, Ok(false)) && !matches!(of_binary, Ok(Some(_)))
 }
 
-/// Whether all these calls tell it of the test `x` and the expression, or want memory.
-fn all_calls_tell(alloc: Global, expr: &CompiledExpr) -> Result<bool, AllocError> {
-    let all = CompiledExpr::ALL;
-    let cx = EvalContext::new(&all);
-    let asked = Asked::new(alloc, "x")?;
-    let query = asked.query();
+/// Whether all these calls tell it, or want memory.
+fn all_calls_tell(alloc: Global, expr: &CompiledExpr, asked: &Asked) -> Result<bool, AllocError> {
+    let (query, cx) = (asked.query(), asked.context());
     if !own_calls_tell(alloc, expr, &query, &cx) {
         return Ok(false);
     }
@@ -199,11 +256,15 @@ fn all_calls_tell(alloc: Global, expr: &CompiledExpr) -> Result<bool, AllocError
     Ok(kept_calls_tell(alloc, &flat, &query))
 }
 
+/// Whether they tell it of the test `x` and the group `serial`.
+fn group_is_told(alloc: Global) -> Result<bool, AllocError> {
+    let asked = Asked::new(alloc, "x")?;
+    let expr = made(alloc, Plain::Only(Operand::Group("serial")))?;
+    all_calls_tell(alloc, &expr, &asked)
+}
+
 #[test]
 fn evaluation_or_wants_memory(rt: HostRuntime) {
-    let alloc = rt.alloc();
-    if let Ok(expr) = group(alloc, "serial") {
-        let told = all_calls_tell(alloc, &expr);
-        assert!(rt; !matches!(told, Ok(false)));
-    }
+    let told = group_is_told(rt.alloc());
+    assert!(rt; !matches!(told, Ok(false)));
 }

@@ -15,4 +15,10 @@ mod evaluation;
 mod filtersets;
 mod judging;
 #[cfg(test)]
+mod leaves;
+#[cfg(test)]
 mod matchers;
+#[cfg(test)]
+mod questions;
+#[cfg(test)]
+mod readings;

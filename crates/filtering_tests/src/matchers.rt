@@ -12,23 +12,26 @@ fn pattern(alloc: Global, text: &str) -> Result<PatternRegex, Fail> {
     Ok(PatternRegex::new(alloc, String::from_str(alloc, text)?)?)
 }
 
-/// The kept matcher answers so, and is still of its pattern alone.
-fn answers(rt: &impl Abort, matcher: &mut PatternMatcher<'_>, input: &str, answer: bool) {
-    let said = matcher.is_match(input);
-    assert!(rt; said == answer, "{input}");
+/// Asserts that the kept matcher answers as is wanted, again and again.
+fn answers_again(rt: &impl Abort, matcher: &mut PatternMatcher<'_>) {
+    for (input, answer) in [("ab", true), ("ba", false), ("", false), ("ab", true)] {
+        let said = matcher.is_match(input);
+        assert!(rt; said == answer, "{input}");
+    }
+}
+
+/// Whether the kept matcher is of the first pattern alone.
+fn is_of_first(matcher: &PatternMatcher<'_>, first: &PatternRegex, other: &PatternRegex) -> bool {
+    matcher.is_of(first) && !matcher.is_of(other)
 }
 
 #[test]
 fn kept_matchers_answer_again_and_again(rt: HostRuntime) -> Result<(), Fail> {
-    let alloc = rt.alloc();
-    let (ends, begins) = (pattern(alloc, "b$")?, pattern(alloc, "^b")?);
-    let mut matcher = ends.matcher(alloc)?;
-    answers(&rt, &mut matcher, "ab", true);
-    answers(&rt, &mut matcher, "ba", false);
-    answers(&rt, &mut matcher, "", false);
-    answers(&rt, &mut matcher, "ab", true);
-    assert!(rt; matcher.is_of(&ends));
-    assert!(rt; !matcher.is_of(&begins));
+    let ends = pattern(rt.alloc(), "b$")?;
+    let begins = pattern(rt.alloc(), "^b")?;
+    let mut matcher = ends.matcher(rt.alloc())?;
+    answers_again(&rt, &mut matcher);
+    assert!(rt; is_of_first(&matcher, &ends, &begins));
     Ok(())
 }
 

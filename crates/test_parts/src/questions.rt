@@ -6,7 +6,6 @@ use nextest_filtering::{
 use std::alloc::{AllocError, Global};
 
 /// What a question is made of.
-#[derive(Drop)]
 pub struct Parts {
     package: PackageId,
     id: RustBinaryId,
@@ -14,6 +13,20 @@ pub struct Parts {
     kind: RustTestBinaryKind,
     platform: BuildPlatform,
     test: TestCaseName,
+}
+
+// Written out, so that a proof of who lets one go has one call, and not the drop of each field.
+impl Drop for Parts {
+    fn drop(self) {
+        let Parts {
+            package: _package,
+            id: _id,
+            binary: _binary,
+            kind: _kind,
+            platform: _,
+            test: _test,
+        } = self;
+    }
 }
 
 impl Parts {
