@@ -68,7 +68,7 @@ enum Operand {
 
 /// An expression as plain data.
 #[derive(Clone, Copy)]
-enum Plain {
+enum PlainExpression {
     Only(Operand),
     Either(Operand, Operand),
     Both(Operand, Operand),
@@ -99,13 +99,13 @@ fn boxed(alloc: Global, operand: Operand) -> Result<Box<CompiledExpr>, AllocErro
 }
 
 /// The expression that is described.
-fn made(alloc: Global, plain: Plain) -> Result<CompiledExpr, AllocError> {
+fn made(alloc: Global, plain: PlainExpression) -> Result<CompiledExpr, AllocError> {
     Ok(match plain {
-        Plain::Only(operand) => CompiledExpr::Set(leaf(alloc, operand)?),
-        Plain::Either(left, right) => {
+        PlainExpression::Only(operand) => CompiledExpr::Set(leaf(alloc, operand)?),
+        PlainExpression::Either(left, right) => {
             CompiledExpr::Union(boxed(alloc, left)?, boxed(alloc, right)?)
         }
-        Plain::Both(left, right) => {
+        PlainExpression::Both(left, right) => {
             CompiledExpr::Intersection(boxed(alloc, left)?, boxed(alloc, right)?)
         }
     })
@@ -129,7 +129,7 @@ fn both_answer(
 /// Whether both calls of the expression that is described answer this of the test `name`.
 fn says(
     alloc: Global,
-    plain: Plain,
+    plain: PlainExpression,
     name: &str,
     groups: &dyn GroupLookup,
     wanted: Result<bool, AllocError>,
@@ -154,7 +154,7 @@ fn told_answers(
 /// Whether that call answers this of the test `x` and the expression that is described.
 fn says_of_told(
     alloc: Global,
-    plain: Plain,
+    plain: PlainExpression,
     groups: &dyn GroupLookup,
     wanted: Result<bool, AllocError>,
 ) -> Result<bool, AllocError> {
@@ -180,7 +180,13 @@ fn lookups_tell_the_groups(rt: HostRuntime) -> Result<(), Fail> {
         ("x", Operand::All, true),
         ("y", Operand::All, true),
     ] {
-        let said = says(rt.alloc(), Plain::Only(operand), name, &KNOWN, Ok(answer))?;
+        let said = says(
+            rt.alloc(),
+            PlainExpression::Only(operand),
+            name,
+            &KNOWN,
+            Ok(answer),
+        )?;
         assert!(rt; said, "{name}, wanted {answer}");
     }
     Ok(())
@@ -192,7 +198,13 @@ fn want_of_memory_of_a_lookup_is_the_answer(rt: HostRuntime) -> Result<(), Fail>
         (Operand::Group("a"), Err(AllocError)),
         (Operand::All, Ok(true)),
     ] {
-        let said = says(rt.alloc(), Plain::Only(operand), "x", &Refusing, wanted)?;
+        let said = says(
+            rt.alloc(),
+            PlainExpression::Only(operand),
+            "x",
+            &Refusing,
+            wanted,
+        )?;
         assert!(rt; said, "{wanted:?}");
     }
     Ok(())
@@ -201,8 +213,14 @@ fn want_of_memory_of_a_lookup_is_the_answer(rt: HostRuntime) -> Result<(), Fail>
 #[test]
 fn operands_that_are_passed_over_ask_no_lookup(rt: HostRuntime) -> Result<(), Fail> {
     for (plain, answer) in [
-        (Plain::Either(Operand::All, Operand::Group("a")), true),
-        (Plain::Both(Operand::None, Operand::Group("a")), false),
+        (
+            PlainExpression::Either(Operand::All, Operand::Group("a")),
+            true,
+        ),
+        (
+            PlainExpression::Both(Operand::None, Operand::Group("a")),
+            false,
+        ),
     ] {
         let said = says(rt.alloc(), plain, "x", &Refusing, Ok(answer))?;
         assert!(rt; said, "{answer}");
@@ -212,12 +230,18 @@ fn operands_that_are_passed_over_ask_no_lookup(rt: HostRuntime) -> Result<(), Fa
 
 #[test]
 fn what_is_told_of_a_binary_is_the_answer(rt: HostRuntime) -> Result<(), Fail> {
-    let serial = Plain::Only(Operand::Group("serial"));
+    let serial = PlainExpression::Only(Operand::Group("serial"));
     assert!(rt; says_of_told(rt.alloc(), serial, &KNOWN, Ok(true))?);
     for (plain, wanted) in [
         (serial, Err(AllocError)),
-        (Plain::Either(Operand::Group("a"), Operand::All), Ok(true)),
-        (Plain::Both(Operand::Group("a"), Operand::None), Ok(false)),
+        (
+            PlainExpression::Either(Operand::Group("a"), Operand::All),
+            Ok(true),
+        ),
+        (
+            PlainExpression::Both(Operand::Group("a"), Operand::None),
+            Ok(false),
+        ),
     ] {
         let said = says_of_told(rt.alloc(), plain, &Refusing, wanted)?;
         assert!(rt; said, "{wanted:?}");
@@ -259,7 +283,7 @@ fn all_calls_tell(alloc: Global, expr: &CompiledExpr, asked: &Asked) -> Result<b
 /// Whether they tell it of the test `x` and the group `serial`.
 fn group_is_told(alloc: Global) -> Result<bool, AllocError> {
     let asked = Asked::new(alloc, "x")?;
-    let expr = made(alloc, Plain::Only(Operand::Group("serial")))?;
+    let expr = made(alloc, PlainExpression::Only(Operand::Group("serial")))?;
     all_calls_tell(alloc, &expr, &asked)
 }
 
