@@ -1,4 +1,5 @@
-//! Matchers of names: one that is kept for a pattern, and calls that may want memory.
+//! Matchers of names: those that are kept for a pattern or a glob, and calls that may want memory.
+use filterset_matchers::GlobMatcher;
 use nextest_filtering::{
     GenericGlob, GlobRefusal, NameMatcher, PatternMatcher, PatternRefusal, PatternRegex,
 };
@@ -32,6 +33,35 @@ fn kept_matchers_answer_again_and_again(rt: HostRuntime) -> Result<(), Fail> {
     let mut matcher = ends.matcher(rt.alloc())?;
     answers_again(&rt, &mut matcher);
     assert!(rt; is_of_first(&matcher, &ends, &begins));
+    Ok(())
+}
+
+/// Whether what is kept for the glob of this text matches the name.
+fn glob_matches(alloc: Global, text: &str, name: &str) -> Result<bool, Fail> {
+    let glob = GenericGlob::new(alloc, String::from_str(alloc, text)?)?;
+    let matcher = GlobMatcher::new(alloc, &glob)?;
+    Ok(matcher.is_match(alloc, name)?)
+}
+
+#[test]
+fn literals_stand_between_stars(rt: HostRuntime) -> Result<(), Fail> {
+    for (text, name, answer) in [
+        ("*ab*cde", "xabxcde", true),
+        ("*ab*cde", "xcdeab", false),
+        ("*ab*cde", "abcd", false),
+        ("*b?c", "abxc", true),
+        ("*b?c", "abc", false),
+        ("*{ab,c}*", "xabx", true),
+        ("**/\u{e9}*", "a/\u{e9}b", true),
+        ("*\u{e9}", "\u{e8}", false),
+        ("*", "", true),
+    ] {
+        assert_eq!(rt;
+            glob_matches(rt.alloc(), text, name)?,
+            answer,
+            "{text} {name}"
+        );
+    }
     Ok(())
 }
 

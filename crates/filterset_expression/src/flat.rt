@@ -40,7 +40,7 @@ pub use steps::FlatStep;
 #[derive(Debug)]
 pub struct FlatExpr<'a> {
     steps: Vec<FlatStep<'a>>,
-    /// What searches for the pattern of a leaf, in the leaf's place; none where no leaf has a pattern.
+    /// What is kept for the matcher of a leaf, in the leaf's place; none where nothing is kept for any.
     kept: Vec<KeptMatcher<'a>>,
     /// The greatest number of values that stand on the stack while the steps run.
     height: usize,

@@ -1,4 +1,5 @@
 pub mod Chars
+pub mod Literals
 pub mod PatternLemmas
 pub mod Runs
 pub mod Substrings

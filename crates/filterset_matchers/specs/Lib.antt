@@ -5,3 +5,4 @@ pub mod PrintedMatcher
 pub mod Runs
 pub mod Equality
 pub mod Substring
+pub mod Literals

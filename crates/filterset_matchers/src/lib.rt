@@ -4,4 +4,4 @@
 mod matcher;
 mod printing;
 
-pub use matcher::{NameMatcher, PatternMatcher, PatternRefusal, PatternRegex};
+pub use matcher::{GlobMatcher, NameMatcher, PatternMatcher, PatternRefusal, PatternRegex};

@@ -5,9 +5,12 @@ use filterset_glob::GenericGlob;
 use std::alloc::{AllocError, Global};
 use std::rc::Rc;
 
+mod glob;
+mod literal;
 mod pattern;
 mod substring;
 
+pub use glob::GlobMatcher;
 pub use pattern::{PatternMatcher, PatternRefusal, PatternRegex};
 
 /// How a name is matched. `implicit` tells whether the text that the matcher was read from has no sign before it.

@@ -10,7 +10,7 @@ use crate::{BinaryQuery, FiltersetLeaf, GroupLookup, TestQuery};
 use filterset_matchers::NameMatcher;
 use std::alloc::{AllocError, Global};
 
-/// A leaf that is asked, and what searches for its pattern where that is kept. A `default` leaf is the caller's: here it
+/// A leaf that is asked, and what is kept for its matcher. A `default` leaf is the caller's: here it
 /// holds of nothing.
 #[derive(Clone, Copy, Debug)]
 pub struct AskedLeaf<'s, 'a> {
@@ -24,9 +24,9 @@ impl<'s, 'a> AskedLeaf<'s, 'a> {
     fn hits(&self, alloc: Global, matcher: &'a NameMatcher, name: &str) -> Result<bool, AllocError>
         ensures { IfOk result (λ hit. IsTrue hit ↔ Hits (matcher_of matcher.now) name.now) }
     {
-        match (matcher, self.kept) {
-            (NameMatcher::Regex(pattern), Some(kept)) => kept.is_match(alloc, pattern, name),
-            _ => matcher.is_match(alloc, name),
+        match self.kept {
+            Some(kept) => kept.is_match(alloc, matcher, name),
+            None => matcher.is_match(alloc, name),
         }
     }
 

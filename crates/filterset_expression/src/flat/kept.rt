@@ -1,109 +1,150 @@
-//! What searches for patterns, kept from one question to the next.
+//! What answers for matchers that search, kept from one question to the next.
 ghost use Rattle.std.specs.Prelude.{◌↔◌, IfOk, IsTrue};
+ghost use Rattle.filterset_matchers.specs.Matcher.{Hits};
+ghost use Rattle.filterset_matchers.specs.Matchers.{matcher_of};
 ghost use Rattle.filterset_matchers.specs.Pattern.{HasMatch};
 
 use crate::FiltersetLeaf;
 use crate::flat::FlatStep;
-use filterset_matchers::{NameMatcher, PatternMatcher, PatternRegex};
+use filterset_matchers::{GlobMatcher, NameMatcher, PatternMatcher, PatternRegex};
 use std::alloc::{AllocError, Global};
 use std::cell::RefCell;
 
-/// What searches for a pattern: made at the first question, and kept. Whatever lies in the cell tells which pattern it
-/// searches for, so that an answer never depends on it.
+/// What is kept for the matcher of a step. It tells which pattern or glob it is of, so that an answer never depends on
+/// what is kept.
 #[derive(Debug)]
-pub struct KeptMatcher<'a> {
-    kept: RefCell<Option<PatternMatcher<'a>>>,
+pub enum KeptMatcher<'a> {
+    /// Nothing: to compare names wants nothing, and for some globs it does not pay.
+    Nothing,
+    /// What searches for a pattern, which is made at the first question.
+    Pattern(RefCell<Option<PatternMatcher<'a>>>),
+    /// A glob beside its longest literal.
+    Glob(GlobMatcher<'a>),
 }
 
 // Written out, so that a proof of who lets it go has one call, and not the drop of what lies in the cell.
 impl Drop for KeptMatcher<'_> {
     fn drop(self) {
-        let KeptMatcher { kept: _kept } = self;
+        match self {
+            KeptMatcher::Nothing => {}
+            KeptMatcher::Pattern(_kept) => {}
+            KeptMatcher::Glob(_kept) => {}
+        }
     }
 }
 
 impl<'a> KeptMatcher<'a> {
-    /// Nothing is kept yet, and no memory is taken.
-    pub fn new() -> KeptMatcher<'a> {
-        KeptMatcher {
-            kept: RefCell::new(None),
-        }
+    /// What is kept of the step's matcher before the first question. The only error is out of memory.
+    fn new(alloc: Global, step: FlatStep<'a>) -> Result<KeptMatcher<'a>, AllocError> {
+        Ok(match searched(step) {
+            Some(NameMatcher::Regex(_)) => KeptMatcher::Pattern(RefCell::new(None)),
+            Some(NameMatcher::Glob { glob, .. }) => KeptMatcher::Glob(GlobMatcher::new(
+                alloc, glob,
+            )?),
+            _ => KeptMatcher::Nothing,
+        })
     }
 
-    /// Whether the pattern matches anywhere in the name. The only error is out of memory.
+    /// Whether the matcher hits the name. The only error is out of memory.
+    #[inline(always)]
     pub fn is_match(
         &self,
         alloc: Global,
-        pattern: &'a PatternRegex,
+        matcher: &'a NameMatcher,
         name: &str,
     ) -> Result<bool, AllocError>
-        ensures { IfOk result (λ found. IsTrue found ↔ HasMatch pattern.now name.now) }
+        ensures { IfOk result (λ hit. IsTrue hit ↔ Hits (matcher_of matcher.now) name.now) }
     {
-        if let Ok(mut guard) = self.kept.try_borrow_mut() {
-            if let Some(kept) = &mut *guard {
-                if kept.is_of(pattern) {
-                    return Ok(kept.is_match(name));
-                }
+        match (self, matcher) {
+            (KeptMatcher::Pattern(kept), NameMatcher::Regex(pattern)) => {
+                is_found(kept, alloc, pattern, name)
             }
+            (KeptMatcher::Glob(kept), NameMatcher::Glob { glob, .. }) if kept.is_of(glob) => {
+                kept.is_match(alloc, name)
+            }
+            _ => matcher.is_match(alloc, name),
         }
-        self.first_search(alloc, pattern, name)
-    }
-
-    /// The same by a new matcher, which is kept. It is not inlined, since a function clears the room of its locals.
-    #[cold]
-    #[inline(never)]
-    fn first_search(
-        &self,
-        alloc: Global,
-        pattern: &'a PatternRegex,
-        name: &str,
-    ) -> Result<bool, AllocError>
-        ensures { IfOk result (λ found. IsTrue found ↔ HasMatch pattern.now name.now) }
-    {
-        let mut matcher = pattern.matcher(alloc)?;
-        let found = matcher.is_match(name);
-        if let Ok(mut guard) = self.kept.try_borrow_mut() {
-            *guard = Some(matcher);
-        }
-        Ok(found)
     }
 }
 
-/// Room for what searches for the patterns of leaves, one at the position of each step, and none where no leaf has a
-/// pattern. The only error is out of memory.
+/// Whether the pattern matches anywhere in the name. The only error is out of memory.
+fn is_found<'a>(
+    kept: &RefCell<Option<PatternMatcher<'a>>>,
+    alloc: Global,
+    pattern: &'a PatternRegex,
+    name: &str,
+) -> Result<bool, AllocError>
+    ensures { IfOk result (λ found. IsTrue found ↔ HasMatch pattern.now name.now) }
+{
+    if let Ok(mut guard) = kept.try_borrow_mut() {
+        if let Some(kept) = &mut *guard {
+            if kept.is_of(pattern) {
+                return Ok(kept.is_match(name));
+            }
+        }
+    }
+    first_search(kept, alloc, pattern, name)
+}
+
+/// The same by a new matcher, which is kept. It is not inlined, since a function clears the room of its locals.
+#[cold]
+#[inline(never)]
+fn first_search<'a>(
+    kept: &RefCell<Option<PatternMatcher<'a>>>,
+    alloc: Global,
+    pattern: &'a PatternRegex,
+    name: &str,
+) -> Result<bool, AllocError>
+    ensures { IfOk result (λ found. IsTrue found ↔ HasMatch pattern.now name.now) }
+{
+    let mut matcher = pattern.matcher(alloc)?;
+    let found = matcher.is_match(name);
+    if let Ok(mut guard) = kept.try_borrow_mut() {
+        *guard = Some(matcher);
+    }
+    Ok(found)
+}
+
+/// What is kept for each step, at its position; none where nothing is kept for any. The only error is out of memory.
 pub fn kept_matchers<'a>(
     alloc: Global,
     steps: &[FlatStep<'a>],
 ) -> Result<Vec<KeptMatcher<'a>>, AllocError> {
     let mut kept = Vec::new(alloc);
-    if steps.iter().any(has_pattern) {
-        for _step in steps {
-            kept.push(KeptMatcher::new())?;
+    if steps.iter().any(|step| searched(*step).is_some()) {
+        for step in steps {
+            kept.push(KeptMatcher::new(alloc, *step)?)?;
         }
     }
     Ok(kept)
 }
 
-/// Whether the step is a leaf whose pattern is searched for.
-fn has_pattern(step: &FlatStep<'_>) -> bool {
-    match step {
-        FlatStep::Leaf(leaf) => leaf_has_pattern(leaf),
-        _ => false,
-    }
+/// The step's matcher, where it searches names and keeping something makes that faster.
+fn searched<'a>(step: FlatStep<'a>) -> Option<&'a NameMatcher> {
+    let FlatStep::Leaf(leaf) = step else {
+        return None;
+    };
+    let matcher = matcher_of_leaf(leaf)?;
+    let searches = match matcher {
+        NameMatcher::Equal { .. } | NameMatcher::Contains { .. } => false,
+        NameMatcher::Glob { glob, .. } => GlobMatcher::pays_for(glob),
+        NameMatcher::Regex(_) => true,
+    };
+    searches.then_some(matcher)
 }
 
-/// Whether a pattern is searched for to answer the leaf. Each leaf is named, so that none is forgotten.
-fn leaf_has_pattern(leaf: &FiltersetLeaf) -> bool {
+/// The matcher that is put to names to answer the leaf. Each leaf is named, so that none is forgotten.
+fn matcher_of_leaf(leaf: &FiltersetLeaf) -> Option<&NameMatcher> {
     match leaf {
         FiltersetLeaf::Kind(matcher, _)
         | FiltersetLeaf::Binary(matcher, _)
         | FiltersetLeaf::BinaryId(matcher, _)
-        | FiltersetLeaf::Test(matcher, _) => matches!(matcher, NameMatcher::Regex(_)),
+        | FiltersetLeaf::Test(matcher, _) => Some(matcher),
         FiltersetLeaf::Packages(..)
         | FiltersetLeaf::Platform(..)
         | FiltersetLeaf::Group(..)
         | FiltersetLeaf::Default
         | FiltersetLeaf::All
-        | FiltersetLeaf::None => false,
+        | FiltersetLeaf::None => None,
     }
 }

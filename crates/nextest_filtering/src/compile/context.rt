@@ -138,10 +138,22 @@ fn test_binary<'g>(
 }
 
 /// What is known of the groups of tests where a filterset is read.
-#[derive(Debug, Drop)]
+#[derive(Debug)]
 pub enum KnownGroups {
     /// These groups, and `@global`, which need not be named.
     Known { custom_groups: HashSet<String> },
     /// The groups are not known. No filterset of kind `Test` may be read so; those of all other kinds hold no `group`.
     Unavailable,
+}
+
+// Written out, as for `ParseContext`.
+impl Drop for KnownGroups {
+    fn drop(self) {
+        match self {
+            KnownGroups::Known {
+                custom_groups: _custom_groups,
+            } => {}
+            KnownGroups::Unavailable => {}
+        }
+    }
 }

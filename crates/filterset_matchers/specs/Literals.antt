@@ -1,0 +1,17 @@
+-- What stands in each text that a glob matches.
+use Rattle.std.specs.Prelude.{◌≡◌, ℕ, List, ◌++◌, encode_utf8_all}
+use Rattle.filterset_glob.specs.Matching.{Matches}
+use Rattle.filterset_glob.specs.Tokens.{Tokens}
+
+-- in each text that the tokens match stand the characters with these bytes, one after the other
+abbrev pub StandsInEach : Tokens → List ℕ → Type 0
+StandsInEach tokens literal =
+    (text : List ℕ) → Matches tokens text
+    → (before : List ℕ) × (own : List ℕ) × (after : List ℕ) × (text ≡ before ++ (own ++ after))
+    × (encode_utf8_all own ≡ literal)
+
+-- each text that the tokens match ends in the characters with these bytes
+abbrev pub EndsEach : Tokens → List ℕ → Type 0
+EndsEach tokens literal =
+    (text : List ℕ) → Matches tokens text
+    → (before : List ℕ) × (own : List ℕ) × (text ≡ before ++ own) × (encode_utf8_all own ≡ literal)
