@@ -1,6 +1,6 @@
 -- Literals of globs, and the texts that they stand in.
-use Rattle.std.proofs.Common.{◌≡◌, ◌⊎◌, inl, inr, ◌+◌, ◌<◌, ℕ, length, get_or, take, List, [], ◌∷◌, ◌++◌, refl, sym, ap, subst, ◌∙◌, append_assoc, IsUtf8}
-use Rattle.std.proofs.lemmas.List.{append-nil, take_more}
+use Rattle.std.proofs.Common.{◌≡◌, ◌⊎◌, inl, inr, ℕ, List, [], ◌∷◌, ◌++◌, refl, sym, ap, subst, ◌∙◌, append_assoc, IsUtf8}
+use Rattle.std.proofs.lemmas.List.{append-nil}
 use Rattle.std.proofs.lemmas.Str.{encodes-append, encodes-chars}
 use Rattle.std.specs.Prelude.{chars, encode_utf8, encode_utf8_all}
 use Rattle.std.specs.Str.Iter.{HasSubslice}
@@ -64,10 +64,6 @@ stands_in_name tokens needle name utf8 stands m =
       sym (encodes-chars name utf8) ∙ ap encode_utf8_all eq ∙ encodes-append before (own ++ after)
           ∙ ap (λ x. encode_utf8_all before ++ x) (encodes-append own after ∙ ap (λ x. x ++ encode_utf8_all after) bytes),
     )
-
--- the tokens up to one, and this one
-pub taken_with : (tokens : List GlobToken) (i : ℕ) (token : GlobToken) → i < length tokens → token ≡ get_or tokens i token → take (i + 1) tokens ≡ take i tokens ++ token ∷ []
-taken_with tokens i token within is = take_more tokens i token within ∙ ap (λ t. take i tokens ++ t ∷ []) (sym is)
 
 -- where a run ends, the longer one of it and the longest one so far still stands in each text
 pub longer_stands : (tokens : Tokens) (run longest kept : List ℕ) → EndsEach tokens run → StandsInEach tokens longest → (kept ≡ longest) ⊎ (kept ≡ run) → StandsInEach tokens kept

@@ -62,7 +62,7 @@ impl<'g> GlobMatcher<'g> {
 
     /// Whether this matches names by a glob of that text.
     pub fn is_of(&self, glob: &GenericGlob) -> bool
-        ensures { IsTrue result → self.now ≡ glob.now }
+        ensures { IsTrue result ↔ self.now ≡ glob.now }
     {
         self.glob.as_str() == glob.as_str()
     }

@@ -6,8 +6,7 @@ ghost use Rattle.filterset_matchers.specs.Substring.{StandsAt};
 
 use std::simd::prelude::*;
 
-/// Whether the second text stands somewhere in the first. It is inlined, since it is called for each name.
-#[inline(always)]
+/// Whether the second text stands somewhere in the first.
 pub(super) fn contains(text: &str, needle: &str) -> bool
     ensures { IsTrue result ↔ HasSubslice text.now needle.now }
 {

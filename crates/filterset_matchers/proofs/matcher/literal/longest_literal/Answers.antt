@@ -1,8 +1,9 @@
 use Rattle.std.proofs.Common.{◌∷◌, ◌++◌, [], take, ap, arith, subst, string_bytes}
 use Rattle.std.proofs.lemmas.List.{take_all}
 use Rattle.filterset_glob.specs.Tokens.{tokens_of, token_of}
+use Rattle.filterset_glob.proofs.Items.{take_item}
 use Rattle.filterset_matchers.specs.Literals.{StandsInEach}
-use Rattle.filterset_matchers.proofs.Literals.{taken_with, run_grows, still_stands, none_ends, longer_stands}
+use Rattle.filterset_matchers.proofs.Literals.{run_grows, still_stands, none_ends, longer_stands}
 use Rattle.filterset_matchers.proofs.matcher.literal.longest_literal.Goals as goal
 use Rattle.filterset_matchers.proofs.matcher.literal.longest_literal.Goals.{in-Literal+in_ok-push-in-Literal, in_default}
 
@@ -11,7 +12,7 @@ loop-token-preserved c =
     let before = c.loop-token.invariant in
     let first = take c.loop-token.token-index c.args.tokens.now in
     let token = c.token-item.result in
-    rw (taken_with c.args.tokens.now c.loop-token.token-index token c.loop-token-test.true c.token-item.is)
+    rw (take_item c.args.tokens.now c.loop-token.token-index token c.loop-token-test.true c.token-item.is)
     (elim c.match-token.branch [
       | in-Literal+in_ok-push-in-Literal w ↦ record {
         ends = rw (w.run-is, w.in_ok-push-in-Literal.ensures.bytes) (run_grows first token w.in-Literal.own (string_bytes c.loop-token.run) (ap token_of w.in-Literal.is) before.ends);
