@@ -1,5 +1,5 @@
 //! How faults are written.
-ghost use Rattle.std.specs.Prelude.{◌≡◌, ◌++◌, OnOk, codes, string_bytes};
+ghost use Rattle.std.specs.Prelude.{◌≡◌, ◌++◌, IfOk, OnOk, codes, string_bytes};
 ghost use Rattle.serde_json.specs.Data.{Data};
 ghost use Rattle.serde_json.specs.Written.{compact_text};
 ghost use Rattle.filterset_drawing.specs.Columns.{Text};
@@ -61,12 +61,24 @@ fn push_object(
         × (string_bytes output.new ≡ string_bytes output.old ++ (compact_text d ++ codes "\n"))
         × FaultData source.origin.now source.text.now number fault.now d) }
 {
-    let object = fault_json(alloc, source, number, fault)?;
-    let object = object.to_string(alloc)?;
-    let object = object.as_str();
-    output.push_str(object)?;
+    let object = object_of(alloc, source, number, fault)?;
+    output.push_str(object.as_str())?;
     output.push_str("\n")?;
     Ok(())
+}
+
+/// A fault as the text of a JSON object.
+fn object_of(
+    alloc: Global,
+    source: &Source<'_>,
+    number: usize,
+    fault: &ParseSingleError,
+) -> Result<String, AllocError>
+    ensures { let source = source.now in IfOk result (λ text. (d : Data) × (string_bytes text ≡ compact_text d)
+        × FaultData source.origin.now source.text.now number fault.now d) }
+{
+    let object = fault_json(alloc, source, number, fault)?;
+    Ok(object.to_string(alloc)?)
 }
 
 /// Writes a fault of the text with this number.

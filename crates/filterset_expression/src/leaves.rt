@@ -10,6 +10,8 @@ use std::collections::BTreeSet;
 
 /// A set of tests that a compiled expression is made of. A span is that of the matcher, or of the platform, in the
 /// text that the leaf was read from.
+///
+/// It implements `Drop`, so a field is read by reference, and none is moved out of it.
 #[derive(Debug)]
 pub enum FiltersetLeaf {
     /// The tests of these packages.

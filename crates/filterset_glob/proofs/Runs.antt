@@ -77,6 +77,10 @@ fewer_nodes (x ∷ xs) (suc n) some within = omega (arith, nodes_behind xs n, no
 
 -- ---- tokens that take one character each
 
+pub first_of_some : {X : Type 0} → (xs : List X) → 0 < length xs → (x : X) × (take 1 xs ≡ x ∷ [])
+first_of_some [] some = absurd (omega (arith, some))
+first_of_some (x ∷ xs) some = (x, refl)
+
 -- one token more
 pub run_more : (tokens : List GlobToken) (k : ℕ) (x : GlobToken) (t : List ℕ) (c : ℕ) → k < length tokens → x ≡ get_or tokens k x → Admits (token_of x) c → Matches (tokens_of (take k tokens)) t → Matches (tokens_of (take (k + 1) tokens)) (t ++ c ∷ [])
 run_more tokens k x t c h is a m =

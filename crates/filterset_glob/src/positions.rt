@@ -191,21 +191,15 @@ impl Positions {
         words::step_over(&mut self.later, text, token, word::highest(kept));
     }
 
-    /// Moves a position that is plainly alone over several tokens at once: over `token`, which is the first of `tokens`,
-    /// and on as long as each takes the next character. Returns how many tokens that were. If `token` does not take its
-    /// character, it is one token, and no position is left. If there is plainly no position to begin with, it is all of
-    /// them. It is 0, and nothing moves, if there may be several positions, or the one is the end of the text.
+    /// Moves a position that is plainly alone over several tokens at once: over the first of them, and on as long as each
+    /// takes the next character. Returns how many tokens that were. If the first does not take its character, it is one
+    /// token, and no position is left. If there is plainly no position to begin with, it is all of them. It is 0, and
+    /// nothing moves, if there may be several positions, or the one is the end of the text.
     #[inline(always)]
-    pub(crate) fn run_over(
-        &mut self,
-        text: &Text,
-        token: &GlobToken,
-        tokens: &[GlobToken],
-        steps: &mut Steps,
-    ) -> usize
+    pub(crate) fn run_over(&mut self, text: &Text, tokens: &[GlobToken], steps: &mut Steps) -> usize
         requires long { length self.old ≡ length text.now + 1 }
-        requires first { take 1 tokens.now ≡ token.now ∷ [] }
-        requires one { TakesOne (token_of token.now) }
+        requires some { 0 < length tokens.now }
+        requires one { (token : GlobToken) → take 1 tokens.now ≡ token ∷ [] → TakesOne (token_of token) }
         ensures length { length self.new ≡ length self.old }
         ensures short { result ≤ length tokens.now }
         ensures moved { Moves (Matches (tokens_of (take result tokens.now))) text.now self.old self.new }
@@ -230,7 +224,7 @@ impl Positions {
         if !words::are_none(&self.later) {
             return 0;
         }
-        let run = text.run(position as usize, token, tokens);
+        let run = text.run(position as usize, tokens);
         self.first = 0;
         if run == 0 {
             steps.add(1); // the position, whose next character is not taken

@@ -20,6 +20,8 @@ use nodes::{copied_set, enclosed, joined, negation, union};
 
 /// A predicate of a filterset. Its span is that of its argument without the blanks after a pattern, and of `default()`
 /// that of the whole predicate; `all()` and `none()` have none.
+///
+/// It implements `Drop`, so a field is read by reference, and none is moved out of it.
 #[derive(Debug)]
 pub enum ParsedLeaf<S = SourceSpan> {
     /// The test's package, by its name.

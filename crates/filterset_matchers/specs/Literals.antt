@@ -1,7 +1,7 @@
--- What stands in each text that a glob matches.
-use Rattle.std.specs.Prelude.{◌≡◌, ℕ, List, ◌++◌, encode_utf8_all}
+-- What stands in each text that a glob matches, and which globs begin with any text.
+use Rattle.std.specs.Prelude.{◌≡◌, ℕ, Bool, true, false, List, ◌++◌, encode_utf8_all}
 use Rattle.filterset_glob.specs.Matching.{Matches}
-use Rattle.filterset_glob.specs.Tokens.{Tokens}
+use Rattle.filterset_glob.specs.Tokens.{Tokens, deep_first, next_token, star}
 
 -- in each text that the tokens match stand the characters with these bytes, one after the other
 abbrev pub StandsInEach : Tokens → List ℕ → Type 0
@@ -15,3 +15,9 @@ abbrev pub EndsEach : Tokens → List ℕ → Type 0
 EndsEach tokens literal =
     (text : List ℕ) → Matches tokens text
     → (before : List ℕ) × (own : List ℕ) × (text ≡ before ++ own) × (encode_utf8_all own ≡ literal)
+
+-- the first token is a star, or the deep token that stands first
+abbrev pub begins_with_any_text : Tokens → Bool
+begins_with_any_text (next_token star _) = true
+begins_with_any_text (next_token deep_first _) = true
+begins_with_any_text _ = false

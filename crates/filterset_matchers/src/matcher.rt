@@ -17,6 +17,8 @@ pub use pattern::{PatternMatcher, PatternRefusal, PatternRegex};
 ///
 /// Two matchers are equal where they are of one variant and hold the same: an `Equal` or a `Contains` in both fields,
 /// a `Glob` in its tokens, whatever its text and `implicit` are, and a `Regex` in the text of its pattern.
+///
+/// It implements `Drop`, so a field is read by reference, and none is moved out of it.
 #[derive(Debug)]
 pub enum NameMatcher {
     /// The name is the value.

@@ -25,4 +25,6 @@ pub use filterset_language::{
     AndOperator, DifferenceOperator, FILTERSET_REFERENCE_MD, NotOperator, OrOperator, ParseStop,
     Parsed, ParsedExpr, ParsedLeaf, SymmetricDifferenceOperator,
 };
-pub use filterset_matchers::{NameMatcher, PatternMatcher, PatternRefusal, PatternRegex};
+pub use filterset_matchers::{
+    GlobMatcher, NameMatcher, PatternMatcher, PatternRefusal, PatternRegex,
+};

@@ -2,6 +2,7 @@
 ghost use Rattle.std.specs.Prelude.{◌≡◌, ◌↔◌, IfOk, IsTrue};
 ghost use Rattle.std.specs.Str.{chars};
 ghost use Rattle.filterset_glob.specs.Matching.{Matches};
+ghost use Rattle.filterset_matchers.specs.Literals.{begins_with_any_text};
 
 use super::literal::longest_literal;
 use super::substring;
@@ -45,7 +46,9 @@ impl Drop for GlobMatcher<'_> {
 impl<'g> GlobMatcher<'g> {
     /// Whether to look for the literal first pays: where the glob begins with any text. A glob that begins otherwise
     /// fails at the first characters of most names.
-    pub fn pays_for(glob: &GenericGlob) -> bool {
+    pub fn pays_for(glob: &GenericGlob) -> bool
+        ensures { result ≡ begins_with_any_text glob.now.tokens }
+    {
         matches!(
             glob.tokens().first(),
             Some(GlobToken::Star | GlobToken::DeepFirst)

@@ -1,15 +1,18 @@
-use Rattle.std.proofs.Common.{◌≡◌, ℕ, ◌+◌, ◌-◌, ◌≤◌, List, length, take, drop, sym, ap, subst, ◌∙◌, arith, length-drop}
+use Rattle.std.proofs.Common.{◌≡◌, ℕ, ◌+◌, ◌-◌, ◌≤◌, List, [], ◌∷◌, length, take, drop, sym, ap, subst, ◌∙◌, arith, length-drop}
 use Rattle.std.proofs.lemmas.List.{take_rest, drop-drop}
 use Rattle.filterset_glob.specs.declared.token.GlobToken.{GlobToken}
 use Rattle.filterset_glob.specs.Positions.{Moves}
-use Rattle.filterset_glob.specs.Matching.{Matches, node_count}
+use Rattle.filterset_glob.specs.Matching.{Matches, TakesOne, node_count}
 use Rattle.filterset_glob.specs.Tokens.{token_of, tokens_of}
 use Rattle.filterset_glob.proofs.Passing.{moves_then, moves_over}
 use Rattle.filterset_glob.proofs.Runs.{moves_one, moves_over_some, fewer_nodes, counted_some}
 use Rattle.filterset_glob.proofs.matcher.pass_run.Goals as goal
 
-pub run_over-run-requires-clause-first : goal.run_over-run-requires-clause-first
-run_over-run-requires-clause-first c = ap (take 1) (take_rest c.args.tokens.now c.args.at ∙ c.requires.here)
+pub run_over-run-requires-clause-one : goal.run_over-run-requires-clause-one
+run_over-run-requires-clause-one c token first =
+    let own : take 1 (take (length c.args.tokens.now - c.args.at) (drop c.args.at c.args.tokens.now)) ≡ c.args.token.now ∷ [] = ap (take 1) (take_rest c.args.tokens.now c.args.at ∙ c.requires.here) in
+    let same : token ≡ c.args.token.now = cc (first, own) in
+    subst (λ t. TakesOne (token_of t)) (sym same) c.requires.one
 
 pub returns-then-run-gt0-clause-moved : goal.returns-then-run-gt0-clause-moved
 returns-then-run-gt0-clause-moved c r last =

@@ -7,7 +7,7 @@ use Rattle.filterset_glob.specs.Matching.{Matches}
 use Rattle.filterset_glob.specs.Tokens.{token_of, tokens_of}
 use Rattle.filterset_glob.proofs.PositionSets.{opened, long, length-positions_of, Has-low, Has-cases, Has-within, Has-from_Holds}
 use Rattle.filterset_glob.proofs.Passing.{moves_nowhere}
-use Rattle.filterset_glob.proofs.Runs.{moves_alone, moves_stopped}
+use Rattle.filterset_glob.proofs.Runs.{first_of_some, moves_alone, moves_stopped}
 use Rattle.filterset_glob.proofs.positions.Positions.run_over.Goals as goal
 
 pub returns-then-is_empty-clause-moved : goal.returns-then-is_empty-clause-moved
@@ -41,8 +41,9 @@ returns-then-run-eq0-clause-moved c =
     let o = opened n (f ∷ ws) c.args.self.now c.self.view_is in
     let only_p : (i : ℕ) → Holds c.args.self.now i → i ≡ at = λ i h.
     ⊎_elim (λ p. c.only.ensures.alone i (ap (λ w. bit_at w i) (sym c.if-word-only.false) ∙ p.1)) (λ p. absurd (none p.0 p.2)) (Has-cases f ws i ((o i).0 h).1) in
-    rw c.requires.first
-    (moves_stopped (token_of c.args.token.now) c.args.text.now c.args.self.now _ at c.requires.one only_p (c.run-run.ensures.stopped c.if-run-eq0.true)
+    let (token, first) = first_of_some c.args.tokens.now c.requires.some in
+    rw first
+    (moves_stopped (token_of token) c.args.text.now c.args.self.now _ at (c.requires.one token first) only_p (c.run-run.ensures.stopped token first c.if-run-eq0.true)
     (λ i h. ⊎_elim (λ p. omega (arith, p.1, bit_at-zero i)) (λ p. none p.0 p.2) (Has-cases 0 ws i (Has-from_Holds n (0 ∷ ws) i h).1)))
 
 pub hold-requires : goal.hold-requires

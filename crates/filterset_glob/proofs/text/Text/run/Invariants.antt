@@ -1,7 +1,7 @@
 use Rattle.std.proofs.Common.{◌≡◌, ℕ, List, length, take, drop}
 use Rattle.filterset_glob.specs.Matching.{Matches}
 use Rattle.filterset_glob.specs.Tokens.{tokens_of}
-use Rattle.filterset_glob.proofs.text.Text.plain_run.Given as goal
+use Rattle.filterset_glob.proofs.text.Text.run.Given as goal
 
 abbrev pub invariant-loop-at : goal.invariant-loop-at
 invariant-loop-at l = record {
