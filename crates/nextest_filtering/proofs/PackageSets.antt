@@ -1,13 +1,16 @@
 -- Sets of packages: by name, and along paths.
 use Rattle.std.proofs.Common.{◌≡◌, ◌≢◌, ◌↔◌, ◌⊎◌, inl, inr, ⊎_elim, ℕ, ◌+◌, ◌<◌, Bool, true, Bor, List, [], ◌∷◌, ◌++◌, map, length, refl, sym, ◌∙◌, ap, subst, arith}
 use Rattle.std.specs.Prelude.{Contains, Some, IsTrue, slice_get, string_bytes, Vec}
-use Rattle.std.specs.BTreeSet.{insert_key}
+use Rattle.std.specs.BTreeSet.{BTreeSet, IsFromIterResult, insert_key}
 use Rattle.std.specs.declared.cmp.Ordering.{Ordering}
 use Rattle.std.specs.declared.cmp.Ordering.TheVariants.{Less, Equal, Greater}
 use Rattle.std.specs.Cmp.Lexicographic.{slice_cmp}
 use Rattle.std.specs.Ordering.{nat_cmp, is_eq}
 use Rattle.std.specs.Global.{Global}
+use Rattle.std.proofs.lemmas.Cmp.{nat_list_cmp_total}
+use Rattle.std.proofs.lemmas.List.Elements.{Contains-append_left, Contains-append_right, Contains-append_cases}
 use Rattle.std.proofs.lemmas.Map.Text.{is_eq-slice_cmp}
+use Rattle.std.proofs.lemmas.Map.Views.{btree_set_contains_from_list, btree_set_contains_iff}
 use Rattle.std.proofs.lemmas.Slice.Eq.{bytes_eq-Decides}
 use Rattle.std.proofs.lemmas.Option.{same_Some, slice_get_within}
 use Rattle.std.proofs.lemmas.Bool.{cases_lt}
@@ -58,6 +61,21 @@ module _ (id x : List ℕ) where
 
   pub inserted : (keys : List (List ℕ)) → Contains (with_id keys id) x ↔ (Contains keys x ⊎ (id ≡ x))
   inserted keys = (inserted_to keys, inserted_from keys)
+
+-- ---- a list with one id more, and the set that is collected of a list
+
+pushed_to : (keys : List (List ℕ)) (id x : List ℕ) → Contains (keys ++ id ∷ []) x → Contains keys x ⊎ (id ≡ x)
+pushed_to keys id x c = ⊎_elim (λ old. inl old) (λ new. ⊎_elim (λ same. inr same) (λ rest. inl (absurd (none_in x rest))) (first_or_later id [] x new)) (Contains-append_cases keys (id ∷ []) x c)
+
+pushed_from : (keys : List (List ℕ)) (id x : List ℕ) → Contains keys x ⊎ (id ≡ x) → Contains (keys ++ id ∷ []) x
+pushed_from keys id x (inl c) = Contains-append_left keys (id ∷ []) x c
+pushed_from keys id x (inr same) = Contains-append_right keys (id ∷ []) x (subst (λ (z : List ℕ). Contains (id ∷ []) z) same (first id []))
+
+pub collected : (ids : List (List ℕ)) (set : BTreeSet (List ℕ)) → IsFromIterResult (slice_cmp nat_cmp) ids set → (id : List ℕ) → Contains set.keys id ↔ Contains ids id
+collected ids set made id =
+    let has = btree_set_contains_iff nat_list_cmp_total same_text set id in
+    let listed = btree_set_contains_from_list nat_list_cmp_total same_text ids set made id in
+    ((λ c. listed.0 (has.1 c)), (λ c. has.0 (listed.1 c)))
 
 -- ---- positions and packages
 
@@ -182,6 +200,13 @@ module _ (Gives : ℕ → List ℕ → Type 0) where
     one_given new key is here only id = (
       (λ c. ⊎_elim (λ old. given_still n id ((so_far id).0 old)) (λ same. (n, omega arith, subst (Gives n) same here)) ((inserted key id keys).0 (subst (λ (ks : List (List ℕ)). Contains ks id) is c))),
       (λ g. subst (λ (ks : List (List ℕ)). Contains ks id) (sym is) ((inserted key id keys).1 (⊎_elim (λ old. inl ((so_far id).1 old)) (λ now. inr (only id now)) (given_before n id g)))),
+    )
+
+    -- the next position gives an id, which comes last
+    pub one_pushed : (new : List (List ℕ)) (key : List ℕ) → new ≡ keys ++ key ∷ [] → Gives n key → ((id : List ℕ) → Gives n id → key ≡ id) → (id : List ℕ) → Contains new id ↔ IsGivenBefore (n + 1) id
+    one_pushed new key is here only id = (
+      (λ c. ⊎_elim (λ old. given_still n id ((so_far id).0 old)) (λ same. (n, omega arith, subst (Gives n) same here)) (pushed_to keys key id (subst (λ (ks : List (List ℕ)). Contains ks id) is c))),
+      (λ g. subst (λ (ks : List (List ℕ)). Contains ks id) (sym is) (pushed_from keys key id (⊎_elim (λ old. inl ((so_far id).1 old)) (λ now. inr (only id now)) (given_before n id g)))),
     )
 
     -- it gives none

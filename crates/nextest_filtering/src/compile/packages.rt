@@ -80,7 +80,8 @@ fn marked_by_name(
     Ok(marks)
 }
 
-/// The ids of the marked packages of the workspace.
+/// The ids of the marked packages of the workspace. They are many where a path leads far, so they are put in order at
+/// once, and not one by one.
 fn marked_members(
     alloc: Global,
     packages: &[PackageMetadata],
@@ -89,11 +90,11 @@ fn marked_members(
     requires { length marks.now ≡ length packages.now }
     ensures { IfOk result (λ ids. (id : List ℕ) → Contains ids.keys id ↔ IsMarkedMember packages.now marks.now id) }
 {
-    let mut ids = BTreeSet::new(alloc);
+    let mut ids = Vec::new(alloc);
     for (index, package) in packages.iter().enumerate() {
         if marks[index] && package.in_workspace {
-            ids.insert(package.id.try_clone(alloc)?)?;
+            ids.push(package.id.try_clone(alloc)?)?;
         }
     }
-    Ok(ids)
+    Ok(ids.into_iter().collect(alloc)?)
 }

@@ -6,4 +6,4 @@ use Rattle.nextest_filtering.proofs.compile.packages.marked_members.Given as goa
 -- the ids are those of such packages so far
 abbrev pub invariant-loop-index : goal.invariant-loop-index
 invariant-loop-index l =
-    (id : List ℕ) → Contains l.ids.keys id ↔ IsGivenBefore (IsMarkedMemberAt l.packages l.marks) l.index id
+    (id : List ℕ) → Contains l.ids.items id ↔ IsGivenBefore (IsMarkedMemberAt l.packages l.marks) l.index id
