@@ -8,7 +8,7 @@ from sources import antt_files, crates, operator_parts, rust_files
 
 # The crate that other programs name, and the programs. What a program promises are the clauses of its run and of the
 # status that it ends with: of the record's program these are functions of the crate of programs, at what its own impl of
-# their trait says; the program for people has its own run, and its statuses are in a crate below it.
+# their trait says, and the program for people has its own.
 LIBRARY_ROOT = "nextest_filtering"
 PROGRAM, PROGRAMS, PROMISED, PROGRAM_TRAIT = "filterset_cli", "records", ("run", "status"), "Program"
 COMMAND = "filterset_command"
@@ -287,9 +287,9 @@ class Sources:
                 shown = f"{block.name} as {block.trait}" if trait else block.name
                 yield Public(crate, path, f"{shown}::{item.name}", item, item.clauses, [block.uses])
 
-    def promised(self, crate, names):
-        """The functions of a crate with these names, one each."""
-        for name in names:
+    def promised(self, crate):
+        """The run of a crate, and the status that it ends with."""
+        for name in PROMISED:
             found = [
                 Public(crate, path, name, item, item.clauses, [])
                 for path, source in self.rust.items()
@@ -318,12 +318,12 @@ class Sources:
         """What is relied on, each part with its public clauses: who relies on one relies on those before it."""
         library = [public for crate in self.library for public in self.public(crate)]
         yield f"the library: `{LIBRARY_ROOT}` and the crates below it", library
-        yield f"and the program that reads a record, `{PROGRAM}`", [*self.promised(PROGRAMS, PROMISED), *self.own_program()]
+        yield f"and the program that reads a record, `{PROGRAM}`", [*self.promised(PROGRAMS), *self.own_program()]
         of_people = crates_below(COMMAND, self.crates) - crates_below(PROGRAM, self.crates) - {COMMAND}
         beside = [crate for crate in self.crates if crate in of_people and crate not in self.library]
         people = [public for crate in beside for public in self.public(crate)]
         named = ", ".join(f"`{crate}`" for crate in beside)
-        yield f"and the program for people, `{COMMAND}`, with {named}", [*people, *self.promised(COMMAND, PROMISED[:1])]
+        yield f"and the program for people, `{COMMAND}`, with {named}", [*people, *self.promised(COMMAND)]
 
     def roots(self):
         for _, publics in self.parts():

@@ -5,8 +5,8 @@ use Rattle.filterset_explaining.specs.declared.candidate.Candidate.{Candidate}
 use Rattle.filterset_graph.specs.declared.package.PackageMetadata.{PackageMetadata}
 use Rattle.nextest_filtering.specs.declared.filterset.Filterset.{Filterset}
 use Rattle.filterset_command.specs.ExplainingAsked.{ExplainsRead, IsExplanation}
-use Rattle.filterset_ending.specs.declared.ending.Ending.{Ending}
-use Rattle.filterset_ending.specs.declared.ending.Ending.TheVariants.{Faulty}
+use Rattle.filterset_command.specs.declared.ending.Ending.{Ending}
+use Rattle.filterset_command.specs.declared.ending.Ending.TheVariants.{Faulty}
 
 -- the explanation, where both are filtersets
 pub both_explained : (candidate : Candidate) (packages : List PackageMetadata) (default filter : Option Filterset) (one other : Filterset) (written : Text) (ending : Ending) (text : Text)

@@ -27,12 +27,12 @@ use Rattle.nextest_filtering.specs.declared.filterset.ParseRefusal.TheVariants.{
 use Rattle.records.specs.declared.fault.RunFault.TheVariants.{Memory}
 use Rattle.filterset_command.specs.Picking.{IsGlobalOnly}
 use Rattle.filterset_command.specs.Workspaces.{IsAsked, IsWorkspaceIn}
-use Rattle.filterset_ending.specs.declared.ending.Ending.{Ending}
-use Rattle.filterset_ending.specs.declared.ending.Ending.TheVariants.{Fine, Faulty}
+use Rattle.filterset_command.specs.declared.ending.Ending.{Ending}
+use Rattle.filterset_command.specs.declared.ending.Ending.TheVariants.{Fine, Faulty}
 use Rattle.filterset_command.specs.declared.explaining.Explanation.{Explanation}
 use Rattle.filterset_command.specs.declared.explaining.NumberedText.{NumberedText}
-use Rattle.filterset_ending.specs.declared.fault.CommandFault.{CommandFault}
-use Rattle.filterset_ending.specs.declared.fault.CommandFault.TheVariants.{NoBinary, NoTest, Run}
+use Rattle.filterset_command.specs.declared.fault.CommandFault.{CommandFault}
+use Rattle.filterset_command.specs.declared.fault.CommandFault.TheVariants.{NoBinary, NoTest, Run}
 use Rattle.filterset_command.specs.declared.workspace.Workspace.{Workspace}
 
 -- the first of the binaries with this id

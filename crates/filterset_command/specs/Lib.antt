@@ -1,4 +1,6 @@
+pub mod Ending
 pub mod Entries
+pub mod Files
 pub mod Workspaces
 pub mod Picking
 pub mod Checking

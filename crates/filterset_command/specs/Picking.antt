@@ -24,11 +24,11 @@ use Rattle.filterset_listing.specs.Writing.{list_text}
 use Rattle.filterset_listing.specs.declared.binary.AskedBinary.{AskedBinary}
 use Rattle.filterset_listing.specs.declared.comparing.Compared.{Compared}
 use Rattle.filterset_listing.specs.declared.listing.Section.{Section}
-use Rattle.filterset_ending.specs.Ending.{differing_ending}
+use Rattle.filterset_command.specs.Ending.{differing_ending}
 use Rattle.filterset_command.specs.Entries.{AreAskedRows}
 use Rattle.filterset_command.specs.Workspaces.{IsAsked, IsWorkspaceIn}
-use Rattle.filterset_ending.specs.declared.ending.Ending.{Ending}
-use Rattle.filterset_ending.specs.declared.ending.Ending.TheVariants.{Fine, Faulty}
+use Rattle.filterset_command.specs.declared.ending.Ending.{Ending}
+use Rattle.filterset_command.specs.declared.ending.Ending.TheVariants.{Fine, Faulty}
 use Rattle.filterset_command.specs.declared.request.Asked.{Asked}
 use Rattle.filterset_command.specs.declared.request.Question.{Question}
 use Rattle.filterset_command.specs.declared.request.Question.TheVariants as questions

@@ -11,14 +11,14 @@ use Rattle.records.specs.declared.fault.RunFault.TheVariants.{Memory}
 use Rattle.filterset_answers.specs.Answers.{FormatsTexts}
 use Rattle.filterset_answers.specs.Checked.{TextRow}
 use Rattle.filterset_command.specs.Checking.{AnswersCheck}
-use Rattle.filterset_ending.specs.Ending.{ending_of}
+use Rattle.filterset_command.specs.Ending.{ending_of}
 use Rattle.filterset_command.specs.Entries.{HaveTexts}
 use Rattle.filterset_command.specs.ExplainingAsked.{AnswersExplained}
 use Rattle.filterset_command.specs.Picking.{AnswersAsked}
-use Rattle.filterset_ending.specs.declared.ending.Ending.{Ending}
-use Rattle.filterset_ending.specs.declared.ending.Ending.TheVariants.{Fine}
-use Rattle.filterset_ending.specs.declared.fault.CommandFault.{CommandFault}
-use Rattle.filterset_ending.specs.declared.fault.CommandFault.TheVariants.{Words, Run}
+use Rattle.filterset_command.specs.declared.ending.Ending.{Ending}
+use Rattle.filterset_command.specs.declared.ending.Ending.TheVariants.{Fine}
+use Rattle.filterset_command.specs.declared.fault.CommandFault.{CommandFault}
+use Rattle.filterset_command.specs.declared.fault.CommandFault.TheVariants.{Words, Run}
 use Rattle.filterset_command.specs.declared.request.Request.{Request}
 use Rattle.filterset_command.specs.declared.request.Request.TheVariants.{Ask, Check, Explain, Format, Show}
 use Rattle.filterset_command.specs.declared.request.Texts.{Texts}

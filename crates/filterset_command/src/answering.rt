@@ -1,19 +1,21 @@
 //! Answering a request.
 ghost use Rattle.std.specs.Prelude.{◌≡◌, IfErr, IfOk, IfSome, map, string_bytes};
 ghost use Rattle.filterset_answers.specs.Checked.{text_row};
-ghost use Rattle.filterset_ending.specs.Ending.{ending_of};
-ghost use Rattle.filterset_ending.specs.Faults.{NotWrite};
+ghost use Rattle.filterset_command.specs.Ending.{ending_of};
+ghost use Rattle.filterset_command.specs.Files.{NotWrite};
 ghost use Rattle.filterset_command.specs.Requests.{AreRows, IsAnswered};
 ghost use Rattle.filterset_command.specs.declared.request.Texts.TheVariants.{StandardInput};
 
 use crate::checking::check_texts;
+use crate::ending::{Ending, ending_of};
 use crate::entries::{given_entries, line_entries};
 use crate::explaining::explain_asked;
+use crate::fault::CommandFault;
 use crate::files::FileSource;
+use crate::outcome::Outcome;
 use crate::picking::ask;
 use crate::request::{Request, Texts};
 use filterset_answers::{Answer, TextEntry, format_texts};
-use filterset_ending::{CommandFault, Ending, Outcome, ending_of};
 use nextest_filtering::FiltersetKind;
 use records::{Source, read_all};
 use std::alloc::Global;

@@ -204,8 +204,8 @@ fn with_command<'a>(
 
 /// The command line.
 ///
-/// No function here holds an argument or a command at a `?` that is about another one: each of its exits would have to
-/// be proved to drop it, and both have many parts.
+/// Only `with_argument` and `with_command` hold a command at a `?` that is about something else, once each: each such exit
+/// has to be proved to drop it, and commands and arguments have many parts.
 pub fn arguments<'a>(alloc: Global) -> Result<Command<'a>, AllocError> {
     let command = Command::new(alloc, "filterset")
         .version("0.1.0")

@@ -4,12 +4,12 @@ ghost use Rattle.nextest_filtering.specs.Compiling.{packages_of};
 ghost use Rattle.nextest_filtering.specs.Groups.{IsKnown};
 ghost use Rattle.filterset_answers.specs.Checked.{text_row};
 ghost use Rattle.filterset_command.specs.Checking.{AnswersCheck, AreGroups, KnownConfiguration, KnownPackages, KnowsNames, file_row, file_rows};
-ghost use Rattle.filterset_ending.specs.Faults.{NotWrite};
+ghost use Rattle.filterset_command.specs.Files.{NotWrite};
 
+use crate::fault::CommandFault;
 use crate::files::{FileSource, read_text};
 use crate::workspace::read_graph;
 use filterset_answers::{Answer, Form, Names, TextEntry, check};
-use filterset_ending::CommandFault;
 use filterset_sources::{Configuration, ConfiguredFilterset, read_configuration};
 use nextest_filtering::{GraphRefusal, KnownGroups, PackageGraph, ParseContext};
 use std::alloc::{AllocError, Global};

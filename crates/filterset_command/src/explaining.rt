@@ -8,13 +8,15 @@ ghost use Rattle.nextest_filtering.specs.Compiling.{packages_of};
 ghost use Rattle.nextest_filtering.specs.Groups.{IsKnown};
 ghost use Rattle.filterset_command.specs.ExplainingAsked.{AnswersExplained, AnswersExplanation, AreRead, IsCandidate, IsExplanation, IsMissing, IsReadAs, WritesRefusal};
 ghost use Rattle.filterset_command.specs.ExplainingAsked.{binary_called, name_called};
-ghost use Rattle.filterset_ending.specs.Faults.{NotWrite};
+ghost use Rattle.filterset_command.specs.Files.{NotWrite};
 
+use crate::ending::Ending;
+use crate::fault::CommandFault;
 use crate::files::FileSource;
+use crate::outcome::Outcome;
 use crate::picking::global_group;
 use crate::workspace::{WorkspacePaths, asked_binaries, read_workspace};
 use filterset_answers::{Form, push_faults};
-use filterset_ending::{CommandFault, Ending, Outcome};
 use filterset_explaining::{Candidate, explain, explain_text};
 use filterset_listing::AskedBinary;
 use nextest_filtering::{

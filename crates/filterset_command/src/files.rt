@@ -1,9 +1,9 @@
 //! Files, and reading one whole.
 ghost use Rattle.std.specs.Prelude.{◌≡◌, ◌≢◌, IfErr, IfOk, IfSome, List, Option, ℕ, string_bytes};
 ghost use Rattle.records.specs.declared.fault.RunFault.TheVariants.{Write};
-ghost use Rattle.filterset_ending.specs.Faults.{NotWrite};
+ghost use Rattle.filterset_command.specs.Files.{NotWrite};
 
-use filterset_ending::{CommandFault, FileFault};
+use crate::fault::{CommandFault, FileFault};
 use records::RunFault;
 use std::alloc::{AllocError, Global};
 use std::{fs, io};

@@ -5,16 +5,20 @@
 mod answering;
 mod arguments;
 mod checking;
+mod ending;
 mod entries;
 mod explaining;
+mod fault;
 mod files;
+mod outcome;
 mod picking;
 mod request;
 mod run;
 mod workspace;
 
+use ending::{Ending, status};
+use fault::CommandFault;
 use files::HostFiles;
-use filterset_ending::{CommandFault, Ending, status};
 use records::{FromReader, RunFault, ToWriter};
 use request::request_of;
 use run::run;

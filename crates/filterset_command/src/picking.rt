@@ -2,15 +2,17 @@
 ghost use Rattle.std.specs.Prelude.{◌≡◌, IfErr, IfOk, length, option_map, string_bytes};
 ghost use Rattle.serde_json.specs.View.{view};
 ghost use Rattle.filterset_expression.specs.Contexts.{default_of};
-ghost use Rattle.filterset_ending.specs.Faults.{NotWrite};
+ghost use Rattle.filterset_command.specs.Files.{NotWrite};
 ghost use Rattle.filterset_command.specs.Picking.{AnswersAsked, AnswersQuestion, AreSections, Compares, IsGlobalOnly, IsPairFor, Lists, MayBeDefault, TellsOf, WritesList, kept_of};
 
+use crate::ending::{Ending, differing_ending};
 use crate::entries::asked_entries;
+use crate::fault::CommandFault;
 use crate::files::FileSource;
+use crate::outcome::Outcome;
 use crate::request::{Asked, Question};
 use crate::workspace::{Workspace, asked_binaries, read_workspace};
 use filterset_answers::{Compiled, Form, TextEntry, compile_texts};
-use filterset_ending::{CommandFault, Ending, Outcome, differing_ending};
 use filterset_listing::{
     AskedBinary, Section, compare, comparison_text, differ, list, list_json, list_text,
     selection_of,

@@ -4,13 +4,14 @@ ghost use Rattle.std.specs.Io.KnownBytes.{Appends};
 ghost use Rattle.records.specs.declared.fault.RunFault.TheVariants.{Write};
 ghost use Rattle.filterset_drawing.specs.Columns.{Text};
 ghost use Rattle.filterset_command.specs.Requests.{IsAnswered};
-ghost use Rattle.filterset_ending.specs.declared.ending.Ending as endings;
-ghost use Rattle.filterset_ending.specs.declared.fault.CommandFault.TheVariants.{Run};
+ghost use Rattle.filterset_command.specs.declared.ending.Ending as endings;
+ghost use Rattle.filterset_command.specs.declared.fault.CommandFault.TheVariants.{Run};
 
 use crate::answering::answer;
+use crate::ending::Ending;
+use crate::fault::CommandFault;
 use crate::files::FileSource;
 use crate::request::Request;
-use filterset_ending::{CommandFault, Ending};
 use records::{Sink, Source, write_all};
 use std::alloc::Global;
 

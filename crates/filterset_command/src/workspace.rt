@@ -4,11 +4,11 @@ ghost use Rattle.std.specs.List.{AllZip};
 ghost use Rattle.serde_json.specs.View.{view};
 ghost use Rattle.filterset_graph.specs.Packages.{ids};
 ghost use Rattle.filterset_sources.specs.Suites.{IsOfPackage, IsTestList};
-ghost use Rattle.filterset_ending.specs.Faults.{NotWrite};
+ghost use Rattle.filterset_command.specs.Files.{NotWrite};
 ghost use Rattle.filterset_command.specs.Workspaces.{ArePackagesIn, AreSuitesIn, IsAsked, IsJsonOf, IsWorkspaceIn};
 
+use crate::fault::CommandFault;
 use crate::files::{FileSource, read_text};
-use filterset_ending::CommandFault;
 use filterset_graph::PackageGraph;
 use filterset_listing::AskedBinary;
 use filterset_sources::{

@@ -64,12 +64,11 @@ module _ (id x : List ℕ) where
 
 -- ---- a list with one id more, and the set that is collected of a list
 
-pushed_to : (keys : List (List ℕ)) (id x : List ℕ) → Contains (keys ++ id ∷ []) x → Contains keys x ⊎ (id ≡ x)
-pushed_to keys id x c = ⊎_elim (λ old. inl old) (λ new. ⊎_elim (λ same. inr same) (λ rest. inl (absurd (none_in x rest))) (first_or_later id [] x new)) (Contains-append_cases keys (id ∷ []) x c)
-
-pushed_from : (keys : List (List ℕ)) (id x : List ℕ) → Contains keys x ⊎ (id ≡ x) → Contains (keys ++ id ∷ []) x
-pushed_from keys id x (inl c) = Contains-append_left keys (id ∷ []) x c
-pushed_from keys id x (inr same) = Contains-append_right keys (id ∷ []) x (subst (λ (z : List ℕ). Contains (id ∷ []) z) same (first id []))
+pushed : (id x : List ℕ) (keys : List (List ℕ)) → Contains (keys ++ id ∷ []) x ↔ (Contains keys x ⊎ (id ≡ x))
+pushed id x keys = (
+  (λ c. ⊎_elim (λ old. inl old) (λ new. ⊎_elim (λ same. inr same) (λ rest. absurd (none_in x rest)) (first_or_later id [] x new)) (Contains-append_cases keys (id ∷ []) x c)),
+  (λ h. ⊎_elim (λ old. Contains-append_left keys (id ∷ []) x old) (λ same. Contains-append_right keys (id ∷ []) x (subst (λ (z : List ℕ). Contains (id ∷ []) z) same (first id []))) h),
+)
 
 pub collected : (ids : List (List ℕ)) (set : BTreeSet (List ℕ)) → IsFromIterResult (slice_cmp nat_cmp) ids set → (id : List ℕ) → Contains set.keys id ↔ Contains ids id
 collected ids set made id =
@@ -195,19 +194,22 @@ module _ (Gives : ℕ → List ℕ → Type 0) where
   none_given keys none id = ((λ c. absurd (none_in id (subst (λ (ks : List (List ℕ)). Contains ks id) none c))), (λ is. absurd (omega (arith, is.1))))
 
   module _ (keys : List (List ℕ)) (n : ℕ) (so_far : (id : List ℕ) → Contains keys id ↔ IsGivenBefore n id) where
-    -- the next position gives an id, which is put in
-    pub one_given : (new : List (List ℕ)) (key : List ℕ) → new ≡ with_id keys key → Gives n key → ((id : List ℕ) → Gives n id → key ≡ id) → (id : List ℕ) → Contains new id ↔ IsGivenBefore (n + 1) id
-    one_given new key is here only id = (
-      (λ c. ⊎_elim (λ old. given_still n id ((so_far id).0 old)) (λ same. (n, omega arith, subst (Gives n) same here)) ((inserted key id keys).0 (subst (λ (ks : List (List ℕ)). Contains ks id) is c))),
-      (λ g. subst (λ (ks : List (List ℕ)). Contains ks id) (sym is) ((inserted key id keys).1 (⊎_elim (λ old. inl ((so_far id).1 old)) (λ now. inr (only id now)) (given_before n id g)))),
+    -- the next position gives an id, which is there too
+    one_more : (new : List (List ℕ)) (key : List ℕ) → ((id : List ℕ) → Contains new id ↔ (Contains keys id ⊎ (key ≡ id))) → Gives n key → ((id : List ℕ) → Gives n id → key ≡ id) → (id : List ℕ) → Contains new id ↔ IsGivenBefore (n + 1) id
+    one_more new key more here only id = (
+      (λ c. ⊎_elim (λ old. given_still n id ((so_far id).0 old)) (λ same. (n, omega arith, subst (Gives n) same here)) ((more id).0 c)),
+      (λ g. (more id).1 (⊎_elim (λ old. inl ((so_far id).1 old)) (λ now. inr (only id now)) (given_before n id g))),
     )
 
-    -- the next position gives an id, which comes last
+    -- it is put in
+    pub one_given : (new : List (List ℕ)) (key : List ℕ) → new ≡ with_id keys key → Gives n key → ((id : List ℕ) → Gives n id → key ≡ id) → (id : List ℕ) → Contains new id ↔ IsGivenBefore (n + 1) id
+    one_given new key is =
+        one_more new key (λ id. subst (λ (ks : List (List ℕ)). Contains ks id ↔ (Contains keys id ⊎ (key ≡ id))) (sym is) (inserted key id keys))
+
+    -- it comes last
     pub one_pushed : (new : List (List ℕ)) (key : List ℕ) → new ≡ keys ++ key ∷ [] → Gives n key → ((id : List ℕ) → Gives n id → key ≡ id) → (id : List ℕ) → Contains new id ↔ IsGivenBefore (n + 1) id
-    one_pushed new key is here only id = (
-      (λ c. ⊎_elim (λ old. given_still n id ((so_far id).0 old)) (λ same. (n, omega arith, subst (Gives n) same here)) (pushed_to keys key id (subst (λ (ks : List (List ℕ)). Contains ks id) is c))),
-      (λ g. subst (λ (ks : List (List ℕ)). Contains ks id) (sym is) (pushed_from keys key id (⊎_elim (λ old. inl ((so_far id).1 old)) (λ now. inr (only id now)) (given_before n id g)))),
-    )
+    one_pushed new key is =
+        one_more new key (λ id. subst (λ (ks : List (List ℕ)). Contains ks id ↔ (Contains keys id ⊎ (key ≡ id))) (sym is) (pushed key id keys))
 
     -- it gives none
     pub passed_over : ((id : List ℕ) → ¬ Gives n id) → (id : List ℕ) → Contains keys id ↔ IsGivenBefore (n + 1) id

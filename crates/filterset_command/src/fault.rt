@@ -1,5 +1,5 @@
 //! Why a command gives no answer.
-ghost use Rattle.filterset_ending.specs.Faults.{NotWrite};
+ghost use Rattle.filterset_command.specs.Files.{NotWrite};
 
 use clap::Error;
 use filterset_sources::SourceRefusal;
@@ -118,7 +118,7 @@ impl fmt::Display for CommandFault {
 
 impl From<AllocError> for CommandFault {
     ghost use Rattle.std.specs.Prelude.{◌≡◌};
-    ghost use Rattle.filterset_ending.specs.declared.fault.CommandFault.TheVariants.{Run};
+    ghost use Rattle.filterset_command.specs.declared.fault.CommandFault.TheVariants.{Run};
     ghost use Rattle.records.specs.declared.fault.RunFault.TheVariants.{Memory};
 
     ghost from_gives = { λ refused fault. fault ≡ Run (Memory refused) };
@@ -130,7 +130,7 @@ impl From<AllocError> for CommandFault {
 
 impl From<RunFault> for CommandFault {
     ghost use Rattle.std.specs.Prelude.{◌≡◌};
-    ghost use Rattle.filterset_ending.specs.declared.fault.CommandFault.TheVariants.{Run};
+    ghost use Rattle.filterset_command.specs.declared.fault.CommandFault.TheVariants.{Run};
 
     ghost from_gives = { λ own fault. fault ≡ Run own };
 

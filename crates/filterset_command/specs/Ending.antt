@@ -1,11 +1,11 @@
 -- How the program ends.
 use Rattle.std.specs.Prelude.{ℕ, zero, suc, Bool, true, false, Result, Ok, Err}
-use Rattle.filterset_ending.specs.declared.fault.CommandFault.{CommandFault}
-use Rattle.filterset_ending.specs.declared.fault.CommandFault.TheVariants.{Words, NoWords, NotText, File, NoBinary, NoTest, Run}
-use Rattle.filterset_ending.specs.declared.fault.FileFault.{FileFault}
-use Rattle.filterset_ending.specs.declared.fault.FileFault.TheVariants as files
-use Rattle.filterset_ending.specs.declared.ending.Ending.{Ending}
-use Rattle.filterset_ending.specs.declared.ending.Ending.TheVariants.{Fine, Faulty, Differing}
+use Rattle.filterset_command.specs.declared.fault.CommandFault.{CommandFault}
+use Rattle.filterset_command.specs.declared.fault.CommandFault.TheVariants.{Words, NoWords, NotText, File, NoBinary, NoTest, Run}
+use Rattle.filterset_command.specs.declared.fault.FileFault.{FileFault}
+use Rattle.filterset_command.specs.declared.fault.FileFault.TheVariants as files
+use Rattle.filterset_command.specs.declared.ending.Ending.{Ending}
+use Rattle.filterset_command.specs.declared.ending.Ending.TheVariants.{Fine, Faulty, Differing}
 
 -- how a command fared, so many of whose filtersets have faults
 abbrev pub ending_of : ℕ → Ending

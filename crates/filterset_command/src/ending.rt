@@ -1,6 +1,6 @@
 //! How the program ends: its exit status.
 ghost use Rattle.std.specs.Prelude.{◌≡◌};
-ghost use Rattle.filterset_ending.specs.Ending.{differing_ending, ending_of, file_status, status_of};
+ghost use Rattle.filterset_command.specs.Ending.{differing_ending, ending_of, file_status, status_of};
 
 use crate::fault::{CommandFault, FileFault};
 

@@ -1,8 +1,8 @@
--- What is said of faults.
+-- Faults of files.
 use Rattle.std.specs.Prelude.{◌≢◌}
 use Rattle.records.specs.declared.fault.RunFault.TheVariants.{Write}
-use Rattle.filterset_ending.specs.declared.fault.CommandFault.{CommandFault}
-use Rattle.filterset_ending.specs.declared.fault.CommandFault.TheVariants.{Run}
+use Rattle.filterset_command.specs.declared.fault.CommandFault.{CommandFault}
+use Rattle.filterset_command.specs.declared.fault.CommandFault.TheVariants.{Run}
 
 -- the fault is no failed write
 abbrev pub NotWrite : CommandFault → Type 0
