@@ -1,7 +1,6 @@
 -- A fault as JSON.
 use Rattle.std.specs.Prelude.{◌≡◌, ℕ, Option, Some, None, codes, option_map}
 use Rattle.serde_json.specs.Data.{Data, null, number, unsigned, string, object, member, no_members}
-use Rattle.serde_json.specs.View.{view}
 use Rattle.filterset_faults.specs.Faults.{code_of, span_of, label_of, help_of}
 use Rattle.filterset_faults.specs.Span.{offset_of, length_of}
 use Rattle.filterset_faults.specs.declared.span.SourceSpan.{SourceSpan}
@@ -26,14 +25,14 @@ BeginsAt text None None = Unit {0}
 BeginsAt text (Some span) (Some location) = StandsAt text (from_of text span) location
 BeginsAt text _ _ = ⊥
 
--- the values are where a span of the text stands
+-- the numbers are where a span of the text stands
 abbrev pub IsSpotOf : Text → Option SourceSpan → Spot → Type 0
 IsSpotOf text span spot =
     (location : Option Location) × BeginsAt text span location
-    × (view spot.offset ≡ number_data (option_map offset_of span))
-    × (view spot.length ≡ number_data (option_map length_of span))
-    × (view spot.line ≡ number_data (option_map (λ p. p.line) location))
-    × (view spot.column ≡ number_data (option_map (λ p. p.column) location))
+    × (spot.offset ≡ option_map offset_of span)
+    × (spot.length ≡ option_map length_of span)
+    × (spot.line ≡ option_map (λ p. p.line) location)
+    × (spot.column ≡ option_map (λ p. p.column) location)
 
 -- the object with these members, in the order of their keys
 abbrev pub object_with : (origin text code offset length line column label help : Data) → Data

@@ -1,9 +1,8 @@
 //! Faults as JSON, for editors.
 ghost use Rattle.std.specs.Prelude.{◌≡◌, IfOk};
-ghost use Rattle.serde_json.specs.Data.{string};
 ghost use Rattle.serde_json.specs.View.{view};
 ghost use Rattle.filterset_faults.specs.Faults.{label_of, help_of};
-ghost use Rattle.filterset_drawing.specs.Json.{FaultData, IsSpotOf, object_with, text_data, view_number};
+ghost use Rattle.filterset_drawing.specs.Json.{FaultData, IsSpotOf, number_data, text_data};
 
 use crate::source::Source;
 use filterset_faults::{ParseSingleError, SourceSpan};
@@ -21,60 +20,42 @@ pub fn fault_json(
     ensures { let source = source.now in
         IfOk result (λ value. FaultData source.origin.now source.text.now number fault.now (view value)) }
 {
-    let spot = spot_of(source, fault.span());
-    let help = help_value(alloc, fault)?;
-    let label = label_value(alloc, fault)?;
-    object_of(
-        alloc,
-        source.origin,
-        number,
-        fault.code(),
-        spot,
-        label,
-        help,
-    )
-}
-
-/// The object of a fault.
-fn object_of(
-    alloc: Global,
-    origin: &str,
-    number: usize,
-    code: &str,
-    spot: Spot,
-    label: Value,
-    help: Value,
-) -> Result<Value, AllocError>
-    ensures { IfOk result (λ value. view value ≡ object_with (string origin.now) (view_number number)
-        (string code.now) (view spot.offset) (view spot.length) (view spot.line) (view spot.column)
-        (view label) (view help)) }
-{
     let Spot {
         offset,
         length,
         line,
         column,
-    } = spot;
+    } = spot_of(source, fault.span());
     json!(in alloc; {
-        "code": code,
-        "column": column,
-        "help": help,
-        "label": label,
-        "length": length,
-        "line": line,
-        "offset": offset,
-        "origin": origin,
+        "code": fault.code(),
+        "column": number_value(column),
+        "help": help_value(alloc, fault)?,
+        "label": label_value(alloc, fault)?,
+        "length": number_value(length),
+        "line": number_value(line),
+        "offset": number_value(offset),
+        "origin": source.origin,
         "text": number
     })
 }
 
-/// Where a fault stands, as JSON numbers, or as nulls where it has no span.
-#[derive(Drop)]
+/// A number, or `null` where there is none.
+fn number_value(number: Option<usize>) -> Value
+    ensures { view result ≡ number_data number }
+{
+    match number {
+        Some(number) => Value::from(number),
+        None => Value::Null,
+    }
+}
+
+/// Where a fault stands, if it has a span.
+#[derive(Clone, Copy)]
 struct Spot {
-    offset: Value,
-    length: Value,
-    line: Value,
-    column: Value,
+    offset: Option<usize>,
+    length: Option<usize>,
+    line: Option<usize>,
+    column: Option<usize>,
 }
 
 /// Where a span of the text stands.
@@ -85,17 +66,17 @@ fn spot_of(source: &Source<'_>, span: Option<SourceSpan>) -> Spot
         Some(span) => {
             let location = source.location(span);
             Spot {
-                offset: Value::from(span.offset()),
-                length: Value::from(span.len()),
-                line: Value::from(location.line),
-                column: Value::from(location.column),
+                offset: Some(span.offset()),
+                length: Some(span.len()),
+                line: Some(location.line),
+                column: Some(location.column),
             }
         }
         None => Spot {
-            offset: Value::Null,
-            length: Value::Null,
-            line: Value::Null,
-            column: Value::Null,
+            offset: None,
+            length: None,
+            line: None,
+            column: None,
         },
     }
 }
