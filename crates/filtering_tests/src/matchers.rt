@@ -26,13 +26,21 @@ fn is_of_first(matcher: &PatternMatcher<'_>, first: &PatternRegex, other: &Patte
     matcher.is_of(first) && !matcher.is_of(other)
 }
 
+/// Asserts that what is kept for the pattern of this text answers as is wanted, and is of no other pattern.
+fn is_kept(rt: &impl Abort, alloc: Global, text: &str) -> Result<(), Fail> {
+    let kept = pattern(alloc, text)?;
+    let other = pattern(alloc, "^b")?;
+    let mut matcher = kept.matcher(alloc)?;
+    answers_again(rt, &mut matcher);
+    assert!(rt; is_of_first(&matcher, &kept, &other), "{text}");
+    Ok(())
+}
+
 #[test]
 fn kept_matchers_answer_again_and_again(rt: HostRuntime) -> Result<(), Fail> {
-    let ends = pattern(rt.alloc(), "b$")?;
-    let begins = pattern(rt.alloc(), "^b")?;
-    let mut matcher = ends.matcher(rt.alloc())?;
-    answers_again(&rt, &mut matcher);
-    assert!(rt; is_of_first(&matcher, &ends, &begins));
+    for text in ["b$", "ab", "ab|cd"] {
+        is_kept(&rt, rt.alloc(), text)?;
+    }
     Ok(())
 }
 
@@ -65,10 +73,9 @@ fn literals_stand_between_stars(rt: HostRuntime) -> Result<(), Fail> {
     Ok(())
 }
 
-#[test]
-fn matcher_or_wants_memory(rt: HostRuntime) {
-    let alloc = rt.alloc();
-    let Ok(text) = String::from_str(alloc, "a/(b|c)") else {
+/// Asserts that a pattern of the text, which matches in `xa/cy`, answers so, also as a copy, or wants memory.
+fn pattern_or_wants_memory(rt: &impl Abort, alloc: Global, text: &str) {
+    let Ok(text) = String::from_str(alloc, text) else {
         return;
     };
     match PatternRegex::new(alloc, text) {
@@ -85,6 +92,13 @@ fn matcher_or_wants_memory(rt: HostRuntime) {
             }
         }
         Err(refusal) => assert!(rt; matches!(refusal, PatternRefusal::OutOfMemory(_))),
+    }
+}
+
+#[test]
+fn matcher_or_wants_memory(rt: HostRuntime) {
+    for text in ["a/(b|c)", "a/b|a/c", "a/c"] {
+        pattern_or_wants_memory(&rt, rt.alloc(), text);
     }
 }
 

@@ -16,11 +16,11 @@ use Rattle.regex.proofs.ForCallers.{find_str_sound, find_str_complete}
 use Rattle.regex.proofs.Utf8Lemmas.{IsCharBoundary-of_test}
 use Rattle.filterset_matchers.specs.Pattern.{IsPattern, MatchesSomewhere, HasMatch, IsBuiltOf}
 
-IsSomeAnd-map : {A : Type 0} {P Q : A → Type 0} (o : Option A) → IsSomeAnd o P → ((x : A) → P x → Q x) → IsSomeAnd o Q
+pub IsSomeAnd-map : {A : Type 0} {P Q : A → Type 0} (o : Option A) → IsSomeAnd o P → ((x : A) → P x → Q x) → IsSomeAnd o Q
 IsSomeAnd-map None h f = absurd h
 IsSomeAnd-map (Some x) h f = f x h
 
-IsSomeAnd-both : {A R : Type 0} {P Q : A → Type 0} (o : Option A) → IsSomeAnd o P → IsSomeAnd o Q → ((x : A) → P x → Q x → R) → R
+pub IsSomeAnd-both : {A R : Type 0} {P Q : A → Type 0} (o : Option A) → IsSomeAnd o P → IsSomeAnd o Q → ((x : A) → P x → Q x → R) → R
 IsSomeAnd-both None h k f = absurd h
 IsSomeAnd-both (Some x) h k f = f x h k
 
@@ -47,7 +47,7 @@ found_exactly re text = (
 )
 
 -- two expressions that match alike are found in the same texts
-found_alike : (a b : Re) → SameCaptures a b → (text : List ℕ) → ((k : ℕ) → get_or text k 0 < 256) →
+pub found_alike : (a b : Re) → SameCaptures a b → (text : List ℕ) → ((k : ℕ) → get_or text k 0 < 256) →
     is_some (find_str a text 0) ≡ is_some (find_str b text 0)
 found_alike a b same text bytes =
     let small : All (λ x. x < 256) text = λ k d h. rw (get_or_default text k d 0 h) (bytes k) in

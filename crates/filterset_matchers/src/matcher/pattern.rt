@@ -1,10 +1,15 @@
-//! A pattern's text beside the regex that was built of it, and what searches for it.
-ghost use Rattle.std.specs.Prelude.{◌≡◌, ◌≢◌, ◌↔◌, IsTrue, IfOk, string_bytes};
+//! A pattern's text beside what is searched for it, and what searches. A pattern that is a choice of few texts, as `slow`,
+//! `net::tcp` or `unix|windows`, has no regex: the texts are searched for.
+ghost use Rattle.std.specs.Prelude.{◌≡◌, ◌≢◌, ◌↔◌, All, IsTrue, IsUtf8, IfOk, IfSome, List, ℕ, map, string_bytes};
 ghost use Rattle.regex.specs.declared.error.Error.TheVariants as regex;
 ghost use Rattle.filterset_matchers.specs.declared.matcher.pattern.PatternRefusal.TheVariants as refusal;
-ghost use Rattle.filterset_matchers.specs.Pattern.{IsPattern, HasMatch, IsBuiltOf};
+ghost use Rattle.filterset_matchers.specs.Pattern.{IsPattern, IsPlain, HasMatch, IsBuiltOf, HasOneOf, IsChoice, IsReadAs, IsSearchedFor};
 
+use crate::matcher::substring;
 use regex::{Matcher, Regex};
+use regex_extract::exact_literals;
+use regex_hir::Hir;
+use regex_syntax::{Config, ErrorKind, Parsed, is_meta_character};
 use std::alloc::{AllocError, Global};
 use std::fmt;
 use std::marker::Model;
@@ -18,37 +23,49 @@ pub enum PatternRefusal {
     OutOfMemory(AllocError),
 }
 
-/// A pattern: its text, and the regex that was built of it. Contracts see the text.
-///
-/// The regex is large, and stands in a box: a function clears the room of all its locals whenever it is called.
+/// More texts than this are not searched for one after the other.
+const MAX_TEXTS: usize = 4;
+
+/// What is searched for a pattern.
+#[derive(Debug, Drop)]
+enum Searched {
+    /// One of these texts, of which the pattern is a choice.
+    Texts(Vec<String>),
+    /// The regex that was built of the pattern.
+    ///
+    /// A regex is large, and stands in a box: a function clears the room of all its locals whenever it is called.
+    Regex(Box<Regex>),
+}
+
+/// A pattern: its text, and what is searched for it. Contracts see the text.
 #[derive(Debug)]
 pub struct PatternRegex {
     pattern: String,
-    regex: Box<Regex>,
+    searched: Searched,
 }
 
 impl Model for PatternRegex {
     ghost use Rattle.std.specs.Prelude.{List, ℕ, string_bytes};
-    ghost use Rattle.filterset_matchers.specs.Pattern.{IsBuiltOf};
+    ghost use Rattle.filterset_matchers.specs.Pattern.{IsSearchedFor};
 
     ghost Value = { List ℕ };
 
     ghost view = { λ p. string_bytes p.pattern };
 
-    ghost invariant = { λ p. IsBuiltOf (string_bytes p.pattern) p.regex.value };
+    ghost invariant = { λ p. IsSearchedFor (string_bytes p.pattern) p.searched };
 }
 
 impl PatternRegex {
     /// The pattern of this text, which does not come back where it is refused.
     ///
     /// The grammar of `regex` reads the text of each pattern. That `regex` builds each text that its grammar reads is
-    /// not promised.
+    /// not promised. Nothing is built of a text that is known to be a choice of few texts.
     pub fn new(alloc: Global, pattern: String) -> Result<PatternRegex, PatternRefusal>
         ensures text { IfOk result (λ p. p ≡ string_bytes pattern) }
         ensures read { IfOk result (λ p. IsPattern p) }
     {
-        let regex = built_of(alloc, pattern.as_str())?;
-        Ok(PatternRegex { pattern, regex })
+        let searched = searched_for(alloc, pattern.as_str())?;
+        Ok(PatternRegex { pattern, searched })
     }
 
     /// The text.
@@ -77,10 +94,13 @@ impl PatternRegex {
     pub fn matcher(&self, alloc: Global) -> Result<PatternMatcher<'_>, AllocError>
         ensures { IfOk result (λ matcher. matcher ≡ self.now) }
     {
-        let matcher = Box::new(alloc, self.regex.matcher(alloc)?)?;
+        let search = match &self.searched {
+            Searched::Texts(texts) => Search::Texts(texts),
+            Searched::Regex(regex) => Search::Regex(Box::new(alloc, regex.matcher(alloc)?)?),
+        };
         Ok(PatternMatcher {
             pattern: self,
-            matcher,
+            search,
         })
     }
 }
@@ -90,9 +110,105 @@ impl Drop for PatternRegex {
     fn drop(self) {
         let PatternRegex {
             pattern: _pattern,
-            regex: _regex,
+            searched: _searched,
         } = self;
     }
+}
+
+/// What is searched for a pattern of the text.
+fn searched_for(alloc: Global, text: &str) -> Result<Searched, PatternRefusal>
+    ensures { IfOk result (λ searched. IsSearchedFor text.now searched) }
+{
+    match texts_of(alloc, text) {
+        Ok(Some(texts)) => Ok(Searched::Texts(texts)),
+        Ok(None) => Ok(Searched::Regex(built_of(alloc, text)?)),
+        Err(failed) => Err(PatternRefusal::OutOfMemory(failed)),
+    }
+}
+
+/// The texts of which a pattern of the text is a choice, where that is found to be so and they are few. The only error is
+/// out of memory.
+fn texts_of(alloc: Global, text: &str) -> Result<Option<Vec<String>>, AllocError>
+    ensures { IfOk result (λ found. IfSome found (λ texts. IsChoice text.now (map string_bytes texts.items))) }
+{
+    if is_plain(text) {
+        let only = String::from_str(alloc, text)?;
+        return Ok(Some(vec![in alloc; only]?));
+    }
+    if !may_be_choice(text) {
+        return Ok(None);
+    }
+    match tree_of(alloc, text)? {
+        Some(tree) => texts_of_tree(alloc, &tree),
+        None => Ok(None),
+    }
+}
+
+/// Whether each character of the text stands for itself in a pattern.
+fn is_plain(text: &str) -> bool
+    ensures { IsTrue result ↔ IsPlain text.now }
+{
+    for character in text.chars() {
+        if is_meta_character(character) {
+            return false;
+        }
+    }
+    true
+}
+
+/// Whether it is worth the time to ask if a pattern of the text is a choice of few texts. It is not where the text has a
+/// character that seldom stands in such a pattern. What the pattern matches does not hang on the answer.
+fn may_be_choice(text: &str) -> bool {
+    !text.bytes().any(|byte| {
+        matches!(
+            byte,
+            b'^' | b'$' | b'(' | b')' | b'*' | b'+' | b'?' | b'{' | b'}' | b'.' | b'\\'
+        )
+    })
+}
+
+/// The tree as which the grammar reads the text, or nothing where it refuses it. The only error is out of memory.
+///
+/// It is not inlined, so that a plain text does not pay for the room of a parser.
+#[cold]
+#[inline(never)]
+fn tree_of(alloc: Global, text: &str) -> Result<Option<Hir>, AllocError>
+    ensures { IfOk result (λ read. IfSome read (λ tree. IsReadAs text.now tree)) }
+{
+    match regex_syntax::parse(alloc, text, &Config::default()) {
+        Ok(Parsed { hir, names: _names }) => Ok(Some(hir)),
+        Err(error) => match error.kind {
+            ErrorKind::OutOfMemory => Err(AllocError),
+            _ => Ok(None),
+        },
+    }
+}
+
+/// The texts of which a pattern that is read as this tree is a choice, where that is found to be so and they are few. The
+/// only error is out of memory.
+fn texts_of_tree(alloc: Global, tree: &Hir) -> Result<Option<Vec<String>>, AllocError>
+    ensures { IfOk result (λ found. IfSome found (λ texts. (pattern : List ℕ) → IsReadAs pattern tree.now
+        → IsChoice pattern (map string_bytes texts.items))) }
+{
+    match exact_literals(alloc, tree)? {
+        Some(needles) if needles.len() <= MAX_TEXTS => texts_of_needles(alloc, &needles),
+        _ => Ok(None),
+    }
+}
+
+/// The needles as texts, where each is UTF-8. The only error is out of memory.
+fn texts_of_needles(alloc: Global, needles: &[Vec<u8>]) -> Result<Option<Vec<String>>, AllocError>
+    ensures same { IfOk result (λ found. IfSome found (λ texts. map string_bytes texts.items ≡ map (λ n. n.items) needles.now)) }
+    ensures utf8 { IfOk result (λ found. IfSome found (λ texts. All IsUtf8 (map string_bytes texts.items))) }
+{
+    let mut texts = Vec::new(alloc);
+    for needle in needles {
+        let Ok(text) = str::from_utf8(needle) else {
+            return Ok(None);
+        };
+        texts.push(String::from_str(alloc, text)?)?;
+    }
+    Ok(Some(texts))
 }
 
 /// The regex of a text. It is not inlined, since a regex is large.
@@ -142,23 +258,31 @@ impl Eq for PatternRegex {
     ghost laws = { Prim.search (comparing, rules) };
 }
 
-/// What searches for a pattern, for whoever asks more than once: making it costs as much as a hundred searches, and it
-/// keeps its room from one search to the next. Contracts see the pattern's text.
+/// What searches for a pattern, for whoever asks more than once. Of a pattern with a regex, making it costs as much as a
+/// hundred searches, and it keeps its room from one search to the next. Contracts see the pattern's text.
 pub struct PatternMatcher<'p> {
     pattern: &'p PatternRegex,
-    matcher: Box<Matcher<'p>>,
+    search: Search<'p>,
+}
+
+/// What searches for a pattern.
+#[derive(Drop)]
+enum Search<'p> {
+    /// A search for one of these texts, of which the pattern is a choice.
+    Texts(&'p [String]),
+    /// The matcher of the regex that was built of the pattern.
+    Regex(Box<Matcher<'p>>),
 }
 
 impl<'p> Model for PatternMatcher<'p> {
     ghost use Rattle.std.specs.Prelude.{List, ℕ};
-    ghost use Rattle.regex.specs.Strings.{matcher_pattern};
-    ghost use Rattle.filterset_matchers.specs.Pattern.{FindsAs};
+    ghost use Rattle.filterset_matchers.specs.Pattern.{SearchesFor};
 
     ghost Value = { List ℕ };
 
     ghost view = { λ m. m.pattern.now };
 
-    ghost invariant = { λ m. FindsAs m.pattern.now (matcher_pattern m.matcher.value) };
+    ghost invariant = { λ m. SearchesFor m.pattern.now m.search };
 }
 
 // Written out, as for `PatternRegex`.
@@ -166,7 +290,7 @@ impl Drop for PatternMatcher<'_> {
     fn drop(self) {
         let PatternMatcher {
             pattern: _,
-            matcher: _matcher,
+            search: _search,
         } = self;
     }
 }
@@ -184,8 +308,23 @@ impl<'p> PatternMatcher<'p> {
         ensures found { IsTrue result ↔ HasMatch self.old input.now }
         ensures same { self.new ≡ self.old }
     {
-        self.matcher.is_match(input)
+        match &mut self.search {
+            Search::Texts(texts) => contains_any(input, texts),
+            Search::Regex(matcher) => matcher.is_match(input),
+        }
     }
+}
+
+/// Whether one of the texts stands somewhere in the input.
+fn contains_any(input: &str, texts: &[String]) -> bool
+    ensures { IsTrue result ↔ HasOneOf (map string_bytes texts.now) input.now }
+{
+    for text in texts {
+        if substring::contains(input, text.as_str()) {
+            return true;
+        }
+    }
+    false
 }
 
 impl fmt::Debug for PatternMatcher<'_> {
