@@ -44,6 +44,31 @@ fn kept_matchers_answer_again_and_again(rt: HostRuntime) -> Result<(), Fail> {
     Ok(())
 }
 
+/// What the pattern of this text tells of the name without a matcher.
+fn told_at_once(alloc: Global, text: &str, name: &str) -> Result<Option<bool>, Fail> {
+    let pattern = pattern(alloc, text)?;
+    Ok(pattern.is_match_at_once(name))
+}
+
+#[test]
+fn patterns_of_few_texts_are_told_at_once(rt: HostRuntime) -> Result<(), Fail> {
+    for (text, name, told) in [
+        ("slow", "very_slow", Some(true)),
+        ("slow", "slo", Some(false)),
+        ("unix|windows", "on_windows", Some(true)),
+        ("sub_[01]::", "sub_2::", Some(false)),
+        ("a|b|c|d|e", "xe", None),
+        ("b$", "ab", None),
+    ] {
+        assert_eq!(rt;
+            told_at_once(rt.alloc(), text, name)?,
+            told,
+            "{text} {name}"
+        );
+    }
+    Ok(())
+}
+
 /// Whether what is kept for the glob of this text matches the name.
 fn glob_matches(alloc: Global, text: &str, name: &str) -> Result<bool, Fail> {
     let glob = GenericGlob::new(alloc, String::from_str(alloc, text)?)?;

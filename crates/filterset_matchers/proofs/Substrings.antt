@@ -1,11 +1,13 @@
 -- Where a text stands in another.
-use Rattle.std.proofs.Common.{◌≡◌, ◌↔◌, ◌+◌, ◌-◌, ◌<◌, ◌≤◌, ◌^◌, ◌%◌, ℕ, List, [], ◌∷◌, ◌++◌, Bool, true, false, cond, map, not, nat_eq, get_or, bit_and, length, take, drop, replicate, IsTrue, refl, ap, sym, ◌∙◌, arith, w8, eqb, eqb-true, eq-eqb}
-use Rattle.std.specs.Int.{bit_at}
+use Rattle.std.proofs.Common.{◌≡◌, ◌↔◌, ◌+◌, ◌-◌, ◌<◌, ◌≤◌, ◌^◌, ◌%◌, ℕ, List, [], ◌∷◌, ◌++◌, Bool, true, false, cond, map, get_or, bit_and, length, take, drop, replicate, refl, ap, sym, ◌∙◌, arith, w8, w64, ⊎_elim, eqb, eqb-true, eq-eqb}
+use Rattle.std.specs.Int.{bit_at, leading_zeros, trailing_zeros}
 use Rattle.std.specs.Simd.Lanes.{zip2, mask_l, top}
 use mir.Val.{bits, hbits}
 use Rattle.std.proofs.Math.Seq.{take-append_seam, drop-append_seam}
 use Rattle.std.proofs.lemmas.List.{get_or-map, get_or-take, get_or-drop, take-append-drop, length-append}
-use Rattle.std.proofs.lemmas.Nat.Bits.{bit_at_and, bit_at-zero}
+use Rattle.std.proofs.lemmas.Nat.Bits.{bit_at_above, bit_at_and, bit_at-trailing_zeros, bit_at-zero}
+use Rattle.std.proofs.lemmas.Nat.{leading_length}
+use Rattle.std.proofs.lemmas.Bool.{cases_lt}
 use Rattle.std.proofs.lemmas.Simd.{bitmask_splat, bit_mask_l}
 use Rattle.std.specs.Str.Iter.{HasSubslice}
 use Rattle.filterset_matchers.specs.Substring.{StandsAt}
@@ -23,15 +25,6 @@ bit_of_equal v y k long small =
     ap (λ n. bit_at n k) (bitmask_splat w8 eqb v 16 y long (omega arith)) ∙ bit_mask_l (map p v) k ∙ ap (λ b. cond b 1 0) (get_or-map p v k 0 false (omega arith)) in
     let z = tells (p (get_or v k 0)) in
     (λ h. eqb-true _ _ (z.0 (sym e ∙ h)), λ h. e ∙ z.1 (eq-eqb _ _ h))
-
-not_true : (b : Bool) → (b ≡ true → ⊥) → IsTrue (not b)
-not_true true h = absurd (h refl)
-not_true false h = refl
-
--- two words that have a bit in common
-pub bit_in_both : (a b k : ℕ) → bit_at a k ≡ 1 → bit_at b k ≡ 1 → IsTrue (not (nat_eq (bit_and a b) 0))
-bit_in_both a b k p q =
-    not_true (nat_eq (bit_and a b) 0) (λ e. let none : bit_and a b ≡ 0 = eqb-true _ _ e in let one : bit_at (bit_and a b) k ≡ 1 = omega (arith, bit_at_and a b k) in let nil : bit_at (bit_and a b) k ≡ 0 = ap (λ x. bit_at x k) none ∙ bit_at-zero k in omega (arith, one, nil))
 
 -- a byte of a text where it stands
 pub byte_of : (text needle : List ℕ) (position k : ℕ) → StandsAt text needle position → k < length needle → get_or text (position + k) 0 ≡ get_or needle k 0
@@ -51,3 +44,28 @@ somewhere_stands text needle (a, b, e) =
 pub empty_of : (text : List ℕ) → length text ≡ 0 → text ≡ []
 empty_of [] e = refl
 empty_of (c ∷ cs) e = absurd (omega (arith, e))
+
+-- a bit that is set stands between the lowest and the highest
+pub between_zeros : (n j : ℕ) → n < 2 ^ 64 → bit_at n j ≡ 1 → (trailing_zeros w64 n ≤ j) × (j < 64 - leading_zeros w64 n)
+between_zeros n j small set =
+    let some : 0 < n = ⊎_elim (λ p. p) (λ q. let none : n ≡ 0 = omega arith in absurd (omega (arith, set, ap (λ m. bit_at m j) none, bit_at-zero j))) (cases_lt 0 n) in
+    let lowest = bit_at-trailing_zeros w64 n some small in
+    let top = leading_length 64 n small in (
+      ⊎_elim (λ before. absurd (omega (arith, lowest.2 j before, set))) (λ later. later) (cases_lt j (trailing_zeros w64 n)),
+      ⊎_elim (λ before. omega (arith, top.1)) (λ above. absurd (omega (arith, bit_at_above n top.0 j top.2 above, set))) (cases_lt j top.0),
+    )
+
+-- where the needle stands among 16 positions, its first and its last byte are found
+pub bit_of_both : (text needle : List ℕ) (to k begins ends : ℕ) → 0 < length needle → 16 ≤ to → to + length needle ≤ length text + 1 →
+    k < to → to ≤ k + 16 → StandsAt text needle k →
+    ((j : ℕ) → j < 16 → (bit_at begins j ≡ 1) ↔ (get_or (take (length text - (to - 16)) (drop (to - 16) text)) j 0 ≡ get_or needle 0 0)) →
+    ((j : ℕ) → j < 16 → (bit_at ends j ≡ 1) ↔ (get_or (take (length text - (to - 16 + (length needle - 1))) (drop (to - 16 + (length needle - 1)) text)) j 0 ≡ get_or needle (length needle - 1) 0)) →
+    bit_at (bit_and begins ends) (k + 16 - to) ≡ 1
+bit_of_both text needle to k begins ends some long within below near stands first last =
+    let j = k + 16 - to in
+    let final = length needle - 1 in
+    let one : get_or text (to - 16 + j) 0 ≡ get_or needle 0 0 = ap (λ p. get_or text p 0) (omega arith) ∙ byte_of text needle k 0 stands (omega arith) in
+    let other : get_or text (to - 16 + final + j) 0 ≡ get_or needle final 0 = ap (λ p. get_or text p 0) (omega arith) ∙ byte_of text needle k final stands (omega arith) in
+    let begun = (first j (omega arith)).1 (get_or-take (length text - (to - 16)) (drop (to - 16) text) j 0 (omega arith) ∙ get_or-drop (to - 16) text j 0 ∙ one) in
+    let ended = (last j (omega arith)).1 (get_or-take (length text - (to - 16 + final)) (drop (to - 16 + final) text) j 0 (omega arith) ∙ get_or-drop (to - 16 + final) text j 0 ∙ other) in
+    omega (arith, bit_at_and begins ends j, begun, ended)

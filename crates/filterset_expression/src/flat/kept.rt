@@ -16,7 +16,7 @@ use std::cell::RefCell;
 pub enum KeptMatcher<'a> {
     /// Nothing: to compare names wants nothing, and for some globs it does not pay.
     Nothing,
-    /// What searches for a pattern, which is made at the first question.
+    /// What searches for a pattern, which is made at the first question that wants it.
     Pattern(RefCell<Option<PatternMatcher<'a>>>),
     /// A glob beside its longest literal.
     Glob(GlobMatcher<'a>),
@@ -76,6 +76,9 @@ fn is_found<'a>(
 ) -> Result<bool, AllocError>
     ensures { IfOk result (λ found. IsTrue found ↔ HasMatch pattern.now name.now) }
 {
+    if let Some(found) = pattern.is_match_at_once(name) {
+        return Ok(found);
+    }
     if let Ok(mut guard) = kept.try_borrow_mut() {
         if let Some(kept) = &mut *guard {
             if kept.is_of(pattern) {

@@ -78,14 +78,29 @@ impl PatternRegex {
 
     /// Whether the pattern matches anywhere in the input. The only error is out of memory.
     ///
-    /// It makes a matcher for this one question. [`PatternRegex::matcher`] is for whoever asks more often.
+    /// Of a pattern with a regex, it makes a matcher for this one question. [`PatternRegex::matcher`] is for whoever asks
+    /// more often.
     #[cold]
     #[inline(never)]
     pub fn is_match(&self, alloc: Global, input: &str) -> Result<bool, AllocError>
         ensures { IfOk result (λ found. IsTrue found ↔ HasMatch self.now input.now) }
     {
+        if let Some(found) = self.is_match_at_once(input) {
+            return Ok(found);
+        }
         let mut matcher = self.matcher(alloc)?;
         Ok(matcher.is_match(input))
+    }
+
+    /// Whether the pattern matches anywhere in the input, where that is told without a matcher: of a pattern that is known
+    /// to be a choice of few texts.
+    pub fn is_match_at_once(&self, input: &str) -> Option<bool>
+        ensures { IfSome result (λ found. IsTrue found ↔ HasMatch self.now input.now) }
+    {
+        match &self.searched {
+            Searched::Texts(texts) => Some(contains_any(input, texts)),
+            Searched::Regex(_) => None,
+        }
     }
 
     /// What searches for the pattern. The only error is out of memory.

@@ -1,5 +1,5 @@
 //! Searching a text for another. A text of up to 60 bytes is searched faster than by `str::contains`.
-ghost use Rattle.std.specs.Prelude.{◌≡◌, ◌↔◌, ◌+◌, ◌<◌, ◌≤◌, ℕ, IsTrue, length, slice_index};
+ghost use Rattle.std.specs.Prelude.{◌≡◌, ◌↔◌, ◌+◌, ◌-◌, ◌<◌, ◌≤◌, ℕ, IsTrue, length, slice_index};
 ghost use Rattle.std.specs.Int.{bit_at};
 ghost use Rattle.std.specs.Str.Iter.{HasSubslice};
 ghost use Rattle.filterset_matchers.specs.Substring.{StandsAt};
@@ -19,10 +19,12 @@ pub(super) fn contains(text: &str, needle: &str) -> bool
         return false;
     }
     let positions = text.len() - needle.len() + 1;
+    let ends = (needle[0], needle[needle.len() - 1]);
     let mut from = 0;
     while from < positions {
         let to = positions.min(from + 16);
-        if may_stand_before(text, needle, to) && stands_between(text, needle, from, to) {
+        let (first, end) = narrowed(text, needle, ends, from, to);
+        if first < end && stands_between(text, needle, first, end) {
             return true;
         }
         from = to;
@@ -31,6 +33,7 @@ pub(super) fn contains(text: &str, needle: &str) -> bool
 }
 
 /// Whether the needle stands at one of these positions, the last of which is not among them.
+#[inline(never)]
 fn stands_between(text: &[u8], needle: &[u8], from: usize, to: usize) -> bool
     requires some { 0 < length needle.now }
     requires within { to + length needle.now ≤ length text.now + 1 }
@@ -54,20 +57,32 @@ fn stands_at(text: &[u8], needle: &[u8], position: usize) -> bool
     text[position] == needle[0] && &text[position..position + needle.len()] == needle
 }
 
-/// Not where the needle stands at none of the 16 positions before this one. Where there are fewer, it may.
+/// The positions from `from` to `to`, of which there are at most 16, without those at either end where the needle, which
+/// begins and ends in these bytes, does not stand. Where there are no 16 positions before `to`, these are all of them.
+///
+/// The bytes are read before the loop, since the compiler moves no read out of it that some turns may not make.
 #[inline(always)]
-fn may_stand_before(text: &[u8], needle: &[u8], to: usize) -> bool
+fn narrowed(text: &[u8], needle: &[u8], ends: (u8, u8), from: usize, to: usize) -> (usize, usize)
     requires some { 0 < length needle.now }
     requires within { to + length needle.now ≤ length text.now + 1 }
-    ensures { (k : ℕ) → k < to → to ≤ k + 16 → StandsAt text.now needle.now k → IsTrue result }
+    requires ends { (ends.0 ≡ slice_index needle.now 0) × (ends.1 ≡ slice_index needle.now (length needle.now - 1)) }
+    ensures end { result.1 ≤ to }
+    ensures each { (k : ℕ) → from ≤ k → k < to → to ≤ k + 16 → StandsAt text.now needle.now k
+        → (result.0 ≤ k) × (k < result.1) }
 {
     if to < 16 {
-        return true;
+        return (from, to);
     }
-    let last = needle.len() - 1;
-    let begins = equal_to(&text[to - 16..], needle[0]);
-    let ends = equal_to(&text[to - 16 + last..], needle[last]);
-    begins & ends != 0
+    let start = to - 16;
+    let begun = equal_to(&text[start..], ends.0);
+    let ended = equal_to(&text[start + (needle.len() - 1)..], ends.1);
+    let both = begun & ended;
+    if both == 0 {
+        return (to, to);
+    }
+    let first = start + both.trailing_zeros() as usize;
+    let end = start + (64 - both.leading_zeros()) as usize;
+    (first, end.min(to))
 }
 
 /// Which of the first 16 bytes are this one.
