@@ -27,20 +27,43 @@ fn tokens_are_values(rt: HostRuntime) -> Result<(), Fail> {
     Ok(())
 }
 
+/// Whether the globs of two texts are equal.
+fn are_equal(alloc: Global, one: &str, other: &str) -> Result<bool, Fail> {
+    let one = glob(alloc, one)?;
+    Ok(one == glob(alloc, other)?)
+}
+
 #[test]
 fn equal_by_tokens(rt: HostRuntime) -> Result<(), Fail> {
-    let alloc = rt.alloc();
-    let short = glob(alloc, "**/a{b,[c-d]}")?;
-    let long = glob(alloc, "**/**/a{b,[c-d]}")?;
-    assert!(rt; short == long);
-    assert!(rt; short.as_str() != long.as_str());
-    for other in ["**/a{b,[d]}", "**/a{b,[!c-d]}", "**/a{b}", "a", "?", ""] {
-        assert!(rt; short != glob(alloc, other)?, "{other}");
+    for (one, other, equal) in [
+        ("**/a{b,[c-d]}", "**/**/a{b,[c-d]}", true),
+        ("**/a{b,[c-d]}", "**/a{b,[d]}", false),
+        ("**/a{b,[c-d]}", "**/a{b,[!c-d]}", false),
+        ("**/a{b,[c-d]}", "**/a{b}", false),
+        ("**/a{b,[c-d]}", "a", false),
+        ("**/a{b,[c-d]}", "?", false),
+        ("**/a{b,[c-d]}", "", false),
+        ("a", "?", false),
+    ] {
+        assert!(rt;
+            are_equal(rt.alloc(), one, other)? == equal,
+            "{one} {other}"
+        );
     }
-    assert!(rt; glob(alloc, "a")? != glob(alloc, "?")?);
-    let copy = long.try_clone(alloc)?;
-    assert!(rt; copy == long);
-    assert_eq!(rt; copy.as_str(), "**/**/a{b,[c-d]}");
-    assert_eq!(rt; copy.tokens(), long.tokens());
+    Ok(())
+}
+
+/// Whether a copy of the glob of the text is equal to it, and has this text and the same tokens.
+fn is_copied(alloc: Global, text: &str) -> Result<bool, Fail> {
+    let glob = glob(alloc, text)?;
+    let copy = glob.try_clone(alloc)?;
+    Ok(copy == glob && copy.as_str() == text && copy.tokens() == glob.tokens())
+}
+
+#[test]
+fn copies_have_text_and_tokens(rt: HostRuntime) -> Result<(), Fail> {
+    for text in ["**/a{b,[c-d]}", "**/**/a{b,[c-d]}"] {
+        assert!(rt; is_copied(rt.alloc(), text)?, "{text}");
+    }
     Ok(())
 }

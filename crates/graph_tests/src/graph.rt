@@ -30,6 +30,12 @@ fn keeps_the_list_of_packages(rt: HostRuntime) -> Result<(), Failure> {
     Ok(())
 }
 
+/// Whether the id of a test binary of this kind, `m` of the package `p`, is the wanted one.
+fn is_written(alloc: Global, kind: &RustTestBinaryKind, wanted: &str) -> Result<bool, AllocError> {
+    let found = RustBinaryId::from_parts(alloc, "p", kind, "m")?;
+    Ok(found == RustBinaryId::new(alloc, wanted)? && found.as_str() == wanted)
+}
+
 #[test]
 fn writes_binary_ids(rt: HostRuntime) -> Result<(), Failure> {
     let alloc = rt.alloc();
@@ -43,9 +49,7 @@ fn writes_binary_ids(rt: HostRuntime) -> Result<(), Failure> {
         (&RustTestBinaryKind::EXAMPLE, "p::example/m"),
         (&weird, "p::weird/m"),
     ] {
-        let found = RustBinaryId::from_parts(alloc, "p", kind, "m")?;
-        assert!(rt; found == RustBinaryId::new(alloc, want)?, "{want}");
-        assert!(rt; found.as_str() == want);
+        assert!(rt; is_written(alloc, kind, want)?, "{want}");
     }
     Ok(())
 }
