@@ -1,6 +1,6 @@
 //! A pattern's text beside what is searched for it, and what searches. A pattern that is a choice of few texts, as `slow`,
 //! `net::tcp` or `unix|windows`, has no regex: the texts are searched for.
-ghost use Rattle.std.specs.Prelude.{◌≡◌, ◌≢◌, ◌↔◌, All, IsTrue, IsUtf8, IfOk, IfSome, List, ℕ, map, string_bytes};
+ghost use Rattle.std.specs.Prelude.{◌≡◌, ◌≢◌, ◌↔◌, All, IsSome, IsTrue, IsUtf8, IfErr, IfOk, IfSome, List, ℕ, map, string_bytes};
 ghost use Rattle.regex.specs.declared.error.Error.TheVariants as regex;
 ghost use Rattle.filterset_matchers.specs.declared.matcher.pattern.PatternRefusal.TheVariants as refusal;
 ghost use Rattle.filterset_matchers.specs.Pattern.{IsPattern, IsPlain, HasMatch, IsBuiltOf, HasOneOf, IsChoice, IsReadAs, IsSearchedFor};
@@ -59,10 +59,12 @@ impl PatternRegex {
     /// The pattern of this text, which does not come back where it is refused.
     ///
     /// The grammar of `regex` reads the text of each pattern. That `regex` builds each text that its grammar reads is
-    /// not promised. Nothing is built of a text that is known to be a choice of few texts.
+    /// not promised. Nothing is built of a text that is known to be a choice of few texts; of one of which each character
+    /// stands for itself that is promised, so it is refused only where memory is.
     pub fn new(alloc: Global, pattern: String) -> Result<PatternRegex, PatternRefusal>
         ensures text { IfOk result (λ p. p ≡ string_bytes pattern) }
         ensures read { IfOk result (λ p. IsPattern p) }
+        ensures plain { IsPlain (string_bytes pattern) → IfErr result (λ refused. refused ≢ refusal.NotBuilt) }
     {
         let searched = searched_for(alloc, pattern.as_str())?;
         Ok(PatternRegex { pattern, searched })
@@ -132,7 +134,8 @@ impl Drop for PatternRegex {
 
 /// What is searched for a pattern of the text.
 fn searched_for(alloc: Global, text: &str) -> Result<Searched, PatternRefusal>
-    ensures { IfOk result (λ searched. IsSearchedFor text.now searched) }
+    ensures searched { IfOk result (λ searched. IsSearchedFor text.now searched) }
+    ensures plain { IsPlain text.now → IfErr result (λ refused. refused ≢ refusal.NotBuilt) }
 {
     match texts_of(alloc, text) {
         Ok(Some(texts)) => Ok(Searched::Texts(texts)),
@@ -144,7 +147,8 @@ fn searched_for(alloc: Global, text: &str) -> Result<Searched, PatternRefusal>
 /// The texts of which a pattern of the text is a choice, where that is found to be so and they are few. The only error is
 /// out of memory.
 fn texts_of(alloc: Global, text: &str) -> Result<Option<Vec<String>>, AllocError>
-    ensures { IfOk result (λ found. IfSome found (λ texts. IsChoice text.now (map string_bytes texts.items))) }
+    ensures choice { IfOk result (λ found. IfSome found (λ texts. IsChoice text.now (map string_bytes texts.items))) }
+    ensures plain { IsPlain text.now → IfOk result (λ found. IsSome found) }
 {
     if is_plain(text) {
         let only = String::from_str(alloc, text)?;
