@@ -1,17 +1,15 @@
 //! The lines of a binary and of a test.
 ghost use Rattle.std.specs.Prelude.{◌≡◌, ◌++◌, IfOk, OnOk, codes, string_bytes};
 ghost use Rattle.filterset_expression.specs.FlatExpressions.{IsTold};
-ghost use Rattle.filterset_record.specs.Record.{BinaryRow};
-ghost use Rattle.filterset_record.specs.Rows.{test_row};
+ghost use Rattle.filterset_record.specs.Record.{BinaryRow, TestRow};
 ghost use Rattle.filterset_record.specs.Shape.{Text};
 ghost use Rattle.filterset_report.specs.Asking.{ForItsTree, IsLookupOf};
-ghost use Rattle.filterset_report.specs.Library.{IsAboutBinary, Tells};
+ghost use Rattle.filterset_report.specs.Library.{IsAbout, Tells};
 ghost use Rattle.filterset_report.specs.Report.{TestLine, answer_text, binary_answer_text};
 
 use crate::lookup::RecordLookup;
-use crate::report::setting::test_query_of;
-use filterset_record::{BinaryEntry, TestEntry};
-use nextest_filtering::{BinaryQuery, FlatExpr};
+use filterset_record::BinaryEntry;
+use nextest_filtering::{FlatExpr, TestQuery};
 use std::alloc::{AllocError, Global};
 use std::fmt::Write;
 
@@ -33,22 +31,20 @@ pub fn push_binary_line(
     writeln!(lines, "  binary {id}: {answer}")
 }
 
-/// Whether the expression holds of the test of the binary that the question is about, of which this is told.
+/// Whether the expression holds of the test that the question is about, of whose binary this is told.
 fn holds_of_test(
     alloc: Global,
     flat: &FlatExpr<'_>,
     lookup: &RecordLookup<'_>,
-    binary: &BinaryQuery<'_>,
     told: Option<bool>,
-    test: &TestEntry,
+    query: &TestQuery<'_>,
 ) -> Result<bool, AllocError>
-    requires { IsTold flat.now binary.now told }
+    requires { IsTold flat.now query.now.binary_query told }
     ensures { IfOk result (λ answer. ForItsTree flat.now (λ background tree.
-        IsLookupOf background.binaries lookup.now → (row : BinaryRow) → IsAboutBinary binary.now row
-        → Tells background tree row (test_row test.now) answer)) }
+        IsLookupOf background.binaries lookup.now → (row : BinaryRow) (test : TestRow) → IsAbout query.now row test
+        → Tells background tree row test answer)) }
 {
-    let query = test_query_of(binary, test);
-    flat.matches_test_of_told(alloc, told, &query, lookup)
+    flat.matches_test_of_told(alloc, told, query, lookup)
 }
 
 /// How the line of a test ends, by whether the expression holds of the test.
@@ -58,26 +54,25 @@ fn line_end(holds: bool) -> &'static str
     if holds { ": yes\n" } else { ": no\n" }
 }
 
-/// Adds the line of a test of the binary that the question is about, of which this is told: whether the expression holds
-/// of the test.
+/// Adds the line of the test that the question is about, of whose binary this is told: whether the expression holds of
+/// the test.
 pub fn push_test_line(
     lines: &mut String,
     alloc: Global,
     flat: &FlatExpr<'_>,
     lookup: &RecordLookup<'_>,
-    binary: &BinaryQuery<'_>,
     told: Option<bool>,
-    test: &TestEntry,
+    query: &TestQuery<'_>,
 ) -> Result<(), AllocError>
-    requires { IsTold flat.now binary.now told }
+    requires { IsTold flat.now query.now.binary_query told }
     ensures { OnOk result ((line : Text) × (string_bytes lines.new ≡ string_bytes lines.old ++ line)
         × ForItsTree flat.now (λ background tree. IsLookupOf background.binaries lookup.now
-        → (row : BinaryRow) → IsAboutBinary binary.now row → TestLine background tree row (test_row test.now) line)) }
+        → (row : BinaryRow) (test : TestRow) → IsAbout query.now row test → TestLine background tree row test line)) }
 {
-    let holds = holds_of_test(alloc, flat, lookup, binary, told, test)?;
+    let holds = holds_of_test(alloc, flat, lookup, told, query)?;
     lines.push_str("  test ")?;
-    lines.push_str(binary.binary_id.as_str())?;
+    lines.push_str(query.binary_query.binary_id.as_str())?;
     lines.push_str(" ")?;
-    lines.push_str(test.name.as_str())?;
+    lines.push_str(query.test_name.as_str())?;
     lines.push_str(line_end(holds))
 }

@@ -18,7 +18,7 @@ ghost use Rattle.filterset_record.specs.Shape.{Text};
 use crate::lookup::RecordLookup;
 use crate::report::faults::push_faults;
 use crate::report::lines::{push_binary_line, push_test_line};
-use crate::report::setting::{Setting, query_of};
+use crate::report::setting::{Setting, query_of, test_query_of};
 use filterset_record::{BinaryEntry, Command, FiltersetEntry};
 use nextest_filtering::{Filterset, FlatExpr, ParseRefusal, ParseSingleError, laws};
 use std::alloc::{AllocError, Global};
@@ -36,11 +36,17 @@ fn push_binary(
         × ForItsTree flat.now (λ background tree. IsLookupOf background.binaries lookup.now
         → BinaryLines background tree (binary_row binary.now) text)) }
 {
-    let query = query_of(binary);
-    let told = flat.matches_binary(alloc, &query)?;
+    let asked = query_of(binary);
+    let told = flat.matches_binary(alloc, &asked)?;
     push_binary_line(lines, binary, told)?;
+    let Some(first) = binary.tests.first() else {
+        return Ok(());
+    };
+    // One question serves all tests: what it says of the binary is not copied for each.
+    let mut query = test_query_of(&asked, first);
     for test in &binary.tests {
-        push_test_line(lines, alloc, flat, lookup, &query, told, test)?;
+        query.test_name = &test.name;
+        push_test_line(lines, alloc, flat, lookup, told, &query)?;
     }
     Ok(())
 }

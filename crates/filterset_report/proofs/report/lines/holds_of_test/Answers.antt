@@ -4,30 +4,25 @@ use Rattle.filterset_faults.specs.declared.span.SourceSpan.{SourceSpan}
 use Rattle.filterset_graph.specs.declared.package.PackageMetadata.{PackageMetadata}
 use Rattle.filterset_grammar.specs.Tree.{Tree}
 use Rattle.filterset_expression.specs.Expression.{Lookup}
-use Rattle.filterset_expression.specs.FlatExpressions.{IsFlatOfTree, IsTold}
+use Rattle.filterset_expression.specs.FlatExpressions.{IsFlatOfTree}
 use Rattle.filterset_expression.specs.Meaning.{Meaning}
 use Rattle.filterset_expression.specs.declared.expression.CompiledExpr.{CompiledExpr}
-use Rattle.filterset_expression.specs.declared.query.BinaryQuery.{BinaryQuery}
 use Rattle.filterset_report.specs.Lookup.{hits_recorded_group}
 use Rattle.filterset_record.specs.Record.{BinaryRow}
 use Rattle.filterset_report.proofs.report.lines.holds_of_test.OwnLists.{reads-GroupLookup-hits_group-1-1}
 use Rattle.filterset_report.proofs.report.lines.holds_of_test.Goals as goal
 
-pub matches_test_of_told-requires : goal.matches_test_of_told-requires
-matches_test_of_told-requires c =
-    subst (λ (binary : BinaryQuery). IsTold c.args.flat.now binary c.args.told) (sym c.test_query_of-query.ensures.binary) c.requires
-
 pub returns : goal.returns
 returns c =
     let flat = c.args.flat.now in
-    let query = c.test_query_of-query.result in
+    let query = c.args.query.now in
     let told = c.matches_test_of_told.result in
     let recorded = subst (λ (lookup : Lookup). IfOk told (λ answer. (packages : List PackageMetadata) (e : Tree SourceSpan) (default : CompiledExpr)
     → IsFlatOfTree flat packages e default → IsTrue answer ↔ Meaning e packages query default lookup))
     (reads-GroupLookup-hits_group-1-1 _ c.args.lookup) c.matches_test_of_told.ensures.meaning in
-    IfOk-weaker told _ _ (λ answer means background tree is of_binaries row about. record {
+    IfOk-weaker told _ _ (λ answer means background tree is of_binaries row test about. record {
       query = query;
-      about = c.test_query_of-query.ensures.about row about;
+      about = about;
       says = subst (λ (binaries : List BinaryRow). IsTrue answer ↔ Meaning tree background.packages query background.default (hits_recorded_group binaries))
           (sym of_binaries) (means background.packages tree background.default is);
     }) recorded

@@ -1,10 +1,12 @@
-use Rattle.std.proofs.Common.{rules, arith, ◌≡◌, ◌↔◌, ◌<◌, ◌++◌, Bool, Option, Some, None, List, codes, length, get_or, refl, subst, sym, []}
+use Rattle.std.proofs.Common.{rules, arith, ◌≡◌, ◌↔◌, ◌<◌, ◌++◌, Bool, Option, Some, None, List, ap, ◌∙◌, codes, length, get_or, map, refl, slice_get, string_bytes, subst, sym, [], ◌∷◌}
 use Rattle.std.proofs.lemmas.List.{append-nil}
+use Rattle.filterset_expression.specs.FlatExpressions.{IsTold}
 use Rattle.filterset_expression.specs.BinaryMeaning.{IsDefiniteTree, IsUndecidedTree}
 use Rattle.filterset_expression.specs.declared.query.BinaryQuery.{BinaryQuery}
 use Rattle.filterset_faults.specs.declared.span.SourceSpan.{SourceSpan}
 use Rattle.filterset_grammar.specs.Tree.{Tree}
 use Rattle.filterset_record.specs.Record.{BinaryRow, TestRow}
+use Rattle.filterset_record.specs.declared.record.binaries.TestEntry.{TestEntry}
 use Rattle.filterset_report.specs.Library.{Background, IsAboutBinary, TellsOfBinary}
 use Rattle.records.specs.Pieces.{Pieces, no_pieces}
 use Rattle.filterset_report.specs.Report.{TestLine, binary_answer_text, lines_of_binary}
@@ -24,6 +26,11 @@ told_of_binary background tree row query told about definite undecided = record 
   undecided = undecided;
 }
 
+-- a list without a first element is empty
+none_first : (tests : List TestEntry) → None ≡ slice_get tests 0 → map test_row tests ≡ []
+none_first [] none = refl
+none_first (test ∷ tests) none = absurd cc
+
 pub returns : goal.returns
 returns c =
     let told = c.in_ok-told.told in
@@ -37,26 +44,51 @@ returns c =
       added_twice _ _ _ _ _ c.in_ok-push_binary_line.ensures others.1,
       λ background tree is of_binaries. lines_of_binary (
         told,
-        told_of_binary background tree row c.query_of-query.result told c.query_of-query.ensures
+        told_of_binary background tree row c.query_of-asked.result told c.query_of-asked.ensures
             (c.in_ok-told.ensures.meaning background.packages tree background.default is) (c.in_ok-told.ensures.unknown background.packages tree background.default is),
         refl,
       )
           (subst (λ (rows : List TestRow). Pieces (TestLine background tree (binary_row c.args.binary.now)) rows others.0) all (others.2 background tree is of_binaries)),
     )
 
+pub returns-in_default : goal.returns-in_default
+returns-in_default c =
+    let told = c.in_ok-told.told in
+    let row = binary_row c.args.binary.now in
+    let own = codes "  binary " ++ (c.args.binary.now.id ++ (codes ": " ++ (binary_answer_text told ++ codes "\n"))) in
+    let none : map test_row c.args.binary.now.tests.items ≡ [] = none_first c.args.binary.now.tests.items (rw c.deref.ensures.value at c.in_default.ensures.value) in (
+      own ++ [],
+      c.in_ok-push_binary_line.ensures ∙ ap (λ text. string_bytes c.args.lines.now ++ text) (sym (append-nil own)),
+      λ background tree is of_binaries. lines_of_binary (
+        told,
+        told_of_binary background tree row c.query_of-asked.result told c.query_of-asked.ensures
+            (c.in_ok-told.ensures.meaning background.packages tree background.default is) (c.in_ok-told.ensures.unknown background.packages tree background.default is),
+        refl,
+      )
+          (subst (λ (rows : List TestRow). Pieces (TestLine background tree row) rows []) (sym none) no_pieces),
+    )
+
+pub push_test_line-requires : goal.push_test_line-requires
+push_test_line-requires c =
+    subst (λ (binary : BinaryQuery). IsTold c.args.flat.now binary c.in_ok-told.told) (sym (c.loop-test.invariant.3 ∙ c.test_query_of-query.ensures.binary)) c.in_ok-told.ensures.told
+
 pub loop-test-init : goal.loop-test-init
-loop-test-init c = ([], sym (append-nil _), λ background tree is of_binaries. no_pieces)
+loop-test-init c = ([], sym (append-nil _), λ background tree is of_binaries. no_pieces, refl)
 
 pub loop-test-preserved : goal.loop-test-preserved
 loop-test-preserved c =
     let before = c.loop-test.invariant in
     let line = c.in_ok-push_test_line.ensures in
     let tests = c.args.binary.now.tests.items in
+    let row = binary_row c.args.binary.now in
     let i = c.loop-test.test-index in
     let test = c.test-item.result in
     let lt : i < length tests = omega (arith, c.loop-test-test.true) in
-    let at : get_or tests i test ≡ test = search (rules, c.test-item.is) in (
+    let at : get_or tests i test ≡ test = search (rules, c.test-item.is) in
+    let asked = subst (λ (binary : BinaryQuery). IsAboutBinary binary row) (sym (before.3 ∙ c.test_query_of-query.ensures.binary)) c.query_of-asked.ensures in (
       before.0 ++ line.0,
       added_twice _ _ _ _ _ before.1 line.1,
-      λ background tree is of_binaries. Pieces-more (TestLine background tree (binary_row c.args.binary.now)) test_row tests i test _ _ lt at (before.2 background tree is of_binaries) (line.2 background tree is of_binaries (binary_row c.args.binary.now) c.query_of-query.ensures),
+      λ background tree is of_binaries. Pieces-more (TestLine background tree row) test_row tests i test _ _ lt at (before.2 background tree is of_binaries)
+          (line.2 background tree is of_binaries row (test_row test) (record { of_binary = asked; test_name = refl })),
+      before.3,
     )
