@@ -59,8 +59,8 @@ impl PatternRegex {
     /// The pattern of this text, which does not come back where it is refused.
     ///
     /// The grammar of `regex` reads the text of each pattern. That `regex` builds each text that its grammar reads is
-    /// not promised. Nothing is built of a text that is known to be a choice of few texts; of one of which each character
-    /// stands for itself that is promised, so it is refused only where memory is.
+    /// not promised. Nothing is built of a text that is found to be a choice of few texts. A text of which each character
+    /// stands for itself is refused only where memory is.
     pub fn new(alloc: Global, pattern: String) -> Result<PatternRegex, PatternRefusal>
         ensures text { IfOk result (λ p. p ≡ string_bytes pattern) }
         ensures read { IfOk result (λ p. IsPattern p) }
