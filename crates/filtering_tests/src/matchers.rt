@@ -15,7 +15,7 @@ fn pattern(alloc: Global, text: &str) -> Result<PatternRegex, Fail> {
 
 /// Asserts that the kept matcher answers as is wanted, again and again.
 fn answers_again(rt: &impl Abort, matcher: &mut PatternMatcher<'_>) {
-    for (input, answer) in [("ab", true), ("ba", false), ("", false), ("ab", true)] {
+    for (input, answer) in [("abcd", true), ("dcba", false), ("", false), ("abcd", true)] {
         let said = matcher.is_match(input);
         assert!(rt; said == answer, "{input}");
     }
@@ -38,7 +38,7 @@ fn is_kept(rt: &impl Abort, alloc: Global, text: &str) -> Result<(), Fail> {
 
 #[test]
 fn kept_matchers_answer_again_and_again(rt: HostRuntime) -> Result<(), Fail> {
-    for text in ["b$", "ab", "ab|cd"] {
+    for text in ["a+b", "^a", "d$", "abc[a-z]", "ab", "ab|xy"] {
         is_kept(&rt, rt.alloc(), text)?;
     }
     Ok(())
@@ -122,7 +122,7 @@ fn pattern_or_wants_memory(rt: &impl Abort, alloc: Global, text: &str) {
 
 #[test]
 fn matcher_or_wants_memory(rt: HostRuntime) {
-    for text in ["a/(b|c)", "a/b|a/c", "a/c"] {
+    for text in ["a/(b|c)", "^xa", "cy$", "xa/[a-z]", "a/b|a/c", "a/c"] {
         pattern_or_wants_memory(&rt, rt.alloc(), text);
     }
 }

@@ -1,16 +1,15 @@
 -- A pattern whose expression is a choice among texts has a match where one of them stands.
-use Rattle.std.proofs.Common.{◌≡◌, ◌⊎◌, ℕ, zero, suc, List, [], ◌∷◌, ◌++◌, All, Some, length, take, drop, ◌<◌, refl, sym, ap, ◌∙◌, subst, inl, inr, ⊎_elim, arith, IsUtf8, IsCharBoundary, true≢false, take-append-drop}
+use Rattle.std.proofs.Common.{◌≡◌, ◌⊎◌, ℕ, zero, suc, List, [], ◌∷◌, ◌++◌, All, length, take, drop, ◌<◌, refl, sym, ap, ◌∙◌, subst, inl, inr, ⊎_elim, arith, IsUtf8, IsCharBoundary, true≢false, take-append-drop}
 use Rattle.std.proofs.lemmas.Bool.{cases_Bool}
 use Rattle.std.proofs.lemmas.List.{get_or_default}
 use Rattle.std.proofs.lemmas.List.Elements.{All-head, All-tail}
-use Rattle.std.proofs.lemmas.Option.{none-some, same_Some}
+use Rattle.std.proofs.lemmas.Option.{none-some}
 use Rattle.std.proofs.Math.Seq.{drop-append_seam}
-use Rattle.std.specs.Str.{chars}
-use Rattle.regex_hir.specs.Re.{Trace, accept, attempt}
+use Rattle.regex_hir.specs.Re.{accept, attempt}
 use Rattle.regex_hir.specs.Meaning.{meaning}
 use Rattle.regex_hir.specs.declared.hir.Hir.{Hir}
 use Rattle.regex_hir.specs.Text.{has_bytes_at}
-use Rattle.regex_hir.proofs.AttemptLemmas.{attempt_sound, attempt_complete}
+use Rattle.regex_hir.proofs.AttemptLemmas.{attempt_complete}
 use Rattle.regex_hir.proofs.OptionLemmas.{option_cases, value_of_IsSome}
 use Rattle.regex_hir.proofs.TextLemmas.{has_bytes_at_from, has_bytes_at_parts}
 use Rattle.regex_literal.specs.Find.{OccursAt, AnyOccursAt, FirstNeedleAt, needle_at}
@@ -18,13 +17,11 @@ use Rattle.regex_literal.proofs.lemmas.FindLemmas.{OccursAt-part}
 use Rattle.regex_extract.specs.Exact.{IsChoiceOf, end_of}
 use Rattle.regex_extract.specs.Needles.{AreFilled}
 use Rattle.regex_extract.proofs.NeedlesLemmas.{OccursAt-of_drop}
-use Rattle.regex_syntax.specs.Grammar.{read}
-use Rattle.regex.specs.Patterns.{Re, Matches, default_config}
-use Rattle.filterset_matchers.proofs.PatternLemmas.{IsPattern-of_built, IsSomeAnd-map, IsSomeAnd-both, found_alike, found_exactly}
+use Rattle.regex.specs.Patterns.{Re}
+use Rattle.filterset_matchers.proofs.PatternLemmas.{HasMatch-of_tree, Matches-of_attempt, IsPattern-of_tree, are_bytes}
 use Rattle.filterset_matchers.proofs.PlainLemmas.{begins_a_character}
-use Rattle.filterset_matchers.specs.Pattern.{HasOneOf, IsChoice, IsPattern, IsReadAs, IsSearchedFor, MatchesSomewhere}
-use Rattle.filterset_matchers.specs.declared.matcher.pattern.Searched.{Searched}
-use Rattle.filterset_matchers.specs.declared.matcher.pattern.Searched.TheVariants as searched
+use Rattle.filterset_matchers.specs.Compiled.{IsReadAs}
+use Rattle.filterset_matchers.specs.Pattern.{HasOneOf, IsChoice, MatchesSomewhere}
 
 -- ---- whether a needle occurs at a place
 
@@ -68,11 +65,6 @@ first_or_none input k (needle ∷ needles) filled =
 
 -- ---- where the expression matches
 
-Matches-of_attempt : (re : Re) (input : List ℕ) (i : ℕ) (t : Trace) → attempt input re accept i ≡ Some t → Matches input re i t.end
-Matches-of_attempt re input i t e =
-    let c = attempt_sound input re accept i t e in
-    subst (Matches input re i) (ap (λ (u : Trace). u.end) (same_Some _ _ c.gave) ∙ sym c.same_end) c.leads
-
 -- a character begins where a text stands that is not empty
 begins_there : (input a text b : List ℕ) → 0 < length text → IsUtf8 text → input ≡ a ++ (text ++ b) → IsCharBoundary input (length a)
 begins_there input a [] b filled whole e = absurd (omega arith)
@@ -115,19 +107,12 @@ module _ (re : Re) (needles : List (List ℕ)) (choice : IsChoiceOf re needles) 
 pub IsChoice-of_tree : (pattern : List ℕ) (tree : Hir) (needles : List (List ℕ)) → IsReadAs pattern tree → IsChoiceOf (meaning tree) needles →
     AreFilled needles → All IsUtf8 needles → IsChoice pattern needles
 IsChoice-of_tree pattern tree needles reading choice filled spelled =
-    let o = read default_config (chars pattern) in
     let re = meaning tree in record {
-      read = IsSomeAnd-map o reading (λ x h. h.0);
+      read = IsPattern-of_tree pattern tree reading;
       finds = λ input whole bytes.
-          let small : All (λ x. x < 256) input = λ k d h. rw (get_or_default input k d 0 h) (bytes k) in (
-            λ has. IsSomeAnd-both o reading has (λ x h somewhere. stands_where_it_matches re needles choice filled input small
-                ((found_exactly re input).0 (rw (found_alike re x.0.value h.1 input bytes) ((found_exactly x.0.value input).1 somewhere)))),
-            λ stands. IsSomeAnd-map o reading (λ x h. (found_exactly x.0.value input).0
-                (rw (sym (found_alike re x.0.value h.1 input bytes)) ((found_exactly re input).1 (matches_where_it_stands re needles choice filled input small spelled stands)))),
+          let small = are_bytes input bytes in
+          let tells = HasMatch-of_tree pattern tree reading input bytes in (
+            λ has. stands_where_it_matches re needles choice filled input small (tells.0 has),
+            λ stands. tells.1 (matches_where_it_stands re needles choice filled input small spelled stands),
           );
     }
-
--- the grammar reads a pattern that is searched for
-pub IsPattern-of_searched : (pattern : List ℕ) (s : Searched) → IsSearchedFor pattern s → IsPattern pattern
-IsPattern-of_searched pattern (searched.Texts texts) choice = choice.read
-IsPattern-of_searched pattern (searched.Regex regex) built = IsPattern-of_built pattern regex.value built

@@ -1,7 +1,9 @@
 pub mod Chars
 pub mod ChoiceLemmas
+pub mod CompiledLemmas
 pub mod Literals
 pub mod PatternLemmas
 pub mod PlainLemmas
 pub mod Runs
 pub mod Substrings
+pub mod TextParts

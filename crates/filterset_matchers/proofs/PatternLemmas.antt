@@ -1,20 +1,28 @@
 -- From what `regex` promises to what a pattern's text alone says.
-use Rattle.std.proofs.Common.{◌≡◌, ℕ, ◌<◌, List, length, All, Option, Some, None, true, false, Bool, IsTrue, IsSome, IsSomeAnd, is_some, cond, get_or, refl, sym, ap, ◌∙◌, arith, ◌↔◌}
+use Rattle.std.proofs.Common.{◌≡◌, ℕ, ◌<◌, List, length, All, Option, Some, None, true, false, Bool, IsTrue, IsSome, IsSomeAnd, is_some, cond, get_or, refl, sym, ap, ◌∙◌, subst, arith, ◌↔◌}
 use Rattle.std.proofs.lemmas.List.{get_or_default}
+use Rattle.std.proofs.lemmas.Option.{same_Some}
 use Rattle.std.specs.Str.{chars}
+use Rattle.regex_hir.specs.Re.{Trace, accept, attempt}
+use Rattle.regex_hir.proofs.AttemptLemmas.{attempt_sound}
 use Rattle.regex_hir.proofs.OptionLemmas.{value_of_IsSome}
 use Rattle.regex_hir.proofs.FindLemmas.{IsFirst-of_first_between}
 use Rattle.regex_hir.specs.Text.{is_boundary}
+use Rattle.regex_hir.specs.Meaning.{meaning}
+use Rattle.regex_hir.specs.declared.hir.Hir.{Hir}
 use Rattle.regex_syntax.specs.Captures.{SameCaptures}
 use Rattle.regex_syntax.specs.Grammar.{read}
 use Rattle.regex_syntax.proofs.CapturesLemmas.{spans, find_str_alike}
 use Rattle.regex_syntax.proofs.Written.{is_some-option_map}
-use Rattle.regex.specs.Patterns.{Re, find_str, Reads, default_config}
+use Rattle.regex.specs.Patterns.{Matches, Re, find_str, Reads, default_config}
 use Rattle.regex.specs.Strings.{regex_pattern}
 use Rattle.regex.specs.declared.string.regex.Regex.{Regex}
 use Rattle.regex.proofs.ForCallers.{find_str_sound, find_str_complete}
 use Rattle.regex.proofs.Utf8Lemmas.{IsCharBoundary-of_test}
-use Rattle.filterset_matchers.specs.Pattern.{IsPattern, MatchesSomewhere, HasMatch, IsBuiltOf}
+use Rattle.filterset_matchers.specs.Compiled.{IsReadAs}
+use Rattle.filterset_matchers.specs.Pattern.{IsPattern, MatchesSomewhere, HasMatch, IsBuiltOf, IsSearchedFor}
+use Rattle.filterset_matchers.specs.declared.matcher.pattern.Searched.{Searched}
+use Rattle.filterset_matchers.specs.declared.matcher.pattern.Searched.TheVariants as searched
 
 pub IsSomeAnd-map : {A : Type 0} {P Q : A → Type 0} (o : Option A) → IsSomeAnd o P → ((x : A) → P x → Q x) → IsSomeAnd o Q
 IsSomeAnd-map None h f = absurd h
@@ -33,6 +41,11 @@ cond_true : {A : Type 0} (b : Bool) (o : Option A) (x : A) → cond b o None ≡
 cond_true true o x e = refl
 cond_true false o x e = cc
 
+pub Matches-of_attempt : (re : Re) (input : List ℕ) (i : ℕ) (t : Trace) → attempt input re accept i ≡ Some t → Matches input re i t.end
+Matches-of_attempt re input i t e =
+    let c = attempt_sound input re accept i t e in
+    subst (Matches input re i) (ap (λ (u : Trace). u.end) (same_Some _ _ c.gave) ∙ sym c.same_end) c.leads
+
 -- a search finds something exactly where the expression matches somewhere
 pub found_exactly : (re : Re) (text : List ℕ) → IsSome (find_str re text 0) ↔ MatchesSomewhere re text
 unfolding find_str
@@ -46,11 +59,14 @@ found_exactly re text = (
   λ somewhere. find_str_complete re text 0 somewhere.0 somewhere.1 (omega arith) somewhere.2 somewhere.3,
 )
 
+pub are_bytes : (text : List ℕ) → ((k : ℕ) → get_or text k 0 < 256) → All (λ x. x < 256) text
+are_bytes text bytes = λ k d h. rw (get_or_default text k d 0 h) (bytes k)
+
 -- two expressions that match alike are found in the same texts
 pub found_alike : (a b : Re) → SameCaptures a b → (text : List ℕ) → ((k : ℕ) → get_or text k 0 < 256) →
     is_some (find_str a text 0) ≡ is_some (find_str b text 0)
 found_alike a b same text bytes =
-    let small : All (λ x. x < 256) text = λ k d h. rw (get_or_default text k d 0 h) (bytes k) in
+    let small = are_bytes text bytes in
     sym (is_some-option_map spans (find_str a text 0)) ∙ ap is_some (find_str_alike a b same text small 0)
     ∙ is_some-option_map spans (find_str b text 0)
 
@@ -64,3 +80,25 @@ HasMatch-of_built pattern regex built text bytes =
       λ found. IsSomeAnd-map o reading (λ x h. (found_exactly x.0.value text).0 (rw (sym (found_alike _ x.0.value h.1 text bytes)) found)),
       λ has. IsSomeAnd-both o reading has (λ x h somewhere. rw (found_alike _ x.0.value h.1 text bytes) ((found_exactly x.0.value text).1 somewhere)),
     )
+
+-- ---- a pattern that is read as a tree
+
+pub IsPattern-of_tree : (pattern : List ℕ) (tree : Hir) → IsReadAs pattern tree → IsPattern pattern
+IsPattern-of_tree pattern tree reading = IsSomeAnd-map (read default_config (chars pattern)) reading.same (λ x h. h.0)
+
+pub HasMatch-of_tree : (pattern : List ℕ) (tree : Hir) → IsReadAs pattern tree → (text : List ℕ) → ((k : ℕ) → get_or text k 0 < 256) →
+    HasMatch pattern text ↔ MatchesSomewhere (meaning tree) text
+HasMatch-of_tree pattern tree reading text bytes =
+    let o = read default_config (chars pattern) in
+    let re = meaning tree in (
+      λ has. IsSomeAnd-both o reading.same has (λ x h somewhere.
+          (found_exactly re text).0 (rw (found_alike re x.0.value h.1 text bytes) ((found_exactly x.0.value text).1 somewhere))),
+      λ somewhere. IsSomeAnd-map o reading.same (λ x h. (found_exactly x.0.value text).0
+          (rw (sym (found_alike re x.0.value h.1 text bytes)) ((found_exactly re text).1 somewhere))),
+    )
+
+-- the grammar reads a pattern that is searched for
+pub IsPattern-of_searched : (pattern : List ℕ) (s : Searched) → IsSearchedFor pattern s → IsPattern pattern
+IsPattern-of_searched pattern (searched.Texts texts) choice = choice.read
+IsPattern-of_searched pattern (searched.Compiled compiled) is = IsPattern-of_tree pattern is.tree is.read
+IsPattern-of_searched pattern (searched.Regex regex) built = IsPattern-of_built pattern regex.value built

@@ -1,3 +1,4 @@
+pub mod Compiled
 pub mod Pattern
 pub mod Matcher
 pub mod Matchers

@@ -2,13 +2,12 @@
 use Rattle.std.specs.Prelude.{◌≡◌, ◌↔◌, ℕ, ◌<◌, ◌≤◌, false, List, map, IsTrue, is_some, IsSomeAnd, IsCharBoundary, IsUtf8, get_or, chars, string_bytes}
 use Rattle.std.specs.List.{list_any, Any}
 use Rattle.std.specs.Str.Iter.{HasSubslice}
-use Rattle.regex_hir.specs.Meaning.{meaning}
-use Rattle.regex_hir.specs.declared.hir.Hir.{Hir}
 use Rattle.regex_syntax.specs.Grammar.{read}
 use Rattle.regex_syntax.specs.Verdict.{is_meta}
-use Rattle.regex.specs.Patterns.{Matches, SameCaptures, default_config, Re, find_str}
+use Rattle.regex.specs.Patterns.{Matches, default_config, Re, find_str}
 use Rattle.regex.specs.Strings.{regex_source, regex_config, IsReadFromSource, matcher_pattern}
 use Rattle.regex.specs.declared.string.regex.Regex.{Regex}
+use Rattle.filterset_matchers.specs.Compiled.{IsCompiledOf}
 use Rattle.filterset_matchers.specs.declared.matcher.pattern.Searched.{Searched}
 use Rattle.filterset_matchers.specs.declared.matcher.pattern.Searched.TheVariants as searched
 use Rattle.filterset_matchers.specs.declared.matcher.pattern.Search.{Search}
@@ -44,11 +43,6 @@ FindsAs pattern expression =
     (text : List ℕ) → ((k : ℕ) → get_or text k 0 < 256)
     → IsTrue (is_some (find_str expression text 0)) ↔ HasMatch pattern text
 
--- the grammar reads the pattern, which matches as the tree does
-abbrev pub IsReadAs : List ℕ → Hir → Type 0
-IsReadAs pattern tree = IsSomeAnd (read default_config (chars pattern)) (λ (found, _).
-    (found.depth ≤ default_config.nest_limit) × SameCaptures (meaning tree) found.value)
-
 -- one of the texts stands somewhere in the input
 abbrev pub HasOneOf : List (List ℕ) → List ℕ → Type 0
 HasOneOf texts input = Any (λ text. HasSubslice input text) texts
@@ -58,12 +52,14 @@ pub record IsChoice (pattern : List ℕ) (texts : List (List ℕ)) : Type 0 wher
   pub read : IsPattern pattern
   pub finds : (input : List ℕ) → IsUtf8 input → ((k : ℕ) → get_or input k 0 < 256) → HasMatch pattern input ↔ HasOneOf texts input
 
--- the pattern is a choice of these texts, or this regex was built of it
+-- the pattern is a choice of these texts, or it is what was compiled, or this regex was built of it
 abbrev pub IsSearchedFor : List ℕ → Searched → Type 0
 IsSearchedFor pattern (searched.Texts texts) = IsChoice pattern (map string_bytes texts.items)
+IsSearchedFor pattern (searched.Compiled compiled) = IsCompiledOf pattern compiled.value
 IsSearchedFor pattern (searched.Regex regex) = IsBuiltOf pattern regex.value
 
 -- the search finds something exactly where the pattern has a match
 abbrev pub SearchesFor : List ℕ → Search → Type 0
 SearchesFor pattern (search.Texts texts) = IsChoice pattern (map string_bytes texts.now)
+SearchesFor pattern (search.Compiled matcher) = IsCompiledOf pattern matcher.value.compiled.now
 SearchesFor pattern (search.Regex matcher) = FindsAs pattern (matcher_pattern matcher.value)

@@ -5,6 +5,7 @@ use filterset_glob::GenericGlob;
 use std::alloc::{AllocError, Global};
 use std::rc::Rc;
 
+mod compiled;
 mod glob;
 mod literal;
 mod pattern;

@@ -1,15 +1,19 @@
 //! A pattern's text beside what is searched for it, and what searches. A pattern that is a choice of few texts, as `slow`,
-//! `net::tcp` or `unix|windows`, has no regex: the texts are searched for.
-ghost use Rattle.std.specs.Prelude.{◌≡◌, ◌≢◌, ◌↔◌, All, IsSome, IsTrue, IsUtf8, IfErr, IfOk, IfSome, List, ℕ, map, string_bytes};
+//! `net::tcp` or `unix|windows`, has no regex: the texts are searched for. Another of which it is known where each match
+//! lies is compiled, and not weighed as a regex is.
+ghost use Rattle.std.specs.Prelude.{◌≡◌, ◌≢◌, ◌↔◌, [], ◌∷◌, All, IsTrue, IsUtf8, IfErr, IfOk, IfSome, List, ℕ, map, string_bytes};
 ghost use Rattle.regex.specs.declared.error.Error.TheVariants as regex;
+ghost use Rattle.regex_hir.specs.Meaning.{meaning};
+ghost use Rattle.filterset_matchers.specs.Compiled.{IsCompiledOf, IsPlaceOf, IsReadAs};
 ghost use Rattle.filterset_matchers.specs.declared.matcher.pattern.PatternRefusal.TheVariants as refusal;
-ghost use Rattle.filterset_matchers.specs.Pattern.{IsPattern, IsPlain, HasMatch, IsBuiltOf, HasOneOf, IsChoice, IsReadAs, IsSearchedFor};
+ghost use Rattle.filterset_matchers.specs.Pattern.{IsPattern, IsPlain, HasMatch, IsBuiltOf, HasOneOf, IsChoice, IsSearchedFor};
 
+use crate::matcher::compiled::{Compiled, CompiledMatcher, LEAST_LITERAL, Place, place_of};
 use crate::matcher::substring;
 use regex::{Matcher, Regex};
 use regex_extract::exact_literals;
 use regex_hir::Hir;
-use regex_syntax::{Config, ErrorKind, Parsed, is_meta_character};
+use regex_syntax::{Config, Parsed, is_meta_character};
 use std::alloc::{AllocError, Global};
 use std::fmt;
 use std::marker::Model;
@@ -17,10 +21,20 @@ use std::marker::Model;
 /// Why there is no regex for a text.
 #[derive(Debug, Drop)]
 pub enum PatternRefusal {
-    /// `regex` refused the text, and was not out of memory.
+    /// `regex`, or a crate that it is made of, refused the text, and was not out of memory.
     NotBuilt,
     /// There was not enough memory.
     OutOfMemory(AllocError),
+}
+
+impl From<AllocError> for PatternRefusal {
+    ghost use Rattle.filterset_matchers.specs.declared.matcher.pattern.PatternRefusal.TheVariants.{OutOfMemory};
+
+    ghost from_gives = { λ failed refused. refused ≡ OutOfMemory failed };
+
+    fn from(failed: AllocError) -> PatternRefusal {
+        PatternRefusal::OutOfMemory(failed)
+    }
 }
 
 /// More texts than this are not searched for one after the other.
@@ -31,9 +45,11 @@ const MAX_TEXTS: usize = 4;
 enum Searched {
     /// One of these texts, of which the pattern is a choice.
     Texts(Vec<String>),
-    /// The regex that was built of the pattern.
+    /// What was compiled of the pattern, of which it is known where each match lies.
     ///
-    /// A regex is large, and stands in a box: a function clears the room of all its locals whenever it is called.
+    /// This and a regex are large, and stand in boxes: a function clears the room of all its locals whenever it is called.
+    Compiled(Box<Compiled>),
+    /// The regex that was built of the pattern.
     Regex(Box<Regex>),
 }
 
@@ -80,8 +96,8 @@ impl PatternRegex {
 
     /// Whether the pattern matches anywhere in the input. The only error is out of memory.
     ///
-    /// Of a pattern with a regex, it makes a matcher for this one question. [`PatternRegex::matcher`] is for whoever asks
-    /// more often.
+    /// Unless the pattern is a choice of few texts, it makes a matcher for this one question. [`PatternRegex::matcher`] is
+    /// for whoever asks more often.
     #[cold]
     #[inline(never)]
     pub fn is_match(&self, alloc: Global, input: &str) -> Result<bool, AllocError>
@@ -101,7 +117,7 @@ impl PatternRegex {
     {
         match &self.searched {
             Searched::Texts(texts) => Some(contains_any(input, texts)),
-            Searched::Regex(_) => None,
+            Searched::Compiled(_) | Searched::Regex(_) => None,
         }
     }
 
@@ -113,6 +129,9 @@ impl PatternRegex {
     {
         let search = match &self.searched {
             Searched::Texts(texts) => Search::Texts(texts),
+            Searched::Compiled(compiled) => {
+                Search::Compiled(Box::new(alloc, compiled.matcher(alloc)?)?)
+            }
             Searched::Regex(regex) => Search::Regex(Box::new(alloc, regex.matcher(alloc)?)?),
         };
         Ok(PatternMatcher {
@@ -137,30 +156,23 @@ fn searched_for(alloc: Global, text: &str) -> Result<Searched, PatternRefusal>
     ensures searched { IfOk result (λ searched. IsSearchedFor text.now searched) }
     ensures plain { IsPlain text.now → IfErr result (λ refused. refused ≢ refusal.NotBuilt) }
 {
-    match texts_of(alloc, text) {
-        Ok(Some(texts)) => Ok(Searched::Texts(texts)),
-        Ok(None) => Ok(Searched::Regex(built_of(alloc, text)?)),
-        Err(failed) => Err(PatternRefusal::OutOfMemory(failed)),
+    if is_plain(text) {
+        return Ok(Searched::Texts(only_text(alloc, text)?));
     }
+    if is_worth_reading(text) {
+        if let Some(searched) = searched_for_tree(alloc, text)? {
+            return Ok(searched);
+        }
+    }
+    Ok(Searched::Regex(built_of(alloc, text)?))
 }
 
-/// The texts of which a pattern of the text is a choice, where that is found to be so and they are few. The only error is
-/// out of memory.
-fn texts_of(alloc: Global, text: &str) -> Result<Option<Vec<String>>, AllocError>
-    ensures choice { IfOk result (λ found. IfSome found (λ texts. IsChoice text.now (map string_bytes texts.items))) }
-    ensures plain { IsPlain text.now → IfOk result (λ found. IsSome found) }
+/// This text alone. The only error is out of memory.
+fn only_text(alloc: Global, text: &str) -> Result<Vec<String>, AllocError>
+    ensures { IfOk result (λ texts. map string_bytes texts.items ≡ text.now ∷ []) }
 {
-    if is_plain(text) {
-        let only = String::from_str(alloc, text)?;
-        return Ok(Some(vec![in alloc; only]?));
-    }
-    if !may_be_choice(text) {
-        return Ok(None);
-    }
-    match tree_of(alloc, text)? {
-        Some(tree) => texts_of_tree(alloc, &tree),
-        None => Ok(None),
-    }
+    let only = String::from_str(alloc, text)?;
+    Ok(vec![in alloc; only]?)
 }
 
 /// Whether each character of the text stands for itself in a pattern.
@@ -175,8 +187,21 @@ fn is_plain(text: &str) -> bool
     true
 }
 
-/// Whether it is worth the time to ask if a pattern of the text is a choice of few texts. It is not where the text has a
-/// character that seldom stands in such a pattern. What the pattern matches does not hang on the answer.
+/// Whether it is worth the time to read the tree of a pattern of the text before a regex is built of it: it may be a
+/// choice of few texts, or show where each match lies. What the pattern matches does not hang on the answer.
+fn is_worth_reading(text: &str) -> bool {
+    text.starts_with("^") || text.ends_with("$") || begins_with_literal(text) || may_be_choice(text)
+}
+
+/// Whether each of the first characters of the text stands for itself in a pattern.
+fn begins_with_literal(text: &str) -> bool {
+    !text
+        .chars()
+        .take(LEAST_LITERAL)
+        .any(|character| is_meta_character(character))
+}
+
+/// Whether the text has none of the characters that seldom stand in a choice of few texts.
 fn may_be_choice(text: &str) -> bool {
     !text.bytes().any(|byte| {
         matches!(
@@ -186,20 +211,55 @@ fn may_be_choice(text: &str) -> bool {
     })
 }
 
-/// The tree as which the grammar reads the text, or nothing where it refuses it. The only error is out of memory.
+/// What is searched for a pattern of the text, where its tree shows that it is a choice of few texts, or where each match
+/// lies.
 ///
 /// It is not inlined, so that a plain text does not pay for the room of a parser.
 #[cold]
 #[inline(never)]
-fn tree_of(alloc: Global, text: &str) -> Result<Option<Hir>, AllocError>
-    ensures { IfOk result (λ read. IfSome read (λ tree. IsReadAs text.now tree)) }
+fn searched_for_tree(alloc: Global, text: &str) -> Result<Option<Searched>, PatternRefusal>
+    ensures { IfOk result (λ found. IfSome found (IsSearchedFor text.now)) }
+{
+    let (tree, groups) = tree_of(alloc, text)?;
+    if let Some(texts) = texts_of_tree(alloc, &tree)? {
+        return Ok(Some(Searched::Texts(texts)));
+    }
+    match place_of(alloc, &tree)? {
+        Some(place) => Ok(Some(Searched::Compiled(compiled_of(alloc, &tree, groups, place)?))),
+        None => Ok(None),
+    }
+}
+
+/// The tree as which the grammar reads the text, and how many groups it has, that of the whole pattern included.
+fn tree_of(alloc: Global, text: &str) -> Result<(Hir, u32), PatternRefusal>
+    ensures { IfOk result (λ read. IsReadAs text.now read.0) }
 {
     match regex_syntax::parse(alloc, text, &Config::default()) {
-        Ok(Parsed { hir, names: _names }) => Ok(Some(hir)),
-        Err(error) => match error.kind {
-            ErrorKind::OutOfMemory => Err(AllocError),
-            _ => Ok(None),
+        Ok(Parsed { hir, names }) => match u32::try_from(names.len()) {
+            Ok(groups) => Ok((hir, groups)),
+            Err(_) => Err(refusal_of(regex::Error::CompiledTooBig)),
         },
+        Err(error) => Err(refusal_of(error.into())),
+    }
+}
+
+/// The tree of a pattern with so many groups compiled, where each match lies at the place.
+fn compiled_of(
+    alloc: Global,
+    tree: &Hir,
+    groups: u32,
+    place: Place,
+) -> Result<Box<Compiled>, PatternRefusal>
+    requires { IsPlaceOf (meaning tree.now) place }
+    ensures { IfOk result (λ compiled. (pattern : List ℕ) → IsReadAs pattern tree.now
+        → IsCompiledOf pattern compiled.value) }
+{
+    match Compiled::new(alloc, tree, groups, place) {
+        Ok(compiled) => match Box::new(alloc, compiled) {
+            Ok(compiled) => Ok(compiled),
+            Err(failed) => Err(PatternRefusal::OutOfMemory(failed.into())),
+        },
+        Err(error) => Err(refusal_of(error.into())),
     }
 }
 
@@ -277,8 +337,9 @@ impl Eq for PatternRegex {
     ghost laws = { Prim.search (comparing, rules) };
 }
 
-/// What searches for a pattern, for whoever asks more than once. Of a pattern with a regex, making it costs as much as a
-/// hundred searches, and it keeps its room from one search to the next. Contracts see the pattern's text.
+/// What searches for a pattern, for whoever asks more than once. Unless the pattern is a choice of few texts, making it
+/// costs as much as ten to a hundred searches, and it keeps its room from one search to the next. Contracts see the
+/// pattern's text.
 pub struct PatternMatcher<'p> {
     pattern: &'p PatternRegex,
     search: Search<'p>,
@@ -289,6 +350,8 @@ pub struct PatternMatcher<'p> {
 enum Search<'p> {
     /// A search for one of these texts, of which the pattern is a choice.
     Texts(&'p [String]),
+    /// A walk by what was compiled of the pattern.
+    Compiled(Box<CompiledMatcher<'p>>),
     /// The matcher of the regex that was built of the pattern.
     Regex(Box<Matcher<'p>>),
 }
@@ -329,6 +392,7 @@ impl<'p> PatternMatcher<'p> {
     {
         match &mut self.search {
             Search::Texts(texts) => contains_any(input, texts),
+            Search::Compiled(matcher) => matcher.is_match(input),
             Search::Regex(matcher) => matcher.is_match(input),
         }
     }

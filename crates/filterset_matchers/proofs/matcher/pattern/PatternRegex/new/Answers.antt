@@ -1,4 +1,4 @@
-use Rattle.filterset_matchers.proofs.ChoiceLemmas.{IsPattern-of_searched}
+use Rattle.filterset_matchers.proofs.PatternLemmas.{IsPattern-of_searched}
 use Rattle.filterset_matchers.proofs.matcher.pattern.PatternRegex.new.Goals as goal
 
 pub returns-clause-read : goal.returns-clause-read
