@@ -9,7 +9,7 @@ use Rattle.filterset_language.specs.Parsing.Descent.{boxed_tree, operand_at, and
 use Rattle.filterset_language.specs.Parsing.Words.{joiner_at, or_at}
 use Rattle.filterset_language.proofs.Positions.{AtOrBehind-then, AtOrBehind-of, same_position}
 use Rattle.filterset_language.proofs.ReadingSteps.{name_step, caret_step}
-use Rattle.filterset_language.proofs.Recovering.{if_ok, keeps_along}
+use Rattle.filterset_language.proofs.Recovering.{if_ok, keeps_along, keeps_then}
 use Rattle.filterset_language.proofs.Outcomes.{gives_as}
 use Rattle.filterset_language.proofs.OperandReading.{tree_along, going_along, negation_gives, parens_gives, nothing_gives, and_misses, and_starts, and_turns, and_ends, or_starts, or_turns, or_level_ends}
 use Rattle.filterset_language.proofs.FaultsStand.{behind_not, behind_open, behind_joiner, behind_or, behind_name}
@@ -173,3 +173,36 @@ read_or_rest-loop-operator-preserved t c =
       stand = λ old. keeps_along _ _ _ _ rest.text c.in_ok-right.ensures.stand (keeps_along _ _ _ _ start.text c.in_ok-check_or.ensures.stand (inv.stand old));
       behind = AtOrBehind-then _ _ _ rest c.in_ok-right.ensures.behind;
     }
+
+pub read_operand-returns-in-Some-clause-behind : goal.read_operand-returns-in-Some-clause-behind
+read_operand-returns-in-Some-clause-behind t c = if_ok c.read_set.result _ _ (λ r behind. AtOrBehind-then _ _ _ (AtOrBehind-then _ _ _ c.skip_blanks-start.ensures.behind (AtOrBehind-of _ _ c.in-Some.ensures.behind)) behind) c.read_set.ensures.behind
+
+pub read_operand-returns-clause-stand : goal.read_operand-returns-clause-stand
+read_operand-returns-clause-stand t c = c.read_nothing.ensures.stand
+
+pub read_operand-returns-clause-behind : goal.read_operand-returns-clause-behind
+read_operand-returns-clause-behind t c = c.read_nothing.ensures.behind
+
+pub read_negation-returns-clause-stand : goal.read_negation-returns-clause-stand
+read_negation-returns-clause-stand t c = c.in_ok-operand.ensures.stand
+
+pub read_negation-returns-clause-behind : goal.read_negation-returns-clause-behind
+read_negation-returns-clause-behind t c = c.in_ok-operand.ensures.behind
+
+pub read_parens-returns-clause-stand : goal.read_parens-returns-clause-stand
+read_parens-returns-clause-stand t c = keeps_then _ _ _ _ _ _ refl c.in_ok-inner.ensures.behind.text c.in_ok-inner.ensures.stand c.in_ok-end.ensures.stand
+
+pub read_parens-returns-clause-behind : goal.read_parens-returns-clause-behind
+read_parens-returns-clause-behind t c = AtOrBehind-then _ _ _ c.in_ok-inner.ensures.behind c.in_ok-end.ensures.behind
+
+pub read_and_level-returns-clause-stand : goal.read_and_level-returns-clause-stand
+read_and_level-returns-clause-stand t c = if_ok c.read_and_rest.result _ _ (λ r stand. keeps_then _ _ _ _ _ _ refl c.in_ok-first.ensures.behind.text c.in_ok-first.ensures.stand stand) c.read_and_rest.ensures.stand
+
+pub read_and_level-returns-clause-behind : goal.read_and_level-returns-clause-behind
+read_and_level-returns-clause-behind t c = if_ok c.read_and_rest.result _ _ (λ r behind. AtOrBehind-then _ _ _ c.in_ok-first.ensures.behind behind) c.read_and_rest.ensures.behind
+
+pub read_or_level-returns-clause-stand : goal.read_or_level-returns-clause-stand
+read_or_level-returns-clause-stand t c = if_ok c.read_or_rest.result _ _ (λ r stand. keeps_then _ _ _ _ _ _ refl c.in_ok-first.ensures.behind.text c.in_ok-first.ensures.stand stand) c.read_or_rest.ensures.stand
+
+pub read_or_level-returns-clause-behind : goal.read_or_level-returns-clause-behind
+read_or_level-returns-clause-behind t c = if_ok c.read_or_rest.result _ _ (λ r behind. AtOrBehind-then _ _ _ c.in_ok-first.ensures.behind behind) c.read_or_rest.ensures.behind

@@ -47,3 +47,27 @@ returns-in-None-clause-value c =
     if_ok c.read_bare-in-None.result _ _
     (λ r v. rw c.in-None.is (leaf_gives inside.text.now c.args.input.text.now names.None c.args.start.offset (position_of c.args.input) (position_of r.end) (position_of inside) _ _ _ _ c.in_ok-inside.ensures.behind.text c.in_ok-inside.ensures.value (bare_gives inside.text.now tree.None (position_of inside) (position_of r.end) _ _ _ tt v)))
     c.read_bare-in-None.ensures.value
+
+pub returns-in-Platform-clause-stand : goal.returns-in-Platform-clause-stand
+returns-in-Platform-clause-stand c = if_ok c.read_platform.result _ _ (λ r keeps. keeps_then _ _ _ _ _ _ refl c.in_ok-inside.ensures.behind.text c.in_ok-inside.ensures.stand keeps) c.read_platform.ensures.stand
+
+pub returns-in-Platform-clause-behind : goal.returns-in-Platform-clause-behind
+returns-in-Platform-clause-behind c = if_ok c.read_platform.result _ _ (λ r behind. AtOrBehind-then _ _ _ c.in_ok-inside.ensures.behind behind) c.read_platform.ensures.behind
+
+pub returns-in-Default-clause-stand : goal.returns-in-Default-clause-stand
+returns-in-Default-clause-stand c = if_ok c.read_default.result _ _ (λ r keeps. keeps_then _ _ _ _ _ _ refl c.in_ok-inside.ensures.behind.text c.in_ok-inside.ensures.stand keeps) c.read_default.ensures.stand
+
+pub returns-in-Default-clause-behind : goal.returns-in-Default-clause-behind
+returns-in-Default-clause-behind c = if_ok c.read_default.result _ _ (λ r behind. AtOrBehind-then _ _ _ c.in_ok-inside.ensures.behind behind) c.read_default.ensures.behind
+
+pub returns-in-All-clause-stand : goal.returns-in-All-clause-stand
+returns-in-All-clause-stand c = if_ok c.read_bare.result _ _ (λ r keeps. keeps_then _ _ _ _ _ _ refl c.in_ok-inside.ensures.behind.text c.in_ok-inside.ensures.stand keeps) c.read_bare.ensures.stand
+
+pub returns-in-All-clause-behind : goal.returns-in-All-clause-behind
+returns-in-All-clause-behind c = if_ok c.read_bare.result _ _ (λ r behind. AtOrBehind-then _ _ _ c.in_ok-inside.ensures.behind behind) c.read_bare.ensures.behind
+
+pub returns-in-None-clause-stand : goal.returns-in-None-clause-stand
+returns-in-None-clause-stand c = if_ok c.read_bare-in-None.result _ _ (λ r keeps. keeps_then _ _ _ _ _ _ refl c.in_ok-inside.ensures.behind.text c.in_ok-inside.ensures.stand keeps) c.read_bare-in-None.ensures.stand
+
+pub returns-in-None-clause-behind : goal.returns-in-None-clause-behind
+returns-in-None-clause-behind c = if_ok c.read_bare-in-None.result _ _ (λ r behind. AtOrBehind-then _ _ _ c.in_ok-inside.ensures.behind behind) c.read_bare-in-None.ensures.behind
