@@ -3,6 +3,7 @@
 #![tactic(auto)]
 
 ghost use Rattle.std.specs.Prelude.{◌≡◌, All, IfOk, [], string_bytes};
+ghost use Rattle.calling.specs.Selecting.{CanBeUnderlined};
 ghost use Rattle.calling.specs.Underlining.{LiesWithin};
 
 mod selecting;
@@ -75,27 +76,61 @@ fn print_faults(rt: &impl Print, alloc: Global, refused: &FiltersetParseErrors) 
     Ok(())
 }
 
-fn main(rt: HostRuntime) -> io::Result<()> {
-    let alloc = rt.alloc();
+/// Prints what a filterset says of the tests: its answers, or why there are none.
+fn print_selection(
+    rt: &impl Print,
+    alloc: Global,
+    filterset: &str,
+    tests: &[TestQuery<'_>],
+    selection: &Selection,
+) -> io::Result<()>
+    requires { CanBeUnderlined selection.now }
+{
+    match selection {
+        Selection::Answers(answers) => print_answers(rt, filterset, tests, answers.as_slice()),
+        Selection::NeedsGroups(_) => { println!(rt; "{filterset}\n  needs the groups of tests") }
+        Selection::Refused(refused) => print_faults(rt, alloc, refused),
+    }
+}
+
+/// Reads a filterset, and prints what it says of the tests.
+fn answer(
+    rt: &impl Print,
+    alloc: Global,
+    filterset: &str,
+    parse_context: &ParseContext<'_>,
+    eval_context: &EvalContext<'_>,
+    tests: &[TestQuery<'_>],
+) -> io::Result<()> {
+    let text = String::from_str(alloc, filterset)?;
+    let selection = select(alloc, text, parse_context, eval_context, tests)?;
+    print_selection(rt, alloc, filterset, tests, &selection)
+}
+
+/// Makes the contexts, and prints what each filterset says of the tests.
+fn answer_all(rt: &impl Print, alloc: Global, tests: &[TestQuery<'_>]) -> io::Result<()> {
     let graph = no_packages(alloc)?;
     let parse_context = ParseContext::new(alloc, &graph)?;
     let default_filter = CompiledExpr::ALL;
     let eval_context = EvalContext::new(&default_filter);
-    let package_id = PackageId::new(String::from_str(alloc, "text 0.1.0")?);
-    let binary_id = RustBinaryId::new(alloc, "text")?;
-    let binary_query = BinaryQuery {
-        package_id: &package_id,
-        binary_id: &binary_id,
-        binary_name: "text",
-        kind: &RustTestBinaryKind::LIB,
-        platform: BuildPlatform::Target,
-    };
-    let names = [
+    for filterset in &FILTERSETS {
+        answer(rt, alloc, filterset, &parse_context, &eval_context, tests)?;
+    }
+    Ok(())
+}
+
+/// The names of the tests.
+fn test_names(alloc: Global) -> Result<[TestCaseName; 3], AllocError> {
+    Ok([
         TestCaseName::new(alloc, "parse::reads_a_list")?,
         TestCaseName::new(alloc, "parse::slow_sum")?,
         TestCaseName::new(alloc, "net::get")?,
-    ];
-    let tests = [
+    ])
+}
+
+/// The questions about the tests of a binary that have these names.
+fn tests_of<'a>(binary_query: BinaryQuery<'a>, names: &'a [TestCaseName; 3]) -> [TestQuery<'a>; 3] {
+    [
         TestQuery {
             binary_query,
             test_name: &names[0],
@@ -108,16 +143,20 @@ fn main(rt: HostRuntime) -> io::Result<()> {
             binary_query,
             test_name: &names[2],
         },
-    ];
-    for text in FILTERSETS {
-        let filterset = String::from_str(alloc, text)?;
-        match select(alloc, filterset, &parse_context, &eval_context, &tests)? {
-            Selection::Answers(answers) => print_answers(&rt, text, &tests, answers.as_slice())?,
-            Selection::NeedsGroups(filterset) => {
-                println!(rt; "{}\n  needs the groups of tests", filterset.input)?
-            }
-            Selection::Refused(refused) => print_faults(&rt, alloc, &refused)?,
-        }
-    }
-    Ok(())
+    ]
+}
+
+fn main(rt: HostRuntime) -> io::Result<()> {
+    let alloc = rt.alloc();
+    let package_id = PackageId::new(String::from_str(alloc, "text 0.1.0")?);
+    let binary_id = RustBinaryId::new(alloc, "text")?;
+    let binary_query = BinaryQuery {
+        package_id: &package_id,
+        binary_id: &binary_id,
+        binary_name: "text",
+        kind: &RustTestBinaryKind::LIB,
+        platform: BuildPlatform::Target,
+    };
+    let names = test_names(alloc)?;
+    answer_all(&rt, alloc, &tests_of(binary_query, &names))
 }
