@@ -49,11 +49,17 @@ KnowsNames paths packages groups names =
     (packages_of names.parse_context ≡ packages) × AreGroups groups names.known_groups
     × (names.has_packages ≡ is_some paths.metadata) × (names.has_groups ≡ is_some paths.configuration)
 
+-- what is answered of the filtersets of a configuration and of the texts that are given, against these packages
+abbrev pub ChecksKnown :
+    CheckPaths → List PackageMetadata → Configuration → Form → List TextRow → ℕ → Text → Type 0
+ChecksKnown paths packages configuration form given faulty text =
+    (names : Names) × KnowsNames paths packages (map (λ s. string_bytes s) configuration.groups.items) names
+    × ChecksTexts names form (file_rows configuration.filtersets.items ++ given) faulty text
+
 -- What checking answers: the faults of the filtersets of the configuration and of the texts that are given, as far as
 -- there are files that say which names there are.
 abbrev pub AnswersCheck : (Text → Option Text) → Form → CheckPaths → List TextRow → ℕ → Text → Type 0
 AnswersCheck content form paths given faulty text =
-    (packages : List PackageMetadata) × (configuration : Configuration) × (names : Names)
+    (packages : List PackageMetadata) × (configuration : Configuration)
     × KnownPackages content paths.metadata packages × KnownConfiguration content paths.configuration configuration
-    × KnowsNames paths packages (map (λ s. string_bytes s) configuration.groups.items) names
-    × ChecksTexts names form (file_rows configuration.filtersets.items ++ given) faulty text
+    × ChecksKnown paths packages configuration form given faulty text

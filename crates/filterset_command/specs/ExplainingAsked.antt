@@ -1,5 +1,5 @@
 -- What is explained, and how.
-use Rattle.std.specs.Prelude.{◌≡◌, ◌++◌, ℕ, List, [], false, Option, Some, None, String, string_bytes}
+use Rattle.std.specs.Prelude.{◌≡◌, ◌++◌, List, [], false, Option, Some, None, String, string_bytes}
 use Rattle.std.specs.Global.{Global}
 use Rattle.std.specs.List.{AllZip, find, flat_map}
 use Rattle.std.specs.Str.{bytes_eq}
@@ -113,10 +113,14 @@ AnswersExplanation asked packages candidate ending text =
     (default : Option Filterset) × (filter : Option Filterset) × (written : Text)
     × AreRead asked packages default filter written × ExplainsRead candidate packages default filter written ending text
 
+-- what is answered of the binary or the test in this workspace
+abbrev pub AnswersIn : Explanation → Workspace → Ending → Text → Type 0
+AnswersIn asked workspace ending text =
+    (binaries : List AskedBinary) × (candidate : Candidate) × AllZip IsAsked workspace.list.suites.items binaries
+    × IsCandidate binaries (string_bytes asked.binary) asked.test candidate
+    × AnswersExplanation asked workspace.graph candidate ending text
+
 -- what is answered of the binary or the test in the workspace that the files tell of
 abbrev pub AnswersExplained : (Text → Option Text) → Explanation → Ending → Text → Type 0
 AnswersExplained content asked ending text =
-    (workspace : Workspace) × (binaries : List AskedBinary) × (candidate : Candidate)
-    × IsWorkspaceIn content asked.paths workspace × AllZip IsAsked workspace.list.suites.items binaries
-    × IsCandidate binaries (string_bytes asked.binary) asked.test candidate
-    × AnswersExplanation asked workspace.graph candidate ending text
+    (workspace : Workspace) × IsWorkspaceIn content asked.paths workspace × AnswersIn asked workspace ending text

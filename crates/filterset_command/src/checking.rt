@@ -3,7 +3,7 @@ ghost use Rattle.std.specs.Prelude.{◌≡◌, ◌++◌, IfErr, IfOk, [], map, s
 ghost use Rattle.nextest_filtering.specs.Compiling.{packages_of};
 ghost use Rattle.nextest_filtering.specs.Groups.{IsKnown};
 ghost use Rattle.filterset_answers.specs.Checked.{text_row};
-ghost use Rattle.filterset_command.specs.Checking.{AnswersCheck, AreGroups, KnownConfiguration, KnownPackages, KnowsNames, file_row, file_rows};
+ghost use Rattle.filterset_command.specs.Checking.{AnswersCheck, AreGroups, ChecksKnown, KnownConfiguration, KnownPackages, KnowsNames, file_row, file_rows};
 ghost use Rattle.filterset_command.specs.Files.{NotWrite};
 
 use crate::fault::CommandFault;
@@ -147,6 +147,23 @@ fn names_of<'g>(
     })
 }
 
+/// Checks the filtersets of this configuration, and after them the texts that are given, against these packages.
+fn check_known(
+    alloc: Global,
+    form: Form,
+    paths: &CheckPaths,
+    graph: &PackageGraph,
+    configuration: Configuration,
+    given: Vec<TextEntry>,
+) -> Result<Answer, AllocError>
+    ensures { IfOk result (λ answer. ChecksKnown paths.now graph.now configuration form
+        (map text_row given.items) answer.faulty (string_bytes answer.text)) }
+{
+    let entries = all_entries(alloc, configuration.filtersets.as_slice(), given)?;
+    let names = names_of(alloc, graph, configuration.groups, paths)?;
+    check(alloc, &names, form, entries.as_slice())
+}
+
 /// Checks the filtersets of the configuration, and after them the texts that are given.
 pub fn check_texts<F: FileSource>(
     alloc: Global,
@@ -161,7 +178,5 @@ pub fn check_texts<F: FileSource>(
 {
     let configuration = known_configuration(alloc, files, &paths.configuration)?;
     let graph = known_packages(alloc, files, &paths.metadata)?;
-    let entries = all_entries(alloc, configuration.filtersets.as_slice(), given)?;
-    let names = names_of(alloc, &graph, configuration.groups, paths)?;
-    Ok(check(alloc, &names, form, entries.as_slice())?)
+    Ok(check_known(alloc, form, paths, &graph, configuration, given)?)
 }

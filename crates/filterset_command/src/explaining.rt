@@ -6,7 +6,7 @@ ghost use Rattle.filterset_expression.specs.Meaning.{IsCompiled};
 ghost use Rattle.filterset_language.specs.Views.{tree_of};
 ghost use Rattle.nextest_filtering.specs.Compiling.{packages_of};
 ghost use Rattle.nextest_filtering.specs.Groups.{IsKnown};
-ghost use Rattle.filterset_command.specs.ExplainingAsked.{AnswersExplained, AnswersExplanation, AreRead, IsCandidate, IsExplanation, IsMissing, IsReadAs, WritesRefusal};
+ghost use Rattle.filterset_command.specs.ExplainingAsked.{AnswersExplained, AnswersExplanation, AnswersIn, AreRead, IsCandidate, IsExplanation, IsMissing, IsReadAs, WritesRefusal};
 ghost use Rattle.filterset_command.specs.ExplainingAsked.{binary_called, name_called};
 ghost use Rattle.filterset_command.specs.Files.{NotWrite};
 
@@ -15,7 +15,7 @@ use crate::fault::CommandFault;
 use crate::files::FileSource;
 use crate::outcome::Outcome;
 use crate::picking::global_group;
-use crate::workspace::{WorkspacePaths, asked_binaries, read_workspace};
+use crate::workspace::{Workspace, WorkspacePaths, asked_binaries, read_workspace};
 use filterset_answers::{Form, push_faults};
 use filterset_explaining::{Candidate, explain, explain_text};
 use filterset_listing::AskedBinary;
@@ -245,6 +245,26 @@ fn outcome_for(
     }
 }
 
+/// Explains a filterset of a binary or a test of this workspace.
+fn explain_in(
+    alloc: Global,
+    asked: &Explanation,
+    workspace: &Workspace,
+) -> Result<Outcome, CommandFault>
+    ensures answered { IfOk result (λ outcome. AnswersIn asked.now workspace.now
+        outcome.ending (string_bytes outcome.text)) }
+    ensures no_write { IfErr result NotWrite }
+{
+    let binaries = asked_binaries(alloc, workspace.list.suites.as_slice())?;
+    let candidate = candidate_of(
+        alloc,
+        binaries.as_slice(),
+        asked.binary.as_str(),
+        &asked.test,
+    )?;
+    Ok(outcome_for(alloc, asked, &workspace.graph, candidate)?)
+}
+
 /// Explains a filterset of a binary or a test of the workspace that the files tell of.
 pub fn explain_asked<F: FileSource>(
     alloc: Global,
@@ -256,12 +276,5 @@ pub fn explain_asked<F: FileSource>(
     ensures no_write { IfErr result NotWrite }
 {
     let workspace = read_workspace(alloc, files, &asked.paths)?;
-    let binaries = asked_binaries(alloc, workspace.list.suites.as_slice())?;
-    let candidate = candidate_of(
-        alloc,
-        binaries.as_slice(),
-        asked.binary.as_str(),
-        &asked.test,
-    )?;
-    Ok(outcome_for(alloc, asked, &workspace.graph, candidate)?)
+    explain_in(alloc, asked, &workspace)
 }

@@ -196,17 +196,9 @@ fn judge_answers(
     ) {
         Ok(default) => {
             let cx = EvalContext::new(&default.compiled);
-            judge_asked(alloc, lines, row, &Asked::new(alloc, filterset, cx)?)
+            judge_defaulted(alloc, lines, row, filterset, cx)
         }
-        Err(ParseRefusal::Faults(refused)) => {
-            let shown = described(alloc, &refused.errors)?;
-            lines.note(
-                false,
-                "default filter",
-                filterset.input.as_str(),
-                shown.as_str(),
-            )
-        }
+        Err(ParseRefusal::Faults(refused)) => note_no_default(alloc, lines, filterset, &refused),
         Err(ParseRefusal::OutOfMemory { .. }) => Err(AllocError),
     }
 }
@@ -217,6 +209,38 @@ fn default_text(alloc: Global, row: &FiltersetRow) -> Result<String, AllocError>
         Some(written) => text_of(alloc, written, 0),
         None => String::from_str(alloc, "all()"),
     }
+}
+
+/// The filterset says of binaries and tests what the row says, under the default filter of the context.
+fn judge_defaulted(
+    alloc: Global,
+    lines: &mut Lines,
+    row: &FiltersetRow,
+    filterset: &Filterset,
+    cx: EvalContext<'_>,
+) -> Result<(), AllocError>
+    ensures { OnOk result (IsClean lines.new → IsClean lines.old) }
+{
+    let asked = Asked::new(alloc, filterset, cx)?;
+    judge_asked(alloc, lines, row, &asked)
+}
+
+/// Notes the faults of the row's default filter, without which the filterset is not asked.
+fn note_no_default(
+    alloc: Global,
+    lines: &mut Lines,
+    filterset: &Filterset,
+    refused: &FiltersetParseErrors,
+) -> Result<(), AllocError>
+    ensures { OnOk result (IsClean lines.new → IsClean lines.old) }
+{
+    let shown = described(alloc, &refused.errors)?;
+    lines.note(
+        false,
+        "default filter",
+        filterset.input.as_str(),
+        shown.as_str(),
+    )
 }
 
 /// The filterset has the steps of the row, and answers so.
@@ -230,15 +254,28 @@ fn judge_asked(
     ensures { OnOk result (IsClean lines.new → IsClean lines.old) }
 {
     if let Some(wanted) = &row.steps {
-        let found = written_steps(alloc, asked.steps())?;
-        let same = agrees(found.as_str(), in_brackets(alloc, wanted)?.as_str());
-        lines.note(same, "steps", asked.text(), found.as_str())?;
+        judge_steps(alloc, lines, asked, wanted)?;
     }
     if let Some(binaries) = &row.binaries {
         judge_told(alloc, lines, asked, binaries)?;
     }
     judge_tests(alloc, lines, asked, &row.matches, true)?;
     judge_tests(alloc, lines, asked, &row.misses, false)
+}
+
+/// The filterset has the wanted steps.
+fn judge_steps(
+    alloc: Global,
+    lines: &mut Lines,
+    asked: &Asked<'_>,
+    wanted: &[String],
+) -> Result<(), AllocError>
+    ensures { OnOk result (IsClean lines.new → IsClean lines.old) }
+{
+    let found = written_steps(alloc, asked.steps())?;
+    let wanted = in_brackets(alloc, wanted)?;
+    let same = agrees(found.as_str(), wanted.as_str());
+    lines.note(same, "steps", asked.text(), found.as_str())
 }
 
 /// The filterset says of all tests of each binary what the row says.

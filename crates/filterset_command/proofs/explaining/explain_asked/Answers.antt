@@ -1,14 +1,10 @@
+use Rattle.std.proofs.lemmas.Result.{IfOk-weaker}
 use Rattle.filterset_command.proofs.explaining.explain_asked.Goals as goal
 
 pub returns-clause-answered : goal.returns-clause-answered
 returns-clause-answered g c =
-    let binaries = rw c.as_slice.ensures.value at c.in_ok-binaries.ensures in
-    let candidate = rw (c.as_str.ensures.value, c.as_slice-2.ensures.value) at c.in_ok-candidate.ensures.found in (
+    IfOk-weaker c.explain_in.result _ _ (λ outcome answers. (
       c.in_ok-workspace.workspace,
-      c.in_ok-binaries.binaries.items,
-      c.in_ok-candidate.candidate,
       c.in_ok-workspace.ensures.read,
-      binaries,
-      candidate,
-      c.in_ok-outcome_for.ensures,
-    )
+      answers,
+    )) c.explain_in.ensures.answered
