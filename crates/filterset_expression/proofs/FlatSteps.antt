@@ -1,9 +1,10 @@
 -- Lists of steps, and how they run.
 use Rattle.std.proofs.Common.{◌≡◌, ℕ, zero, suc, ◌+◌, ◌-◌, ◌<◌, ◌≤◌, max, Bool, true, false, ◌&&◌, ◌||◌, refl, sym, ap, ◌∙◌, subst, List, [], ◌∷◌, ◌++◌, length, drop, get_or, append_assoc, arith}
 use Rattle.std.specs.List.{list_any}
-use Rattle.std.proofs.lemmas.List.{append-nil, drop_more}
+use Rattle.std.proofs.lemmas.List.{append-nil, drop_more, map-append}
 use Rattle.std.proofs.lemmas.List.Folds.{list_any-append}
 use Rattle.std.proofs.Math.Bool.{or-false}
+use Rattle.filterset_expression.specs.Connectives.{Connective}
 use Rattle.filterset_expression.specs.Expression as compiled
 use Rattle.filterset_expression.specs.Expression.{CompiledLeaf, compiled_leaf, formula, is_default, is_group, leaf_with_default, with_default, has_leaf}
 use Rattle.filterset_expression.specs.FlatExpressions.{leaf_passes}
@@ -12,6 +13,7 @@ use Rattle.filterset_expression.specs.Running.{leaf_or, one_less, height_after, 
 use Rattle.filterset_expression.specs.FlatSteps.{Step, Negate, Combine, steps_by, push_leaf, postfix, step_of, steps_of}
 use Rattle.filterset_expression.specs.declared.expression.CompiledExpr.{CompiledExpr}
 use Rattle.filterset_expression.specs.declared.flat.steps.FlatStep.{FlatStep}
+use Rattle.filterset_expression.specs.declared.flat.steps.FlatStep.TheVariants as step
 use Rattle.filterset_expression.specs.declared.leaves.FiltersetLeaf.{FiltersetLeaf}
 use Rattle.filterset_expression.specs.declared.leaves.FiltersetLeaf.TheVariants as leaf
 
@@ -102,6 +104,21 @@ pub greatest_above : {A : Type 0} (steps : List (Step A)) (height : ℕ) → hei
 greatest_above [] height = omega arith
 greatest_above (s ∷ steps) height = omega arith
 
+-- a negation finds its operand, a connective its two, and what is left at the end is one value
+pub one_to_negate : {A : Type 0} (rest : List (Step A)) (height : ℕ) → leaves_one (Negate ∷ rest) height ≡ true → 0 < height
+one_to_negate rest zero e = absurd (let clash : false ≡ true = e in cc)
+one_to_negate rest (suc height) e = omega arith
+
+pub two_to_combine : {A : Type 0} (c : Connective) (rest : List (Step A)) (height : ℕ) → leaves_one (Combine c ∷ rest) height ≡ true → 1 < height
+two_to_combine c rest zero e = absurd (let clash : false ≡ true = e in cc)
+two_to_combine c rest (suc zero) e = absurd (let clash : false ≡ true = e in cc)
+two_to_combine c rest (suc (suc height)) e = omega arith
+
+pub one_at_end : {A : Type 0} (steps : List (Step A)) (height : ℕ) → steps ≡ [] → leaves_one steps height ≡ true → 0 < height
+one_at_end {A} steps zero none e =
+    absurd (let clash : leaves_one {A = A} [] 0 ≡ true = rw none at e in cc)
+one_at_end steps (suc height) none e = omega arith
+
 -- the steps from one position on
 pub steps_from : (steps : List FlatStep) (at : ℕ) (s : FlatStep) → at < length steps → s ≡ get_or steps at s → steps_of (drop at steps) ≡ step_of s ∷ steps_of (drop (at + 1) steps)
 steps_from steps at s within e = rw (drop_more steps at s within, ← e) refl
@@ -111,6 +128,16 @@ pub made_steps : (default e : CompiledExpr) (inner outer : List FlatStep) → ha
 made_steps default e inner outer plain a b =
     let own : steps_of inner ≡ postfix (formula default) = a ∙ default_steps default [] plain in
     b ∙ ap (λ s. steps_by (leaf_or s) (formula e)) own ∙ steps_with_default default e
+
+-- the step of a negation, behind those of its operand
+pub negated_steps : (at : CompiledLeaf → List (Step CompiledLeaf)) (f : Formula CompiledLeaf) (old inner new : List FlatStep) → steps_of inner ≡ steps_of old ++ steps_by at f → new ≡ inner ++ step.Not ∷ [] → steps_of new ≡ steps_of old ++ steps_by at (Negation f)
+negated_steps at f old inner new i n =
+    ap steps_of n ∙ map-append step_of inner (step.Not ∷ []) ∙ ap (λ s. s ++ Negate ∷ []) i ∙ append_assoc (steps_of old) (steps_by at f) (Negate ∷ [])
+
+-- the step of a connective, behind those of its operands
+pub combined_steps : (at : CompiledLeaf → List (Step CompiledLeaf)) (c : Connective) (f g : Formula CompiledLeaf) (old left right new : List FlatStep) (s : FlatStep) → step_of s ≡ Combine c → steps_of left ≡ steps_of old ++ steps_by at f → steps_of right ≡ steps_of left ++ steps_by at g → new ≡ right ++ s ∷ [] → steps_of new ≡ steps_of old ++ steps_by at (Compound c f g)
+combined_steps at c f g old left right new s e l r n =
+    ap steps_of n ∙ map-append step_of right (s ∷ []) ∙ ap (λ t. t ++ step_of s ∷ []) (r ∙ ap (λ t. t ++ steps_by at g) l) ∙ append_assoc (steps_of old ++ steps_by at f) (steps_by at g) (step_of s ∷ []) ∙ append_assoc (steps_of old) (steps_by at f) (steps_by at g ++ step_of s ∷ []) ∙ ap (λ t. steps_of old ++ (steps_by at f ++ (steps_by at g ++ t ∷ []))) e
 
 pub postfix_runs : {A : Type 0} (f : Formula A) → leaves_one (postfix f) 0 ≡ true
 postfix_runs f = subst (λ s. leaves_one s 0 ≡ true) (append-nil (postfix f)) (postfix_leaves_one f [] 0)

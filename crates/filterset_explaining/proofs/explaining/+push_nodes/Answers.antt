@@ -1,6 +1,6 @@
 use Rattle.std.proofs.Common.{◌∙◌, ap, refl, subst, sym}
 use Rattle.std.proofs.lemmas.Result.{IfOk-weaker}
-use Rattle.filterset_language.specs.Views.{tree_of}
+use Rattle.filterset_language.specs.Views.{leaf_of, tree_of}
 use Rattle.filterset_expression.specs.Connectives.{kleene}
 use Rattle.filterset_expression.specs.declared.logic.Connective.TheVariants.{Conjunction}
 use Rattle.filterset_explaining.specs.Explaining.{AddsOperator, Explains}
@@ -80,3 +80,7 @@ returns-in_ok-left-in-SymmetricDifference t c =
     IfOk-weaker c.push_operator-in-SymmetricDifference.result _ _ (λ given adds. one_explained c.args.inquiry.now c.args.depth c.args.compiled.now top given before mid late after
     a b c.in-SymmetricDifference.field-0 c.operands_of-in-SymmetricDifference.result.0.now c.operands_of-in-SymmetricDifference.result.1.now c.in_ok-left-in-SymmetricDifference.left c.in_ok-right-in-SymmetricDifference.right (rw (c.in-SymmetricDifference.is, ← c.deref-in-SymmetricDifference.ensures, ← c.deref-in-SymmetricDifference-2.ensures) refl) c.operands_of-in-SymmetricDifference.ensures.left c.operands_of-in-SymmetricDifference.ensures.right right left (adds.0 ∙ c.logic_xor.ensures)
     (subst (λ v. AddsOperator c.args.depth top v late after) (sym adds.0) adds.1)) c.push_operator-in-SymmetricDifference.ensures
+
+pub returns-in-Set : goal.returns-in-Set
+returns-in-Set t c =
+    IfOk-weaker c.push_predicate.result _ _ (λ value explains. explains (leaf_of c.in-Set.field-0) (rw c.in-Set.is refl)) c.push_predicate.ensures

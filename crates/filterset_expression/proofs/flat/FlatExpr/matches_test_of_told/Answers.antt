@@ -1,4 +1,4 @@
-use Rattle.std.proofs.Common.{Option, Some, subst}
+use Rattle.std.proofs.Common.{Some}
 use Rattle.filterset_expression.specs.Expression.{with_default}
 use Rattle.filterset_expression.specs.FlatExpressions.{IsTold}
 use Rattle.filterset_expression.proofs.LeafAnswers.{told_of_test}

@@ -8,8 +8,8 @@ use Rattle.filterset_expression.specs.FlatExpressions.{flat_steps}
 use Rattle.filterset_expression.specs.FlatSteps.{step_of, steps_of}
 use Rattle.filterset_expression.specs.Passing.{Advances}
 use Rattle.filterset_expression.specs.Running.{height_after, step_of_action}
-use Rattle.filterset_expression.proofs.Decoding.{Stands, advance_ready, push_stands, negate_stands, combine_stands, stands_last}
-use Rattle.filterset_expression.proofs.FlatSteps.{steps_from, leaves_one_on, greatest_on, greatest_above}
+use Rattle.filterset_expression.proofs.Decoding.{Stands, advance_ready, push_stands, negate_stands, combine_stands, stands_last, stands_first}
+use Rattle.filterset_expression.proofs.FlatSteps.{steps_from, leaves_one_on, greatest_on, greatest_above, one_to_negate, two_to_combine, one_at_end}
 use Rattle.filterset_expression.proofs.Passing.{advance_within, advances_some}
 use Rattle.filterset_expression.proofs.flat.FlatExpr.run_passing.Goals as goal
 use Rattle.filterset_expression.proofs.flat.FlatExpr.run_passing.Goals.{in-Push+in_ok-value-in-Push, in-Negate, in-Combine}
@@ -102,3 +102,58 @@ returns g c = λ f same.
     let end : c.loop-at.at ≡ length steps = omega (arith, c.loop-at.invariant.within, c.len.ensures, c.loop-at-test.false) in
     let none : drop c.loop-at.at steps ≡ [] = ap (λ n. drop n steps) end ∙ drop-length steps in
     stands_last not_of connect decides gives (steps_of steps) (g.S.Stack.values c.loop-at.stack) (g.S.Stack.values c.pop-2.new.self) c.pop-2.result c.pop-2.ensures.values (rw none at c.loop-at.invariant.so_far) f same
+
+pub loop-at-init : goal.loop-at-init
+loop-at-init g c =
+    let gives = λ (leaf : CompiledLeaf) (x : g.row.L.Denot). (asked : AskedLeaf) × (compiled_leaf asked.leaf.now ≡ leaf) × goal.F-post g c.args.of_leaf.now asked (Ok x) in
+    record {
+      within = omega arith;
+      runs = rw c.requires.empty c.args.self.now.one_value;
+      fits = rw c.requires.empty c.requires.has_room;
+      so_far = rw c.requires.empty (stands_first g.L.Logic.not_of g.L.Logic.connect (Decides g.L.Logic.top_value g.L.Logic.bottom_value) gives (steps_of c.args.self.now.steps.items));
+    }
+
+pub pop-requires : goal.pop-requires
+pop-requires g c =
+    let steps = c.args.self.now.steps.items in
+    let at = c.loop-at.at in
+    let s = c.index.result.now in
+    let here : steps_of (drop at steps) ≡ step_of s ∷ steps_of (drop (at + 1) steps) = steps_from steps at s (omega (arith, c.len.ensures)) c.index.ensures in
+    let acts : step_of s ≡ step_of_action c.action.result = sym c.action.ensures in
+    one_to_negate (steps_of (drop (at + 1) steps)) (length (g.S.Stack.values c.loop-at.stack)) (rw (here, acts, c.in-Negate.is) at c.loop-at.invariant.runs)
+
+pub pop-right-requires : goal.pop-right-requires
+pop-right-requires g c =
+    let steps = c.args.self.now.steps.items in
+    let at = c.loop-at.at in
+    let s = c.index.result.now in
+    let here : steps_of (drop at steps) ≡ step_of s ∷ steps_of (drop (at + 1) steps) = steps_from steps at s (omega (arith, c.len.ensures)) c.index.ensures in
+    let acts : step_of s ≡ step_of_action c.action.result = sym c.action.ensures in
+    let two = two_to_combine c.in-Combine.connective (steps_of (drop (at + 1) steps)) (length (g.S.Stack.values c.loop-at.stack)) (rw (here, acts, c.in-Combine.is) at c.loop-at.invariant.runs) in
+    omega (arith, two)
+
+pub pop-left-requires : goal.pop-left-requires
+pop-left-requires g c =
+    let steps = c.args.self.now.steps.items in
+    let at = c.loop-at.at in
+    let s = c.index.result.now in
+    let here : steps_of (drop at steps) ≡ step_of s ∷ steps_of (drop (at + 1) steps) = steps_from steps at s (omega (arith, c.len.ensures)) c.index.ensures in
+    let acts : step_of s ≡ step_of_action c.action.result = sym c.action.ensures in
+    let two = two_to_combine c.in-Combine.connective (steps_of (drop (at + 1) steps)) (length (g.S.Stack.values c.loop-at.stack)) (rw (here, acts, c.in-Combine.is) at c.loop-at.invariant.runs) in
+    omega (arith, two, ap length c.pop-right.ensures.values)
+
+pub steps_after-at-requires : goal.steps_after-at-requires
+steps_after-at-requires g c = omega (arith, c.len.ensures, length-map c.args.self.now.steps.items step_of)
+
+pub loop-at-smaller : goal.loop-at-smaller
+loop-at-smaller g c =
+    let steps = c.args.self.now.steps.items in
+    let forward = advances_some (Decides g.L.Logic.top_value g.L.Logic.bottom_value) (drop (c.loop-at.at + 1) (flat_steps c.args.self.now)) c.match-action.value c.steps_after-at.result c.steps_after-at.ensures in
+    omega (arith, forward, c.len.ensures)
+
+pub pop-requires-2 : goal.pop-requires-2
+pop-requires-2 g c =
+    let steps = c.args.self.now.steps.items in
+    let end : c.loop-at.at ≡ length steps = omega (arith, c.loop-at.invariant.within, c.len.ensures, c.loop-at-test.false) in
+    let none : drop c.loop-at.at steps ≡ [] = ap (λ n. drop n steps) end ∙ drop-length steps in
+    one_at_end (steps_of (drop c.loop-at.at steps)) (length (g.S.Stack.values c.loop-at.stack)) (ap steps_of none) c.loop-at.invariant.runs

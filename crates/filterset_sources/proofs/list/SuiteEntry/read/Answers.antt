@@ -26,3 +26,11 @@ returns-in_err-required-5-clause-refused c =
 pub returns-in_err-required-6-clause-refused : goal.returns-in_err-required-6-clause-refused
 returns-in_err-required-6-clause-refused c =
     handed_on c.from_residual-in_err-required-6.result c.in_err-required-6.field-0.0 c.from_residual-in_err-required-6.ensures.1 (λ fact. let is : IsSuite (view c.args.value.now) fact.0 = fact.1 in (record { names = fact.0.tests }, is.6)) c.in_err-required-6.ensures.refused
+
+pub returns-in_err-status_of-clause-refused : goal.returns-in_err-status_of-clause-refused
+returns-in_err-status_of-clause-refused c =
+    handed_on c.from_residual-in_err-status_of.result c.in_err-status_of.field-0.0 c.from_residual-in_err-status_of.ensures.1 (λ fact. let is : IsSuite (view c.args.value.now) fact.0 = fact.1 in (fact.0.status, is.5)) c.in_err-status_of.ensures.refused
+
+pub returns-clause-read : goal.returns-clause-read
+returns-clause-read c =
+    (c.in_ok-required.ensures.read, c.in_ok-required-2.ensures.read, c.in_ok-required-3.ensures.read, c.in_ok-required-4.ensures.read, c.in_ok-required-5.ensures.read, c.in_ok-status_of.ensures.read, c.in_ok-required-6.ensures.read)
