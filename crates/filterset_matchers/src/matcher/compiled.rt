@@ -151,10 +151,6 @@ impl CompiledMatcher<'_> {
     ghost use Rattle.filterset_matchers.specs.Pattern.{HasMatch};
 
     /// Whether the pattern matches anywhere in the input.
-    ///
-    /// It is not inlined: Rattle's own compiler gives a function room for all that it inlines, and who asks may be deep in
-    /// a recursion, as the compiler of expressions is.
-    #[inline(never)]
     pub(super) fn is_match(&mut self, input: &str) -> bool
         ensures found { (pattern : List ℕ) → IsCompiledOf pattern self.old.compiled.now
             → IsTrue result ↔ HasMatch pattern input.now }

@@ -141,10 +141,8 @@ impl PatternRegex {
     }
 }
 
-// Written out, so that a proof of who lets a pattern go has one call, and not the drop of each field. It is not inlined:
-// what is let go in a box is moved to the stack first, and who lets a pattern go may be deep in a recursion.
+// Written out, so that a proof of who lets a pattern go has one call, and not the drop of each field.
 impl Drop for PatternRegex {
-    #[inline(never)]
     fn drop(self) {
         let PatternRegex {
             pattern: _pattern,
@@ -371,7 +369,6 @@ impl<'p> Model for PatternMatcher<'p> {
 
 // Written out, as for `PatternRegex`.
 impl Drop for PatternMatcher<'_> {
-    #[inline(never)]
     fn drop(self) {
         let PatternMatcher {
             pattern: _,
