@@ -1,5 +1,6 @@
-use Rattle.std.proofs.Common.{◌≡◌, ◌==◌, ◌<◌, ◌++◌, ◌+◌, ◌∷◌, [], ℕ, zero, suc, false, true≢false, get_or, arith, List, Option, Some, None, IfSome, length, take, drop, map, refl, sym, ap, ◌∙◌, subst}
+use Rattle.std.proofs.Common.{◌≡◌, ◌==◌, ◌<◌, ◌++◌, ◌+◌, ◌∷◌, [], ℕ, zero, suc, false, true≢false, get_or, arith, List, length, take, drop, map, refl, sym, ap, ◌∙◌, subst}
 use Rattle.std.proofs.lemmas.List.{take-append-drop}
+use Rattle.std.proofs.lemmas.Option.{IfSome_then}
 use Rattle.regex.specs.Patterns.{Re, literal, cat, cat_all}
 use Rattle.regex_hir.specs.Meaning.{meaning}
 use Rattle.regex_hir.proofs.MeaningLemmas.{meaning-Concat}
@@ -10,10 +11,6 @@ use Rattle.filterset_matchers.proofs.matcher.compiled.first_literal.Goals as goa
 stands_first : (text : List ℕ) (rest : Re) → HasLiteral (cat (literal text) rest) text
 stands_first text rest input i j (l, (has, end), others) =
     (take i input, drop (i + length text) input, sym (take-append-drop i input) ∙ ap (λ xs. take i input ++ xs) (has_bytes_at_parts input i text has))
-
-of_some : {A : Type 0} {P Q : A → Type 0} (o : Option A) → IfSome o P → ((x : A) → P x → Q x) → IfSome o Q
-of_some None p f = tt
-of_some (Some x) p f = f x p
 
 some_of_test : (n : ℕ) → false ≡ (n == 0) → 0 < n
 some_of_test zero test = absurd (true≢false (sym test))
@@ -26,7 +23,7 @@ first_and_others (x ∷ xs) default some = refl
 pub returns : goal.returns
 returns c =
     let parts = c.in-Concat.parts in
-    of_some c.literal_of.result c.literal_of.ensures (λ text is.
+    IfSome_then c.literal_of.result c.literal_of.ensures (λ text is.
     let sequence : meaning c.args.tree.now ≡ cat (literal text.now) (cat_all (map meaning (drop 1 parts.items))) =
     ap meaning c.in-Concat.is ∙ meaning-Concat parts
     ∙ ap (λ xs. cat_all (map meaning xs)) (first_and_others parts.items c.index.result.now (omega (arith, some_of_test _ c.if-is_empty.ensures, parts.ok)))
