@@ -6,7 +6,7 @@ use Rattle.filterset_graph.specs.declared.package.PackageMetadata.{PackageMetada
 use Rattle.filterset_grammar.specs.Tree as tree
 use Rattle.filterset_grammar.specs.Tree.{Tree, Matching, Platform, Default}
 use Rattle.filterset_grammar.specs.declared.predicate.Predicate.TheVariants.{Package, Deps, Rdeps, Kind, Binary, BinaryId, Test, Group}
-use Rattle.filterset_matchers.specs.Matcher.{Hits}
+use Rattle.filterset_matchers.specs.Matcher.{MatchesName}
 use Rattle.filterset_expression.specs.BinaryMeaning.{EitherLeaf, OfTree, OfDefault, tree_leaf_with_default, tree_with_default, is_of_test_predicate, is_either_of_test, EitherOfBinary, PossibleOfTree, IsDefiniteTree, IsUndecidedTree, TellsTheSame}
 use Rattle.filterset_expression.specs.Expression as compiled
 use Rattle.filterset_expression.specs.Expression.{CompiledLeaf, formula, is_of_test, leaf_with_default, with_default, HoldsOfBinary, Possible, IsDefinite, IsUndecided}
@@ -118,9 +118,9 @@ module _ (packages : List PackageMetadata) (binary : BinaryQuery) where
   means_alike_own (Matching Package m s) (compiled.Packages ids) are = let e = are binary.package_id.now in (e.1, e.0)
   means_alike_own (Matching Deps m s) (compiled.Packages ids) are = let e = are binary.package_id.now in (e.1, e.0)
   means_alike_own (Matching Rdeps m s) (compiled.Packages ids) are = let e = are binary.package_id.now in (e.1, e.0)
-  means_alike_own (Matching Kind m s) (compiled.Kind n t) are = alike_at (λ k. Hits k binary.kind.now) m n are.0
-  means_alike_own (Matching Binary m s) (compiled.Binary n t) are = alike_at (λ k. Hits k binary.binary_name.now) m n are.0
-  means_alike_own (Matching BinaryId m s) (compiled.BinaryId n t) are = alike_at (λ k. Hits k binary.binary_id.now) m n are.0
+  means_alike_own (Matching Kind m s) (compiled.Kind n t) are = alike_at (λ k. MatchesName k binary.kind.now) m n are.0
+  means_alike_own (Matching Binary m s) (compiled.Binary n t) are = alike_at (λ k. MatchesName k binary.binary_name.now) m n are.0
+  means_alike_own (Matching BinaryId m s) (compiled.BinaryId n t) are = alike_at (λ k. MatchesName k binary.binary_id.now) m n are.0
   means_alike_own (Matching Test m s) (compiled.Test n t) are = alike ⊥
   means_alike_own (Matching Group m s) (compiled.Group n t) are = alike ⊥
   means_alike_own (Platform p s) (compiled.Platform q t) are = alike_at (λ k. binary.platform ≡ k) p q are.0

@@ -180,8 +180,8 @@ module _ {A : Type 0} (is_asked : A → Bool) (holds of_test : A → Type 0) (ag
 
   leaf_answered : (leaf : A) (asked : Bool) → is_asked leaf ≡ asked → ¬ (¬ Answered (Leaf leaf))
   leaf_answered leaf true e none =
-      let hits : ¬ of_test leaf = λ t. none (true ∷ [], rw e refl, rw e (λ s. t, λ s. refl)) in
-      none (false ∷ [], rw e refl, rw e (λ s. absurd (let clash : false ≡ true = s in cc), λ t. absurd (hits t)))
+      let matches : ¬ of_test leaf = λ t. none (true ∷ [], rw e refl, rw e (λ s. t, λ s. refl)) in
+      none (false ∷ [], rw e refl, rw e (λ s. absurd (let clash : false ≡ true = s in cc), λ t. absurd (matches t)))
   leaf_answered leaf false e none = none ([], rw e refl, rw e (agree leaf e))
 
   -- it cannot be that there are none

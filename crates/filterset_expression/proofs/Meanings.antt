@@ -6,7 +6,7 @@ use Rattle.filterset_graph.specs.declared.package.PackageMetadata.{PackageMetada
 use Rattle.filterset_expression.specs.Expression as compiled
 use Rattle.filterset_expression.specs.Expression.{CompiledLeaf, formula, leaf_with_default, with_default, has_leaf, Lookup, HoldsOfTest, Holds}
 use Rattle.filterset_expression.specs.Formula.{leaves, TrueWhere}
-use Rattle.filterset_matchers.specs.Matcher.{Hits}
+use Rattle.filterset_matchers.specs.Matcher.{MatchesName}
 use Rattle.filterset_expression.specs.Meaning as meaning
 use Rattle.filterset_expression.specs.Meaning.{tree_formula, has_tree_leaf, MeansOfTest, Meaning, SaysTheSame, IsCompiledLeaf, IsCompiled}
 use Rattle.filterset_grammar.specs.Tree as tree
@@ -30,10 +30,10 @@ module _ (packages : List PackageMetadata) (test : TestQuery) (default : Compile
   leaf_means (Matching Package m s) (compiled.Packages ids) are = let e = are test.binary_query.package_id.now in (e.1, e.0)
   leaf_means (Matching Deps m s) (compiled.Packages ids) are = let e = are test.binary_query.package_id.now in (e.1, e.0)
   leaf_means (Matching Rdeps m s) (compiled.Packages ids) are = let e = are test.binary_query.package_id.now in (e.1, e.0)
-  leaf_means (Matching Kind m s) (compiled.Kind n t) are = alike_at (λ k. Hits k test.binary_query.kind.now) m n are.0
-  leaf_means (Matching Binary m s) (compiled.Binary n t) are = alike_at (λ k. Hits k test.binary_query.binary_name.now) m n are.0
-  leaf_means (Matching BinaryId m s) (compiled.BinaryId n t) are = alike_at (λ k. Hits k test.binary_query.binary_id.now) m n are.0
-  leaf_means (Matching Test m s) (compiled.Test n t) are = alike_at (λ k. Hits k test.test_name.now) m n are.0
+  leaf_means (Matching Kind m s) (compiled.Kind n t) are = alike_at (λ k. MatchesName k test.binary_query.kind.now) m n are.0
+  leaf_means (Matching Binary m s) (compiled.Binary n t) are = alike_at (λ k. MatchesName k test.binary_query.binary_name.now) m n are.0
+  leaf_means (Matching BinaryId m s) (compiled.BinaryId n t) are = alike_at (λ k. MatchesName k test.binary_query.binary_id.now) m n are.0
+  leaf_means (Matching Test m s) (compiled.Test n t) are = alike_at (λ k. MatchesName k test.test_name.now) m n are.0
   leaf_means (Matching Group m s) (compiled.Group n t) are = alike_at (λ k. lookup test k) m n are.0
   leaf_means (Platform p s) (compiled.Platform q t) are = alike_at (λ k. test.binary_query.platform ≡ k) p q are.0
   leaf_means (Default s) compiled.Default are = alike (TrueWhere (HoldsOfTest test lookup) (formula default))

@@ -6,7 +6,7 @@ use Rattle.filterset_graph.specs.declared.package.BuildPlatform.{BuildPlatform}
 use Rattle.filterset_expression.specs.Connectives.{Conjunction, Disjunction, ExclusiveDisjunction}
 use Rattle.filterset_expression.specs.Formula.{Formula, Leaf, Negation, Compound, leaves, replaced, TrueWhere}
 use Rattle.filterset_expression.specs.Values.{CanBe}
-use Rattle.filterset_matchers.specs.Matcher.{Matcher, Hits}
+use Rattle.filterset_matchers.specs.Matcher.{Matcher, MatchesName}
 use Rattle.filterset_matchers.specs.Matchers.{matcher_of}
 use Rattle.filterset_expression.specs.declared.expression.CompiledExpr.{CompiledExpr}
 use Rattle.filterset_expression.specs.declared.expression.CompiledExpr.TheVariants.{Not', Union', Intersection', SymmetricDifference', Set}
@@ -79,14 +79,14 @@ has_leaf test e = list_any test (leaves (formula e))
 -- what a leaf says of a binary; what it says of a test alone is not said here, nor what the default filter says
 abbrev pub HoldsOfBinary : BinaryQuery → CompiledLeaf → Type 0
 HoldsOfBinary binary (Packages ids) = Contains ids binary.package_id.now
-HoldsOfBinary binary (Kind matcher span) = Hits matcher binary.kind.now
+HoldsOfBinary binary (Kind matcher span) = MatchesName matcher binary.kind.now
 HoldsOfBinary binary (Platform platform span) = binary.platform ≡ platform
-HoldsOfBinary binary (Binary matcher span) = Hits matcher binary.binary_name.now
-HoldsOfBinary binary (BinaryId matcher span) = Hits matcher binary.binary_id.now
+HoldsOfBinary binary (Binary matcher span) = MatchesName matcher binary.binary_name.now
+HoldsOfBinary binary (BinaryId matcher span) = MatchesName matcher binary.binary_id.now
 HoldsOfBinary binary All = Unit {0}
 HoldsOfBinary binary _ = ⊥
 
--- what a lookup of groups says: that the matcher hits the group of the test
+-- what a lookup of groups says: that the matcher matches the group of the test
 abbrev pub Lookup : Type 1
 Lookup = TestQuery → Matcher → Type 0
 
@@ -96,7 +96,7 @@ no_groups test matcher = ⊥
 
 -- what a leaf says of a test
 abbrev pub HoldsOfTest : TestQuery → Lookup → CompiledLeaf → Type 0
-HoldsOfTest test lookup (Test matcher span) = Hits matcher test.test_name.now
+HoldsOfTest test lookup (Test matcher span) = MatchesName matcher test.test_name.now
 HoldsOfTest test lookup (Group matcher span) = lookup test matcher
 HoldsOfTest test lookup leaf = HoldsOfBinary test.binary_query leaf
 

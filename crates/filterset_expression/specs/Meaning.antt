@@ -9,7 +9,7 @@ use Rattle.filterset_expression.specs.Expression as compiled
 use Rattle.filterset_expression.specs.Expression.{CompiledLeaf, Lookup, Holds, HoldsOfTest, formula}
 use Rattle.filterset_expression.specs.Formula as formulas
 use Rattle.filterset_expression.specs.Formula.{Formula, Negation, Compound, TrueWhere, SameShape}
-use Rattle.filterset_matchers.specs.Matcher.{Matcher, Hits}
+use Rattle.filterset_matchers.specs.Matcher.{Matcher, MatchesName}
 use Rattle.filterset_grammar.specs.Tree.{Leaf, Tree, Matching, Platform, Default, All, None, Not, Union, Join, Parens, Set, tree_leaves}
 use Rattle.filterset_grammar.specs.declared.predicate.Predicate.TheVariants.{Package, Deps, Rdeps, Kind, Binary, BinaryId, Test, Group}
 use Rattle.filterset_grammar.specs.declared.operators.Joiner.{Joiner}
@@ -48,21 +48,21 @@ is_group_predicate _ = false
 abbrev pub IsMember : List PackageMetadata → PackageMetadata → Type 0
 IsMember packages p = Contains packages p × IsTrue p.in_workspace
 
--- a package of the workspace whose name the matcher hits
+-- a package of the workspace whose name the matcher matches
 abbrev pub IsNamed : List PackageMetadata → Matcher → PackageMetadata → Type 0
-IsNamed packages matcher p = IsMember packages p × Hits matcher (string_bytes p.name)
+IsNamed packages matcher p = IsMember packages p × MatchesName matcher (string_bytes p.name)
 
--- a package of the workspace with this id has a name that the matcher hits
+-- a package of the workspace with this id has a name that the matcher matches
 abbrev pub IsPackage : List PackageMetadata → Matcher → List ℕ → Type 0
 IsPackage packages matcher id = (p : PackageMetadata) × IsNamed packages matcher p × (p.id ≡ id)
 
--- a package of the workspace has this id, and a path leads to it from one whose name the matcher hits
+-- a package of the workspace has this id, and a path leads to it from one whose name the matcher matches
 abbrev pub IsDependency : List PackageMetadata → Matcher → List ℕ → Type 0
 IsDependency packages matcher id =
     (p : PackageMetadata) × (from : PackageMetadata) × IsMember packages p × (p.id ≡ id)
     × IsNamed packages matcher from × Path packages from.id id
 
--- a package of the workspace has this id, and a path leads from it to one whose name the matcher hits
+-- a package of the workspace has this id, and a path leads from it to one whose name the matcher matches
 abbrev pub IsDependent : List PackageMetadata → Matcher → List ℕ → Type 0
 IsDependent packages matcher id =
     (p : PackageMetadata) × (to : PackageMetadata) × IsMember packages p × (p.id ≡ id)
@@ -73,9 +73,9 @@ abbrev pub MeansOfBinary : {S : Type 0} → List PackageMetadata → BinaryQuery
 MeansOfBinary packages binary (Matching Package matcher span) = IsPackage packages matcher binary.package_id.now
 MeansOfBinary packages binary (Matching Deps matcher span) = IsDependency packages matcher binary.package_id.now
 MeansOfBinary packages binary (Matching Rdeps matcher span) = IsDependent packages matcher binary.package_id.now
-MeansOfBinary packages binary (Matching Kind matcher span) = Hits matcher binary.kind.now
-MeansOfBinary packages binary (Matching Binary matcher span) = Hits matcher binary.binary_name.now
-MeansOfBinary packages binary (Matching BinaryId matcher span) = Hits matcher binary.binary_id.now
+MeansOfBinary packages binary (Matching Kind matcher span) = MatchesName matcher binary.kind.now
+MeansOfBinary packages binary (Matching Binary matcher span) = MatchesName matcher binary.binary_name.now
+MeansOfBinary packages binary (Matching BinaryId matcher span) = MatchesName matcher binary.binary_id.now
 MeansOfBinary packages binary (Platform platform span) = binary.platform ≡ platform
 MeansOfBinary packages binary All = Unit {0}
 MeansOfBinary packages binary _ = ⊥
@@ -83,7 +83,7 @@ MeansOfBinary packages binary _ = ⊥
 -- what a leaf says of a test: `test` and `group` speak of the test itself, `default` says what the default filter says,
 -- and every other leaf says what it says of the test's binary
 abbrev pub MeansOfTest : {S : Type 0} → List PackageMetadata → TestQuery → CompiledExpr → Lookup → Leaf S → Type 0
-MeansOfTest packages test default lookup (Matching Test matcher span) = Hits matcher test.test_name.now
+MeansOfTest packages test default lookup (Matching Test matcher span) = MatchesName matcher test.test_name.now
 MeansOfTest packages test default lookup (Matching Group matcher span) = lookup test matcher
 MeansOfTest packages test default lookup (Default span) = TrueWhere (HoldsOfTest test lookup) (formula default)
 MeansOfTest packages test default lookup leaf = MeansOfBinary packages test.binary_query leaf

@@ -110,7 +110,7 @@ impl CompiledExpr {
         groups: &dyn GroupLookup,
     ) -> Result<bool, AllocError>
         ensures holds { IfOk result (λ answer.
-            IsTrue answer ↔ Holds self.now query.now (default_of cx.now) (hits_group groups.now)) }
+            IsTrue answer ↔ Holds self.now query.now (default_of cx.now) (matches_group groups.now)) }
 
         // What is definite of the test's binary is the answer, and where there is no `group` leaf every lookup gives
         // the same.

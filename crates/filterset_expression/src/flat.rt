@@ -164,7 +164,7 @@ impl<'a> FlatExpr<'a> {
         groups: &dyn GroupLookup,
     ) -> Result<bool, AllocError>
         ensures holds { IfOk result (λ answer. (expr default : CompiledExpr) → IsFlat self.now expr default
-            → IsTrue answer ↔ Holds expr query.now default (hits_group groups.now)) }
+            → IsTrue answer ↔ Holds expr query.now default (matches_group groups.now)) }
         ensures settled { IfOk result (λ answer. (expr default : CompiledExpr) → IsFlat self.now expr default
             → (b : Bool) → IsDefinite expr query.now.binary_query default b → answer ≡ b) }
         ensures ungrouped { has_step is_group self.now ≡ false
@@ -174,13 +174,13 @@ impl<'a> FlatExpr<'a> {
         // Where it is made of what a tree is compiled to, the answer is the tree's meaning.
         ensures meaning { IfOk result (λ answer. (packages : List PackageMetadata) (e : Tree SourceSpan)
             (default : CompiledExpr) → IsFlatOfTree self.now packages e default
-            → IsTrue answer ↔ Meaning e packages query.now default (hits_group groups.now)) }
+            → IsTrue answer ↔ Meaning e packages query.now default (matches_group groups.now)) }
     {
         self.run(
             alloc,
             &|asked: AskedLeaf<'_, '_>| -> Result<bool, AllocError>
                 ensures { IfOk result (λ value. IsTrue value ↔
-                    HoldsOfTest query.entry.now (hits_group groups.entry.now) (compiled_leaf asked.entry.leaf.now)) }
+                    HoldsOfTest query.entry.now (matches_group groups.entry.now) (compiled_leaf asked.entry.leaf.now)) }
             { asked.matches_test_with_groups(alloc, query, groups) },
         )
     }
@@ -197,12 +197,12 @@ impl<'a> FlatExpr<'a> {
     ) -> Result<bool, AllocError>
         requires { IsTold self.now query.now.binary_query told }
         ensures holds { IfOk result (λ answer. (expr default : CompiledExpr) → IsFlat self.now expr default
-            → IsTrue answer ↔ Holds expr query.now default (hits_group groups.now)) }
+            → IsTrue answer ↔ Holds expr query.now default (matches_group groups.now)) }
 
         // Where it is made of what a tree is compiled to, the answer is the tree's meaning.
         ensures meaning { IfOk result (λ answer. (packages : List PackageMetadata) (e : Tree SourceSpan)
             (default : CompiledExpr) → IsFlatOfTree self.now packages e default
-            → IsTrue answer ↔ Meaning e packages query.now default (hits_group groups.now)) }
+            → IsTrue answer ↔ Meaning e packages query.now default (matches_group groups.now)) }
     {
         match told {
             Some(answer) => Ok(answer),

@@ -11,10 +11,10 @@ use std::fmt::Debug;
 pub trait GroupLookup: Debug {
     ghost use Rattle.filterset_expression.specs.Expression.{Lookup};
 
-    /// What the lookup says: of which tests a matcher hits the group.
-    ghost hits_group: { Self → Lookup };
+    /// What the lookup says: of which tests a matcher matches the group.
+    ghost matches_group: { Self → Lookup };
 
-    /// Whether the matcher hits the group of the test. The only error is out of memory.
+    /// Whether the matcher matches the group of the test. The only error is out of memory.
     fn is_member_test(
         &self,
         alloc: Global,
@@ -22,5 +22,5 @@ pub trait GroupLookup: Debug {
         matcher: &NameMatcher,
     ) -> Result<bool, AllocError>
         ensures { IfOk result (λ answer.
-            IsTrue answer ↔ hits_group self.now test.now (matcher_of matcher.now)) };
+            IsTrue answer ↔ matches_group self.now test.now (matcher_of matcher.now)) };
 }

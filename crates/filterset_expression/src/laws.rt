@@ -90,5 +90,5 @@ pub fn skipping_loses_no_test(groups: &dyn GroupLookup)
     ensures { (packages : List PackageMetadata) (e : Tree SourceSpan) (compiled default : CompiledExpr)
         (test : TestQuery) → IsCompiled packages e compiled
         → IsDefiniteTree e packages test.binary_query default false
-        → ¬ Meaning e packages test default (hits_group groups.now) }
+        → ¬ Meaning e packages test default (matches_group groups.now) }
 {}

@@ -81,16 +81,16 @@ pub enum ParseSingleError {
     /// Text after the expression.
     #[error("expected end of expression")]
     ExpectedEndOfExpression(SourceSpan),
-    /// A matcher that hits no package of the workspace.
+    /// A matcher that matches no package of the workspace.
     #[error("operator didn't match any packages")]
     NoPackageMatch(SourceSpan),
-    /// A matcher that hits no test group.
+    /// A matcher that matches no test group.
     #[error("operator didn't match any {groups}", groups = TEST_GROUPS)]
     NoGroupMatch(SourceSpan),
-    /// A matcher that hits no id of a test binary.
+    /// A matcher that matches no id of a test binary.
     #[error("operator didn't match any binary IDs")]
     NoBinaryIdMatch(SourceSpan),
-    /// A matcher that hits no name of a test binary.
+    /// A matcher that matches no name of a test binary.
     #[error("operator didn't match any binary names")]
     NoBinaryNameMatch(SourceSpan),
     /// An argument of `platform` that is neither `host` nor `target`.

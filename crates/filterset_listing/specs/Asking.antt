@@ -4,7 +4,7 @@ use Rattle.filterset_expression.specs.Expression.{Holds, Lookup}
 use Rattle.filterset_expression.specs.declared.expression.CompiledExpr.{CompiledExpr}
 use Rattle.filterset_expression.specs.declared.query.BinaryQuery.{BinaryQuery}
 use Rattle.filterset_expression.specs.declared.query.TestQuery.{TestQuery}
-use Rattle.filterset_matchers.specs.Matcher.{Hits}
+use Rattle.filterset_matchers.specs.Matcher.{MatchesName}
 
 -- a text, by its bytes
 abbrev pub Text : Type 0
@@ -12,7 +12,7 @@ Text = List ℕ
 
 -- every test is in the group `@global`
 abbrev pub in_global : Lookup
-in_global test matcher = Hits matcher (codes "@global")
+in_global test matcher = MatchesName matcher (codes "@global")
 
 -- whether the answer about a binary is no
 abbrev pub is_no : Option Bool → Bool

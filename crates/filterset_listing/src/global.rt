@@ -11,7 +11,7 @@ use std::alloc::{AllocError, Global};
 pub struct GlobalLookup;
 
 impl GroupLookup for GlobalLookup {
-    ghost hits_group = { λ _. in_global };
+    ghost matches_group = { λ _. in_global };
 
     fn is_member_test(
         &self,

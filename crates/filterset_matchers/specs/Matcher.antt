@@ -1,4 +1,4 @@
--- What a matcher of names is, and what it hits.
+-- What a matcher of names is, and what it matches.
 use Rattle.std.specs.Prelude.{◌≡◌, ℕ, Bool, List, chars}
 use Rattle.std.specs.Str.Iter.{HasSubslice}
 use Rattle.filterset_glob.specs.Matching.{Matches}
@@ -13,12 +13,12 @@ pub data Matcher : Type 0 where
   Glob : (text : List ℕ) (tokens : Tokens) (implicit : Bool) → Matcher
   Regex : (pattern : List ℕ) → Matcher
 
--- the matcher hits the text
-abbrev pub Hits : Matcher → List ℕ → Type 0
-Hits (Equal value implicit) text = text ≡ value
-Hits (Contains value implicit) text = HasSubslice text value
-Hits (Glob own tokens implicit) text = Matches tokens (chars text)
-Hits (Regex pattern) text = HasMatch pattern text
+-- the matcher matches the text
+abbrev pub MatchesName : Matcher → List ℕ → Type 0
+MatchesName (Equal value implicit) text = text ≡ value
+MatchesName (Contains value implicit) text = HasSubslice text value
+MatchesName (Glob own tokens implicit) text = Matches tokens (chars text)
+MatchesName (Regex pattern) text = HasMatch pattern text
 
 -- the matcher compares texts, and takes no memory for it
 abbrev pub ByComparing : Matcher → Type 0

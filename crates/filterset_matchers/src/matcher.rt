@@ -110,14 +110,14 @@ impl Eq for NameMatcher {
 }
 
 impl NameMatcher {
-    ghost use Rattle.filterset_matchers.specs.Matcher.{Hits, ByComparing};
+    ghost use Rattle.filterset_matchers.specs.Matcher.{MatchesName, ByComparing};
     ghost use Rattle.filterset_matchers.specs.Matchers.{matcher_of};
 
-    /// Whether the matcher hits the input.
+    /// Whether the matcher matches the input.
     ///
     /// For `Equal` and `Contains` it always succeeds. The only error is out of memory.
     pub fn is_match(&self, alloc: Global, input: &str) -> Result<bool, AllocError>
-        ensures hits { IfOk result (λ hit. IsTrue hit ↔ Hits (matcher_of self.now) input.now) }
+        ensures matches { IfOk result (λ matched. IsTrue matched ↔ MatchesName (matcher_of self.now) input.now) }
         ensures no_memory { ByComparing (matcher_of self.now) → IsOk result }
     {
         match self {

@@ -6,11 +6,11 @@ use Rattle.std.specs.Str.{bytes_eq}
 use Rattle.std.proofs.lemmas.List.Elements.{All-nil, All-cons, All-head, All-tail}
 use Rattle.std.proofs.lemmas.Option.{same_Some}
 use Rattle.std.proofs.lemmas.Slice.Eq.{bytes_eq-Decides}
-use Rattle.filterset_matchers.specs.Matcher.{Matcher, Hits}
+use Rattle.filterset_matchers.specs.Matcher.{Matcher, MatchesName}
 use Rattle.filterset_expression.specs.declared.query.TestQuery.{TestQuery}
 use Rattle.filterset_record.specs.Shape.{Text}
 use Rattle.filterset_record.specs.Record.{BinaryRow, TestRow}
-use Rattle.filterset_report.specs.Lookup.{IsFirst, IsInGroup, hits_recorded_group}
+use Rattle.filterset_report.specs.Lookup.{IsFirst, IsInGroup, matches_recorded_group}
 use Rattle.filterset_record.specs.Rows.{binary_row, test_row}
 use Rattle.filterset_record.specs.declared.record.binaries.BinaryEntry.{BinaryEntry}
 use Rattle.filterset_record.specs.declared.record.binaries.TestEntry.{TestEntry}
@@ -113,11 +113,11 @@ one_group binaries query group other a b =
     sym a.same ∙ ap (λ (t : TestRow). t.group) f ∙ b.same
 
 -- what is asked of the group, where there is one
-pub hits_one : (binaries : List BinaryRow) (query : TestQuery) (matcher : Matcher) (group : Text) → IsInGroup binaries query group →
-    Hits matcher group ↔ hits_recorded_group binaries query matcher
-hits_one binaries query matcher group is =
-    (λ hit. (group, is, hit), λ some. subst (Hits matcher) (one_group binaries query some.0 group some.1 is) some.2)
+pub matches_one : (binaries : List BinaryRow) (query : TestQuery) (matcher : Matcher) (group : Text) → IsInGroup binaries query group →
+    MatchesName matcher group ↔ matches_recorded_group binaries query matcher
+matches_one binaries query matcher group is =
+    (λ matched. (group, is, matched), λ some. subst (MatchesName matcher) (one_group binaries query some.0 group some.1 is) some.2)
 
-pub hits_none : (binaries : List BinaryRow) (query : TestQuery) (matcher : Matcher) → ((group : Text) → ¬ IsInGroup binaries query group) →
-    ¬ hits_recorded_group binaries query matcher
-hits_none binaries query matcher none some = none some.0 some.1
+pub matches_none : (binaries : List BinaryRow) (query : TestQuery) (matcher : Matcher) → ((group : Text) → ¬ IsInGroup binaries query group) →
+    ¬ matches_recorded_group binaries query matcher
+matches_none binaries query matcher none some = none some.0 some.1

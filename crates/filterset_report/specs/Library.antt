@@ -15,7 +15,7 @@ use Rattle.filterset_expression.specs.declared.expression.CompiledExpr.{Compiled
 use Rattle.filterset_expression.specs.declared.query.BinaryQuery.{BinaryQuery}
 use Rattle.filterset_expression.specs.declared.query.TestQuery.{TestQuery}
 use Rattle.filterset_report.specs.declared.report.setting.Setting.{Setting}
-use Rattle.filterset_report.specs.Lookup.{hits_recorded_group}
+use Rattle.filterset_report.specs.Lookup.{matches_recorded_group}
 use Rattle.filterset_record.specs.Rows.{binary_row}
 use Rattle.filterset_record.specs.Shape.{Text}
 use Rattle.filterset_record.specs.Record.{BinaryRow, TestRow}
@@ -79,4 +79,4 @@ pub record Tells (background : Background) (tree : Tree SourceSpan) (binary : Bi
   pub query : TestQuery
   pub about : IsAbout query binary test
   pub says : IsTrue answer ↔ Meaning tree background.packages query background.default
-      (hits_recorded_group background.binaries)
+      (matches_recorded_group background.binaries)

@@ -1,6 +1,6 @@
 -- Which group a record puts a test in.
 use Rattle.std.specs.Prelude.{◌≡◌, ◌++◌, List, ◌∷◌, All}
-use Rattle.filterset_matchers.specs.Matcher.{Hits}
+use Rattle.filterset_matchers.specs.Matcher.{MatchesName}
 use Rattle.filterset_expression.specs.Expression.{Lookup}
 use Rattle.filterset_expression.specs.declared.query.TestQuery.{TestQuery}
 use Rattle.filterset_record.specs.Shape.{Text}
@@ -22,6 +22,6 @@ pub record IsInGroup (binaries : List BinaryRow) (query : TestQuery) (group : Te
   pub first_test : IsFirst (λ (t : TestRow). t.name ≡ query.test_name.now) binary.tests test
   pub same : test.group ≡ group
 
--- the matcher hits the group that the test is in
-abbrev pub hits_recorded_group : List BinaryRow → Lookup
-hits_recorded_group binaries query matcher = (group : Text) × IsInGroup binaries query group × Hits matcher group
+-- the matcher matches the group that the test is in
+abbrev pub matches_recorded_group : List BinaryRow → Lookup
+matches_recorded_group binaries query matcher = (group : Text) × IsInGroup binaries query group × MatchesName matcher group

@@ -3,7 +3,7 @@ ghost use Rattle.std.specs.Prelude.{◌≡◌, IfOk, MatchOption, map, option_ma
 ghost use Rattle.std.specs.List.{find};
 ghost use Rattle.std.specs.Str.{bytes_eq};
 ghost use Rattle.filterset_report.specs.Index.{HasFirsts, IsIndexOf};
-ghost use Rattle.filterset_report.specs.Lookup.{IsInGroup, hits_recorded_group};
+ghost use Rattle.filterset_report.specs.Lookup.{IsInGroup, matches_recorded_group};
 ghost use Rattle.filterset_record.specs.Rows.{binary_row};
 ghost use Rattle.filterset_record.specs.Shape.{Text};
 
@@ -132,7 +132,7 @@ impl<'a> RecordLookup<'a> {
 }
 
 impl GroupLookup for RecordLookup<'_> {
-    ghost hits_group = { λ lookup. hits_recorded_group (map binary_row lookup.binaries.now) };
+    ghost matches_group = { λ lookup. matches_recorded_group (map binary_row lookup.binaries.now) };
 
     fn is_member_test(
         &self,

@@ -6,9 +6,9 @@ use Rattle.filterset_graph.specs.declared.package.BuildTarget.{BuildTarget}
 use Rattle.filterset_graph.specs.declared.package.BuildTargetId.{BuildTargetId}
 use Rattle.filterset_graph.specs.declared.package.BuildTargetId.TheVariants.{Library, Binary, Example, Test, Benchmark, BuildScript}
 use Rattle.filterset_graph.specs.declared.package.PackageMetadata.{PackageMetadata}
-use Rattle.filterset_matchers.specs.Matcher.{Matcher, Hits}
+use Rattle.filterset_matchers.specs.Matcher.{Matcher, MatchesName}
 use Rattle.nextest_filtering.specs.Binaries.{NameAndId, name_and_id, binary_with, binary_of, binaries_of, members_of, test_binaries}
-use Rattle.nextest_filtering.specs.Checks.{HitsSome}
+use Rattle.nextest_filtering.specs.Checks.{MatchesSomeName}
 use Rattle.nextest_filtering.proofs.Members.{kept, from_filter, chosen, from_chosen, joined, from_joined, mapped, from_mapped}
 use Rattle.nextest_filtering.specs.declared.compile.context.TestBinary.{TestBinary}
 use Rattle.std.proofs.lemmas.List.Elements.{All-contains}
@@ -62,20 +62,20 @@ has_kind Benchmark apart = (_, refl)
 has_kind BuildScript apart = absurd (apart refl)
 
 module _ (packages : List PackageMetadata) (matcher : Matcher) where
-  pub hits_name : (row : NameAndId) → Contains (test_binaries packages) row → Hits matcher row.name → HitsSome matcher (IsBinaryName packages)
-  hits_name row c hit = let m = made packages row c in (row.name, (m.p, m.target, m.stands, no_script m.target m.kind m.is_kind, sym m.name), hit)
+  pub matches_name : (row : NameAndId) → Contains (test_binaries packages) row → MatchesName matcher row.name → MatchesSomeName matcher (IsBinaryName packages)
+  matches_name row c matched = let m = made packages row c in (row.name, (m.p, m.target, m.stands, no_script m.target m.kind m.is_kind, sym m.name), matched)
 
-  pub hits_no_name : ((row : NameAndId) → Contains (test_binaries packages) row → ¬ Hits matcher row.name) → ¬ HitsSome matcher (IsBinaryName packages)
-  hits_no_name none h =
+  pub matches_no_name : ((row : NameAndId) → Contains (test_binaries packages) row → ¬ MatchesName matcher row.name) → ¬ MatchesSomeName matcher (IsBinaryName packages)
+  matches_no_name none h =
       let is = h.1 in let kind = has_kind is.1.id is.3 in
-      none (binary_with is.0 is.1 kind.0) (stands_for packages is.0 is.1 kind.0 is.2 kind.1) (subst (Hits matcher) (sym is.4) h.2)
+      none (binary_with is.0 is.1 kind.0) (stands_for packages is.0 is.1 kind.0 is.2 kind.1) (subst (MatchesName matcher) (sym is.4) h.2)
 
-  pub hits_id : (row : NameAndId) → Contains (test_binaries packages) row → Hits matcher row.id → HitsSome matcher (IsBinaryId packages)
-  hits_id row c hit = let m = made packages row c in (row.id, (m.p, m.target, m.kind, m.stands, m.is_kind, m.id), hit)
+  pub matches_id : (row : NameAndId) → Contains (test_binaries packages) row → MatchesName matcher row.id → MatchesSomeName matcher (IsBinaryId packages)
+  matches_id row c matched = let m = made packages row c in (row.id, (m.p, m.target, m.kind, m.stands, m.is_kind, m.id), matched)
 
-  pub hits_no_id : ((row : NameAndId) → Contains (test_binaries packages) row → ¬ Hits matcher row.id) → ¬ HitsSome matcher (IsBinaryId packages)
-  hits_no_id none h =
-      let is = h.1 in none (binary_with is.0 is.1 is.2) (stands_for packages is.0 is.1 is.2 is.3 is.4) (subst (Hits matcher) is.5 h.2)
+  pub matches_no_id : ((row : NameAndId) → Contains (test_binaries packages) row → ¬ MatchesName matcher row.id) → ¬ MatchesSomeName matcher (IsBinaryId packages)
+  matches_no_id none h =
+      let is = h.1 in none (binary_with is.0 is.1 is.2) (stands_for packages is.0 is.1 is.2 is.3 is.4) (subst (MatchesName matcher) is.5 h.2)
 
 -- ---- binaries as they are kept
 

@@ -86,7 +86,7 @@ module _ (text : List ℕ) (e : Tree SourceSpan) (spells : Spells text e) where
   unmatched_stand : (packages : List PackageMetadata) (groups : KnownGroups) (ls : List (Leaf SourceSpan)) (faults : List ParseSingleError)
       → All IsPlaced ls → AreUnmatched packages groups ls faults → All (FaultStands text) faults
   unmatched_stand packages groups [] faults all is = rw is (All-nil (FaultStands text))
-  unmatched_stand packages groups (l ∷ ls) faults all (inl hit) = unmatched_stand packages groups ls faults (All-tail IsPlaced l ls all) hit.1
+  unmatched_stand packages groups (l ∷ ls) faults all (inl matched) = unmatched_stand packages groups ls faults (All-tail IsPlaced l ls all) matched.1
   unmatched_stand packages groups (l ∷ ls) faults all (inr (fault, others, missed, is, says, behind)) =
       rw is (All-cons (FaultStands text) fault others (unmatched_stands l fault (All-head IsPlaced l ls all) says) (unmatched_stand packages groups ls others (All-tail IsPlaced l ls all) behind))
 

@@ -2,24 +2,24 @@
 use Rattle.std.proofs.Common.{◌↔◌, inl, inr, ⊎_elim, refl, sym, subst}
 use Rattle.std.specs.Prelude.{Any, codes, string_bytes}
 use Rattle.std.specs.HashSet.{keys}
-use Rattle.filterset_matchers.specs.Matcher.{Matcher, Hits}
-use Rattle.nextest_filtering.specs.Checks.{HitsSome}
+use Rattle.filterset_matchers.specs.Matcher.{Matcher, MatchesName}
+use Rattle.nextest_filtering.specs.Checks.{MatchesSomeName}
 use Rattle.nextest_filtering.specs.Groups.{IsGroupName}
 use Rattle.nextest_filtering.specs.declared.compile.context.KnownGroups.TheVariants as groups
 
--- where the global group is hit, some group is
-pub global_hit : (matcher : Matcher) (custom : _) → Hits matcher (codes "@global") → HitsSome matcher (IsGroupName (groups.Known custom))
-global_hit matcher custom hit = (codes "@global", inl refl, hit)
+-- where the global group matches, some group is
+pub global_match : (matcher : Matcher) (custom : _) → MatchesName matcher (codes "@global") → MatchesSomeName matcher (IsGroupName (groups.Known custom))
+global_match matcher custom matched = (codes "@global", inl refl, matched)
 
 -- where it is not, some group is where a custom one is
-pub custom_hit : (matcher : Matcher) (custom : _) → ¬ Hits matcher (codes "@global")
-    → Any (λ name. Hits matcher (string_bytes name)) (keys custom) ↔ HitsSome matcher (IsGroupName (groups.Known custom))
-custom_hit matcher custom missed = (
+pub custom_match : (matcher : Matcher) (custom : _) → ¬ MatchesName matcher (codes "@global")
+    → Any (λ name. MatchesName matcher (string_bytes name)) (keys custom) ↔ MatchesSomeName matcher (IsGroupName (groups.Known custom))
+custom_match matcher custom missed = (
   (λ some. (string_bytes some.1, inr (some.1, (some.0, some.2, some.3), refl), some.4)),
-  (λ h. ⊎_elim (λ global. absurd (missed (subst (Hits matcher) global h.2)))
-      (λ one. (one.1.0, one.0, one.1.1, one.1.2, subst (Hits matcher) (sym one.2) h.2)) h.1),
+  (λ h. ⊎_elim (λ global. absurd (missed (subst (MatchesName matcher) global h.2)))
+      (λ one. (one.1.0, one.0, one.1.1, one.1.2, subst (MatchesName matcher) (sym one.2) h.2)) h.1),
 )
 
 -- where the groups are not known, none is
-pub none_hit : (matcher : Matcher) → ¬ HitsSome matcher (IsGroupName groups.Unavailable)
-none_hit matcher h = h.1
+pub none_match : (matcher : Matcher) → ¬ MatchesSomeName matcher (IsGroupName groups.Unavailable)
+none_match matcher h = h.1

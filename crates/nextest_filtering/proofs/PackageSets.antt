@@ -20,7 +20,7 @@ use Rattle.filterset_graph.specs.Marked.{IsMarkedId, MarksReached, MarksReaching
 use Rattle.filterset_graph.specs.Packages.{Path, ids, AllDiffer}
 use Rattle.filterset_graph.specs.Walks.{IsMarked}
 use Rattle.filterset_graph.specs.declared.package.PackageMetadata.{PackageMetadata}
-use Rattle.filterset_matchers.specs.Matcher.{Matcher, Hits}
+use Rattle.filterset_matchers.specs.Matcher.{Matcher, MatchesName}
 use Rattle.filterset_expression.specs.Meaning.{IsMember, IsNamed, IsPackage, IsDependency, IsDependent}
 use Rattle.nextest_filtering.specs.Binaries.{members_of}
 use Rattle.nextest_filtering.specs.PackageMarks.{IsNamedAt, MarksNamed, IsMarkedMember}
@@ -220,30 +220,30 @@ module _ (Gives : ℕ → List ℕ → Type 0) where
     pub all_given : ((k : ℕ) (id : List ℕ) → Gives k id → k < n) → (id : List ℕ) → Contains keys id ↔ ((k : ℕ) × Gives k id)
     all_given within id = ((λ c. let is = (so_far id).0 c in (is.0, is.2)), (λ g. (so_far id).1 (g.0, within g.0 id g.1, g.1)))
 
--- at this position stands a package with this id whose name the matcher hits
-abbrev pub IsHitAt : List (Bor PackageMetadata) → Matcher → ℕ → List ℕ → Type 0
-IsHitAt packages matcher k id =
-    (p : Bor PackageMetadata) × (slice_get packages k ≡ Some p) × Hits matcher (string_bytes p.now.name) × (p.now.id ≡ id)
+-- at this position stands a package with this id whose name the matcher matches
+abbrev pub IsMatchAt : List (Bor PackageMetadata) → Matcher → ℕ → List ℕ → Type 0
+IsMatchAt packages matcher k id =
+    (p : Bor PackageMetadata) × (slice_get packages k ≡ Some p) × MatchesName matcher (string_bytes p.now.name) × (p.now.id ≡ id)
 
 -- over the packages of the workspace, these are the ids of those that are named
-pub hit_members : (packages : List PackageMetadata) (matcher : Matcher) (members : List (Bor PackageMetadata)) → map (λ (p : Bor PackageMetadata). p.now) members ≡ members_of packages
-    → (id : List ℕ) → ((k : ℕ) × IsHitAt members matcher k id) ↔ IsPackage packages matcher id
-hit_members packages matcher members are id = (to, from)
+pub match_members : (packages : List PackageMetadata) (matcher : Matcher) (members : List (Bor PackageMetadata)) → map (λ (p : Bor PackageMetadata). p.now) members ≡ members_of packages
+    → (id : List ℕ) → ((k : ℕ) × IsMatchAt members matcher k id) ↔ IsPackage packages matcher id
+match_members packages matcher members are id = (to, from)
   where
-    to : ((k : ℕ) × IsHitAt members matcher k id) → IsPackage packages matcher id
+    to : ((k : ℕ) × IsMatchAt members matcher k id) → IsPackage packages matcher id
     to is =
         let p = is.1.0 in
         let here = mapped_at (λ (q : Bor PackageMetadata). q.now) members is.0 p is.1.1 in
         let c = subst (λ (ps : List PackageMetadata). Contains ps p.now) are (Contains-from_position _ p.now is.0 here) in
         (p.now, (from_filter (λ (q : PackageMetadata). q.in_workspace) packages p.now c, is.1.2), is.1.3)
 
-    from : IsPackage packages matcher id → (k : ℕ) × IsHitAt members matcher k id
+    from : IsPackage packages matcher id → (k : ℕ) × IsMatchAt members matcher k id
     from is =
         let p = is.0 in
         let c = kept (λ (q : PackageMetadata). q.in_workspace) packages p is.1.0.0 is.1.0.1 in
         let at = position_from_Contains _ p (subst (λ (ps : List PackageMetadata). Contains ps p) (sym are) c) in
         let m = element_from_mapped (λ (q : Bor PackageMetadata). q.now) members at.0 p at.1 in
-        (at.0, (m.0, m.1, subst (λ (q : PackageMetadata). Hits matcher (string_bytes q.name)) (sym m.2) is.1.1, ap (λ (q : PackageMetadata). q.id) m.2 ∙ is.2))
+        (at.0, (m.0, m.1, subst (λ (q : PackageMetadata). MatchesName matcher (string_bytes q.name)) (sym m.2) is.1.1, ap (λ (q : PackageMetadata). q.id) m.2 ∙ is.2))
 
 -- one mark more
 pub marked_one_more : (packages : List PackageMetadata) (matcher : Matcher) (marks : List Bool) (n : ℕ) (mark : Bool) → length marks ≡ n

@@ -1,5 +1,5 @@
 -- What is said of a tree without its spans: that the grammar of `regex` reads its patterns, that none of its predicates
--- is banned, and that each of them hits something. So it is said of every tree that is the same but for its spans.
+-- is banned, and that each of them matches something. So it is said of every tree that is the same but for its spans.
 use Rattle.std.proofs.Common.{◌≡◌, ℕ, List, [], ◌∷◌, ◌++◌, map, refl, ap, subst, sym, ◌∙◌}
 use Rattle.std.specs.Prelude.{All, None}
 use Rattle.std.proofs.lemmas.List.{map-append}
@@ -12,7 +12,7 @@ use Rattle.filterset_grammar.specs.Grammar.{Spells}
 use Rattle.filterset_grammar.specs.Patterns.{BareAreRead}
 use Rattle.filterset_grammar.specs.Tree as tree
 use Rattle.filterset_grammar.specs.Tree.{Leaf, Tree, leaf_without_span, without_spans, SameTree, tree_leaves}
-use Rattle.nextest_filtering.specs.Checks.{HitsSomething}
+use Rattle.nextest_filtering.specs.Checks.{MatchesSomething}
 use Rattle.nextest_filtering.specs.Compiling.{IsFiltersetOf}
 use Rattle.nextest_filtering.specs.declared.compile.context.KnownGroups.{KnownGroups}
 
@@ -61,5 +61,5 @@ pub is_filterset_too : (text other : List ℕ) (kind : FiltersetKind) (packages 
 is_filterset_too text other kind packages groups d e same spells is = record {
   reads = record { spelled = spells; patterns = subst BareAreRead (sym same) is.reads.patterns };
   allowed = all_same (λ l. ban_reason l kind ≡ None) d e same is.allowed;
-  checked = all_same (HitsSomething packages groups) d e same is.checked;
+  checked = all_same (MatchesSomething packages groups) d e same is.checked;
 }

@@ -1,4 +1,4 @@
--- Faults of predicates that hit nothing.
+-- Faults of predicates that match nothing.
 use Rattle.std.proofs.Common.{◌≡◌, inl, inr, List, [], ◌∷◌, ◌++◌, refl, sym, ◌∙◌, ap, append_assoc}
 use Rattle.std.specs.Prelude.{All}
 use Rattle.std.proofs.lemmas.List.{append-nil}
@@ -24,7 +24,7 @@ module _ (packages : List PackageMetadata) (groups : KnownGroups) where
   added_twice xs ys old mid new one two =
       (one.0 ++ two.0, two.1 ∙ ap (λ (t : List ParseSingleError). t ++ two.0) one.1 ∙ append_assoc old one.0 two.0, joined xs ys one.0 two.0 one.2 two.2)
 
-  -- a predicate that need hit nothing
+  -- a predicate that need match nothing
   pub adds_none : (leaf : Leaf SourceSpan) (old new : List ParseSingleError) → new ≡ old → IsChecked packages groups leaf → AddsUnmatched packages groups (leaf ∷ []) old new
   adds_none leaf old new same is = ([], same ∙ sym (append-nil old), inl (is, refl))
 
@@ -34,13 +34,13 @@ module _ (packages : List PackageMetadata) (groups : KnownGroups) where
   adds_one leaf fault old new says (inl is) = adds_none leaf old new is.1 is.0
   adds_one leaf fault old new says (inr is) = (fault ∷ [], is.1, inr (fault, [], is.0, refl, says, refl))
 
-  -- where there is none, each predicate hits something
+  -- where there is none, each predicate matches something
   pub none_unmatched : (xs : List (Leaf SourceSpan)) → AreUnmatched packages groups xs [] → All (IsChecked packages groups) xs
   none_unmatched [] are = All-nil (IsChecked packages groups)
   none_unmatched (x ∷ xs) (inl is) = All-cons (IsChecked packages groups) x xs is.0 (none_unmatched xs is.1)
   none_unmatched (x ∷ xs) (inr is) = absurd (let e = is.3 in cc)
 
-  -- where each hits something, there is none
+  -- where each matches something, there is none
   pub all_matched : (xs : List (Leaf SourceSpan)) (faults : List ParseSingleError) → All (IsChecked packages groups) xs → AreUnmatched packages groups xs faults → faults ≡ []
   all_matched [] faults all are = are
   all_matched (x ∷ xs) faults all (inl is) = all_matched xs faults (All-tail (IsChecked packages groups) x xs all) is.1

@@ -1,41 +1,41 @@
--- Which predicates hit something of the workspace or of the known groups, and the faults of those that do not.
+-- Which predicates match something of the workspace or of the known groups, and the faults of those that do not.
 use Rattle.std.specs.Prelude.{◌≡◌, ◌⊎◌, ◌++◌, ℕ, List, [], ◌∷◌, All}
 use Rattle.filterset_faults.specs.declared.error.ParseSingleError.{ParseSingleError}
 use Rattle.filterset_faults.specs.declared.error.ParseSingleError.TheVariants.{NoPackageMatch, NoBinaryNameMatch, NoBinaryIdMatch, NoGroupMatch}
 use Rattle.filterset_faults.specs.declared.span.SourceSpan.{SourceSpan}
 use Rattle.filterset_graph.specs.Binaries.{IsBinaryName, IsBinaryId}
 use Rattle.filterset_graph.specs.declared.package.PackageMetadata.{PackageMetadata}
-use Rattle.filterset_matchers.specs.Matcher.{Matcher, Hits}
+use Rattle.filterset_matchers.specs.Matcher.{Matcher, MatchesName}
 use Rattle.filterset_grammar.specs.Tree.{Leaf, Tree, Matching, leaf_without_span, tree_leaves}
 use Rattle.filterset_grammar.specs.declared.predicate.Predicate.TheVariants.{Package, Deps, Rdeps, Binary, BinaryId, Group}
 use Rattle.nextest_filtering.specs.Groups.{IsGroupName}
 use Rattle.filterset_expression.specs.Meaning.{IsNamed}
 use Rattle.nextest_filtering.specs.declared.compile.context.KnownGroups.{KnownGroups}
 
--- the matcher hits one of these texts
-abbrev pub HitsSome : Matcher → (List ℕ → Type 0) → Type 0
-HitsSome matcher IsOne = (text : List ℕ) × IsOne text × Hits matcher text
+-- the matcher matches one of these texts
+abbrev pub MatchesSomeName : Matcher → (List ℕ → Type 0) → Type 0
+MatchesSomeName matcher IsOne = (text : List ℕ) × IsOne text × MatchesName matcher text
 
--- the predicate hits something: one of packages the name of a package of the workspace, `binary` the name of a test
--- binary, `binary_id` the id of one, and `group` the name of a known group; all others need hit nothing
-abbrev pub HitsSomething : List PackageMetadata → KnownGroups → Leaf (Unit {0}) → Type 0
-HitsSomething packages groups (Matching Package matcher s) = (p : PackageMetadata) × IsNamed packages matcher p
-HitsSomething packages groups (Matching Deps matcher s) = (p : PackageMetadata) × IsNamed packages matcher p
-HitsSomething packages groups (Matching Rdeps matcher s) = (p : PackageMetadata) × IsNamed packages matcher p
-HitsSomething packages groups (Matching Binary matcher s) = HitsSome matcher (IsBinaryName packages)
-HitsSomething packages groups (Matching BinaryId matcher s) = HitsSome matcher (IsBinaryId packages)
-HitsSomething packages groups (Matching Group matcher s) = HitsSome matcher (IsGroupName groups)
-HitsSomething packages groups _ = Unit {0}
+-- the predicate matches something: one of packages the name of a package of the workspace, `binary` the name of a test
+-- binary, `binary_id` the id of one, and `group` the name of a known group; all others need match nothing
+abbrev pub MatchesSomething : List PackageMetadata → KnownGroups → Leaf (Unit {0}) → Type 0
+MatchesSomething packages groups (Matching Package matcher s) = (p : PackageMetadata) × IsNamed packages matcher p
+MatchesSomething packages groups (Matching Deps matcher s) = (p : PackageMetadata) × IsNamed packages matcher p
+MatchesSomething packages groups (Matching Rdeps matcher s) = (p : PackageMetadata) × IsNamed packages matcher p
+MatchesSomething packages groups (Matching Binary matcher s) = MatchesSomeName matcher (IsBinaryName packages)
+MatchesSomething packages groups (Matching BinaryId matcher s) = MatchesSomeName matcher (IsBinaryId packages)
+MatchesSomething packages groups (Matching Group matcher s) = MatchesSomeName matcher (IsGroupName groups)
+MatchesSomething packages groups _ = Unit {0}
 
 -- the same of a predicate with its span
 abbrev pub IsChecked : List PackageMetadata → KnownGroups → Leaf SourceSpan → Type 0
-IsChecked packages groups leaf = HitsSomething packages groups (leaf_without_span leaf)
+IsChecked packages groups leaf = MatchesSomething packages groups (leaf_without_span leaf)
 
--- each predicate of the tree hits something
+-- each predicate of the tree matches something
 abbrev pub AllChecked : List PackageMetadata → KnownGroups → Tree SourceSpan → Type 0
 AllChecked packages groups e = All (IsChecked packages groups) (tree_leaves e)
 
--- the fault says that the predicate hits nothing
+-- the fault says that the predicate matches nothing
 abbrev pub SaysUnmatched : Leaf SourceSpan → ParseSingleError → Type 0
 SaysUnmatched (Matching Package matcher span) fault = fault ≡ NoPackageMatch span
 SaysUnmatched (Matching Deps matcher span) fault = fault ≡ NoPackageMatch span
@@ -45,7 +45,7 @@ SaysUnmatched (Matching BinaryId matcher span) fault = fault ≡ NoBinaryIdMatch
 SaysUnmatched (Matching Group matcher span) fault = fault ≡ NoGroupMatch span
 SaysUnmatched _ fault = ⊥
 
--- these are the faults of these predicates, one for each that hits nothing, in their order
+-- these are the faults of these predicates, one for each that matches nothing, in their order
 abbrev pub AreUnmatched :
     List PackageMetadata → KnownGroups → List (Leaf SourceSpan) → List ParseSingleError → Type 0
 AreUnmatched packages groups [] faults = faults ≡ []

@@ -25,7 +25,7 @@ packages_of cx = cx.graph.now
 
 -- The tree makes the text a filterset of this kind: the text spells it, the grammar of `regex` reads each of its
 -- patterns, none of its predicates is banned from filtersets of this kind, and each that names packages, test binaries
--- or groups hits one.
+-- or groups matches one.
 pub record IsFiltersetOf (text : List ℕ) (kind : FiltersetKind) (packages : List PackageMetadata) (groups : KnownGroups)
     (e : Tree SourceSpan) : Type 0 where
   pub reads : Reads text e
@@ -35,7 +35,7 @@ pub record IsFiltersetOf (text : List ℕ) (kind : FiltersetKind) (packages : Li
 -- ---- refusal
 
 -- Faults that refuse a tree that was read: where some of its predicates are banned, exactly their faults; else exactly
--- those of the predicates that hit nothing. There is one at least, and they stand in the order of the predicates.
+-- those of the predicates that match nothing. There is one at least, and they stand in the order of the predicates.
 pub data IsRejectedWith (kind : FiltersetKind) (packages : List PackageMetadata) (groups : KnownGroups)
     (e : Tree SourceSpan) (faults : List ParseSingleError) : Type 0 where
   banned : faults ≡ bans kind e → faults ≢ [] → IsRejectedWith kind packages groups e faults

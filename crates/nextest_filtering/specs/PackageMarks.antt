@@ -2,12 +2,12 @@
 use Rattle.std.specs.Prelude.{◌≡◌, ◌↔◌, ℕ, Bool, List, Some, IsTrue, slice_get, string_bytes}
 use Rattle.filterset_graph.specs.Walks.{IsMarked}
 use Rattle.filterset_graph.specs.declared.package.PackageMetadata.{PackageMetadata}
-use Rattle.filterset_matchers.specs.Matcher.{Matcher, Hits}
+use Rattle.filterset_matchers.specs.Matcher.{Matcher, MatchesName}
 
--- a package stands at a position, and is one of the workspace whose name the matcher hits
+-- a package stands at a position, and is one of the workspace whose name the matcher matches
 abbrev pub IsNamedAt : List PackageMetadata → Matcher → ℕ → Type 0
 IsNamedAt packages matcher k =
-    (p : PackageMetadata) × (slice_get packages k ≡ Some p) × IsTrue p.in_workspace × Hits matcher (string_bytes p.name)
+    (p : PackageMetadata) × (slice_get packages k ≡ Some p) × IsTrue p.in_workspace × MatchesName matcher (string_bytes p.name)
 
 -- exactly the positions of such packages are marked
 abbrev pub MarksNamed : List PackageMetadata → Matcher → List Bool → Type 0

@@ -30,7 +30,7 @@ use leaves::compile_leaf;
 /// The compiled expression of a tree.
 ///
 /// Where a filterset of this kind may not hold some of its predicates, there is a fault for each of these alone. Else
-/// there is a fault for each predicate that has to hit something and hits nothing. Faults stand in the order of the
+/// there is a fault for each predicate that has to match something and matches nothing. Faults stand in the order of the
 /// predicates.
 pub(crate) fn compile(
     alloc: Global,
@@ -57,7 +57,7 @@ pub(crate) fn compile(
 }
 
 /// The compiled expression of a tree: `a - b` becomes `a` and not `b`, and parentheses become what they hold. Adds a
-/// fault for each predicate that hits nothing, from left to right.
+/// fault for each predicate that matches nothing, from left to right.
 ///
 /// It is recursive, so what it makes stands in boxes: an expression by value would take more of the stack at each level.
 fn compile_expr(
@@ -118,7 +118,7 @@ fn compile_expr(
     }
 }
 
-/// The compiled expression of a predicate. Adds its fault where it has to hit something and hits nothing.
+/// The compiled expression of a predicate. Adds its fault where it has to match something and matches nothing.
 #[inline(never)]
 fn compile_set(
     alloc: Global,

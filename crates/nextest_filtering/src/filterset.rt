@@ -126,7 +126,7 @@ impl Filterset {
             IfOk result (λ made. has_leaf is_default made.compiled ≡ false) }
         ensures no_group { kind ≢ kinds.Test → IfOk result (λ made. has_leaf is_group made.compiled ≡ false) }
 
-        // A refusal is by faults that the parser found, or by banned predicates, or by ones that hit nothing.
+        // A refusal is by faults that the parser found, or by banned predicates, or by ones that match nothing.
         ensures refused { IfErr result (IsRefusalOf input kind (packages_of cx.now) known_groups.now) }
 
         // Whichever it is by, each of its faults is true of the text, and its span lies within the text.
@@ -215,7 +215,7 @@ impl Filterset {
         groups: &dyn GroupLookup,
     ) -> Result<bool, AllocError>
         ensures holds { IfOk result (λ answer.
-            IsTrue answer ↔ Holds self.now.compiled query.now (default_of cx.now) (hits_group groups.now)) }
+            IsTrue answer ↔ Holds self.now.compiled query.now (default_of cx.now) (matches_group groups.now)) }
 
         // What is definite of the test's binary is the answer, and where there is no `group(..)` every lookup gives the
         // same.
@@ -227,7 +227,7 @@ impl Filterset {
         // Where the tree is compiled to the expression, the answer is the tree's meaning.
         ensures meaning { let e = tree_of self.now.parsed in
             IfOk result (λ answer. (packages : List PackageMetadata) → IsCompiled packages e self.now.compiled
-            → IsTrue answer ↔ Meaning e packages query.now (default_of cx.now) (hits_group groups.now)) }
+            → IsTrue answer ↔ Meaning e packages query.now (default_of cx.now) (matches_group groups.now)) }
     {
         self.compiled
             .matches_test_with_groups(alloc, query, cx, groups)

@@ -3,7 +3,7 @@ use Rattle.std.specs.Prelude.{◌≡◌, ◌⊎◌, ℕ, List, [], ◌∷◌, co
 use Rattle.filterset_expression.specs.Expression.{Holds, Lookup, no_groups}
 use Rattle.filterset_expression.specs.declared.expression.CompiledExpr.{CompiledExpr}
 use Rattle.filterset_expression.specs.declared.query.TestQuery.{TestQuery}
-use Rattle.filterset_matchers.specs.Matcher.{Hits}
+use Rattle.filterset_matchers.specs.Matcher.{MatchesName}
 use Rattle.runner.specs.declared.overrides.Override.{Override}
 
 -- the override's filterset picks the test
@@ -18,5 +18,5 @@ IsInGroup default (rule ∷ rules) test group =
     ⊎ ((¬ PutsTest default rule test) × IsInGroup default rules test group)
 
 -- the matcher matches the group that the test is in
-abbrev pub HitsGroup : CompiledExpr → List Override → Lookup
-HitsGroup default rules test matcher = (group : List ℕ) × IsInGroup default rules test group × Hits matcher group
+abbrev pub MatchesGroup : CompiledExpr → List Override → Lookup
+MatchesGroup default rules test matcher = (group : List ℕ) × IsInGroup default rules test group × MatchesName matcher group

@@ -12,7 +12,7 @@ use Rattle.filterset_expression.specs.Meaning.{Meaning}
 use Rattle.filterset_expression.specs.declared.query.TestQuery.{TestQuery}
 use Rattle.nextest_filtering.specs.Compiling.{IsFiltersetOf, IsRefusedWith}
 use Rattle.nextest_filtering.specs.declared.compile.context.KnownGroups.{KnownGroups}
-use Rattle.runner.specs.Groups.{HitsGroup}
+use Rattle.runner.specs.Groups.{MatchesGroup}
 use Rattle.runner.specs.declared.groups.Groups.{Groups}
 use Rattle.runner.specs.declared.planning.Binary.{Binary}
 use Rattle.runner.specs.declared.planning.Choice.{Choice}
@@ -24,7 +24,7 @@ use Rattle.runner.specs.declared.planning.Plan.TheVariants.{Choices, Refused}
 abbrev pub Picks : List PackageMetadata → Tree SourceSpan → Groups → TestQuery → Type 0
 Picks packages e groups test =
     Meaning e packages test (default_of groups.eval_context)
-    (HitsGroup (default_of groups.eval_context) groups.overrides.now)
+    (MatchesGroup (default_of groups.eval_context) groups.overrides.now)
 
 -- the test of the binary that has this name
 pub record IsTestOf (binary : Binary) (name : List ℕ) (test : TestQuery) : Type 0 where

@@ -1,7 +1,7 @@
 //! Which group a test is in: a runner's settings say it, by filtersets.
 ghost use Rattle.std.specs.Prelude.{IfOk};
 ghost use Rattle.filterset_expression.specs.Contexts.{default_of};
-ghost use Rattle.runner.specs.Groups.{HitsGroup, IsInGroup};
+ghost use Rattle.runner.specs.Groups.{MatchesGroup, IsInGroup};
 
 use crate::overrides::Override;
 use nextest_filtering::{EvalContext, GLOBAL_TEST_GROUP, GroupLookup, NameMatcher, TestQuery};
@@ -32,8 +32,8 @@ impl<'a> Groups<'a> {
 }
 
 impl GroupLookup for Groups<'_> {
-    ghost hits_group = { λ groups.
-        HitsGroup (default_of groups.eval_context) groups.overrides.now };
+    ghost matches_group = { λ groups.
+        MatchesGroup (default_of groups.eval_context) groups.overrides.now };
 
     fn is_member_test(
         &self,

@@ -3,7 +3,7 @@ use Rattle.std.proofs.Common.{◌≡◌, ◌↔◌, ℕ, List, Bool, true, false
 use Rattle.std.specs.Prelude.{string_bytes}
 use Rattle.std.proofs.Math.Bool.{beq}
 use Rattle.std.proofs.lemmas.Bool.{false≢true}
-use Rattle.filterset_matchers.specs.Matcher.{Hits}
+use Rattle.filterset_matchers.specs.Matcher.{MatchesName}
 use Rattle.filterset_expression.specs.Expression.{Holds, IsDefinite, IsUndecided}
 use Rattle.filterset_expression.specs.declared.expression.CompiledExpr.{CompiledExpr}
 use Rattle.filterset_expression.specs.declared.query.BinaryQuery.{BinaryQuery}
@@ -24,11 +24,11 @@ both_right answer other P Q p q r = (λ yes. p.0 (q.1 (r.0 yes)), λ held. r.1 (
 
 -- what is known of the test's name and group is what its row says
 pub in_known_group : (answer : Bool) (e default : CompiledExpr) (query : TestQuery) (test : TestRow) (name group : List ℕ) → name ≡ test.name → group ≡ string_bytes test.group
-    → IsTrue answer ↔ Holds e query default (λ q matcher. (q.test_name.now ≡ name) × Hits matcher group)
+    → IsTrue answer ↔ Holds e query default (λ q matcher. (q.test_name.now ≡ name) × MatchesName matcher group)
     → IsTrue answer ↔ Holds e query default (group_of test)
 in_known_group answer e default query test name group n g h =
-    subst (λ (x : List ℕ). IsTrue answer ↔ Holds e query default (λ q matcher. (q.test_name.now ≡ x) × Hits matcher (string_bytes test.group))) n
-    (subst (λ (x : List ℕ). IsTrue answer ↔ Holds e query default (λ q matcher. (q.test_name.now ≡ name) × Hits matcher x)) g h)
+    subst (λ (x : List ℕ). IsTrue answer ↔ Holds e query default (λ q matcher. (q.test_name.now ≡ x) × MatchesName matcher (string_bytes test.group))) n
+    (subst (λ (x : List ℕ). IsTrue answer ↔ Holds e query default (λ q matcher. (q.test_name.now ≡ name) × MatchesName matcher x)) g h)
 
 -- an answer that is told of the binary is the wanted one exactly where the wanted one is told
 pub is_told : (answer wanted : Option Bool) (e default : CompiledExpr) (query : BinaryQuery)

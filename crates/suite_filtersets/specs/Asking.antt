@@ -1,6 +1,6 @@
 -- What filtersets are asked, and what right answers are.
 use Rattle.std.specs.Prelude.{◌≡◌, ◌↔◌, Bool, IsTrue, Option, Some, None, string_bytes}
-use Rattle.filterset_matchers.specs.Matcher.{Hits}
+use Rattle.filterset_matchers.specs.Matcher.{MatchesName}
 use Rattle.filterset_expression.specs.Expression.{Lookup, Holds, IsDefinite, IsUndecided}
 use Rattle.filterset_expression.specs.declared.expression.CompiledExpr.{CompiledExpr}
 use Rattle.filterset_expression.specs.declared.query.BinaryQuery.{BinaryQuery}
@@ -23,7 +23,7 @@ pub record IsAbout (query : TestQuery) (test : TestRow) : Type 0 where
 
 -- the tests of this name are in the group of the row, and no others are in a group
 abbrev pub group_of : TestRow → Lookup
-group_of test query matcher = (query.test_name.now ≡ test.name) × Hits matcher (string_bytes test.group)
+group_of test query matcher = (query.test_name.now ≡ test.name) × MatchesName matcher (string_bytes test.group)
 
 -- the answer is what the expression tells of the binary
 abbrev pub Tells : CompiledExpr → BinaryQuery → CompiledExpr → Option Bool → Type 0

@@ -1,6 +1,6 @@
 //! What is known of the groups of tests.
 ghost use Rattle.std.specs.Prelude.{◌≡◌, string_bytes};
-ghost use Rattle.filterset_matchers.specs.Matcher.{Hits};
+ghost use Rattle.filterset_matchers.specs.Matcher.{MatchesName};
 
 use nextest_filtering::{GroupLookup, NameMatcher, TestCaseName, TestQuery};
 use std::alloc::{AllocError, Global};
@@ -27,8 +27,8 @@ impl<'a> KnownTest<'a> {
 }
 
 impl GroupLookup for KnownTest<'_> {
-    ghost hits_group = { λ known query matcher.
-        (query.test_name.now ≡ known.name.now) × Hits matcher known.group.now };
+    ghost matches_group = { λ known query matcher.
+        (query.test_name.now ≡ known.name.now) × MatchesName matcher known.group.now };
 
     fn is_member_test(
         &self,

@@ -8,7 +8,7 @@ use filterset_matchers::{NameMatcher, PatternRefusal, PatternRegex};
 use std::alloc::{AllocError, Global};
 use std::rc::Rc;
 use suite_rows::{MatcherRow, MatcherWay};
-use suite_verdicts::{Lines, agrees, is_hit};
+use suite_verdicts::{Lines, agrees, is_match_wanted};
 
 /// Notes what is found of the matchers otherwise than their rows say.
 pub fn judge_matchers(
@@ -89,7 +89,7 @@ fn judge_names(
 {
     let what = if wanted { "match" } else { "miss" };
     for name in names {
-        let is_wanted = is_hit(alloc, matcher, name.as_str(), wanted)?;
+        let is_wanted = is_match_wanted(alloc, matcher, name.as_str(), wanted)?;
         lines.note(is_wanted, what, print, name.as_str())?;
     }
     Ok(())

@@ -2,7 +2,7 @@
 ghost use Rattle.std.specs.Prelude.{◌≡◌, ◌↔◌, IfOk, IsTrue};
 ghost use Rattle.std.specs.Str.{chars};
 ghost use Rattle.filterset_glob.specs.Matching.{Matches};
-ghost use Rattle.filterset_matchers.specs.Matcher.{Hits};
+ghost use Rattle.filterset_matchers.specs.Matcher.{MatchesName};
 ghost use Rattle.filterset_matchers.specs.Matchers.{matcher_of};
 ghost use Rattle.suite_verdicts.specs.Judging.{AreFaultsOf, IsFaultOf};
 
@@ -37,19 +37,19 @@ pub fn is_answer(
     Ok(answer == wanted && counted == wanted)
 }
 
-/// Whether the wanted answer is right of what the matcher hits.
+/// Whether the wanted answer is right of what the matcher matches.
 ///
 /// Errors: out of memory alone.
-pub fn is_hit(
+pub fn is_match_wanted(
     alloc: Global,
     matcher: &NameMatcher,
     name: &str,
     wanted: bool,
 ) -> Result<bool, AllocError>
-    ensures { IfOk result (λ yes. IsTrue yes ↔ (IsTrue wanted ↔ Hits (matcher_of matcher.now) name.now)) }
+    ensures { IfOk result (λ yes. IsTrue yes ↔ (IsTrue wanted ↔ MatchesName (matcher_of matcher.now) name.now)) }
 {
-    let hit = matcher.is_match(alloc, name)?;
-    Ok(hit == wanted)
+    let matched = matcher.is_match(alloc, name)?;
+    Ok(matched == wanted)
 }
 
 /// Whether a fault has the code of the row, and a span with its offset and its length in bytes.

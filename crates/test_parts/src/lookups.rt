@@ -1,6 +1,6 @@
 //! Lookups of groups.
 ghost use Rattle.std.specs.Prelude.{◌≡◌};
-ghost use Rattle.filterset_matchers.specs.Matcher.{Hits};
+ghost use Rattle.filterset_matchers.specs.Matcher.{MatchesName};
 ghost use Rattle.filterset_expression.specs.Expression.{no_groups};
 
 use nextest_filtering::{GroupLookup, NameMatcher, TestQuery};
@@ -14,8 +14,8 @@ pub struct OneMember {
 }
 
 impl GroupLookup for OneMember {
-    ghost hits_group = { λ known query matcher.
-        (query.test_name.now ≡ known.test.now) × Hits matcher known.group.now };
+    ghost matches_group = { λ known query matcher.
+        (query.test_name.now ≡ known.test.now) × MatchesName matcher known.group.now };
 
     fn is_member_test(
         &self,
@@ -35,7 +35,7 @@ impl GroupLookup for OneMember {
 pub struct Refusing;
 
 impl GroupLookup for Refusing {
-    ghost hits_group = { λ known. no_groups };
+    ghost matches_group = { λ known. no_groups };
 
     fn is_member_test(
         &self,

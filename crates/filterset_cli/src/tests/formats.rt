@@ -44,7 +44,7 @@ fn filtersets_are_formatted(rt: HostRuntime) -> Result<(), Fail> {
             Outcome::AllAccepted,
         ),
         (WITH_BINARIES, WITH_BINARIES_REPORT, Outcome::SomeRefused),
-        // What hits nothing is refused as in a report.
+        // What matches nothing is refused as in a report.
         (
             r#"{"command":"format","filtersets":["all()^none()","package(a)"]}"#,
             "filterset 0 formatted: all() ^ none()\nfilterset 1 refused: 1\n  fault 8 1 NoPackageMatch: no packages matched this\n",

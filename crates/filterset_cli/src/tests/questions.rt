@@ -90,7 +90,7 @@ filterset 3 accepted: group(idle)
   test b y: no
 ";
 
-/// The group of a test need not be a known one. Then a text that names it alone is refused, and one that hits another
+/// The group of a test need not be a known one. Then a text that names it alone is refused, and one that matches another
 /// group too is not.
 const STRAY: &str = r#"{
 "binaries":[{"package":"p","id":"p","name":"p","kind":"lib","platform":"host","tests":[{"name":"x","group":"odd"}]}],

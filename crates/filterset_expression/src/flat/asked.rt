@@ -1,6 +1,6 @@
 //! What a leaf says of binaries and tests.
 ghost use Rattle.std.specs.Prelude.{◌≡◌, ◌↔◌, IfOk, IsTrue};
-ghost use Rattle.filterset_matchers.specs.Matcher.{Hits};
+ghost use Rattle.filterset_matchers.specs.Matcher.{MatchesName};
 ghost use Rattle.filterset_matchers.specs.Matchers.{matcher_of};
 ghost use Rattle.filterset_expression.specs.Expression.{compiled_leaf, is_of_test, no_groups, HoldsOfBinary, HoldsOfTest};
 ghost use Rattle.filterset_expression.specs.Folds.{Settles};
@@ -19,10 +19,15 @@ pub struct AskedLeaf<'s, 'a> {
 }
 
 impl<'s, 'a> AskedLeaf<'s, 'a> {
-    /// Whether the leaf's matcher hits the name.
+    /// Whether the leaf's matcher matches the name.
     #[inline(always)]
-    fn hits(&self, alloc: Global, matcher: &'a NameMatcher, name: &str) -> Result<bool, AllocError>
-        ensures { IfOk result (λ hit. IsTrue hit ↔ Hits (matcher_of matcher.now) name.now) }
+    fn matches(
+        &self,
+        alloc: Global,
+        matcher: &'a NameMatcher,
+        name: &str,
+    ) -> Result<bool, AllocError>
+        ensures { IfOk result (λ matched. IsTrue matched ↔ MatchesName (matcher_of matcher.now) name.now) }
     {
         match self.kept {
             Some(kept) => kept.is_match(alloc, matcher, name),
@@ -42,14 +47,14 @@ impl<'s, 'a> AskedLeaf<'s, 'a> {
         Ok(match self.leaf {
             FiltersetLeaf::Packages(ids) => Some(ids.contains(query.package_id)),
             FiltersetLeaf::Kind(matcher, _) => {
-                Some(self.hits(alloc, matcher, query.kind.as_str())?)
+                Some(self.matches(alloc, matcher, query.kind.as_str())?)
             }
             FiltersetLeaf::Platform(platform, _) => Some(query.platform == *platform),
             FiltersetLeaf::Binary(matcher, _) => {
-                Some(self.hits(alloc, matcher, query.binary_name)?)
+                Some(self.matches(alloc, matcher, query.binary_name)?)
             }
             FiltersetLeaf::BinaryId(matcher, _) => {
-                Some(self.hits(alloc, matcher, query.binary_id.as_str())?)
+                Some(self.matches(alloc, matcher, query.binary_id.as_str())?)
             }
             FiltersetLeaf::Test(..) | FiltersetLeaf::Group(..) => None,
             FiltersetLeaf::All => Some(true),
@@ -63,7 +68,11 @@ impl<'s, 'a> AskedLeaf<'s, 'a> {
             IsTrue answer ↔ HoldsOfTest query.now no_groups (compiled_leaf self.now.leaf.now)) }
     {
         match self.leaf {
-            FiltersetLeaf::Test(matcher, _) => self.hits(alloc, matcher, query.test_name.as_str()),
+            FiltersetLeaf::Test(matcher, _) => self.matches(
+                alloc,
+                matcher,
+                query.test_name.as_str(),
+            ),
             _ => Ok(
                 self.matches_binary(alloc, &query.binary_query)?
                     .unwrap_or(false),
@@ -80,7 +89,7 @@ impl<'s, 'a> AskedLeaf<'s, 'a> {
         groups: &dyn GroupLookup,
     ) -> Result<bool, AllocError>
         ensures { IfOk result (λ answer.
-            IsTrue answer ↔ HoldsOfTest query.now (hits_group groups.now) (compiled_leaf self.now.leaf.now)) }
+            IsTrue answer ↔ HoldsOfTest query.now (matches_group groups.now) (compiled_leaf self.now.leaf.now)) }
     {
         match self.leaf {
             FiltersetLeaf::Test(NameMatcher::Equal { value, .. }, _) => {
@@ -99,7 +108,7 @@ impl<'s, 'a> AskedLeaf<'s, 'a> {
         groups: &dyn GroupLookup,
     ) -> Result<bool, AllocError>
         ensures { IfOk result (λ answer.
-            IsTrue answer ↔ HoldsOfTest query.now (hits_group groups.now) (compiled_leaf self.now.leaf.now)) }
+            IsTrue answer ↔ HoldsOfTest query.now (matches_group groups.now) (compiled_leaf self.now.leaf.now)) }
     {
         match self.leaf {
             FiltersetLeaf::Group(matcher, _) => groups.is_member_test(alloc, query, matcher),

@@ -1,6 +1,6 @@
 //! What answers for matchers that search, kept from one question to the next.
 ghost use Rattle.std.specs.Prelude.{◌↔◌, IfOk, IsTrue};
-ghost use Rattle.filterset_matchers.specs.Matcher.{Hits};
+ghost use Rattle.filterset_matchers.specs.Matcher.{MatchesName};
 ghost use Rattle.filterset_matchers.specs.Matchers.{matcher_of};
 ghost use Rattle.filterset_matchers.specs.Pattern.{HasMatch};
 
@@ -45,7 +45,7 @@ impl<'a> KeptMatcher<'a> {
         })
     }
 
-    /// Whether the matcher hits the name. The only error is out of memory.
+    /// Whether the matcher matches the name. The only error is out of memory.
     #[inline(always)]
     pub fn is_match(
         &self,
@@ -53,7 +53,7 @@ impl<'a> KeptMatcher<'a> {
         matcher: &'a NameMatcher,
         name: &str,
     ) -> Result<bool, AllocError>
-        ensures { IfOk result (λ hit. IsTrue hit ↔ Hits (matcher_of matcher.now) name.now) }
+        ensures { IfOk result (λ matched. IsTrue matched ↔ MatchesName (matcher_of matcher.now) name.now) }
     {
         match (self, matcher) {
             (KeptMatcher::Pattern(kept), NameMatcher::Regex(pattern)) => {

@@ -72,7 +72,7 @@ impl<'g> GlobMatcher<'g> {
 
     /// Whether the glob matches the whole name. The only error is out of memory.
     pub fn is_match(&self, alloc: Global, name: &str) -> Result<bool, AllocError>
-        ensures { IfOk result (λ hit. IsTrue hit ↔ Matches self.now.tokens (chars name.now)) }
+        ensures { IfOk result (λ matched. IsTrue matched ↔ Matches self.now.tokens (chars name.now)) }
     {
         if !substring::contains(name, self.literal.as_str()) {
             return Ok(false);

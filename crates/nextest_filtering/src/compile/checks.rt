@@ -1,11 +1,11 @@
-//! What predicates have to hit: names and ids of test binaries, and names of groups.
+//! What predicates have to match: names and ids of test binaries, and names of groups.
 ghost use Rattle.std.specs.Prelude.{◌≡◌, ◌↔◌, Any, IfOk, IsTrue, string_bytes};
 ghost use Rattle.std.specs.HashSet.{keys};
 ghost use Rattle.filterset_graph.specs.Binaries.{IsBinaryId, IsBinaryName};
-ghost use Rattle.filterset_matchers.specs.Matcher.{Hits};
+ghost use Rattle.filterset_matchers.specs.Matcher.{MatchesName};
 ghost use Rattle.filterset_matchers.specs.Matchers.{matcher_of};
 ghost use Rattle.nextest_filtering.specs.ReadyMatchers.{ready_matcher};
-ghost use Rattle.nextest_filtering.specs.Checks.{HitsSome};
+ghost use Rattle.nextest_filtering.specs.Checks.{MatchesSomeName};
 ghost use Rattle.nextest_filtering.specs.Compiling.{packages_of};
 ghost use Rattle.nextest_filtering.specs.Groups.{IsGroupName};
 
@@ -16,73 +16,73 @@ use filterset_matchers::NameMatcher;
 use std::alloc::{AllocError, Global};
 use std::collections::HashSet;
 
-/// Whether the matcher hits the name of a test binary of the workspace.
-pub(super) fn hits_binary_name(
+/// Whether the matcher matches the name of a test binary of the workspace.
+pub(super) fn matches_binary_name(
     alloc: Global,
     cx: &ParseContext<'_>,
     matcher: &NameMatcher,
 ) -> Result<bool, AllocError>
-    ensures { IfOk result (λ hit.
-        IsTrue hit ↔ HitsSome (matcher_of matcher.now) (IsBinaryName (packages_of cx.now))) }
+    ensures { IfOk result (λ matched.
+        IsTrue matched ↔ MatchesSomeName (matcher_of matcher.now) (IsBinaryName (packages_of cx.now))) }
 {
     let mut ready = ReadyMatcher::new(alloc, matcher)?;
     let binaries = cx.binaries();
     for binary in binaries {
-        if ready.hits(alloc, binary.name)? {
+        if ready.matches(alloc, binary.name)? {
             return Ok(true);
         }
     }
     Ok(false)
 }
 
-/// Whether the matcher hits the id of a test binary of the workspace.
-pub(super) fn hits_binary_id(
+/// Whether the matcher matches the id of a test binary of the workspace.
+pub(super) fn matches_binary_id(
     alloc: Global,
     cx: &ParseContext<'_>,
     matcher: &NameMatcher,
 ) -> Result<bool, AllocError>
-    ensures { IfOk result (λ hit.
-        IsTrue hit ↔ HitsSome (matcher_of matcher.now) (IsBinaryId (packages_of cx.now))) }
+    ensures { IfOk result (λ matched.
+        IsTrue matched ↔ MatchesSomeName (matcher_of matcher.now) (IsBinaryId (packages_of cx.now))) }
 {
     let mut ready = ReadyMatcher::new(alloc, matcher)?;
     let binaries = cx.binaries();
     for binary in binaries {
-        if ready.hits(alloc, binary.id.as_str())? {
+        if ready.matches(alloc, binary.id.as_str())? {
             return Ok(true);
         }
     }
     Ok(false)
 }
 
-/// Whether the matcher hits the name of a known group.
-pub(super) fn hits_group(
+/// Whether the matcher matches the name of a known group.
+pub(super) fn matches_group(
     alloc: Global,
     known_groups: &KnownGroups,
     matcher: &NameMatcher,
 ) -> Result<bool, AllocError>
-    ensures { IfOk result (λ hit. IsTrue hit ↔ HitsSome (matcher_of matcher.now) (IsGroupName known_groups.now)) }
+    ensures { IfOk result (λ matched. IsTrue matched ↔ MatchesSomeName (matcher_of matcher.now) (IsGroupName known_groups.now)) }
 {
     let KnownGroups::Known { custom_groups } = known_groups else {
         return Ok(false);
     };
     let mut ready = ReadyMatcher::new(alloc, matcher)?;
-    if ready.hits(alloc, GLOBAL_TEST_GROUP)? {
+    if ready.matches(alloc, GLOBAL_TEST_GROUP)? {
         return Ok(true);
     }
-    hits_custom_group(alloc, custom_groups, &mut ready)
+    matches_custom_group(alloc, custom_groups, &mut ready)
 }
 
-/// Whether the matcher hits the name of a custom group.
-fn hits_custom_group(
+/// Whether the matcher matches the name of a custom group.
+fn matches_custom_group(
     alloc: Global,
     custom_groups: &HashSet<String>,
     ready: &mut ReadyMatcher<'_>,
 ) -> Result<bool, AllocError>
-    ensures { IfOk result (λ hit.
-        IsTrue hit ↔ Any (λ name. Hits (ready_matcher ready.old) (string_bytes name)) (keys custom_groups.now)) }
+    ensures { IfOk result (λ matched.
+        IsTrue matched ↔ Any (λ name. MatchesName (ready_matcher ready.old) (string_bytes name)) (keys custom_groups.now)) }
 {
     for name in custom_groups {
-        if ready.hits(alloc, name.as_str())? {
+        if ready.matches(alloc, name.as_str())? {
             return Ok(true);
         }
     }

@@ -4,14 +4,14 @@ ghost use Rattle.filterset_faults.specs.declared.error.ParseSingleError.TheVaria
 ghost use Rattle.filterset_graph.specs.Binaries.{IsBinaryId, IsBinaryName};
 ghost use Rattle.filterset_language.specs.Views.{leaf_of};
 ghost use Rattle.filterset_matchers.specs.Matchers.{matcher_of};
-ghost use Rattle.nextest_filtering.specs.Checks.{AddsUnless, AddsUnmatched, HitsSome};
+ghost use Rattle.nextest_filtering.specs.Checks.{AddsUnless, AddsUnmatched, MatchesSomeName};
 ghost use Rattle.nextest_filtering.specs.Compiling.{packages_of};
 ghost use Rattle.filterset_expression.specs.Expression.{compiled_leaf};
 ghost use Rattle.filterset_expression.specs.Expression as compiled;
 ghost use Rattle.nextest_filtering.specs.Groups.{IsGroupName};
 ghost use Rattle.filterset_expression.specs.Meaning.{IsCompiledLeaf};
 
-use crate::compile::checks::{hits_binary_id, hits_binary_name, hits_group};
+use crate::compile::checks::{matches_binary_id, matches_binary_name, matches_group};
 use crate::compile::context::{KnownGroups, ParseContext};
 use crate::compile::packages::{dependencies, dependents, named};
 use filterset_expression::FiltersetLeaf;
@@ -22,7 +22,7 @@ use filterset_matchers::NameMatcher;
 use std::alloc::{AllocError, Global};
 use std::collections::BTreeSet;
 
-/// What a predicate is compiled to. Adds its fault where it has to hit something and hits nothing.
+/// What a predicate is compiled to. Adds its fault where it has to match something and matches nothing.
 pub(super) fn compile_leaf(
     alloc: Global,
     cx: &ParseContext<'_>,
@@ -88,10 +88,10 @@ fn binary_leaf(
     faults: &mut Vec<ParseSingleError>,
 ) -> Result<FiltersetLeaf, AllocError>
     ensures compiled { IfOk result (λ made. compiled_leaf made ≡ compiled.Binary (matcher_of matcher.now) span) }
-    ensures unmatched { OnOk result (AddsUnless (HitsSome (matcher_of matcher.now) (IsBinaryName (packages_of cx.now)))
+    ensures unmatched { OnOk result (AddsUnless (MatchesSomeName (matcher_of matcher.now) (IsBinaryName (packages_of cx.now)))
         (fault.NoBinaryNameMatch span) faults.old.items faults.new.items) }
 {
-    if !hits_binary_name(alloc, cx, matcher)? {
+    if !matches_binary_name(alloc, cx, matcher)? {
         faults.push(ParseSingleError::NoBinaryNameMatch(span))?;
     }
     Ok(FiltersetLeaf::Binary(matcher.try_clone(alloc)?, span))
@@ -106,10 +106,10 @@ fn binary_id_leaf(
     faults: &mut Vec<ParseSingleError>,
 ) -> Result<FiltersetLeaf, AllocError>
     ensures compiled { IfOk result (λ made. compiled_leaf made ≡ compiled.BinaryId (matcher_of matcher.now) span) }
-    ensures unmatched { OnOk result (AddsUnless (HitsSome (matcher_of matcher.now) (IsBinaryId (packages_of cx.now)))
+    ensures unmatched { OnOk result (AddsUnless (MatchesSomeName (matcher_of matcher.now) (IsBinaryId (packages_of cx.now)))
         (fault.NoBinaryIdMatch span) faults.old.items faults.new.items) }
 {
-    if !hits_binary_id(alloc, cx, matcher)? {
+    if !matches_binary_id(alloc, cx, matcher)? {
         faults.push(ParseSingleError::NoBinaryIdMatch(span))?;
     }
     Ok(FiltersetLeaf::BinaryId(matcher.try_clone(alloc)?, span))
@@ -124,10 +124,10 @@ fn group_leaf(
     faults: &mut Vec<ParseSingleError>,
 ) -> Result<FiltersetLeaf, AllocError>
     ensures compiled { IfOk result (λ made. compiled_leaf made ≡ compiled.Group (matcher_of matcher.now) span) }
-    ensures unmatched { OnOk result (AddsUnless (HitsSome (matcher_of matcher.now) (IsGroupName known_groups.now))
+    ensures unmatched { OnOk result (AddsUnless (MatchesSomeName (matcher_of matcher.now) (IsGroupName known_groups.now))
         (fault.NoGroupMatch span) faults.old.items faults.new.items) }
 {
-    if !hits_group(alloc, known_groups, matcher)? {
+    if !matches_group(alloc, known_groups, matcher)? {
         faults.push(ParseSingleError::NoGroupMatch(span))?;
     }
     Ok(FiltersetLeaf::Group(matcher.try_clone(alloc)?, span))

@@ -12,7 +12,7 @@ use filterset_matchers::NameMatcher;
 use std::alloc::{AllocError, Global};
 use std::collections::BTreeSet;
 
-/// The packages of the workspace whose names the matcher hits.
+/// The packages of the workspace whose names the matcher matches.
 pub(super) fn named(
     alloc: Global,
     cx: &ParseContext<'_>,
@@ -25,7 +25,7 @@ pub(super) fn named(
     let mut ids = BTreeSet::new(alloc);
     let members = cx.members();
     for package in members {
-        if ready.hits(alloc, package.name())? {
+        if ready.matches(alloc, package.name())? {
             ids.insert(package.id.try_clone(alloc)?)?;
         }
     }
@@ -62,7 +62,7 @@ pub(super) fn dependents(
     marked_members(alloc, packages, &marks)
 }
 
-/// A mark for each package: whether it belongs to the workspace and the matcher hits its name.
+/// A mark for each package: whether it belongs to the workspace and the matcher matches its name.
 fn marked_by_name(
     alloc: Global,
     packages: &[PackageMetadata],
@@ -74,7 +74,7 @@ fn marked_by_name(
     let mut ready = ReadyMatcher::new(alloc, matcher)?;
     let mut marks = Vec::with_capacity(alloc, packages.len())?;
     for package in packages {
-        let is_named = package.in_workspace && ready.hits(alloc, package.name())?;
+        let is_named = package.in_workspace && ready.matches(alloc, package.name())?;
         marks.push(is_named)?;
     }
     Ok(marks)

@@ -1,7 +1,7 @@
 //! A matcher that is made ready for many names.
 ghost use Rattle.std.specs.Prelude.{◌≡◌, ◌↔◌, IsTrue, IfOk};
 ghost use Rattle.nextest_filtering.specs.ReadyMatchers.{ready_matcher};
-ghost use Rattle.filterset_matchers.specs.Matcher.{Hits};
+ghost use Rattle.filterset_matchers.specs.Matcher.{MatchesName};
 ghost use Rattle.filterset_matchers.specs.Matchers.{matcher_of};
 
 use filterset_matchers::{NameMatcher, PatternMatcher};
@@ -25,9 +25,9 @@ impl<'m> ReadyMatcher<'m> {
         })
     }
 
-    /// Whether the matcher hits the name. The only error is out of memory.
-    pub fn hits(&mut self, alloc: Global, name: &str) -> Result<bool, AllocError>
-        ensures hits { IfOk result (λ hit. IsTrue hit ↔ Hits (ready_matcher self.old) name.now) }
+    /// Whether the matcher matches the name. The only error is out of memory.
+    pub fn matches(&mut self, alloc: Global, name: &str) -> Result<bool, AllocError>
+        ensures matches { IfOk result (λ matched. IsTrue matched ↔ MatchesName (ready_matcher self.old) name.now) }
         ensures same { ready_matcher self.new ≡ ready_matcher self.old }
     {
         match self {

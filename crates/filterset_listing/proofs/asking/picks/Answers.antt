@@ -4,7 +4,7 @@ use Rattle.filterset_expression.specs.Expression.{Holds, Lookup}
 use Rattle.filterset_expression.specs.FlatExpressions.{IsFlat, IsTold}
 use Rattle.filterset_expression.specs.declared.expression.CompiledExpr.{CompiledExpr}
 use Rattle.filterset_expression.specs.declared.query.BinaryQuery.{BinaryQuery}
-use Rattle.filterset_listing.proofs.asking.picks.OwnLists.{reads-GroupLookup-hits_group-1-1}
+use Rattle.filterset_listing.proofs.asking.picks.OwnLists.{reads-GroupLookup-matches_group-1-1}
 use Rattle.filterset_listing.proofs.asking.picks.Goals as goal
 
 pub matches_test_of_told-requires : goal.matches_test_of_told-requires
@@ -17,7 +17,7 @@ returns c =
     let query = c.query_of-query.result in
     let told = c.matches_test_of_told.result in
     let says = subst (λ (lookup : Lookup). IfOk told (λ answer. (expr default : CompiledExpr) → IsFlat flat expr default → IsTrue answer ↔ Holds expr query default lookup))
-    (reads-GroupLookup-hits_group-1-1 c.args.lookup) c.matches_test_of_told.ensures.holds in
+    (reads-GroupLookup-matches_group-1-1 c.args.lookup) c.matches_test_of_told.ensures.holds in
     IfOk-weaker told _ _ (λ answer holds expr default is. record {
       query = query;
       of_binary = c.query_of-query.ensures.binary;

@@ -9,7 +9,7 @@ use Rattle.filterset_expression.specs.Meaning.{IsCompiled, Meaning}
 use Rattle.filterset_expression.specs.declared.expression.CompiledExpr.{CompiledExpr}
 use Rattle.filterset_expression.specs.declared.query.BinaryQuery.{BinaryQuery}
 use Rattle.filterset_expression.specs.declared.query.TestQuery.{TestQuery}
-use Rattle.runner.proofs.planning.choice_of.OwnLists.{reads-GroupLookup-hits_group-1-1}
+use Rattle.runner.proofs.planning.choice_of.OwnLists.{reads-GroupLookup-matches_group-1-1}
 use Rattle.runner.proofs.planning.choice_of.Goals as goal
 
 pub returns-then-eq : goal.returns-then-eq
@@ -17,7 +17,7 @@ returns-then-eq c packages e of_tree test same means =
     let default = default_of c.args.groups.now.eval_context in
     let law = subst (λ (lookup : Lookup). (packages : List PackageMetadata) (e : Tree SourceSpan) (compiled default : CompiledExpr) (test : TestQuery)
     → IsCompiled packages e compiled → IsDefiniteTree e packages test.binary_query default false → ¬ Meaning e packages test default lookup)
-    (reads-GroupLookup-hits_group-1-1 _ c.args.groups) c.skipping_loses_no_test.ensures in
+    (reads-GroupLookup-matches_group-1-1 _ c.args.groups) c.skipping_loses_no_test.ensures in
     let is : c.in_ok-told.told ≡ Some false = search (rules, c.if-eq.true) in
     let definite = (c.in_ok-told.ensures.meaning packages e default of_tree false).0 is in
     law packages e of_tree.0 default test of_tree.1 (subst (λ (q : BinaryQuery). IsDefiniteTree e packages q default false) (sym same) definite) means

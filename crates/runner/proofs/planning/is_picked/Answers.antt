@@ -9,7 +9,7 @@ use Rattle.filterset_expression.specs.FlatExpressions.{IsFlatOfTree, IsTold}
 use Rattle.filterset_expression.specs.Meaning.{Meaning}
 use Rattle.filterset_expression.specs.declared.expression.CompiledExpr.{CompiledExpr}
 use Rattle.filterset_expression.specs.declared.query.BinaryQuery.{BinaryQuery}
-use Rattle.runner.proofs.planning.is_picked.OwnLists.{reads-GroupLookup-hits_group-1-1}
+use Rattle.runner.proofs.planning.is_picked.OwnLists.{reads-GroupLookup-matches_group-1-1}
 use Rattle.runner.proofs.planning.is_picked.Goals as goal
 
 pub matches_test_of_told-requires : goal.matches_test_of_told-requires
@@ -23,7 +23,7 @@ returns c =
     let told = c.matches_test_of_told.result in
     let grouped = subst (λ (lookup : Lookup). IfOk told (λ answer. (packages : List PackageMetadata) (e : Tree SourceSpan) (default : CompiledExpr)
     → IsFlatOfTree flat packages e default → IsTrue answer ↔ Meaning e packages query default lookup))
-    (reads-GroupLookup-hits_group-1-1 _ c.args.groups) c.matches_test_of_told.ensures.meaning in
+    (reads-GroupLookup-matches_group-1-1 _ c.args.groups) c.matches_test_of_told.ensures.meaning in
     IfOk-weaker told _ _ (λ answer means packages e of_tree. record {
       test = query;
       is = c.test_of-test.ensures;

@@ -11,7 +11,7 @@ use Rattle.filterset_expression.specs.declared.flat.FlatExpr.{FlatExpr}
 use Rattle.filterset_expression.specs.declared.query.BinaryQuery.{BinaryQuery}
 use Rattle.filterset_explaining.specs.Values.{HasValue}
 use Rattle.filterset_explaining.specs.declared.candidate.Candidate.TheVariants.{Binary}
-use Rattle.filterset_explaining.proofs.valuing.Inquiry.told.OwnLists.{reads-GroupLookup-hits_group-1-1}
+use Rattle.filterset_explaining.proofs.valuing.Inquiry.told.OwnLists.{reads-GroupLookup-matches_group-1-1}
 use Rattle.filterset_explaining.proofs.valuing.Inquiry.told.Goals as goal
 
 -- what both clauses say of an answer
@@ -30,5 +30,5 @@ returns-in_ok-told-in-Binary c packages e default of_tree =
 pub returns-in_ok-holds-in-Test : goal.returns-in_ok-holds-in-Test
 returns-in_ok-holds-in-Test c packages e default of_tree =
     let says = c.in_ok-holds-in-Test.ensures.meaning packages e default of_tree in
-    let means = subst (λ (lookup : Lookup). IsTrue c.in_ok-holds-in-Test.holds ↔ Meaning e packages c.in-Test.query default lookup) (reads-GroupLookup-hits_group-1-1 c.args.lookup) says in
+    let means = subst (λ (lookup : Lookup). IsTrue c.in_ok-holds-in-Test.holds ↔ Meaning e packages c.in-Test.query default lookup) (reads-GroupLookup-matches_group-1-1 c.args.lookup) says in
     subst (λ s. HasValue s packages default e (Some c.in_ok-holds-in-Test.holds)) (sym c.in-Test.is) means

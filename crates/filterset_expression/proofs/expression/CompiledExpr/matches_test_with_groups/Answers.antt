@@ -8,7 +8,7 @@ use Rattle.filterset_expression.proofs.expression.CompiledExpr.matches_test_with
 
 pub returns-clause-holds : goal.returns-clause-holds
 returns-clause-holds g c =
-    let lookup = (goal.GroupLookup-dyn g c.args.groups.now).GroupLookup.hits_group c.args.groups.now.1 in
+    let lookup = (goal.GroupLookup-dyn g c.args.groups.now).GroupLookup.matches_group c.args.groups.now.1 in
     let expr = c.args.self.now in
     let default = default_of c.args.cx.now in
     IfOk-weaker c.matches_test_with_groups.result _ (λ answer. (IsTrue answer ↔ (Holds expr c.args.query.now default lookup))) (λ answer h. h expr default c.in_ok-new.ensures.flat) c.matches_test_with_groups.ensures.holds

@@ -36,7 +36,7 @@ loop-position-preserved c =
       | then-reached-2+then-is_slash w ↦ λ k h. ⊎_elim (λ is. inr (is, w.is_slash.ensures.0 w.if-is_slash.true, w.if-reached-2.true)) (λ h. inl h) ((w.hold.ensures.held k).0 (subst (λ p. Holds p k) w.self-is h))
       | else-reached-2 w ↦ λ k h. inl (subst (λ p. Holds p k) w.self-is h)
     ] in
-    let hits : get_or text at 0 ≡ slash → now ≡ true → Holds new (at + 1) = elim c.if-reached-2.branch [
+    let matches : get_or text at 0 ≡ slash → now ≡ true → Holds new (at + 1) = elim c.if-reached-2.branch [
       | then-reached-2+then-is_slash w ↦ λ is r. subst (λ p. Holds p (at + 1)) (sym w.self-is) ((w.hold.ensures.held (at + 1)).1 (inl refl))
       | else-reached-2 w ↦ λ is r. absurd (elim w.else-reached-2.branch [
         | else-reached-2-via-then-reached-2+else-is_slash v ↦ let yes = v.is_slash.ensures.1 is in let no = v.if-is_slash.false in cc
@@ -48,7 +48,7 @@ loop-position-preserved c =
       kept = λ k h. kept k (i.kept k h);
       added = λ k j le lt h is. ⊎_elim (λ l. kept (j + 1) (i.added k j le l h is))
           (λ ge. let here : j ≡ at = omega arith in
-          subst (λ m. Holds new (m + 1)) (sym here) (hits (ap (λ m. get_or text m 0) (sym here) ∙ is) (comes k (omega arith) h))) (cases_lt j at);
+          subst (λ m. Holds new (m + 1)) (sym here) (matches (ap (λ m. get_or text m 0) (sym here) ∙ is) (comes k (omega arith) h))) (cases_lt j at);
       only = λ j h. ⊎_elim (λ h. i.only j h) (λ p.
           let here : j ≡ at = omega (arith, p.0) in
           let q = came p.2 in

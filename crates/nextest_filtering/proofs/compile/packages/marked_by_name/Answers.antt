@@ -3,7 +3,7 @@ use Rattle.std.specs.Prelude.{Some, IsTrue, slice_get, string_bytes}
 use Rattle.std.proofs.lemmas.Option.{slice_get_within, slice_get-get_or, same_Some}
 use Rattle.filterset_graph.specs.Walks.{IsMarked}
 use Rattle.filterset_graph.specs.declared.package.PackageMetadata.{PackageMetadata}
-use Rattle.filterset_matchers.specs.Matcher.{Matcher, Hits}
+use Rattle.filterset_matchers.specs.Matcher.{Matcher, MatchesName}
 use Rattle.filterset_matchers.specs.Matchers.{matcher_of}
 use Rattle.std.proofs.lemmas.Bool.{false≢true}
 use Rattle.nextest_filtering.specs.ReadyMatchers.{ready_matcher}
@@ -33,9 +33,9 @@ loop-package-preserved c =
     let here : (IsTrue c.if-package.is_named → IsNamedAt packages matcher n) × (IsNamedAt packages matcher n → IsTrue c.if-package.is_named) =
     elim c.if-package.branch [
       | then-package+in_ok-is_named w ↦ (
-        (λ yes. (p, at, w.if-package.true, subst (Hits matcher) w.name.ensures (subst (λ (m : Matcher). Hits m w.name.result.now) so_far.0 (w.in_ok-is_named.ensures.hits.0 (sym w.is_named-is ∙ yes))))),
+        (λ yes. (p, at, w.if-package.true, subst (MatchesName matcher) w.name.ensures (subst (λ (m : Matcher). MatchesName m w.name.result.now) so_far.0 (w.in_ok-is_named.ensures.matches.0 (sym w.is_named-is ∙ yes))))),
         (λ is. let same : p ≡ is.0 = same_Some p is.0 (sym at ∙ is.1) in
-            w.is_named-is ∙ w.in_ok-is_named.ensures.hits.1 (subst (λ (m : Matcher). Hits m w.name.result.now) (sym so_far.0) (subst (Hits matcher) (sym w.name.ensures) (subst (λ (q : PackageMetadata). Hits matcher (string_bytes q.name)) (sym same) is.3)))),
+            w.is_named-is ∙ w.in_ok-is_named.ensures.matches.1 (subst (λ (m : Matcher). MatchesName m w.name.result.now) (sym so_far.0) (subst (MatchesName matcher) (sym w.name.ensures) (subst (λ (q : PackageMetadata). MatchesName matcher (string_bytes q.name)) (sym same) is.3)))),
       )
       | else-package w ↦ (
         (λ yes. absurd (false≢true (sym w.if-package.false ∙ sym w.is_named-is ∙ yes))),
@@ -43,7 +43,7 @@ loop-package-preserved c =
       )
     ] in
     let same : ready_matcher c.if-package.ready ≡ ready_matcher c.loop-package.ready = elim c.if-package.branch [
-      | then-package+in_ok-is_named w ↦ rw w.ready-is w.hits.ensures.same
+      | then-package+in_ok-is_named w ↦ rw w.ready-is w.matches.ensures.same
       | else-package w ↦ rw w.ready-is refl
     ] in (
       same ∙ so_far.0,

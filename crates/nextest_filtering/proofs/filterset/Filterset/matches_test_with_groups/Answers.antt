@@ -9,7 +9,7 @@ use Rattle.nextest_filtering.proofs.filterset.Filterset.matches_test_with_groups
 
 pub returns-clause-meaning : goal.returns-clause-meaning
 returns-clause-meaning g c =
-    let lookup = (goal.GroupLookup-dyn g c.args.groups.now).GroupLookup.hits_group c.args.groups.now.1 in
+    let lookup = (goal.GroupLookup-dyn g c.args.groups.now).GroupLookup.matches_group c.args.groups.now.1 in
     let tree = tree_of c.args.self.now.parsed in
     let compiled = c.args.self.now.compiled in
     let default = default_of c.args.cx.now in

@@ -1,7 +1,7 @@
 use Rattle.std.proofs.Common.{subst}
 use Rattle.std.proofs.lemmas.Result.{IfOk-weaker}
 use Rattle.filterset_expression.specs.Contexts.{default_of}
-use Rattle.filterset_matchers.specs.Matcher.{Hits}
+use Rattle.filterset_matchers.specs.Matcher.{MatchesName}
 use Rattle.filterset_matchers.specs.Matchers.{matcher_of}
 use Rattle.runner.proofs.FirstOverride.{one_group}
 use Rattle.runner.proofs.groups.GroupsGroupLookup.is_member_test.Goals as goal
@@ -16,5 +16,5 @@ returns c =
     let is = c.in_ok-group.ensures in
     IfOk-weaker c.is_match.result _ _ (λ answer h. (
       λ yes. (group, is, h.0 yes),
-      λ some. h.1 (subst (λ g. Hits matcher g) (one_group default rules test some.0 group some.1 is) some.2),
-    )) c.is_match.ensures.hits
+      λ some. h.1 (subst (λ g. MatchesName matcher g) (one_group default rules test some.0 group some.1 is) some.2),
+    )) c.is_match.ensures.matches

@@ -1,12 +1,12 @@
 use Rattle.std.proofs.Common.{◌≡◌, take}
 use Rattle.std.specs.Prelude.{All}
-use Rattle.filterset_matchers.specs.Matcher.{Hits}
+use Rattle.filterset_matchers.specs.Matcher.{MatchesName}
 use Rattle.filterset_matchers.specs.Matchers.{matcher_of}
 use Rattle.nextest_filtering.specs.ReadyMatchers.{ready_matcher}
-use Rattle.nextest_filtering.proofs.compile.checks.hits_binary_name.Given as goal
+use Rattle.nextest_filtering.proofs.compile.checks.matches_binary_id.Given as goal
 
--- none so far is hit
+-- none so far is matched
 abbrev pub invariant-loop-binary : goal.invariant-loop-binary
 invariant-loop-binary l =
     (ready_matcher l.ready ≡ matcher_of l.matcher)
-    × All (λ binary. ¬ Hits (matcher_of l.matcher) binary.name.now) (take l.binary-index l.binaries)
+    × All (λ binary. ¬ MatchesName (matcher_of l.matcher) binary.id) (take l.binary-index l.binaries)
