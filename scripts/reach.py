@@ -10,7 +10,7 @@ from sources import antt_files, crates, operator_parts, rust_files
 # status that it ends with: of the record's program these are functions of the crate of programs, at what its own impl of
 # their trait says, and the program for people has its own.
 LIBRARY_ROOT = "nextest_filtering"
-PROGRAM, PROGRAMS, PROMISED, PROGRAM_TRAIT = "filterset_cli", "records", ("run", "status"), "Program"
+PROGRAM, PROGRAMS, PROMISED, PROGRAM_TRAIT = "filterset_cli", "filterset_io", ("run", "status"), "Program"
 COMMAND = "filterset_command"
 
 # Ghost members that prove something where they stand, and so say nothing that a reader has to take for true.

@@ -7,8 +7,8 @@ mod report;
 #[cfg(test)]
 mod tests;
 
+use filterset_io::execute;
 use program::Rows;
-use records::execute;
 use std::process::ExitCode;
 
 fn main(rt: HostRuntime) -> ExitCode {

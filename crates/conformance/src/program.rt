@@ -1,6 +1,6 @@
 //! The program: the report of rows, and the exit status of each outcome.
 use crate::report::report;
-use records::Program;
+use filterset_io::Program;
 use std::alloc::{AllocError, Global};
 use suite_verdicts::Outcome;
 

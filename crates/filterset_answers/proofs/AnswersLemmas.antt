@@ -1,8 +1,8 @@
 -- Answers that are made piece by piece.
 use Rattle.std.proofs.Common.{◌≡◌, ◌≢◌, ℕ, suc, Bool, add-zero, arith, ◌+◌, ◌<◌, List, [], ◌∷◌, ◌++◌, length, map, take, get_or, ◌∙◌, sym, ap, subst, append_assoc, refl, true, false, inl, inr}
 use Rattle.std.proofs.lemmas.List.{append-nil, map-append, take_more, length-map, length-take-le}
-use Rattle.records.specs.Pieces.{no_pieces}
-use Rattle.records.proofs.PieceLemmas.{Pieces-push}
+use Rattle.filterset_io.specs.Pieces.{no_pieces}
+use Rattle.filterset_io.proofs.PieceLemmas.{Pieces-push}
 use Rattle.serde_json.specs.Data.{Data}
 use Rattle.serde_json.specs.Written.{has_float}
 use Rattle.filterset_drawing.specs.Columns.{Text}

@@ -8,7 +8,7 @@ use Rattle.filterset_drawing.specs.Json.{FaultData}
 use Rattle.filterset_drawing.specs.declared.color.Color.{Color}
 use Rattle.filterset_drawing.specs.declared.color.Color.TheVariants.{Never}
 use Rattle.filterset_faults.specs.declared.error.ParseSingleError.{ParseSingleError}
-use Rattle.records.specs.Pieces.{Pieces}
+use Rattle.filterset_io.specs.Pieces.{Pieces}
 use Rattle.filterset_answers.specs.declared.form.Form.{Form}
 use Rattle.filterset_answers.specs.declared.form.Form.TheVariants.{Drawn, Json}
 

@@ -5,8 +5,8 @@ mod program;
 #[cfg(test)]
 mod tests;
 
+use filterset_io::execute;
 use program::Filtersets;
-use records::execute;
 use std::process::ExitCode;
 
 fn main(rt: HostRuntime) -> ExitCode {

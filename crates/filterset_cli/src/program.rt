@@ -1,6 +1,6 @@
 //! The program: the report of a record of filtersets, and the exit status of each outcome.
+use filterset_io::Program;
 use filterset_report::{Outcome, report_of};
-use records::Program;
 use std::alloc::{AllocError, Global};
 
 /// The program that reports what the library says of a record of filtersets.

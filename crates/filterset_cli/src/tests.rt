@@ -1,6 +1,6 @@
 use crate::program::Filtersets;
+use filterset_io::{FromReader, RunFault, Sink, Source, ToWriter, run, status};
 use filterset_report::Outcome;
-use records::{FromReader, RunFault, Sink, Source, ToWriter, run, status};
 use std::alloc::{AllocError, Global};
 use std::io;
 use std::io::ErrorKind;

@@ -24,7 +24,7 @@ use Rattle.nextest_filtering.specs.declared.compile.context.KnownGroups.{KnownGr
 use Rattle.nextest_filtering.specs.declared.filterset.Filterset.{Filterset}
 use Rattle.nextest_filtering.specs.declared.filterset.ParseRefusal.{ParseRefusal}
 use Rattle.nextest_filtering.specs.declared.filterset.ParseRefusal.TheVariants.{Faults, OutOfMemory}
-use Rattle.records.specs.declared.fault.RunFault.TheVariants.{Memory}
+use Rattle.filterset_io.specs.declared.fault.RunFault.TheVariants.{Memory}
 use Rattle.filterset_command.specs.Picking.{IsGlobalOnly}
 use Rattle.filterset_command.specs.Workspaces.{IsAsked, IsWorkspaceIn}
 use Rattle.filterset_command.specs.declared.ending.Ending.{Ending}

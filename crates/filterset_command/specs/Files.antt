@@ -1,6 +1,6 @@
 -- Faults of files.
 use Rattle.std.specs.Prelude.{◌≢◌}
-use Rattle.records.specs.declared.fault.RunFault.TheVariants.{Write}
+use Rattle.filterset_io.specs.declared.fault.RunFault.TheVariants.{Write}
 use Rattle.filterset_command.specs.declared.fault.CommandFault.{CommandFault}
 use Rattle.filterset_command.specs.declared.fault.CommandFault.TheVariants.{Run}
 

@@ -7,7 +7,7 @@ use Rattle.clap.specs.declared.error.kind.ErrorKind.TheVariants.{DisplayHelp, Di
 use Rattle.filterset_drawing.specs.Columns.{Text}
 use Rattle.filterset_faults.specs.declared.kind.FiltersetKind.{FiltersetKind}
 use Rattle.filterset_faults.specs.declared.kind.FiltersetKind.TheVariants as kinds
-use Rattle.records.specs.declared.fault.RunFault.TheVariants.{Memory}
+use Rattle.filterset_io.specs.declared.fault.RunFault.TheVariants.{Memory}
 use Rattle.filterset_answers.specs.Answers.{FormatsTexts}
 use Rattle.filterset_answers.specs.Checked.{TextRow}
 use Rattle.filterset_command.specs.Checking.{AnswersCheck}

@@ -16,8 +16,8 @@ use crate::outcome::Outcome;
 use crate::picking::ask;
 use crate::request::{Request, Texts};
 use filterset_answers::{Answer, TextEntry, format_texts};
+use filterset_io::{Source, read_all};
 use nextest_filtering::FiltersetKind;
-use records::{Source, read_all};
 use std::alloc::Global;
 
 /// Answers a request, for which standard input and files may be read.

@@ -2,8 +2,8 @@
 ghost use Rattle.filterset_command.specs.Files.{NotWrite};
 
 use clap::Error;
+use filterset_io::RunFault;
 use filterset_sources::SourceRefusal;
-use records::RunFault;
 use std::alloc::{AllocError, Global};
 use std::{fmt, io};
 
@@ -119,7 +119,7 @@ impl fmt::Display for CommandFault {
 impl From<AllocError> for CommandFault {
     ghost use Rattle.std.specs.Prelude.{◌≡◌};
     ghost use Rattle.filterset_command.specs.declared.fault.CommandFault.TheVariants.{Run};
-    ghost use Rattle.records.specs.declared.fault.RunFault.TheVariants.{Memory};
+    ghost use Rattle.filterset_io.specs.declared.fault.RunFault.TheVariants.{Memory};
 
     ghost from_gives = { λ refused fault. fault ≡ Run (Memory refused) };
 

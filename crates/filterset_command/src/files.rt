@@ -1,10 +1,10 @@
 //! Files, and reading one whole.
 ghost use Rattle.std.specs.Prelude.{◌≡◌, ◌≢◌, IfErr, IfOk, IfSome, List, Option, ℕ, string_bytes};
-ghost use Rattle.records.specs.declared.fault.RunFault.TheVariants.{Write};
+ghost use Rattle.filterset_io.specs.declared.fault.RunFault.TheVariants.{Write};
 ghost use Rattle.filterset_command.specs.Files.{NotWrite};
 
 use crate::fault::{CommandFault, FileFault};
-use records::RunFault;
+use filterset_io::RunFault;
 use std::alloc::{AllocError, Global};
 use std::{fs, io};
 

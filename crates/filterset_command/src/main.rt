@@ -19,7 +19,7 @@ mod workspace;
 use ending::{Ending, status};
 use fault::CommandFault;
 use files::HostFiles;
-use records::{FromReader, RunFault, ToWriter};
+use filterset_io::{FromReader, RunFault, ToWriter};
 use request::request_of;
 use run::run;
 use std::alloc::AllocError;

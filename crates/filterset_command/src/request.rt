@@ -12,8 +12,8 @@ use clap::error::ErrorKind;
 use clap::{ArgMatches, Error};
 use filterset_answers::Form;
 use filterset_drawing::Color;
+use filterset_io::RunFault;
 use nextest_filtering::FiltersetKind;
-use records::RunFault;
 use std::alloc::{AllocError, Global};
 
 /// The texts that are asked about.

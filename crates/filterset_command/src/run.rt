@@ -1,7 +1,7 @@
 //! A run: a request in, its answer out.
 ghost use Rattle.std.specs.Prelude.{◌≡◌, ◌≢◌, ◌++◌, Err, IfErr, IfOk, IsTrue, OnOk};
 ghost use Rattle.std.specs.Io.KnownBytes.{Appends};
-ghost use Rattle.records.specs.declared.fault.RunFault.TheVariants.{Write};
+ghost use Rattle.filterset_io.specs.declared.fault.RunFault.TheVariants.{Write};
 ghost use Rattle.filterset_drawing.specs.Columns.{Text};
 ghost use Rattle.filterset_command.specs.Requests.{IsAnswered};
 ghost use Rattle.filterset_command.specs.declared.ending.Ending as endings;
@@ -12,7 +12,7 @@ use crate::ending::Ending;
 use crate::fault::CommandFault;
 use crate::files::FileSource;
 use crate::request::Request;
-use records::{Sink, Source, write_all};
+use filterset_io::{Sink, Source, write_all};
 use std::alloc::Global;
 
 /// Answers a request, and then writes the answer. It is made before the first byte of it is written.

@@ -4,7 +4,7 @@ use Rattle.nextest_filtering.specs.Compiling.{packages_of}
 use Rattle.filterset_answers.specs.Answers.{TextFaults, no_texts}
 use Rattle.filterset_answers.specs.Checked.{text_row}
 use Rattle.filterset_answers.specs.Compiled.{HasRefusal}
-use Rattle.records.proofs.PieceLemmas.{added_twice}
+use Rattle.filterset_io.proofs.PieceLemmas.{added_twice}
 use Rattle.filterset_answers.proofs.AnswersLemmas.{FaultsOf-push, expressions_next, next_number, rows_more}
 use Rattle.filterset_answers.proofs.compiling.push_outcomes.Goals as goal
 

@@ -1,8 +1,8 @@
 use Rattle.std.proofs.Common.{arith, ◌<◌, [], ◌++◌, length, sym}
 use Rattle.std.proofs.lemmas.List.{append-nil, take_all}
-use Rattle.records.proofs.PieceLemmas.{added_twice}
+use Rattle.filterset_io.proofs.PieceLemmas.{added_twice}
 use Rattle.filterset_answers.proofs.AnswersLemmas.{FaultPieces-next}
-use Rattle.records.specs.Pieces.{no_pieces}
+use Rattle.filterset_io.specs.Pieces.{no_pieces}
 use Rattle.filterset_answers.proofs.form.push_faults_of.Goals as goal
 
 pub returns : goal.returns

@@ -1,6 +1,6 @@
 use Rattle.std.proofs.Common.{rules, ◌≡◌, ◌++◌, [], codes, inl, refl, sym, string_bytes}
 use Rattle.std.proofs.lemmas.List.{append-nil}
-use Rattle.records.specs.Pieces.{no_pieces}
+use Rattle.filterset_io.specs.Pieces.{no_pieces}
 use Rattle.filterset_grammar.specs.Printing.{printed}
 use Rattle.filterset_language.specs.Parsed.{Reads}
 use Rattle.filterset_language.specs.Views.{tree_of}

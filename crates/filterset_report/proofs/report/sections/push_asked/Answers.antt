@@ -6,7 +6,7 @@ use Rattle.filterset_language.specs.Views.{tree_of}
 use Rattle.filterset_record.specs.Record.{BinaryRow}
 use Rattle.filterset_record.specs.Rows.{binary_row}
 use Rattle.filterset_report.specs.Library.{background_of}
-use Rattle.records.specs.Pieces.{Pieces, no_pieces}
+use Rattle.filterset_io.specs.Pieces.{Pieces, no_pieces}
 use Rattle.filterset_report.specs.Report.{BinaryLines}
 use Rattle.filterset_report.proofs.report.sections.push_asked.Goals as goal
 

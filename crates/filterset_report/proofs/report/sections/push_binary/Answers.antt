@@ -8,10 +8,10 @@ use Rattle.filterset_grammar.specs.Tree.{Tree}
 use Rattle.filterset_record.specs.Record.{BinaryRow, TestRow}
 use Rattle.filterset_record.specs.declared.record.binaries.TestEntry.{TestEntry}
 use Rattle.filterset_report.specs.Library.{Background, IsAboutBinary, TellsOfBinary}
-use Rattle.records.specs.Pieces.{Pieces, no_pieces}
+use Rattle.filterset_io.specs.Pieces.{Pieces, no_pieces}
 use Rattle.filterset_report.specs.Report.{TestLine, binary_answer_text, lines_of_binary}
 use Rattle.filterset_record.specs.Rows.{binary_row, test_row}
-use Rattle.records.proofs.PieceLemmas.{Pieces-more, added_twice}
+use Rattle.filterset_io.proofs.PieceLemmas.{Pieces-more, added_twice}
 use Rattle.filterset_report.proofs.ReportLemmas.{taken_all}
 use Rattle.filterset_report.proofs.report.sections.push_binary.Goals as goal
 

@@ -1,7 +1,7 @@
 use Rattle.std.proofs.Common.{◌++◌, take, ◌∙◌}
 use Rattle.std.proofs.lemmas.List.{take_rest}
-use Rattle.records.proofs.BytesLemmas.{Appends-then, three_pieces, unmarked}
-use Rattle.records.proofs.sink.write_all.Goals as goal
+use Rattle.filterset_io.proofs.BytesLemmas.{Appends-then, three_pieces, unmarked}
+use Rattle.filterset_io.proofs.sink.write_all.Goals as goal
 
 pub loop-rest-preserved : goal.loop-rest-preserved
 loop-rest-preserved g c =

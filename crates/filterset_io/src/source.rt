@@ -2,7 +2,7 @@
 ghost use Rattle.std.specs.Prelude.{◌≡◌, ◌≢◌, ◌||◌, Bool, Err, IfOk, IfSome, IsTrue, List, OnOk, Option, false, ℕ};
 ghost use Rattle.std.specs.Io.KnownBytes.{ReadConsumes};
 ghost use Rattle.std.specs.Io.{ReadsAtMost};
-ghost use Rattle.records.specs.Marks.{read_fails, read_ends};
+ghost use Rattle.filterset_io.specs.Marks.{read_fails, read_ends};
 
 use crate::fault::RunFault;
 use std::alloc::Global;

@@ -1,7 +1,7 @@
 -- The steps in which a text is made piece by piece.
 use Rattle.std.proofs.Common.{◌≡◌, ℕ, ◌+◌, ◌<◌, List, [], ◌∷◌, ◌++◌, length, map, take, get_or, ◌∙◌, sym, ap, subst, append_assoc, refl}
 use Rattle.std.proofs.lemmas.List.{append-nil, map-append, take_more}
-use Rattle.records.specs.Pieces.{Pieces, no_pieces, next_piece}
+use Rattle.filterset_io.specs.Pieces.{Pieces, no_pieces, next_piece}
 
 -- one more piece
 pub Pieces-push : {A : Type 0} (P : A → List ℕ → Type 0) (xs : List A) (x : A) (text added : List ℕ) → Pieces P xs text → P x added → Pieces P (xs ++ x ∷ []) (text ++ added)

@@ -1,6 +1,6 @@
 use Rattle.std.proofs.Common.{◌≡◌, ◌++◌, List, ℕ, length}
 use Rattle.std.specs.Io.KnownBytes.{Appends}
-use Rattle.records.proofs.sink.write_all.Given as goal
+use Rattle.filterset_io.proofs.sink.write_all.Given as goal
 
 -- what stands before the rest was taken, and no write has failed
 abbrev pub invariant-loop-rest : goal.invariant-loop-rest

@@ -2,7 +2,7 @@
 ghost use Rattle.std.specs.Prelude.{◌≡◌, ◌||◌, ◌++◌, Bool, Err, IsTrue, List, OnErr, OnOk, Option, false, ℕ};
 ghost use Rattle.std.specs.Io.KnownBytes.{Appends, WriteAppends};
 ghost use Rattle.std.specs.Io.{WritesAtMost};
-ghost use Rattle.records.specs.Marks.{write_fails};
+ghost use Rattle.filterset_io.specs.Marks.{write_fails};
 
 use crate::fault::RunFault;
 use std::io;

@@ -1,7 +1,7 @@
 -- Why a run gives nothing.
 use Rattle.std.specs.Prelude.{ℕ, List, codes}
-use Rattle.records.specs.declared.fault.RunFault.{RunFault}
-use Rattle.records.specs.declared.fault.RunFault.TheVariants.{Memory, Read, Write}
+use Rattle.filterset_io.specs.declared.fault.RunFault.{RunFault}
+use Rattle.filterset_io.specs.declared.fault.RunFault.TheVariants.{Memory, Read, Write}
 
 -- what is told of a fault
 abbrev pub fault_text : RunFault → List ℕ

@@ -1,6 +1,6 @@
 //! Programs that read a record and write a report of it: a run of one, and how it ends.
 ghost use Rattle.std.specs.Prelude.{◌≡◌, ◌≢◌, Err, IfErr, IfOk, IsTrue, List, OnOk, string_bytes, ℕ};
-ghost use Rattle.records.specs.Runs.{IsBegun, IsWritten, ending_status};
+ghost use Rattle.filterset_io.specs.Runs.{IsBegun, IsWritten, ending_status};
 
 use crate::fault::RunFault;
 use crate::sink::{Sink, ToWriter, write_all};

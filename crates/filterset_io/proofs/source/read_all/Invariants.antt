@@ -1,6 +1,6 @@
 use Rattle.std.proofs.Common.{◌≡◌, ◌-◌, ◌^◌, vec_len}
 use Rattle.std.specs.Io.KnownBytes.{Consumes}
-use Rattle.records.proofs.source.read_all.Given as goal
+use Rattle.filterset_io.proofs.source.read_all.Given as goal
 
 -- the bytes so far were consumed, and no read has failed
 abbrev pub invariant-loop-count : goal.invariant-loop-count

@@ -12,7 +12,7 @@ pub enum RunFault {
 
 impl fmt::Display for RunFault {
     ghost use Rattle.std.specs.Prelude.{Some};
-    ghost use Rattle.records.specs.Faults.{fault_text};
+    ghost use Rattle.filterset_io.specs.Faults.{fault_text};
 
     ghost output = { λ fault. Some (fault_text fault) };
 
@@ -27,7 +27,7 @@ impl fmt::Display for RunFault {
 
 impl From<AllocError> for RunFault {
     ghost use Rattle.std.specs.Prelude.{◌≡◌};
-    ghost use Rattle.records.specs.declared.fault.RunFault.TheVariants.{Memory};
+    ghost use Rattle.filterset_io.specs.declared.fault.RunFault.TheVariants.{Memory};
 
     ghost from_gives = { λ refused fault. fault ≡ Memory refused };
 

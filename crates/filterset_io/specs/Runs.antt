@@ -1,7 +1,7 @@
 -- What a run of a program writes, and how it ends.
 use Rattle.std.specs.Prelude.{◌≡◌, ◌++◌, ℕ, List, Option, IfSome, Result, Ok, Err}
 use Rattle.std.specs.Io.KnownBytes.{Appends}
-use Rattle.records.specs.declared.fault.RunFault.{RunFault}
+use Rattle.filterset_io.specs.declared.fault.RunFault.{RunFault}
 
 -- the bytes are what a reader had left, where it tells that
 abbrev pub AreLeft : Option (List ℕ) → List ℕ → Type 0
