@@ -1,4 +1,4 @@
-//! Test binaries: their kinds and ids, and the names of the tests in them.
+//! Test binaries: their kinds, their ids, and the names of their tests.
 ghost use Rattle.std.specs.Prelude.{◌≡◌, IfOk, string_bytes};
 ghost use Rattle.std.specs.Cmp as laws;
 ghost use Rattle.std.specs.Cmp.Lexicographic.{nat_list_eq_equiv};
@@ -8,18 +8,18 @@ ghost use Rattle.filterset_graph.specs.Binaries.{written_id};
 use std::alloc::{AllocError, Global};
 use std::marker::Model;
 
-/// The group of each test that is in no custom group.
+/// The group of every test that is in no custom group.
 pub const GLOBAL_TEST_GROUP: &str = "@global";
 
-/// A text that is fixed in the program, or one that was given.
+/// The text of a kind: a constant, or a `String` from the caller.
 #[derive(Debug, Drop)]
 enum KindText {
     Fixed(&'static str),
     Owned(String),
 }
 
-/// The kind of a test binary: one of the six that the build tool knows, or any other text. Contracts
-/// see it as its text, and kinds are equal exactly where their texts are.
+/// The kind of a test binary: one of the six kinds of cargo, or any other text. Contracts see its text; two kinds are
+/// equal if and only if their texts are.
 #[derive(Debug)]
 pub struct RustTestBinaryKind {
     text: KindText,
@@ -34,7 +34,7 @@ impl Model for RustTestBinaryKind {
     ghost view = { λ kind. text_of kind.text };
 }
 
-// Written out, so that a proof of who lets a kind go has one call, and not the drop of each field.
+// Implemented by hand: a derived `Drop` is proved again in each function that drops a kind.
 impl Drop for RustTestBinaryKind {
     fn drop(self) {
         let RustTestBinaryKind { text: _text } = self;
@@ -42,37 +42,37 @@ impl Drop for RustTestBinaryKind {
 }
 
 impl RustTestBinaryKind {
-    /// The tests of a library.
+    /// `lib`, the tests of a library.
     pub const LIB: RustTestBinaryKind = RustTestBinaryKind {
         text: KindText::Fixed("lib"),
     };
 
-    /// The tests of a library that is a procedural macro.
+    /// `proc-macro`, the tests of a procedural macro.
     pub const PROC_MACRO: RustTestBinaryKind = RustTestBinaryKind {
         text: KindText::Fixed("proc-macro"),
     };
 
-    /// An integration test.
+    /// `test`, an integration test.
     pub const TEST: RustTestBinaryKind = RustTestBinaryKind {
         text: KindText::Fixed("test"),
     };
 
-    /// A benchmark.
+    /// `bench`, a benchmark.
     pub const BENCH: RustTestBinaryKind = RustTestBinaryKind {
         text: KindText::Fixed("bench"),
     };
 
-    /// The tests of a program.
+    /// `bin`, the tests of a program.
     pub const BIN: RustTestBinaryKind = RustTestBinaryKind {
         text: KindText::Fixed("bin"),
     };
 
-    /// The tests of an example.
+    /// `example`, the tests of an example.
     pub const EXAMPLE: RustTestBinaryKind = RustTestBinaryKind {
         text: KindText::Fixed("example"),
     };
 
-    /// The kind with this text.
+    /// Returns the kind with this text.
     pub fn new(kind: String) -> RustTestBinaryKind
         ensures { result ≡ string_bytes kind }
     {
@@ -81,7 +81,7 @@ impl RustTestBinaryKind {
         }
     }
 
-    /// The text of the kind.
+    /// Returns the text of the kind.
     pub fn as_str(&self) -> &str
         ensures { result.now ≡ self.now }
     {
@@ -106,8 +106,7 @@ impl Eq for RustTestBinaryKind {
     ghost laws = { nat_list_eq_equiv };
 }
 
-/// The id of a test binary. Contracts see it as its text, and ids are equal exactly where their texts
-/// are.
+/// The id of a test binary. Contracts see its text; two ids are equal if and only if their texts are.
 #[derive(Debug, Drop)]
 pub struct RustBinaryId {
     text: String,
@@ -122,8 +121,7 @@ impl Model for RustBinaryId {
 }
 
 impl RustBinaryId {
-    /// The id with this text, whether or not `from_parts` would write it. The only error is want of
-    /// memory.
+    /// Returns the id with this text, which may be any text. The only error is out of memory.
     pub fn new(alloc: Global, id: &str) -> Result<RustBinaryId, AllocError>
         ensures { IfOk result (λ made. made ≡ id.now) }
     {
@@ -132,9 +130,8 @@ impl RustBinaryId {
         })
     }
 
-    /// The id of the test binary of this kind that is made of a target of a package: the package's name
-    /// where the kind is `lib` or `proc-macro`, `package::target` where it is `test`, and else
-    /// `package::kind/target`. The only error is out of memory.
+    /// Returns the id that cargo-nextest gives a test binary: `package` for the kinds `lib` and `proc-macro`,
+    /// `package::target` for `test`, and `package::kind/target` for any other kind. The only error is out of memory.
     pub fn from_parts(
         alloc: Global,
         package_name: &str,
@@ -154,7 +151,7 @@ impl RustBinaryId {
         Ok(RustBinaryId { text })
     }
 
-    /// The text of the id.
+    /// Returns the text of the id.
     pub fn as_str(&self) -> &str
         ensures { result.now ≡ self.now }
     {
@@ -176,8 +173,7 @@ impl Eq for RustBinaryId {
     ghost laws = { nat_list_eq_equiv };
 }
 
-/// The name of a test within its binary. Contracts see it as its text, and names are equal exactly
-/// where their texts are.
+/// The name of a test within its binary. Contracts see its text; two names are equal if and only if their texts are.
 #[derive(Debug, Drop)]
 pub struct TestCaseName {
     text: String,
@@ -192,7 +188,7 @@ impl Model for TestCaseName {
 }
 
 impl TestCaseName {
-    /// The name with this text. The only error is out of memory.
+    /// Returns the name with this text. The only error is out of memory.
     pub fn new(alloc: Global, name: &str) -> Result<TestCaseName, AllocError>
         ensures { IfOk result (λ made. made ≡ name.now) }
     {
@@ -201,7 +197,7 @@ impl TestCaseName {
         })
     }
 
-    /// The text of the name.
+    /// Returns the text of the name.
     pub fn as_str(&self) -> &str
         ensures { result.now ≡ self.now }
     {

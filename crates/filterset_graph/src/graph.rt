@@ -1,28 +1,27 @@
-//! The graph of the packages of a workspace.
-ghost use Rattle.std.specs.Prelude.{◌≡◌, ◌↔◌, ℕ, Some, IsTrue, IsErrOf, IfOk, IfErr, OnOk, MatchOption, Contains, length, slice_get, vec_len};
+//! The graph of packages and their dependencies.
+ghost use Rattle.std.specs.Prelude.{◌≡◌, ◌↔◌, ℕ, [], Some, IsTrue, IsErrOf, IfOk, IfErr, OnOk, MatchOption, Contains, length, slice_get, vec_len};
 ghost use Rattle.filterset_graph.specs.declared.refusal.DependsRefusal.TheVariants as unanswered;
 ghost use Rattle.filterset_graph.specs.Packages.{Path, AllDiffer, LinksKnown, ids};
 ghost use Rattle.filterset_graph.specs.Marked.{MarksReached, MarksReaching};
 ghost use Rattle.filterset_graph.specs.Refusals.{IsRefusalOf};
 
-use crate::index::{positions_of, resolved_links, reversed};
+use crate::index::{positions_of, resolve_links, reverse};
 use crate::package::{PackageId, PackageMetadata};
 use crate::refusal::{DependsRefusal, GraphRefusal};
-use crate::search::{marked_alone, reached};
+use crate::search::{mark_alone, mark_reached};
 use std::alloc::{AllocError, Global};
 use std::collections::BTreeMap;
 use std::marker::Model;
 
-/// Packages, each with an id of its own, whose links all name packages among them. Contracts see the
-/// list of the packages.
+/// Packages with distinct ids, where every link names one of the packages. Contracts see the list of the packages.
 #[derive(Debug)]
 pub struct PackageGraph {
     packages: Vec<PackageMetadata>,
-    /// Where the package of each id stands in that list.
+    /// The position of each id in `packages`.
     positions: BTreeMap<PackageId, usize>,
-    /// For each package the positions of those that it depends on.
+    /// For each package the positions of its direct dependencies.
     links: Vec<Vec<usize>>,
-    /// For each package the positions of those that depend on it.
+    /// For each package the positions of the packages that depend on it directly.
     linked_by: Vec<Vec<usize>>,
 }
 
@@ -38,7 +37,7 @@ impl Model for PackageGraph {
     ghost invariant = { λ g. IsIndexed g.packages.items g.positions g.links.items g.linked_by.items };
 }
 
-// Written out, so that a proof of who lets a graph go has one call, and not the drop of each field.
+// Implemented by hand: a derived `Drop` is proved again in each function that drops a graph.
 impl Drop for PackageGraph {
     fn drop(self) {
         let PackageGraph {
@@ -51,20 +50,33 @@ impl Drop for PackageGraph {
 }
 
 impl PackageGraph {
-    /// The graph of these packages; no packages make the empty graph.
+    /// Returns the graph without packages.
+    pub fn empty(alloc: Global) -> PackageGraph
+        ensures { result ≡ [] }
+    {
+        PackageGraph {
+            packages: Vec::new(alloc),
+            positions: BTreeMap::new(alloc),
+            links: Vec::new(alloc),
+            linked_by: Vec::new(alloc),
+        }
+    }
+
+    /// Returns the graph of these packages, in time O((packages + links) · log packages). An error drops the packages.
     ///
-    /// `RepeatedId` names the first position whose id stands at an earlier position. Where no id is repeated,
-    /// `UnknownLink` names the first position of a package, and in it the first position of a link, that names
-    /// no package. Positions begin at 0. The list is not handed back. It takes packages plus links, times
-    /// the logarithm of the packages.
+    /// Errors, with positions counted from 0:
+    /// - `RepeatedId`: the first position whose id is also at an earlier position.
+    /// - `UnknownLink`: all ids differ, but a link names no package. It gives the first package with such a link, and
+    ///   the first such link in it.
+    /// - `OutOfMemory`.
     pub fn new(alloc: Global, packages: Vec<PackageMetadata>) -> Result<PackageGraph, GraphRefusal>
         ensures ok { IfOk result (λ graph. graph ≡ packages.items) }
         ensures sound { OnOk result (AllDiffer (ids packages.items) × LinksKnown packages.items) }
         ensures refused { IfErr result (IsRefusalOf packages.items) }
     {
         let positions = positions_of(alloc, packages.as_slice())?;
-        let links = resolved_links(alloc, &positions, packages.as_slice())?;
-        let linked_by = reversed(alloc, links.as_slice())?;
+        let links = resolve_links(alloc, &positions, packages.as_slice())?;
+        let linked_by = reverse(alloc, links.as_slice())?;
         Ok(PackageGraph {
             packages,
             positions,
@@ -73,15 +85,15 @@ impl PackageGraph {
         })
     }
 
-    /// The position of the package with this id.
+    /// Returns the position of the package with this id, in `packages`.
     fn position(&self, id: &PackageId) -> Option<usize>
         ensures { (k : ℕ) → (result ≡ Some k) ↔ (slice_get (ids self.now) k ≡ Some id.now) }
     {
         self.positions.get(id).copied()
     }
 
-    /// The packages, in the order in which they were given. Their ids differ, and each link names one
-    /// of them.
+    /// Returns the packages, in the order that the caller gave to `new`. Their ids differ, and every link names one of
+    /// them.
     pub fn packages(&self) -> &[PackageMetadata]
         ensures list { result.now ≡ self.now }
         ensures distinct { AllDiffer (ids self.now) }
@@ -90,7 +102,7 @@ impl PackageGraph {
         self.packages.as_slice()
     }
 
-    /// The package with this id, or `None` where there is none.
+    /// Returns the package with this id, if there is one.
     pub fn metadata(&self, id: &PackageId) -> Option<&PackageMetadata>
         ensures { MatchOption result (¬ Contains (ids self.now) id.now)
             (λ p. Contains self.now p.now × (p.now.id ≡ id.now)) }
@@ -99,11 +111,11 @@ impl PackageGraph {
         Some(&self.packages[position])
     }
 
-    /// Whether `a` depends on `b`: whether a path of links, of any length and zero too, leads from `a`
-    /// to `b`. Paths may run through packages outside the workspace.
+    /// Returns whether `a` depends on `b`, directly or through other packages, inside or outside of the workspace. Each
+    /// package depends on itself.
     ///
-    /// `UnknownPackage` is answered exactly where `a` or `b` is no package of the graph; the only other
-    /// error is out of memory. It is one search, linear in the packages and the links that it reaches.
+    /// Returns `UnknownPackage` if and only if `a` or `b` is no package of the graph; the only other error is out of
+    /// memory. The search is linear in the packages plus the links that it reaches.
     pub fn depends_on(
         &self,
         alloc: Global,
@@ -118,30 +130,28 @@ impl PackageGraph {
         let (Some(from), Some(to)) = (self.position(a), self.position(b)) else {
             return Err(DependsRefusal::UnknownPackage);
         };
-        let starts = marked_alone(alloc, self.packages.len(), from)?;
-        let marks = self.reached_from(alloc, starts.as_slice())?;
+        let starts = mark_alone(alloc, self.packages.len(), from)?;
+        let marks = self.mark_reached(alloc, starts.as_slice())?;
         Ok(marks[to])
     }
 
-    /// Marks the packages to which a path of links leads from a marked one: these themselves, and all
-    /// that they depend on. A mark belongs to the package at the same position of `packages`. The only
-    /// error is out of memory. It is one search for all starts.
-    pub fn reached_from(&self, alloc: Global, starts: &[bool]) -> Result<Vec<bool>, AllocError>
+    /// Marks the starts and all packages that they depend on, directly or not. A mark belongs to the package at the
+    /// same position of `packages`. The only error is out of memory. One linear search serves all starts.
+    pub fn mark_reached(&self, alloc: Global, starts: &[bool]) -> Result<Vec<bool>, AllocError>
         requires { length starts.now ≡ length self.now }
         ensures len { IfOk result (λ marks. vec_len marks ≡ length self.now) }
         ensures exact { IfOk result (MarksReached self.now starts.now) }
     {
-        reached(alloc, self.links.as_slice(), starts)
+        mark_reached(alloc, self.links.as_slice(), starts)
     }
 
-    /// Marks the packages from which a path of links leads to a marked one: these themselves, and all
-    /// that depend on them. A mark belongs to the package at the same position of `packages`. The only
-    /// error is out of memory. It is one search for all ends.
-    pub fn reaching(&self, alloc: Global, ends: &[bool]) -> Result<Vec<bool>, AllocError>
+    /// Marks the ends and all packages that depend on them, directly or not. A mark belongs to the package at the same
+    /// position of `packages`. The only error is out of memory. One linear search serves all ends.
+    pub fn mark_reaching(&self, alloc: Global, ends: &[bool]) -> Result<Vec<bool>, AllocError>
         requires { length ends.now ≡ length self.now }
         ensures len { IfOk result (λ marks. vec_len marks ≡ length self.now) }
         ensures exact { IfOk result (MarksReaching self.now ends.now) }
     {
-        reached(alloc, self.linked_by.as_slice(), ends)
+        mark_reached(alloc, self.linked_by.as_slice(), ends)
     }
 }

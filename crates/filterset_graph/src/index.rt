@@ -1,4 +1,4 @@
-//! What a graph keeps beside its packages, so that a question takes one search.
+//! The index of a graph: the position of each id, and the links as positions, in both directions.
 ghost use Rattle.std.specs.Prelude.{◌≡◌, ◌<◌, ◌+◌, ℕ, All, IfOk, IfErr, OnOk, length, vec_len};
 ghost use Rattle.filterset_graph.specs.Index.{AddsEdges, AreRows, IsReversed, IsRowOf, PositionsAre};
 ghost use Rattle.filterset_graph.specs.Packages.{ids};
@@ -10,7 +10,7 @@ use crate::refusal::GraphRefusal;
 use std::alloc::{AllocError, Global};
 use std::collections::BTreeMap;
 
-/// The position of each id, or the first position whose id stands at an earlier one.
+/// Returns the position of each id. The first id that is repeated is an error.
 pub fn positions_of(
     alloc: Global,
     packages: &[PackageMetadata],
@@ -28,9 +28,9 @@ pub fn positions_of(
     Ok(positions)
 }
 
-/// The positions of the packages that the links of the package at `package` name, or the first link that
-/// names none.
-fn resolved_row(
+/// Returns the positions of the packages that these links name; they are the links of the package at position
+/// `package`. The first link that names no package is an error.
+fn resolve_row(
     alloc: Global,
     positions: &BTreeMap<PackageId, usize>,
     links: &[PackageId],
@@ -49,8 +49,8 @@ fn resolved_row(
     Ok(row)
 }
 
-/// For each package the positions of those that it is linked to, or the first link that names none.
-pub fn resolved_links(
+/// Returns, for each package, the positions that its links name. The first link that names no package is an error.
+pub fn resolve_links(
     alloc: Global,
     positions: &BTreeMap<PackageId, usize>,
     packages: &[PackageMetadata],
@@ -62,13 +62,13 @@ pub fn resolved_links(
 {
     let mut links = Vec::new(alloc);
     for (at, package) in packages.iter().enumerate() {
-        links.push(resolved_row(alloc, positions, package.links.as_slice(), at)?)?;
+        links.push(resolve_row(alloc, positions, package.links.as_slice(), at)?)?;
     }
     Ok(links)
 }
 
-/// `len` rows without positions.
-fn empty_rows(alloc: Global, len: usize) -> Result<Vec<Vec<usize>>, AllocError>
+/// Returns `len` empty rows.
+fn make_rows(alloc: Global, len: usize) -> Result<Vec<Vec<usize>>, AllocError>
     ensures len { IfOk result (λ rows. vec_len rows ≡ len) }
     ensures empty { IfOk result (λ rows. (a b : ℕ) → ¬ HasEdge rows.items a b) }
 {
@@ -79,7 +79,7 @@ fn empty_rows(alloc: Global, len: usize) -> Result<Vec<Vec<usize>>, AllocError>
     Ok(rows)
 }
 
-/// Adds the position `from` to each of these rows.
+/// Appends `from` to the rows at these positions.
 fn add_to_rows(rows: &mut [Vec<usize>], positions: &[usize], from: usize) -> Result<(), AllocError>
     requires { All (λ position. position < length rows.old) positions.now }
     ensures { OnOk result (AddsEdges rows.old positions.now from rows.new) }
@@ -90,13 +90,13 @@ fn add_to_rows(rows: &mut [Vec<usize>], positions: &[usize], from: usize) -> Res
     Ok(())
 }
 
-/// For each position the positions whose rows name it.
-pub fn reversed(alloc: Global, links: &[Vec<usize>]) -> Result<Vec<Vec<usize>>, AllocError>
+/// Reverses the links: returns, for each position, the positions whose rows name it.
+pub fn reverse(alloc: Global, links: &[Vec<usize>]) -> Result<Vec<Vec<usize>>, AllocError>
     requires { EdgesStayBelow (length links.now) links.now }
     ensures len { IfOk result (λ back. vec_len back ≡ length links.now) }
     ensures edges { IfOk result (λ back. IsReversed links.now back.items) }
 {
-    let mut back = empty_rows(alloc, links.len())?;
+    let mut back = make_rows(alloc, links.len())?;
     for (from, row) in links.iter().enumerate() {
         add_to_rows(&mut back, row.as_slice(), from)?;
     }

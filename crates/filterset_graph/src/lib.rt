@@ -1,4 +1,4 @@
-//! The packages of a workspace, what they depend on, and the ids of their test binaries.
+//! Packages of a workspace, their dependencies, and the ids of their test binaries.
 #![tactic(auto)]
 
 mod binary;

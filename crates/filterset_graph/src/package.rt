@@ -1,4 +1,4 @@
-//! Packages of a workspace: their ids, their build targets, and what they depend on.
+//! Packages: their ids, build targets and dependencies.
 ghost use Rattle.std.specs.Prelude.{◌≡◌, IfOk, string_bytes};
 ghost use Rattle.std.proofs.Common.{refl, rules};
 ghost use Rattle.std.specs.Cmp as laws;
@@ -15,8 +15,7 @@ use std::fmt;
 use std::hash::{Hash, Hasher};
 use std::marker::Model;
 
-/// The id of a package: any text. Contracts see it as that text, and ids are equal, ordered and
-/// hashed as their texts are, byte by byte.
+/// The id of a package, any text. Contracts see the text; ids are compared and hashed as the bytes of their texts.
 #[derive(Debug, Drop)]
 pub struct PackageId {
     repr: String,
@@ -31,21 +30,21 @@ impl Model for PackageId {
 }
 
 impl PackageId {
-    /// The id that is written so. The text is kept as it is.
+    /// Returns the id with this text.
     pub fn new(repr: String) -> PackageId
         ensures { result ≡ string_bytes repr }
     {
         PackageId { repr }
     }
 
-    /// The text of the id.
+    /// Returns the text of the id.
     pub fn repr(&self) -> &str
         ensures { result.now ≡ self.now }
     {
         self.repr.as_str()
     }
 
-    /// An equal id. The only error is out of memory.
+    /// Copies the id. The only error is out of memory.
     pub fn try_clone(&self, alloc: Global) -> Result<PackageId, AllocError>
         ensures { IfOk result (λ copy. copy ≡ self.now) }
     {
@@ -107,12 +106,12 @@ impl Hash for PackageId {
     }
 }
 
-/// Which platform a test binary is built for. Displays as `target` or `host`.
+/// The platform that a test binary is built for. Displays as `target` or `host`.
 #[derive(Clone, Copy, Debug, PartialEq, Eq)]
 pub enum BuildPlatform {
-    /// The platform on which the built programs are to run.
+    /// The platform that the built programs run on.
     Target,
-    /// The platform that builds, as for procedural macros.
+    /// The platform that compiles them, as for procedural macros.
     Host,
 }
 
@@ -130,10 +129,10 @@ impl fmt::Display for BuildPlatform {
     }
 }
 
-/// What a build target of a package is.
+/// The kind of a build target.
 #[derive(Clone, Copy, Debug, PartialEq, Eq)]
 pub enum BuildTargetId {
-    /// The library, also one that is a procedural macro.
+    /// The library, or a procedural macro.
     Library,
     /// A program.
     Binary,
@@ -143,7 +142,7 @@ pub enum BuildTargetId {
     Test,
     /// A benchmark.
     Benchmark,
-    /// The program that runs before the package is built.
+    /// The build script.
     BuildScript,
 }
 
@@ -151,8 +150,8 @@ impl BuildTargetId {
     ghost use Rattle.std.specs.Prelude.{◌≡◌};
     ghost use Rattle.filterset_graph.specs.Binaries.{kind_of};
 
-    /// The kind of the test binary that is made of such a target: `lib`, `bin`, `example`, `test` or
-    /// `bench`. No test binary is made of a build script.
+    /// Returns the kind of the target's test binary: `lib`, `bin`, `example`, `test` or `bench`. A build script has
+    /// none.
     pub fn binary_kind(self) -> Option<RustTestBinaryKind>
         ensures { result ≡ kind_of self }
     {
@@ -170,36 +169,36 @@ impl BuildTargetId {
 /// A build target of a package.
 #[derive(Debug, Drop)]
 pub struct BuildTarget {
-    /// What it is.
+    /// Its kind.
     pub id: BuildTargetId,
-    /// Its name, which is the name of the test binary that is made of it.
+    /// Its name, and the name of its test binary.
     pub name: String,
 }
 
-/// What is known of a package.
+/// A package.
 #[derive(Debug, Drop)]
 pub struct PackageMetadata {
-    /// The id, by which links name the package.
+    /// The id; `links` of other packages name the package by it.
     pub id: PackageId,
-    /// The name, which matchers are held against. Packages may share a name.
+    /// The name, which matchers match. Packages may share a name.
     pub name: String,
-    /// Whether it belongs to the workspace, or is only depended on.
+    /// Whether the package belongs to the workspace.
     pub in_workspace: bool,
     /// Its build targets.
     pub build_targets: Vec<BuildTarget>,
-    /// The ids of the packages that it directly depends on.
+    /// The ids of its direct dependencies.
     pub links: Vec<PackageId>,
 }
 
 impl PackageMetadata {
-    /// The id.
+    /// Returns the id.
     pub fn id(&self) -> &PackageId
         ensures { result.now ≡ self.now.id }
     {
         &self.id
     }
 
-    /// The name.
+    /// Returns the name.
     pub fn name(&self) -> &str
         ensures { result.now ≡ string_bytes self.now.name }
     {

@@ -114,9 +114,9 @@ fn judge_search(
     if starts.len() != graph.packages().len() {
         return lines.note(false, "search", "starts", "another count");
     }
-    let found = graph.reached_from(alloc, &starts)?;
+    let found = graph.mark_reached(alloc, &starts)?;
     lines.note(found == reached, "search", "reached", "others")?;
-    let found = graph.reaching(alloc, &starts)?;
+    let found = graph.mark_reaching(alloc, &starts)?;
     lines.note(found == reaching, "search", "reaching", "others")
 }
 

@@ -43,7 +43,7 @@ pub(super) fn dependencies(
 {
     let packages = cx.graph().packages();
     let starts = marked_by_name(alloc, packages, matcher)?;
-    let marks = cx.graph().reached_from(alloc, &starts)?;
+    let marks = cx.graph().mark_reached(alloc, &starts)?;
     marked_members(alloc, packages, &marks)
 }
 
@@ -58,7 +58,7 @@ pub(super) fn dependents(
 {
     let packages = cx.graph().packages();
     let ends = marked_by_name(alloc, packages, matcher)?;
-    let marks = cx.graph().reaching(alloc, &ends)?;
+    let marks = cx.graph().mark_reaching(alloc, &ends)?;
     marked_members(alloc, packages, &marks)
 }
 

@@ -3,8 +3,8 @@ use Rattle.filterset_graph.proofs.Paths.{one_position, one_position_within, reac
 use Rattle.filterset_graph.proofs.Refused.{memory_apart}
 use Rattle.filterset_graph.proofs.graph.PackageGraph.depends_on.Goals as goal
 
-pub marked_alone-requires : goal.marked_alone-requires
-marked_alone-requires c =
+pub mark_alone-requires : goal.mark_alone-requires
+mark_alone-requires c =
     let within : c.in-Some-Some.from < length c.args.self.now = one_position_within c.args.self.now c.args.a.now c.in-Some-Some.from c.in-Some-Some.ensures in
     let inside : c.in-Some-Some.from < length c.self.inside.packages.items = rw c.self.view_is within in
     omega (arith, inside, c.self.inside.packages.ok.0, c.len.ensures)

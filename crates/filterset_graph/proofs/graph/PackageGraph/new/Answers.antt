@@ -17,8 +17,8 @@ returns-in_err-links-clause-refused c =
     handed_on c.from_residual-in_err-links.result c.in_err-links.field-0.0 (IsRefusalOf c.args.packages.items) c.from_residual-in_err-links.ensures.1
     (IsTrueOf-from_links c.in_ok-positions.positions c.args.packages.items c.in_err-links.field-0.0 (rw c.as_slice.ensures.value at c.in_ok-positions.ensures.ok) (rw c.as_slice-2.ensures.value at c.in_err-links.ensures.refused))
 
-pub reversed-requires : goal.reversed-requires
-reversed-requires c =
+pub reverse-requires : goal.reverse-requires
+reverse-requires c =
     let placed : PositionsAre c.in_ok-positions.positions (ids c.args.packages.items) = rw (← c.as_slice.ensures.value) c.in_ok-positions.ensures.ok in
     let rows : AreRows c.in_ok-positions.positions c.args.packages.items c.in_ok-links.links.items = rw (← c.as_slice-2.ensures.value) c.in_ok-links.ensures.ok in
     let size : length c.in_ok-links.links.items ≡ length c.args.packages.items = omega (arith, c.in_ok-links.ensures.len, c.in_ok-links.links.ok.0, ap length c.as_slice-2.ensures.value) in

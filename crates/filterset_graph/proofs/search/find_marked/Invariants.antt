@@ -1,6 +1,6 @@
 use Rattle.std.proofs.Common.{◌<◌, ◌↔◌, ℕ, Contains}
 use Rattle.filterset_graph.specs.Walks.{IsMarked}
-use Rattle.filterset_graph.proofs.search.marked_positions.Given as goal
+use Rattle.filterset_graph.proofs.search.find_marked.Given as goal
 
 abbrev pub invariant-loop-position : goal.invariant-loop-position
 invariant-loop-position l =

@@ -6,7 +6,7 @@ use Rattle.std.proofs.lemmas.Option.{slice_get-get_or}
 use Rattle.filterset_graph.specs.Index.{AddsEdges}
 use Rattle.filterset_graph.proofs.Rows.{ReversedBelow-none, ReversedBelow-more, ReversedBelow-all}
 use Rattle.filterset_graph.proofs.Steps.{take-append_all}
-use Rattle.filterset_graph.proofs.index.reversed.Goals as goal
+use Rattle.filterset_graph.proofs.index.reverse.Goals as goal
 
 pub loop-from-init : goal.loop-from-init
 loop-from-init c = (c.in_ok-back.ensures.len, ReversedBelow-none c.args.links.now c.in_ok-back.back.items c.in_ok-back.ensures.empty)

@@ -4,7 +4,7 @@ use Rattle.std.proofs.lemmas.Option.{slice_get-get_or}
 use Rattle.std.specs.Prelude.{slice_get}
 use Rattle.std.specs.declared.alloc.Global.{Global}
 use Rattle.filterset_graph.proofs.Steps.{take-append_all, Spreads-pending_within, Spreads-step, Spreads-done}
-use Rattle.filterset_graph.proofs.search.reached.Goals as goal
+use Rattle.filterset_graph.proofs.search.mark_reached.Goals as goal
 
 pub bounds-edges-position : goal.bounds-edges-position
 bounds-edges-position c =
