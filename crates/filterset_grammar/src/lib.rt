@@ -1,4 +1,4 @@
-//! The language of filtersets as it is defined: its trees, the texts that spell them, how they print, when they are
+//! The definition of the language of filtersets: its trees, the texts that spell them, how trees print, when they are
 //! equal, and where parentheses are added.
 #![tactic(auto)]
 

@@ -1,4 +1,4 @@
-//! Operators, and how each is written.
+//! The operators and how they print.
 ghost use Rattle.std.specs.Prelude.{Some};
 ghost use Rattle.filterset_grammar.specs.Tree.{Both, Without, ExactlyOne};
 ghost use Rattle.filterset_grammar.specs.Grammar.{not_text, or_text, join_text};
@@ -6,14 +6,14 @@ ghost use Rattle.filterset_grammar.specs.Grammar.{not_text, or_text, join_text};
 use std::fmt;
 use std::fmt::Display;
 
-/// How a negation is written: `not` or `!`.
+/// A negation: `not` or `!`.
 #[derive(Clone, Copy, Debug, PartialEq, Eq)]
 pub enum NotOperator {
     LiteralNot,
     Exclamation,
 }
 
-/// How a union is written: `or`, `|` or `+`.
+/// A union: `or`, `|` or `+`.
 #[derive(Clone, Copy, Debug, PartialEq, Eq)]
 pub enum OrOperator {
     LiteralOr,
@@ -21,26 +21,26 @@ pub enum OrOperator {
     Plus,
 }
 
-/// How an intersection is written: `and` or `&`.
+/// An intersection: `and` or `&`.
 #[derive(Clone, Copy, Debug, PartialEq, Eq)]
 pub enum AndOperator {
     LiteralAnd,
     Ampersand,
 }
 
-/// How a difference is written: `-`.
+/// A difference: `-`.
 #[derive(Clone, Copy, Debug, PartialEq, Eq)]
 pub enum DifferenceOperator {
     Minus,
 }
 
-/// How a symmetric difference is written: `^`.
+/// A symmetric difference: `^`.
 #[derive(Clone, Copy, Debug, PartialEq, Eq)]
 pub enum SymmetricDifferenceOperator {
     Caret,
 }
 
-/// An operator of the level of `and`: both operands, the first without the second, or exactly one of the two.
+/// An operator of the level of `and`: an intersection, a difference or a symmetric difference.
 #[derive(Clone, Copy, Debug, PartialEq, Eq)]
 pub enum Joiner {
     Both(AndOperator),
@@ -48,7 +48,7 @@ pub enum Joiner {
     ExactlyOne(SymmetricDifferenceOperator),
 }
 
-/// `not` or `!`.
+/// Prints `not` or `!`.
 impl fmt::Display for NotOperator {
     ghost output = { λ o. Some (not_text o) };
 
@@ -60,7 +60,7 @@ impl fmt::Display for NotOperator {
     }
 }
 
-/// `or`, `|` or `+`.
+/// Prints `or`, `|` or `+`.
 impl fmt::Display for OrOperator {
     ghost output = { λ o. Some (or_text o) };
 
@@ -73,7 +73,7 @@ impl fmt::Display for OrOperator {
     }
 }
 
-/// `and` or `&`.
+/// Prints `and` or `&`.
 impl fmt::Display for AndOperator {
     ghost output = { λ o. Some (join_text (Both o)) };
 
@@ -85,7 +85,7 @@ impl fmt::Display for AndOperator {
     }
 }
 
-/// `-`.
+/// Prints `-`.
 impl fmt::Display for DifferenceOperator {
     ghost output = { λ o. Some (join_text (Without o)) };
 
@@ -96,7 +96,7 @@ impl fmt::Display for DifferenceOperator {
     }
 }
 
-/// `^`.
+/// Prints `^`.
 impl fmt::Display for SymmetricDifferenceOperator {
     ghost output = { λ o. Some (join_text (ExactlyOne o)) };
 

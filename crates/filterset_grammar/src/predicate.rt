@@ -1,4 +1,4 @@
-//! Predicates that take a matcher, and how each of them matches a text.
+//! The predicates that take a matcher, and how each matches by default.
 ghost use Rattle.std.specs.Prelude.{◌≡◌};
 ghost use Rattle.filterset_grammar.specs.Grammar.{own_matching};
 
@@ -15,7 +15,7 @@ pub enum Predicate {
     Group,
 }
 
-/// How a matcher that is no regular expression matches a name by its text.
+/// The way in which a matcher compares its text with a name. Regular expressions have none.
 #[derive(Clone, Copy, Debug, PartialEq, Eq)]
 pub enum TextMatching {
     Equal,
@@ -24,8 +24,8 @@ pub enum TextMatching {
 }
 
 impl Predicate {
-    /// How the predicate matches by a text that no sign stands before: `kind` by equality, `test` by what stands in
-    /// the name, and all others by a glob.
+    /// Returns how the predicate matches if its matcher has no sign: `kind` by equality, `test` by containment, and all
+    /// others by a glob.
     pub fn own_matching(self) -> TextMatching
         ensures { result ≡ own_matching self }
     {

@@ -1,4 +1,4 @@
-//! The language of filtersets as it is read and written: parsed trees, the parser, the printer, and its laws.
+//! The language of filtersets: parsed trees, the parser, the printer, and the laws of both.
 #![tactic(auto)]
 
 pub mod laws;

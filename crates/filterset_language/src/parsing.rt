@@ -1,4 +1,4 @@
-//! Reading filtersets.
+//! The parser of filtersets.
 
 mod escapes;
 mod expressions;

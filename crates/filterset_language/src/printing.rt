@@ -1,4 +1,4 @@
-//! What trees and their parts print.
+//! How trees and predicates print.
 ghost use Rattle.std.specs.Prelude.{Some};
 ghost use Rattle.filterset_language.specs.Views.{leaf_of, tree_of};
 ghost use Rattle.filterset_grammar.specs.Printing.{printed, printed_leaf};
@@ -7,7 +7,7 @@ use crate::tree::{ParsedExpr, ParsedLeaf};
 use std::fmt;
 use std::fmt::Display;
 
-/// Operators with one blank on either side, a negation with one after it, and parentheses as in the tree.
+/// Prints one blank on each side of an operator, one after a negation, and parentheses only where the tree has them.
 impl<S> fmt::Display for ParsedExpr<S> {
     ghost output = { λ e. Some (printed (tree_of e)) };
 
@@ -47,7 +47,7 @@ impl<S> fmt::Display for ParsedExpr<S> {
     }
 }
 
-/// The name, and the argument between parentheses. A platform prints as `host` or `target`, and blanks are gone.
+/// Prints the name and the argument in parentheses, without blanks round it. A platform prints as `host` or `target`.
 impl<S> fmt::Display for ParsedLeaf<S> {
     ghost output = { λ l. Some (printed_leaf (leaf_of l)) };
 

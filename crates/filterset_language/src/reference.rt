@@ -1,6 +1,6 @@
-//! The language on a page.
+//! The reference of the language for users.
 
-/// A reference of the language, in Markdown.
+/// The reference of the language for users, in Markdown.
 pub const FILTERSET_REFERENCE_MD: &str = r"# Filtersets
 
 A filterset is an expression that picks tests, as `package(core) and not test(~slow)`.

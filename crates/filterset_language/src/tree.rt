@@ -16,41 +16,43 @@ mod leaves;
 pub(crate) mod nodes;
 mod parens;
 
-use nodes::{copied_set, enclosed, joined, negation, union};
+use nodes::{copy_set, enclose, join, negate, unite};
 
-/// A predicate of a filterset. Its span is that of its argument without the blanks after a pattern, and of `default()`
-/// that of the whole predicate; `all()` and `none()` have none.
+/// A predicate of a filterset.
 ///
-/// It implements `Drop`, so a field is read by reference, and none is moved out of it.
+/// The span is the argument's, without blanks after a pattern; `default()` has the span of the whole predicate, and
+/// `all()` and `none()` have none.
+///
+/// The type implements `Drop`, so no field can be moved out of it.
 #[derive(Debug)]
 pub enum ParsedLeaf<S = SourceSpan> {
-    /// The test's package, by its name.
+    /// Tests of packages whose name matches.
     Package(NameMatcher, S),
-    /// The packages that a package of that name depends on, and itself.
+    /// Tests of packages whose name matches, and of their dependencies, direct or not.
     Deps(NameMatcher, S),
-    /// The packages that depend on a package of that name, and itself.
+    /// Tests of packages whose name matches, and of the packages that depend on them, directly or not.
     Rdeps(NameMatcher, S),
-    /// The kind of the test's binary.
+    /// Tests of binaries whose kind matches.
     Kind(NameMatcher, S),
-    /// The name of the test's binary.
+    /// Tests of binaries whose name matches.
     Binary(NameMatcher, S),
-    /// The id of the test's binary.
+    /// Tests of binaries whose id matches.
     BinaryId(NameMatcher, S),
-    /// The platform that the test's binary is built for.
+    /// Tests of binaries that are built for this platform.
     Platform(BuildPlatform, S),
-    /// The test's name.
+    /// Tests whose name matches.
     Test(NameMatcher, S),
-    /// The test's group.
+    /// Tests whose group matches.
     Group(NameMatcher, S),
-    /// The default filter.
+    /// Tests that the default filter matches.
     Default(S),
-    /// Every test.
+    /// All tests.
     All,
-    /// No test.
+    /// No tests.
     None,
 }
 
-// Written out, so that a proof of who lets a predicate go has one call, and not a branch a variant.
+// A derived impl would make each proof about a dropped predicate branch for every variant; this one is a single call.
 impl<S: Drop> Drop for ParsedLeaf<S> {
     fn drop(self) {
         match self {
@@ -69,7 +71,7 @@ impl<S: Drop> Drop for ParsedLeaf<S> {
 }
 
 impl<S> ParsedLeaf<S> {
-    /// Whether the test itself decides the predicate, and not its binary alone: `test`, `group` and `default`.
+    /// Returns whether the answer depends on the test and not only on its binary: `test`, `group` and `default`.
     pub fn is_runtime_only(&self) -> bool
         ensures { result ≡ is_runtime_only (leaf_of self.now) }
     {
@@ -81,7 +83,7 @@ impl<S> ParsedLeaf<S> {
 }
 
 impl<S: Copy> ParsedLeaf<S> {
-    /// A copy of the predicate, spans included. The only error is out of memory.
+    /// Copies the predicate, spans included. The only error is out of memory.
     pub fn try_clone(&self, alloc: Global) -> Result<ParsedLeaf<S>, AllocError>
         ensures { IfOk result (λ copy. leaf_of copy ≡ leaf_of self.now) }
     {
@@ -108,7 +110,7 @@ impl<S: Copy> ParsedLeaf<S> {
     }
 }
 
-/// A filterset's tree. Both binary levels nest to the left.
+/// The tree of a filterset. Operators of one level nest to the left.
 #[derive(Debug, Drop)]
 pub enum ParsedExpr<S = SourceSpan> {
     Not(NotOperator, Box<ParsedExpr<S>>),
@@ -116,56 +118,61 @@ pub enum ParsedExpr<S = SourceSpan> {
     Intersection(AndOperator, Box<ParsedExpr<S>>, Box<ParsedExpr<S>>),
     Difference(DifferenceOperator, Box<ParsedExpr<S>>, Box<ParsedExpr<S>>),
     SymmetricDifference(SymmetricDifferenceOperator, Box<ParsedExpr<S>>, Box<ParsedExpr<S>>),
-    /// An expression between parentheses.
+    /// An expression in parentheses.
     Parens(Box<ParsedExpr<S>>),
     /// A predicate.
     Set(ParsedLeaf<S>),
 }
 
 impl<S: Copy> ParsedExpr<S> {
-    /// A copy of the tree, spans included. The only error is out of memory.
+    /// Copies the tree, spans included. The only error is out of memory.
     pub fn try_clone(&self, alloc: Global) -> Result<ParsedExpr<S>, AllocError>
         ensures { IfOk result (λ copy. tree_of copy ≡ tree_of self.now) }
     {
-        Ok(Box::into_inner(copied(alloc, self)?))
+        Ok(Box::into_inner(copy_tree(alloc, self)?))
     }
 }
 
-/// A copy of the tree, in a box: see `nodes`.
-fn copied<S: Copy>(alloc: Global, expr: &ParsedExpr<S>) -> Result<Box<ParsedExpr<S>>, AllocError>
+/// Copies the tree into a box.
+fn copy_tree<S: Copy>(alloc: Global, expr: &ParsedExpr<S>) -> Result<Box<ParsedExpr<S>>, AllocError>
     ensures { IfOk result (λ copy. tree_of copy.value ≡ tree_of expr.now) }
 {
     match expr {
         ParsedExpr::Not(operator, operand) => {
-            negation(alloc, *operator, copied(alloc, operand)?)
+            negate(alloc, *operator, copy_tree(alloc, operand)?)
         }
         ParsedExpr::Union(operator, left, right) => {
-            let left = copied(alloc, left)?;
-            union(alloc, *operator, left, copied(alloc, right)?)
+            let left = copy_tree(alloc, left)?;
+            unite(alloc, *operator, left, copy_tree(alloc, right)?)
         }
         ParsedExpr::Intersection(operator, left, right) => {
-            let left = copied(alloc, left)?;
-            joined(alloc, Joiner::Both(*operator), left, copied(alloc, right)?)
+            let left = copy_tree(alloc, left)?;
+            join(
+                alloc,
+                Joiner::Both(*operator),
+                left,
+                copy_tree(alloc, right)?,
+            )
         }
         ParsedExpr::Difference(operator, left, right) => {
-            let left = copied(alloc, left)?;
-            joined(
+            let left = copy_tree(alloc, left)?;
+            join(
                 alloc,
                 Joiner::Without(*operator),
                 left,
-                copied(alloc, right)?,
+                copy_tree(alloc, right)?,
             )
         }
         ParsedExpr::SymmetricDifference(operator, left, right) => {
-            let left = copied(alloc, left)?;
-            joined(
+            let left = copy_tree(alloc, left)?;
+            join(
                 alloc,
                 Joiner::ExactlyOne(*operator),
                 left,
-                copied(alloc, right)?,
+                copy_tree(alloc, right)?,
             )
         }
-        ParsedExpr::Parens(inner) => enclosed(alloc, copied(alloc, inner)?),
-        ParsedExpr::Set(leaf) => copied_set(alloc, leaf),
+        ParsedExpr::Parens(inner) => enclose(alloc, copy_tree(alloc, inner)?),
+        ParsedExpr::Set(leaf) => copy_set(alloc, leaf),
     }
 }

@@ -1,4 +1,4 @@
-//! Reading expressions.
+//! Reads expressions.
 ghost use Rattle.std.specs.Prelude.{◌≡◌, ℕ, suc, ◌<◌, ◌≤◌, length, IfOk, Some};
 ghost use Rattle.std.specs.Option.{option_map};
 ghost use Rattle.filterset_grammar.specs.Tree.{Not, Parens, Set};
@@ -19,10 +19,10 @@ use filterset_faults::ParseSingleError;
 use filterset_grammar::{Joiner, NotOperator, OrOperator};
 use std::alloc::{AllocError, Global};
 
-/// A leaf, a negation or parentheses.
+/// Reads a predicate, a negation or an expression in parentheses.
 ///
-/// The readers of expressions call each other, so each keeps what it holds apart from the others: an expression that
-/// nests takes the room of their frames at each level.
+/// The readers of expressions call each other, and an expression takes up their frames at each level that it nests. So
+/// each part is read by a function of its own, which has few locals.
 #[cycle(parser)]
 fn read_operand<'a>(
     alloc: Global,
@@ -47,7 +47,7 @@ fn read_operand<'a>(
     read_nothing(faults, input, start)
 }
 
-/// The negation of the operand after the operator.
+/// Reads the operand of a negation, after the operator.
 #[cycle(parser)]
 #[inline(never)]
 fn read_negation<'a>(
@@ -68,7 +68,7 @@ fn read_negation<'a>(
     })
 }
 
-/// An expression after an opening parenthesis, and the closing one.
+/// Reads an expression and the closing parenthesis, after the opening one.
 #[cycle(parser)]
 #[inline(never)]
 fn read_parens<'a>(
@@ -89,7 +89,7 @@ fn read_parens<'a>(
     })
 }
 
-/// No operand: what stands here instead is reported.
+/// Reports that no operand is at `start`, and returns no value.
 #[inline(never)]
 fn read_nothing<'a>(
     faults: &mut Vec<ParseSingleError>,
@@ -109,7 +109,7 @@ fn read_nothing<'a>(
     })
 }
 
-/// Reports what stands where an operand should, and goes on after it.
+/// Reports what is at `start` instead of an operand, and returns where to go on: after a misplaced operator.
 #[inline(never)]
 fn report_no_operand<'a>(
     faults: &mut Vec<ParseSingleError>,
@@ -143,8 +143,7 @@ fn report_no_operand<'a>(
     Ok(input)
 }
 
-/// Operands of the level of `and`. Where nothing was read as the first one, `^` is no operator, and the
-/// level ends there.
+/// Reads operands of the level of `and`. If the first one took up no text, the level ends before `^`.
 #[cycle(parser)]
 fn read_and_level<'a>(
     alloc: Global,
@@ -163,7 +162,7 @@ fn read_and_level<'a>(
     read_and_rest(alloc, faults, first)
 }
 
-/// Operands of the level of `and` after the first one.
+/// Reads the operands of the level of `and` after the first one.
 #[cycle(parser)]
 #[inline(never)]
 fn read_and_rest<'a>(
@@ -181,7 +180,7 @@ fn read_and_rest<'a>(
         let Some((joiner, rest)) = read_joiner(start) else {
             return Ok(Read {
                 value: level.value,
-                end: level.end.before_blanks(start),
+                end: level.end.remember_blanks(start),
             });
         };
         check_joiner(faults, joiner, start, rest)?;
@@ -193,7 +192,7 @@ fn read_and_rest<'a>(
     }
 }
 
-/// Operands of the level of `or`.
+/// Reads operands of the level of `or`.
 #[cycle(parser)]
 pub fn read_or_level<'a>(
     alloc: Global,
@@ -209,7 +208,7 @@ pub fn read_or_level<'a>(
     read_or_rest(alloc, faults, first)
 }
 
-/// Operands of the level of `or` after the first one.
+/// Reads the operands of the level of `or` after the first one.
 #[cycle(parser)]
 #[inline(never)]
 fn read_or_rest<'a>(
@@ -227,7 +226,7 @@ fn read_or_rest<'a>(
         let Some((operator, rest)) = read_or(start) else {
             return Ok(Read {
                 value: level.value,
-                end: level.end.before_blanks(start),
+                end: level.end.remember_blanks(start),
             });
         };
         check_or(faults, operator, start, rest)?;
@@ -239,7 +238,7 @@ fn read_or_rest<'a>(
     }
 }
 
-/// Reports an invalid operator of the level of `and`.
+/// Reports an operator of the level of `and` that has no value.
 #[inline(never)]
 fn check_joiner<'a>(
     faults: &mut Vec<ParseSingleError>,
@@ -259,7 +258,7 @@ fn check_joiner<'a>(
     Ok(())
 }
 
-/// Reports an invalid operator of the level of `or`.
+/// Reports an operator of the level of `or` that has no value.
 #[inline(never)]
 fn check_or<'a>(
     faults: &mut Vec<ParseSingleError>,
@@ -279,7 +278,7 @@ fn check_or<'a>(
     Ok(())
 }
 
-/// A predicate from `start` on, after its name, as an expression.
+/// Reads a predicate after its name, as an expression. The name begins at `start`.
 #[inline(never)]
 fn read_set<'a>(
     alloc: Global,
@@ -296,22 +295,22 @@ fn read_set<'a>(
 {
     let leaf = read_predicate(alloc, faults, name, start, input)?;
     Ok(Read {
-        value: leaf_expr(alloc, leaf.value)?,
+        value: make_set(alloc, leaf.value)?,
         end: leaf.end,
     })
 }
 
-/// A predicate as an expression, where there is one.
-fn leaf_expr(alloc: Global, leaf: Option<ParsedLeaf>) -> Result<Option<Box<ParsedExpr>>, AllocError>
+/// Makes an expression of a predicate, if it has a value.
+fn make_set(alloc: Global, leaf: Option<ParsedLeaf>) -> Result<Option<Box<ParsedExpr>>, AllocError>
     ensures { IfOk result (λ e. option_map boxed_tree e ≡ option_map (λ l. Set l) (option_map leaf_of leaf)) }
 {
     match leaf {
-        Some(leaf) => Ok(Some(Box::new(alloc, ParsedExpr::Set(leaf))?)),
+        Some(leaf) => Ok(Some(nodes::make_set(alloc, leaf)?)),
         None => Ok(None),
     }
 }
 
-/// The negation of an operand, where there is one.
+/// Negates an operand, if it has a value.
 #[inline(never)]
 fn negate(
     alloc: Global,
@@ -322,12 +321,12 @@ fn negate(
         ≡ option_map (λ t. Not operator t) (option_map boxed_tree operand)) }
 {
     match operand {
-        Some(operand) => Ok(Some(Box::new(alloc, ParsedExpr::Not(operator, operand))?)),
+        Some(operand) => Ok(Some(nodes::negate(alloc, operator, operand)?)),
         None => Ok(None),
     }
 }
 
-/// An expression between parentheses, where there is one.
+/// Encloses an expression in parentheses, if it has a value.
 #[inline(never)]
 fn enclose(
     alloc: Global,
@@ -337,12 +336,12 @@ fn enclose(
         ≡ option_map (λ t. Parens t) (option_map boxed_tree inner)) }
 {
     match inner {
-        Some(inner) => Ok(Some(Box::new(alloc, ParsedExpr::Parens(inner))?)),
+        Some(inner) => Ok(Some(nodes::enclose(alloc, inner)?)),
         None => Ok(None),
     }
 }
 
-/// Two operands and the operator between them, where all three are there.
+/// Joins two operands by an operator of the level of `and`, if all three have a value.
 #[inline(never)]
 fn join(
     alloc: Global,
@@ -353,19 +352,15 @@ fn join(
     ensures { IfOk result (λ e. option_map boxed_tree e
         ≡ joined join joiner (option_map boxed_tree left) (option_map boxed_tree right)) }
 {
-    let Some(joiner) = joiner else {
-        return Ok(None);
-    };
-    let Some(left) = left else {
-        return Ok(None);
-    };
-    let Some(right) = right else {
-        return Ok(None);
-    };
-    Ok(Some(nodes::joined(alloc, joiner, left, right)?))
+    match (joiner, left, right) {
+        (Some(joiner), Some(left), Some(right)) => {
+            Ok(Some(nodes::join(alloc, joiner, left, right)?))
+        }
+        _ => Ok(None),
+    }
 }
 
-/// Two operands of the level of `or` and the operator between them, where all three are there.
+/// Joins two operands by an operator of the level of `or`, if all three have a value.
 #[inline(never)]
 fn unite(
     alloc: Global,
@@ -376,14 +371,10 @@ fn unite(
     ensures { IfOk result (λ e. option_map boxed_tree e
         ≡ joined unite operator (option_map boxed_tree left) (option_map boxed_tree right)) }
 {
-    let Some(operator) = operator else {
-        return Ok(None);
-    };
-    let Some(left) = left else {
-        return Ok(None);
-    };
-    let Some(right) = right else {
-        return Ok(None);
-    };
-    Ok(Some(Box::new(alloc, ParsedExpr::Union(operator, left, right))?))
+    match (operator, left, right) {
+        (Some(operator), Some(left), Some(right)) => {
+            Ok(Some(nodes::unite(alloc, operator, left, right)?))
+        }
+        _ => Ok(None),
+    }
 }

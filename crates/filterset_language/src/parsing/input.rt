@@ -1,4 +1,4 @@
-//! Positions of a text, and single steps from one to the next: blanks, words, the next `)`.
+//! Positions in a text, and steps from one to the next: over blanks, a word, or all up to the next `)`.
 ghost use Rattle.std.specs.Prelude.{◌≡◌, ◌+◌, ◌-◌, ◌≤◌, ◌<◌, ◌^◌, ◌∷◌, [], ◌++◌, length, min, take, drop, IsCharBoundary, MatchOption, IfSome, chars};
 ghost use Rattle.std.specs.Option.{option_map};
 ghost use Rattle.filterset_grammar.specs.Text.{ends_word};
@@ -8,20 +8,20 @@ ghost use Rattle.filterset_faults.specs.Span.{span};
 
 use filterset_faults::SourceSpan;
 
-/// A text, and what is left of it from a byte offset on.
+/// A position in a text: a byte offset, and the rest of the text from there.
 #[derive(Clone, Copy)]
 pub struct Input<'a> {
     pub text: &'a str,
     pub rest: &'a str,
     pub offset: usize,
-    /// So many bytes at the front of `rest` are known to be blanks; there may be more.
+    /// The number of bytes at the start of `rest` that are known to be blanks. There may be more.
     blanks: usize,
     ghost seam: { IsSeam text.now rest.now offset },
     ghost fits: { offset + length rest.now < 2 ^ 64 },
     ghost skipped: { AreBlanks offset rest.now blanks },
 }
 
-/// What was read: its value, where it has one, and where it ends, so that reading goes on there.
+/// The result of a reader: the value, if it has one, and the position where reading goes on.
 #[derive(Drop)]
 pub struct Read<'a, T> {
     pub value: Option<T>,
@@ -31,7 +31,7 @@ pub struct Read<'a, T> {
 impl<'a> Input<'a> {
     ghost use Rattle.filterset_language.specs.Parsing.Position.{position, advanced, skip, after, after_word, position_of, IsBehind, IsAtOrBehind};
 
-    /// The whole of a text.
+    /// Starts at the beginning of a text.
     #[tactic(auto, using(crate::proofs::Positions::seam_start))]
     pub fn new(text: &'a str) -> Input<'a>
         ensures value { position_of result ≡ position 0 text.now }
@@ -45,21 +45,21 @@ impl<'a> Input<'a> {
         }
     }
 
-    /// The position here, of no length.
+    /// Returns the empty span at this position.
     pub fn here(self) -> SourceSpan
         ensures { result ≡ span self.entry.offset 0 }
     {
         SourceSpan::new(self.offset, 0)
     }
 
-    /// What stands from here to the end of the text.
+    /// Returns the span from here to the end of the text.
     pub fn to_end(self) -> SourceSpan
         ensures { result ≡ span self.entry.offset (length self.entry.rest.now) }
     {
         SourceSpan::new(self.offset, self.rest.len())
     }
 
-    /// What stands from here to a later position.
+    /// Returns the span from here to a later position.
     pub fn up_to(self, end: Input<'a>) -> SourceSpan
         requires { self.offset ≤ end.offset }
         ensures { result ≡ span self.entry.offset (end.entry.offset - self.entry.offset) }
@@ -67,7 +67,8 @@ impl<'a> Input<'a> {
         SourceSpan::new(self.offset, end.offset - self.offset)
     }
 
-    /// A backslash that begins no escape: from it on, as many bytes as stand after it, at most two.
+    /// Returns the span of a backslash that begins no escape: two bytes, or one if only one byte follows, or none at the
+    /// end of the text.
     pub fn backslash(self) -> SourceSpan
         requires { 0 < length self.rest.now }
         ensures { result ≡ span self.entry.offset (min 2 (length self.entry.rest.now - 1)) }
@@ -75,15 +76,15 @@ impl<'a> Input<'a> {
         SourceSpan::new(self.offset, std::cmp::min(2, self.rest.len() - 1))
     }
 
-    /// The input at the next `)`, or at the end.
-    pub fn next_close(self) -> Input<'a>
+    /// Advances to the next `)`, or to the end.
+    pub fn advance_to_close(self) -> Input<'a>
         ensures value { position_of result ≡ advanced (close_len self.entry.rest.now) (position_of self.entry) }
         ensures behind { IsAtOrBehind self.entry result }
     {
         self.advance(close_len(self.rest.as_bytes()))
     }
 
-    /// The input after its first `count` bytes.
+    /// Advances by `count` bytes.
     pub fn advance(self, count: usize) -> Input<'a>
         requires within { count ≤ length self.rest.now }
         requires boundary { IsCharBoundary self.rest.now count }
@@ -98,7 +99,7 @@ impl<'a> Input<'a> {
         }
     }
 
-    /// The input after all blanks.
+    /// Advances over all blanks.
     pub fn skip_blanks(self) -> Input<'a>
         ensures value { position_of result ≡ skip (position_of self.entry) }
         ensures behind { IsAtOrBehind self.entry result }
@@ -113,8 +114,8 @@ impl<'a> Input<'a> {
         }
     }
 
-    /// The same position, where the blanks up to `start`, the position after them, are known and so not looked at again.
-    pub fn before_blanks(self, start: Input<'a>) -> Input<'a>
+    /// Returns the same position, which knows of the blanks up to `start`, so that they are not skipped one by one again.
+    pub fn remember_blanks(self, start: Input<'a>) -> Input<'a>
         requires skipped { position_of start ≡ skip (position_of self) }
         ensures value { position_of result ≡ position_of self.entry }
         ensures known { result.blanks ≡ start.entry.offset - self.entry.offset }
@@ -128,7 +129,7 @@ impl<'a> Input<'a> {
         }
     }
 
-    /// The input after a text, where that text stands here.
+    /// Returns the position after `text`, if the rest begins with it.
     pub fn after(self, text: &str) -> Option<Input<'a>>
         ensures value { option_map position_of result ≡ after text.now (position_of self.entry) }
         ensures behind { IfSome result (λ x. 0 < length text.now → IsBehind self.entry x) }
@@ -144,7 +145,7 @@ impl<'a> Input<'a> {
         }
     }
 
-    /// The input after a word, where that word stands here and ends.
+    /// Returns the position after `word`, if the rest begins with it and no letter, digit or `_` follows.
     pub fn after_word(self, word: &str) -> Option<Input<'a>>
         ensures value { option_map position_of result ≡ after_word word.now (position_of self.entry) }
         ensures behind { IfSome result (λ x. 0 < length word.now → IsBehind self.entry x) }
@@ -158,7 +159,7 @@ impl<'a> Input<'a> {
     }
 }
 
-/// Whether a word may end before the text.
+/// Returns whether a word may end before the text.
 fn ends_word(text: &[u8]) -> bool
     ensures { result ≡ ends_word text.now }
 {
@@ -168,7 +169,7 @@ fn ends_word(text: &[u8]) -> bool
     }
 }
 
-/// How many bytes the blank at the front of a text has, or 0 where there is none.
+/// Returns the length in bytes of the blank at the start of a text, or 0 if there is none.
 fn blank_len(text: &[u8]) -> usize
     ensures { result ≡ blank_len text.now }
 {
@@ -179,7 +180,7 @@ fn blank_len(text: &[u8]) -> usize
     }
 }
 
-/// How many bytes stand before the next `)`.
+/// Returns the number of bytes before the next `)`, or of the whole text.
 fn close_len(text: &[u8]) -> usize
     ensures value { result ≡ close_len text.now }
     ensures within { result ≤ length text.now }

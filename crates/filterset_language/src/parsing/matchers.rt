@@ -1,4 +1,4 @@
-//! Reading matchers.
+//! Reads matchers.
 ghost use Rattle.std.specs.Prelude.{◌∷◌, [], ◌≡◌, IfOk, Some, false, codes, take, string_bytes};
 ghost use Rattle.std.specs.Option.{option_map};
 ghost use Rattle.filterset_matchers.specs.Matcher.{Regex};
@@ -20,14 +20,28 @@ use filterset_matchers::{NameMatcher, PatternRefusal, PatternRegex};
 use std::alloc::{AllocError, Global};
 use std::rc::Rc;
 
-/// The sign of a matcher that is no regular expression, or that there is none.
+/// The way of matching that a matcher's sign says, or the predicate's own if there is no sign.
 #[derive(Clone, Copy)]
 struct Sign {
     matching: TextMatching,
     implicit: bool,
 }
 
-/// The matcher that stands here, of a predicate of this name.
+impl Sign {
+    ghost use Rattle.filterset_language.specs.Parsing.Descent.{seen_sign};
+
+    /// Makes the sign of a matcher that has one.
+    fn explicit(matching: TextMatching) -> Sign
+        ensures { seen_sign result ≡ (matching, false) }
+    {
+        Sign {
+            matching,
+            implicit: false,
+        }
+    }
+}
+
+/// Reads the matcher of a predicate.
 pub fn read_matcher<'a>(
     alloc: Global,
     faults: &mut Vec<ParseSingleError>,
@@ -44,7 +58,7 @@ pub fn read_matcher<'a>(
     }
 }
 
-/// A regular expression, after its opening slash.
+/// Reads a regular expression after its opening slash.
 fn read_regex<'a>(
     alloc: Global,
     faults: &mut Vec<ParseSingleError>,
@@ -63,7 +77,7 @@ fn read_regex<'a>(
     Ok(Read { value, end })
 }
 
-/// The matcher by the pattern of a body, or none where `regex` refuses the pattern, which is reported.
+/// Compiles the pattern of a body, or reports that `regex` rejects it.
 #[cold]
 #[inline(never)]
 fn build_pattern(
@@ -84,7 +98,7 @@ fn build_pattern(
     }
 }
 
-/// A matcher that is no regular expression: its sign, if any, and its text.
+/// Reads the sign of a matcher, if any, and its text.
 fn read_text_matcher<'a>(
     alloc: Global,
     faults: &mut Vec<ParseSingleError>,
@@ -104,19 +118,19 @@ fn read_text_matcher<'a>(
     Ok(Read { value, end })
 }
 
-/// The sign that stands here, and the input after it.
+/// Reads a sign, and returns the position after it.
 fn read_sign<'a>(name: Predicate, input: Input<'a>) -> (Sign, Input<'a>)
     ensures value { (seen_sign result.0, position_of result.1) ≡ sign_at name (position_of input.entry) }
     ensures behind { IsAtOrBehind input.entry result.1 }
 {
     if let Some(rest) = input.after("#") {
-        return (explicit(TextMatching::Glob), rest);
+        return (Sign::explicit(TextMatching::Glob), rest);
     }
     if let Some(rest) = input.after("=") {
-        return (explicit(TextMatching::Equal), rest);
+        return (Sign::explicit(TextMatching::Equal), rest);
     }
     if let Some(rest) = input.after("~") {
-        return (explicit(TextMatching::Contains), rest);
+        return (Sign::explicit(TextMatching::Contains), rest);
     }
     let sign = Sign {
         matching: name.own_matching(),
@@ -125,18 +139,7 @@ fn read_sign<'a>(name: Predicate, input: Input<'a>) -> (Sign, Input<'a>)
     (sign, input)
 }
 
-/// The sign of a matcher that has one.
-fn explicit(matching: TextMatching) -> Sign
-    ensures { seen_sign result ≡ (matching, false) }
-{
-    Sign {
-        matching,
-        implicit: false,
-    }
-}
-
-/// The matcher of a value that stands between two positions, or none where it is to be a glob and is none, which is
-/// reported.
+/// Makes the matcher of a value that was read between two positions, or reports that it is no glob.
 fn make_matcher<'a>(
     alloc: Global,
     faults: &mut Vec<ParseSingleError>,

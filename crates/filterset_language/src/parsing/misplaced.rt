@@ -1,11 +1,11 @@
-//! Operators that stand where an operand belongs.
+//! Finds operators where an operand belongs.
 ghost use Rattle.std.specs.Prelude.{◌≡◌, ℕ, List, IfSome, None};
 ghost use Rattle.filterset_language.specs.Parsing.Position.{Position, position_of, IsBehind};
 ghost use Rattle.filterset_language.specs.Parsing.Recovery.{IsMisplaced, NoMisplacedWord, NoMisplacedSign, IsCapitalNot};
 
 use crate::parsing::input::Input;
 
-/// An operator that stands here where an operand should.
+/// An operator where an operand belongs, the one to suggest instead, and the position after it.
 #[derive(Clone, Copy)]
 pub struct Misplaced<'a> {
     pub op: &'static str,
@@ -13,7 +13,7 @@ pub struct Misplaced<'a> {
     pub end: Input<'a>,
 }
 
-/// The operator with two operands that stands here, where an operand belongs.
+/// Finds an operator of two operands here.
 pub fn find_misplaced(input: Input<'_>) -> Option<Misplaced<'_>>
     ensures value { IfSome result (λ x. IsMisplaced (position_of input.entry) x.op.now x.suggest.now (position_of x.end)) }
     ensures none { result ≡ None → (op suggest : List ℕ) (q : Position)
@@ -26,7 +26,7 @@ pub fn find_misplaced(input: Input<'_>) -> Option<Misplaced<'_>>
     }
 }
 
-/// The word among these operators that stands here.
+/// Finds one of these operators that is a word.
 fn find_misplaced_word(input: Input<'_>) -> Option<Misplaced<'_>>
     ensures value { IfSome result (λ x. IsMisplaced (position_of input.entry) x.op.now x.suggest.now (position_of x.end)) }
     ensures none { result ≡ None → NoMisplacedWord (position_of input.entry) }
@@ -61,7 +61,7 @@ fn find_misplaced_word(input: Input<'_>) -> Option<Misplaced<'_>>
     })
 }
 
-/// The sign of other languages that stands here.
+/// Finds one of these operators that is a sign, as other languages write it.
 fn find_misplaced_sign(input: Input<'_>) -> Option<Misplaced<'_>>
     ensures value { IfSome result (λ x. IsMisplaced (position_of input.entry) x.op.now x.suggest.now (position_of x.end)) }
     ensures none { result ≡ None → NoMisplacedSign (position_of input.entry) }
@@ -82,7 +82,7 @@ fn find_misplaced_sign(input: Input<'_>) -> Option<Misplaced<'_>>
     })
 }
 
-/// `NOT`, where it stands here.
+/// Finds `NOT` here.
 pub fn find_misplaced_not(input: Input<'_>) -> Option<Misplaced<'_>>
     ensures value { IfSome result (λ x. IsCapitalNot (position_of input.entry) x.op.now x.suggest.now (position_of x.end)) }
     ensures none { result ≡ None → (op suggest : List ℕ) (q : Position)

@@ -1,4 +1,4 @@
-//! Reading the names of predicates.
+//! Reads the names of predicates.
 ghost use Rattle.std.specs.Prelude.{◌≡◌, ◌<◌, length, IfSome};
 ghost use Rattle.std.specs.Option.{option_map};
 ghost use Rattle.filterset_language.specs.Parsing.Position.{position_of, IsBehind};
@@ -7,7 +7,7 @@ ghost use Rattle.filterset_language.specs.Parsing.Words.{seen, first_byte, named
 use crate::parsing::input::Input;
 use filterset_grammar::Predicate;
 
-/// A predicate's name.
+/// The name of a predicate.
 #[derive(Clone, Copy)]
 pub enum PredicateName {
     Matching(Predicate),
@@ -17,7 +17,7 @@ pub enum PredicateName {
     None,
 }
 
-/// The predicate's name that stands here.
+/// Reads the name of a predicate, and returns the position after it.
 pub fn read_name(input: Input<'_>) -> Option<(PredicateName, Input<'_>)>
     ensures value { option_map seen result ≡ name_at (position_of input.entry) }
     ensures behind { IfSome result (λ x. IsBehind input.entry x.1) }
@@ -48,7 +48,7 @@ pub fn read_name(input: Input<'_>) -> Option<(PredicateName, Input<'_>)>
     }
 }
 
-/// `binary_id` or `binary`, where one of them stands here.
+/// Reads `binary_id` or `binary`.
 fn read_binary_name(input: Input<'_>) -> Option<(PredicateName, Input<'_>)>
     ensures value { option_map seen result ≡ binary_name_at (position_of input.entry) }
     ensures behind { IfSome result (λ x. IsBehind input.entry x.1) }
@@ -58,7 +58,7 @@ fn read_binary_name(input: Input<'_>) -> Option<(PredicateName, Input<'_>)>
     read_either(input, "binary_id", id, "binary", binary)
 }
 
-/// The name, where its word stands here.
+/// Reads `word`, and returns `name` for it.
 fn read_named<'a>(
     input: Input<'a>,
     word: &str,
@@ -72,7 +72,7 @@ fn read_named<'a>(
     Some((name, rest))
 }
 
-/// The first of two names whose word stands here.
+/// Reads the first of two words that is here, and returns its name.
 fn read_either<'a>(
     input: Input<'a>,
     first: &str,
@@ -91,7 +91,7 @@ fn read_either<'a>(
     read_named(input, second, other)
 }
 
-/// The first byte of a text, and 0 where it has none.
+/// Returns the first byte of a text, or 0 if it is empty.
 fn first_byte(text: &[u8]) -> u8
     ensures { result ≡ first_byte text.now }
 {

@@ -1,4 +1,4 @@
-//! Reading operators.
+//! Reads operators. Each reader returns the position after the operator.
 ghost use Rattle.std.specs.Prelude.{◌≡◌, ℕ, IfSome, None, codes, false, is_some};
 ghost use Rattle.std.specs.Option.{option_map};
 ghost use Rattle.filterset_language.specs.Parsing.Position.{position, position_of, skip, after, IsBehind};
@@ -9,7 +9,7 @@ use filterset_grammar::{
     AndOperator, DifferenceOperator, Joiner, NotOperator, OrOperator, SymmetricDifferenceOperator,
 };
 
-/// The negation that stands here.
+/// Reads a negation.
 pub fn read_not(input: Input<'_>) -> Option<(NotOperator, Input<'_>)>
     ensures value { option_map seen result ≡ not_at (position_of input.entry) }
     ensures behind { IfSome result (λ x. IsBehind input.entry x.1) }
@@ -21,7 +21,7 @@ pub fn read_not(input: Input<'_>) -> Option<(NotOperator, Input<'_>)>
     Some((NotOperator::Exclamation, rest))
 }
 
-/// The operator of the level of `and` that stands here, without a value where it is `&&` or `AND`.
+/// Reads an operator of the level of `and`. `&&` and `AND` are read without a value.
 pub fn read_joiner(input: Input<'_>) -> Option<(Option<Joiner>, Input<'_>)>
     ensures value { option_map seen result ≡ joiner_at (position_of input.entry) }
     ensures behind { IfSome result (λ x. IsBehind input.entry x.1) }
@@ -51,14 +51,14 @@ pub fn read_joiner(input: Input<'_>) -> Option<(Option<Joiner>, Input<'_>)>
     ))
 }
 
-/// Whether the first byte is one that an operator of the level of `and` begins with. Most levels end where it is none.
+/// Returns whether an operator of the level of `and` may begin with the first byte. At the end of most levels it may not.
 fn may_begin_joiner(text: &[u8]) -> bool
     ensures { result ≡ false → (at : ℕ) → joiner_at (position at text.now) ≡ None }
 {
     matches!(text, [b'&' | b'A' | b'a' | b'-' | b'^', ..])
 }
 
-/// Whether `^` stands after the blanks here.
+/// Returns whether `^` follows here after blanks.
 #[inline(never)]
 pub fn is_before_caret(input: &Input<'_>) -> bool
     ensures { result ≡ is_some (after (codes "^") (skip (position_of input.now))) }
@@ -66,7 +66,7 @@ pub fn is_before_caret(input: &Input<'_>) -> bool
     input.skip_blanks().after("^").is_some()
 }
 
-/// The operator of the level of `or` that stands here, without a value where it is `||` or `OR`.
+/// Reads an operator of the level of `or`. `||` and `OR` are read without a value.
 pub fn read_or(input: Input<'_>) -> Option<(Option<OrOperator>, Input<'_>)>
     ensures value { option_map seen result ≡ or_at (position_of input.entry) }
     ensures behind { IfSome result (λ x. IsBehind input.entry x.1) }

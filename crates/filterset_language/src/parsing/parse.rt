@@ -1,4 +1,4 @@
-//! Reading whole texts.
+//! Parses whole texts.
 ghost use Rattle.std.specs.Prelude.{◌≡◌, ℕ, suc, List, [], ◌∷◌, ◌++◌, ◌⊎◌, length, take, All, Some, IfOk, IfErr};
 ghost use Rattle.std.specs.Option.{option_map};
 ghost use Rattle.filterset_grammar.specs.Tree.{Tree};
@@ -19,19 +19,19 @@ use crate::tree::ParsedExpr;
 use filterset_faults::ParseSingleError;
 use std::alloc::{AllocError, Global};
 
-/// What a text gave: a tree, where it has one, and the faults, in the order in which they were found.
+/// The result of parsing a text: the tree, if there is one, and the faults in the order in which they were found.
 #[derive(Debug, Drop)]
 pub struct Parsed {
     pub tree: Option<ParsedExpr>,
     pub faults: Vec<ParseSingleError>,
 }
 
-/// Why a text has no tree.
+/// The reason why a text has no tree.
 #[derive(Debug, Drop)]
 pub enum ParseStop {
-    /// The faults of the text, in the order in which they were found; there is at least one.
+    /// The faults of the text, at least one, in the order in which they were found.
     Faults(Vec<ParseSingleError>),
-    /// There was not enough memory, and nothing is known of the text.
+    /// There was not enough memory. The text may be valid or not.
     OutOfMemory(AllocError),
 }
 
@@ -46,16 +46,15 @@ impl From<AllocError> for ParseStop {
 }
 
 impl ParsedExpr {
-    /// Reads a text, and drops the faults where a tree was recovered all the same.
+    /// Parses a text, and drops its faults if a tree was recovered all the same.
     ///
-    /// A text that spells a tree gives that tree, or, where `regex` refuses one of its patterns for another cause than
-    /// memory, the faults that say so.
+    /// Returns the tree that the text spells. If `regex` rejects one of its patterns, returns faults that say so.
     pub fn parse(alloc: Global, input: &str) -> Result<ParsedExpr, ParseStop>
-        // A tree that the text spells is the one that comes, if any does.
+        // If the text spells a tree and a tree is returned, it is that one.
         ensures spelled { (e : Tree SourceSpan) → Spells input.now e → IfOk result (λ tree. tree_of tree ≡ e) }
-        // The tree is spelled by the text and its patterns are read, or the text spells none.
+        // The text spells the tree and its patterns are read, or it spells none.
         ensures tree { IfOk result (λ tree. Reads input.now (tree_of tree) ⊎ SpellsNothing input.now) }
-        // Without a tree there are faults, which all stand; where the text spells a tree, they lie on bodies of it.
+        // Without a tree there are faults, all of them true. If the text spells a tree, they are on its patterns.
         ensures stop { IfErr result (IsRefusalOf input.now) }
     {
         let Parsed { tree, faults } = ParsedExpr::parse_with_faults(alloc, input)?;
@@ -65,24 +64,23 @@ impl ParsedExpr {
         }
     }
 
-    /// Reads a text, and goes on after each fault.
+    /// Parses a text, and goes on after each fault.
     ///
-    /// A text that spells a tree gives that tree and no fault, or, where `regex` refuses one of its patterns for
-    /// another cause than memory, no tree and faults, each on the body of such a pattern. It is an error only for want
-    /// of memory.
+    /// Returns the tree that the text spells, and no fault. If `regex` rejects some of its patterns, returns no tree and
+    /// a fault on each of them. The only error is out of memory.
     pub fn parse_with_faults(alloc: Global, input: &str) -> Result<Parsed, AllocError>
-        // Without a fault the tree is one that the text spells, and its patterns are read.
+        // Without a fault there is a tree, the text spells it, and its patterns are read.
         ensures clean { IfOk result (λ p. p.faults.items ≡ []
             → (e : Tree SourceSpan) × Comes p e × Reads input.now e) }
-        // A tree that the text spells comes without a fault, or none comes and each fault lies on a body of the tree.
+        // If the text spells a tree, it is returned without a fault, or there is none and each fault is on a pattern.
         ensures spelled { IfOk result (λ p. (e : Tree SourceSpan) → Spells input.now e
             → (Comes p e × (p.faults.items ≡ [])) ⊎ HasRefusedBodies input.now e p) }
-        // Every fault stands.
+        // Every fault is true of the text.
         ensures stand { IfOk result (λ p. All (FaultStands input.now) p.faults.items) }
-        // Where the one fault is that the text goes on after the expression, what is before spells the tree.
+        // If the only fault is that the text goes on after the expression, the text before that spells the tree.
         ensures front { IfOk result (λ p. (s : SourceSpan) → p.faults.items ≡ ExpectedEndOfExpression s ∷ []
             → (e : Tree SourceSpan) × Comes p e × Spells (take (offset_of s) input.now) e) }
-        // That the text goes on after the expression is said last, and so once at most.
+        // The fault that the text goes on after the expression is the last one.
         ensures last { IfOk result (λ p. (s : SourceSpan) (before behind : List ParseSingleError)
             → p.faults.items ≡ before ++ ExpectedEndOfExpression s ∷ behind → behind ≡ []) }
     {
@@ -90,7 +88,7 @@ impl ParsedExpr {
     }
 }
 
-/// Reads a text from its start to its end.
+/// Parses a text from its start to its end.
 fn read_whole(alloc: Global, text: &str) -> Result<Parsed, AllocError>
     ensures { IfOk result (λ p. Wholly text.now (option_map tree_of p.tree) p.faults.items) }
 {
@@ -113,7 +111,7 @@ fn report_rest(faults: &mut Vec<ParseSingleError>, rest: Input<'_>) -> Result<()
     Ok(())
 }
 
-/// The tree, out of its box.
+/// Moves the tree out of its box.
 fn unbox(tree: Option<Box<ParsedExpr>>) -> Option<ParsedExpr>
     ensures { option_map tree_of result ≡ option_map boxed_tree tree }
 {

@@ -1,4 +1,4 @@
-//! The platform that a value names.
+//! Names of platforms.
 ghost use Rattle.std.specs.Prelude.{◌≡◌, MatchOption};
 ghost use Rattle.filterset_grammar.specs.Platforms.{Names};
 ghost use Rattle.filterset_language.specs.Parsing.PlatformNames.{platform_in};
@@ -6,7 +6,7 @@ ghost use Rattle.filterset_graph.specs.declared.package.BuildPlatform.{BuildPlat
 
 use filterset_graph::BuildPlatform;
 
-/// The platform whose name the value is, trimmed of white space.
+/// Returns the platform that the value names, without white space round it.
 pub fn platform_of(value: &str) -> Option<BuildPlatform>
     ensures value { result ≡ platform_in value.now }
     ensures named { MatchOption result ((p : BuildPlatform) → Names value.now p → ⊥) (Names value.now) }

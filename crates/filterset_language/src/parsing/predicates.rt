@@ -1,4 +1,4 @@
-//! Reading predicates.
+//! Reads predicates.
 ghost use Rattle.std.specs.Prelude.{◌∷◌, [], ◌≡◌, ◌<◌, ◌≤◌, length, IfOk, Some, codes, false, true};
 ghost use Rattle.std.specs.Option.{option_map};
 ghost use Rattle.filterset_matchers.specs.Matchers.{matcher_of};
@@ -21,7 +21,7 @@ use filterset_grammar::Predicate;
 use filterset_matchers::NameMatcher;
 use std::alloc::{AllocError, Global};
 
-/// Reads an opening parenthesis after blanks, or reports its lack and goes on.
+/// Reads blanks and an opening parenthesis, or reports that there is none and goes on.
 fn read_open<'a>(
     faults: &mut Vec<ParseSingleError>,
     name: PredicateName,
@@ -41,7 +41,7 @@ fn read_open<'a>(
     }
 }
 
-/// Reads a closing parenthesis after blanks, or reports its lack and goes on.
+/// Reads blanks and a closing parenthesis, or reports that there is none and goes on.
 pub fn read_close<'a>(
     faults: &mut Vec<ParseSingleError>,
     input: Input<'a>,
@@ -59,7 +59,7 @@ pub fn read_close<'a>(
     }
 }
 
-/// The end of an argument: reports a comma, and reads the closing parenthesis.
+/// Reads the closing parenthesis after an argument. Reports a comma before it.
 fn read_argument_end<'a>(
     faults: &mut Vec<ParseSingleError>,
     input: Input<'a>,
@@ -71,19 +71,19 @@ fn read_argument_end<'a>(
     let start = input.skip_blanks();
     if let Some(_) = start.after(",") {
         faults.push(ParseSingleError::UnexpectedComma(input.here()))?;
-        return read_close(faults, input.next_close());
+        return read_close(faults, input.advance_to_close());
     }
-    read_close(faults, input.before_blanks(start))
+    read_close(faults, input.remember_blanks(start))
 }
 
-/// Whether a text is white space alone.
+/// Returns whether a text is all white space.
 fn is_white(text: &str) -> bool
     ensures { result ≡ is_white text.now }
 {
     text.trim_start().is_empty()
 }
 
-/// The end of a predicate that takes no argument: reports one, and reads the closing parenthesis.
+/// Reads the closing parenthesis of a predicate that takes no argument. Reports an argument before it.
 fn read_bare_end<'a>(
     faults: &mut Vec<ParseSingleError>,
     input: Input<'a>,
@@ -92,14 +92,14 @@ fn read_bare_end<'a>(
     ensures stand { StillStand input.entry faults.old faults.new result }
     ensures behind { GoesOn input.entry result }
 {
-    let end = input.next_close();
+    let end = input.advance_to_close();
     if !is_white(&input.rest[..end.offset - input.offset]) {
         faults.push(ParseSingleError::UnexpectedArgument(input.up_to(end)))?;
     }
     read_close(faults, end)
 }
 
-/// The rest of a predicate that takes no argument.
+/// Reads the rest of a predicate that takes no argument.
 #[tactic(auto, using(crate::proofs::Recovering::recovers_then, crate::proofs::Recovering::recovers_still))]
 fn read_bare<'a>(
     faults: &mut Vec<ParseSingleError>,
@@ -117,7 +117,7 @@ fn read_bare<'a>(
     })
 }
 
-/// The rest of `default`, whose span begins where its name does.
+/// Reads the rest of `default`, whose span begins at its name, at `start`.
 fn read_default<'a>(
     faults: &mut Vec<ParseSingleError>,
     start: Input<'a>,
@@ -136,7 +136,7 @@ fn read_default<'a>(
     })
 }
 
-/// The argument of a predicate that takes a matcher, and the parenthesis after it.
+/// Reads the argument of a predicate that takes a matcher, and the closing parenthesis.
 fn read_matching<'a>(
     alloc: Global,
     faults: &mut Vec<ParseSingleError>,
@@ -150,17 +150,13 @@ fn read_matching<'a>(
     let matcher = read_matcher(alloc, faults, name, input.skip_blanks())?;
     let end = read_argument_end(faults, matcher.end)?;
     Ok(Read {
-        value: matching_leaf(name, matcher.value, input.up_to(matcher.end)),
+        value: make_leaf(name, matcher.value, input.up_to(matcher.end)),
         end,
     })
 }
 
-/// The predicate of this name with this matcher, where there is one.
-fn matching_leaf(
-    name: Predicate,
-    matcher: Option<NameMatcher>,
-    span: SourceSpan,
-) -> Option<ParsedLeaf>
+/// Makes the predicate of this name, if there is a matcher.
+fn make_leaf(name: Predicate, matcher: Option<NameMatcher>, span: SourceSpan) -> Option<ParsedLeaf>
     ensures { option_map leaf_of result ≡ option_map (λ m. Matching name m span) (option_map matcher_of matcher) }
 {
     let matcher = matcher?;
@@ -176,7 +172,7 @@ fn matching_leaf(
     })
 }
 
-/// The argument of `platform`, and the parenthesis after it.
+/// Reads the argument of `platform`, and the closing parenthesis.
 fn read_platform<'a>(
     alloc: Global,
     faults: &mut Vec<ParseSingleError>,
@@ -202,7 +198,7 @@ fn read_platform<'a>(
     })
 }
 
-/// A predicate from `start` on, after its name.
+/// Reads a predicate after its name, which begins at `start`.
 pub fn read_predicate<'a>(
     alloc: Global,
     faults: &mut Vec<ParseSingleError>,

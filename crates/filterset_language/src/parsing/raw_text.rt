@@ -1,4 +1,4 @@
-//! Raw texts.
+//! Reads raw texts.
 ghost use Rattle.std.specs.Prelude.{◌≡◌, ◌≤◌, length, take, IfOk, IfSome, Some, codes};
 ghost use Rattle.std.specs.String.{string_bytes};
 ghost use Rattle.filterset_grammar.specs.Text.{is_plain};
@@ -7,15 +7,15 @@ ghost use Rattle.filterset_language.specs.Parsing.Position.{position_of, after, 
 ghost use Rattle.filterset_language.specs.Parsing.RawTexts.{plain_len, raw_at, SpelledTo};
 ghost use Rattle.filterset_language.specs.Parsing.Recovery.{ReadsAs, StillStand, GoesOn, EndsBehind, Passes};
 
-use crate::parsing::escapes::leading_escape;
+use crate::parsing::escapes::read_escape;
 use crate::parsing::input::{Input, Read};
 use filterset_faults::ParseSingleError;
 use std::alloc::{AllocError, Global};
 
 /// Reads a raw text, up to the next `,` or `)` that is not escaped, or to the end.
 ///
-/// Where a backslash begins no escape, that is reported and the text has no value; reading goes on
-/// after the backslash. An empty text is reported, and is the value.
+/// Reports each backslash that begins no escape and reads on after it; the text then has no value. Reports an empty text,
+/// whose value is empty.
 pub fn read_raw_text<'a>(
     alloc: Global,
     faults: &mut Vec<ParseSingleError>,
@@ -30,7 +30,7 @@ pub fn read_raw_text<'a>(
     let (front, mut end) = read_plain(input);
     let mut value = String::from_str(alloc, front)?;
     while let Some(behind) = end.after("\\") {
-        let Some(escape) = leading_escape(behind.rest.as_bytes()) else {
+        let Some(escape) = read_escape(behind.rest.as_bytes()) else {
             faults.push(ParseSingleError::InvalidEscapeCharacter(end.backslash()))?;
             let end = skip_raw_text(faults, behind)?;
             return Ok(Read { value: None, end });
@@ -49,7 +49,7 @@ pub fn read_raw_text<'a>(
     })
 }
 
-/// What stands for itself from here on, and the input after it.
+/// Reads the bytes up to the next `,`, `)` or backslash, and returns the position after them.
 fn read_plain<'a>(input: Input<'a>) -> (&'a str, Input<'a>)
     ensures text { result.0.now ≡ take (plain_len input.entry.rest.now) input.entry.rest.now }
     ensures value { position_of result.1 ≡ advanced (plain_len input.entry.rest.now) (position_of input.entry) }
@@ -59,7 +59,7 @@ fn read_plain<'a>(input: Input<'a>) -> (&'a str, Input<'a>)
     (&input.rest[..count], input.advance(count))
 }
 
-/// How many bytes that stand for themselves are at the front.
+/// Returns the number of bytes before the next `,`, `)` or backslash.
 fn plain_len(text: &[u8]) -> usize
     ensures value { result ≡ plain_len text.now }
     ensures within { result ≤ length text.now }
@@ -72,15 +72,14 @@ fn plain_len(text: &[u8]) -> usize
     text.len()
 }
 
-/// Whether a byte stands for itself in a raw text.
+/// Returns whether a byte means itself in a raw text.
 fn is_plain(b: u8) -> bool
     ensures { result ≡ is_plain b }
 {
     !matches!(b, b',' | b')' | b'\\')
 }
 
-/// Goes on to the end of a raw text that has no value, and reports each further backslash that begins
-/// no escape.
+/// Skips the rest of a raw text, and reports each backslash that begins no escape.
 fn skip_raw_text<'a>(
     faults: &mut Vec<ParseSingleError>,
     input: Input<'a>,
@@ -98,7 +97,7 @@ fn skip_raw_text<'a>(
     Ok(end)
 }
 
-/// The input after an escape, or after a backslash that begins none, which is reported.
+/// Skips an escape after its backslash. Reports the backslash if it begins none.
 fn skip_escape<'a>(
     faults: &mut Vec<ParseSingleError>,
     backslash: Input<'a>,
@@ -109,7 +108,7 @@ fn skip_escape<'a>(
     ensures stand { StillStand backslash.entry faults.old faults.new result }
     ensures behind { GoesOn behind.entry result }
 {
-    match leading_escape(behind.rest.as_bytes()) {
+    match read_escape(behind.rest.as_bytes()) {
         Some(escape) => Ok(behind.advance(escape.len)),
         None => {
             faults.push(ParseSingleError::InvalidEscapeCharacter(backslash.backslash()))?;

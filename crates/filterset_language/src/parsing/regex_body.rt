@@ -1,4 +1,4 @@
-//! Bodies of regular expressions.
+//! Reads bodies of regular expressions.
 ghost use Rattle.std.specs.Prelude.{◌≡◌, ◌≤◌, length, IfOk, IfSome};
 ghost use Rattle.std.specs.String.{string_bytes};
 ghost use Rattle.filterset_grammar.specs.Text.{with_slashes};
@@ -11,17 +11,17 @@ use crate::parsing::input::{Input, Read};
 use filterset_faults::{ParseSingleError, SourceSpan};
 use std::alloc::{AllocError, Global};
 
-/// The body of a regular expression: its pattern, and where it stands.
+/// The body of a regular expression: its pattern and its span.
 #[derive(Drop)]
 pub struct RegexBody {
     pub pattern: String,
     pub span: SourceSpan,
 }
 
-/// Reads a body after its opening `/`, and the closing one.
+/// Reads a body after its opening `/`, and the closing `/`.
 ///
-/// The body ends before the first `/` that does not directly follow a backslash. Where there is none,
-/// that is reported, the body has no value, and reading goes on at the next `)` or at the end.
+/// The body ends before the first `/` that does not directly follow a backslash. If there is none, reports that and
+/// returns no value, at the next `)` or at the end.
 pub fn read_regex_body<'a>(
     alloc: Global,
     faults: &mut Vec<ParseSingleError>,
@@ -47,14 +47,14 @@ pub fn read_regex_body<'a>(
             })
         }
         None => {
-            let end = input.next_close();
+            let end = input.advance_to_close();
             faults.push(ParseSingleError::ExpectedCloseRegex(end.here()))?;
             Ok(Read { value: None, end })
         }
     }
 }
 
-/// How many bytes stand before the first `/` that does not directly follow a backslash.
+/// Returns the number of bytes before the first `/` that does not directly follow a backslash.
 fn body_len(text: &[u8]) -> usize
     ensures value { result ≡ body_len 0 text.now }
     ensures within { result ≤ length text.now }
@@ -69,7 +69,7 @@ fn body_len(text: &[u8]) -> usize
     text.len()
 }
 
-/// The pattern of a body: `\/` stands for `/`, and all else for itself.
+/// Returns the pattern of a body: its text with `/` for each `\/`.
 fn pattern_of(alloc: Global, body: &str) -> Result<String, AllocError>
     ensures { IfOk result (λ p. string_bytes p ≡ with_slashes body.now) }
 {

@@ -1,4 +1,4 @@
-//! When trees are equal.
+//! Equality of predicates and trees.
 ghost use Rattle.std.specs.Cmp.{on_equiv, on_per};
 ghost use Rattle.filterset_grammar.specs.Equality.{same_leaf, same_tree};
 ghost use Rattle.filterset_grammar.specs.EqualityLaws.{same_leaf_equiv, same_leaf_per, same_tree_equiv, same_tree_per};
@@ -6,7 +6,7 @@ ghost use Rattle.filterset_language.specs.Views.{leaf_of, tree_of};
 
 use crate::tree::{ParsedExpr, ParsedLeaf};
 
-/// All that the two hold is equal, their spans too; of globs the tokens alone are compared.
+/// Compares all fields, spans included. Globs are equal if their tokens are.
 impl<S: PartialEq> PartialEq for ParsedLeaf<S> {
     ghost eq = { λ a b. same_leaf S.eq (leaf_of a) (leaf_of b) };
 
@@ -39,7 +39,7 @@ impl<S: Eq> Eq for ParsedLeaf<S> {
     ghost laws = { on_equiv leaf_of (same_leaf_equiv S.Eq.laws) };
 }
 
-/// The two have the same shape and the same operators, and their leaves are equal.
+/// Compares the shape, the operators and the predicates, spans included.
 impl<S: PartialEq> PartialEq for ParsedExpr<S> {
     ghost eq = { λ a b. same_tree S.eq (tree_of a) (tree_of b) };
 

@@ -1,4 +1,4 @@
-//! The predicates of a tree, in their order.
+//! Lists of a tree's predicates.
 ghost use Rattle.std.specs.Prelude.{◌≡◌, ◌++◌, Bool, map, IfOk, OnOk};
 ghost use Rattle.std.specs.List.{filter};
 ghost use Rattle.filterset_grammar.specs.Tree.{Leaf, tree_leaves, runtime_only};
@@ -8,7 +8,7 @@ use crate::tree::{ParsedExpr, ParsedLeaf};
 use std::alloc::{AllocError, Global};
 
 impl<S> ParsedExpr<S> {
-    /// The predicates of the tree for which `keep` returns `true`, from left to right. The only error is out of memory.
+    /// Returns the predicates for which `keep` returns `true`, from left to right. The only error is out of memory.
     pub fn leaves_where<F: Fn(&ParsedLeaf<S>) -> bool>(
         &self,
         alloc: Global,
@@ -23,8 +23,8 @@ impl<S> ParsedExpr<S> {
         Ok(found)
     }
 
-    /// The predicates that the test itself decides, and not its binary alone, from left to right: `test`, `group` and
-    /// `default`. The only error is out of memory.
+    /// Returns the predicates whose answer depends on the test and not only on its binary, from left to right: `test`,
+    /// `group` and `default`. The only error is out of memory.
     pub fn runtime_only_leaves(&self, alloc: Global) -> Result<Vec<&ParsedLeaf<S>>, AllocError>
         ensures { IfOk result (λ found. map (λ leaf. leaf_of leaf.now) found.items ≡ runtime_only (tree_of self.now)) }
     {

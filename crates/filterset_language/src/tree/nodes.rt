@@ -1,7 +1,7 @@
-//! Nodes of trees, made of their parts in boxes.
+//! The nodes of trees, built from boxed operands.
 //!
-//! What copies a tree calls itself, so it takes the room of its frame at each level. A tree by value would stand in that
-//! frame, once for each expression that makes one; here it stands in a frame that ends before the next level begins.
+//! The parser and the copies of trees call themselves at each level of a tree. A node by value would take up room in
+//! each of their frames; built here, it is in a frame that ends before the next level begins.
 ghost use Rattle.std.specs.Prelude.{◌≡◌, IfOk};
 ghost use Rattle.filterset_grammar.specs.Tree.{Not, Union, Join, Parens, Set};
 ghost use Rattle.filterset_language.specs.Views.{leaf_of, tree_of};
@@ -10,9 +10,9 @@ use crate::tree::{ParsedExpr, ParsedLeaf};
 use filterset_grammar::{Joiner, NotOperator, OrOperator};
 use std::alloc::{AllocError, Global};
 
-/// The negation of an operand.
+/// Negates an operand.
 #[inline(never)]
-pub fn negation<S: Drop>(
+pub fn negate<S: Drop>(
     alloc: Global,
     operator: NotOperator,
     operand: Box<ParsedExpr<S>>,
@@ -22,9 +22,9 @@ pub fn negation<S: Drop>(
     Ok(Box::new(alloc, ParsedExpr::Not(operator, operand))?)
 }
 
-/// The union of two operands.
+/// Joins two operands by an operator of the level of `or`.
 #[inline(never)]
-pub fn union<S: Drop>(
+pub fn unite<S: Drop>(
     alloc: Global,
     operator: OrOperator,
     left: Box<ParsedExpr<S>>,
@@ -35,9 +35,9 @@ pub fn union<S: Drop>(
     Ok(Box::new(alloc, ParsedExpr::Union(operator, left, right))?)
 }
 
-/// Two operands and the operator of the level of `and` between them.
+/// Joins two operands by an operator of the level of `and`.
 #[inline(never)]
-pub fn joined<S: Drop>(
+pub fn join<S: Drop>(
     alloc: Global,
     joiner: Joiner,
     left: Box<ParsedExpr<S>>,
@@ -53,9 +53,9 @@ pub fn joined<S: Drop>(
     Ok(Box::new(alloc, expr)?)
 }
 
-/// An expression between parentheses.
+/// Encloses an expression in parentheses.
 #[inline(never)]
-pub fn enclosed<S: Drop>(
+pub fn enclose<S: Drop>(
     alloc: Global,
     inner: Box<ParsedExpr<S>>,
 ) -> Result<Box<ParsedExpr<S>>, AllocError>
@@ -64,13 +64,24 @@ pub fn enclosed<S: Drop>(
     Ok(Box::new(alloc, ParsedExpr::Parens(inner))?)
 }
 
-/// A predicate's copy as an expression.
+/// Makes an expression of a predicate.
 #[inline(never)]
-pub fn copied_set<S: Copy>(
+pub fn make_set<S: Drop>(
+    alloc: Global,
+    leaf: ParsedLeaf<S>,
+) -> Result<Box<ParsedExpr<S>>, AllocError>
+    ensures { IfOk result (λ made. tree_of made.value ≡ Set (leaf_of leaf)) }
+{
+    Ok(Box::new(alloc, ParsedExpr::Set(leaf))?)
+}
+
+/// Makes an expression of a copy of a predicate.
+#[inline(never)]
+pub fn copy_set<S: Copy>(
     alloc: Global,
     leaf: &ParsedLeaf<S>,
 ) -> Result<Box<ParsedExpr<S>>, AllocError>
     ensures { IfOk result (λ made. tree_of made.value ≡ Set (leaf_of leaf.now)) }
 {
-    Ok(Box::new(alloc, ParsedExpr::Set(leaf.try_clone(alloc)?))?)
+    make_set(alloc, leaf.try_clone(alloc)?)
 }

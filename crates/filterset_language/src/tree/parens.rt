@@ -1,4 +1,4 @@
-//! Parentheses added to a tree where its operands ask for them.
+//! Copies of trees with the parentheses that their operands need.
 ghost use Rattle.std.specs.Prelude.{◌≡◌, ◌↔◌, IfOk, IsTrue};
 ghost use Rattle.filterset_faults.specs.declared.span.SourceSpan.{SourceSpan};
 ghost use Rattle.filterset_grammar.specs.Tree.{Tree, SameTree};
@@ -8,28 +8,28 @@ ghost use Rattle.filterset_grammar.specs.Printing.{printed, WellFormed};
 ghost use Rattle.filterset_grammar.specs.AddedParens.{IsWithParens, HasWellFormedLeaves};
 ghost use Rattle.filterset_language.specs.Levels.{IsOfLevel, IsOperand};
 
-use crate::laws::held::tree_is_held;
+use crate::laws::held::prove_held;
 use crate::tree::ParsedExpr;
-use crate::tree::nodes::{copied_set, enclosed, joined, negation, union};
+use crate::tree::nodes::{copy_set, enclose, join, negate, unite};
 use filterset_grammar::Joiner;
 use std::alloc::{AllocError, Global};
 
-/// The level of the grammar that an operand has to be of.
+/// The level of the grammar that an operand has to have.
 #[derive(Clone, Copy)]
 enum Level {
-    /// After a negation, and on the right at the level of `and`.
+    /// That of the operand of a negation, and of the right operand at the level of `and`.
     Basic,
-    /// On the left at the level of `and`, and on the right of a union.
+    /// That of the left operand at the level of `and`, and of the right operand of a union.
     And,
-    /// On the left of a union, and between parentheses.
+    /// That of the left operand of a union, and of an expression in parentheses.
     Or,
 }
 
 impl<S: Copy> ParsedExpr<S> {
-    /// A copy of the tree, spans included, with one pair of parentheses round each operand that could not be read again
-    /// where it stands: round a union or an expression of the level of `and` as the operand of a negation or on the
-    /// right at the level of `and`, and round a union on the left at that level or on the right of a union. Nothing else
-    /// changes. The only error is out of memory.
+    /// Copies the tree, spans included, and encloses each operand that would not parse back where it is. These are a
+    /// union or an expression of the level of `and` as the operand of a negation or as the right operand at the level of
+    /// `and`, and a union as the left operand at that level or as the right operand of a union. Nothing else changes. The
+    /// only error is out of memory.
     pub fn with_parens(&self, alloc: Global) -> Result<ParsedExpr<S>, AllocError>
         ensures tree { IfOk result (λ new. IsWithParens (tree_of self.now) (tree_of new)) }
         ensures well_formed { HasWellFormedLeaves (tree_of self.now) → IfOk result (λ new. WellFormed (tree_of new)) }
@@ -37,17 +37,15 @@ impl<S: Copy> ParsedExpr<S> {
         ensures reads_back { HasWellFormedLeaves (tree_of self.now) → IfOk result (λ new.
             (d : Tree SourceSpan) × Spells (printed (tree_of new)) d × SameTree d (tree_of new)) }
     {
-        let new = Box::into_inner(placed(alloc, self, Level::Or)?);
-        tree_is_held(&new);
+        let new = Box::into_inner(add_parens(alloc, self, Level::Or)?);
+        prove_held(&new);
         Ok(new)
     }
 }
 
-/// A copy of the tree with parentheses added, and between one pair more where it is not of the level.
-///
-/// It is recursive, so what it makes stands in boxes: see `nodes`.
+/// Copies the tree with parentheses added, and encloses the copy if the tree is not of the level.
 #[tactic(auto, using(crate::proofs::AddingParens::negated, crate::proofs::AddingParens::united, crate::proofs::AddingParens::joined, crate::proofs::AddingParens::surrounded, crate::proofs::AddingParens::leaf_alone))]
-fn placed<S: Copy>(
+fn add_parens<S: Copy>(
     alloc: Global,
     expr: &ParsedExpr<S>,
     level: Level,
@@ -57,36 +55,41 @@ fn placed<S: Copy>(
 {
     let copy = match expr {
         ParsedExpr::Not(operator, operand) => {
-            negation(alloc, *operator, placed(alloc, operand, Level::Basic)?)?
+            negate(alloc, *operator, add_parens(alloc, operand, Level::Basic)?)?
         }
         ParsedExpr::Union(operator, left, right) => {
-            let left = placed(alloc, left, Level::Or)?;
-            union(alloc, *operator, left, placed(alloc, right, Level::And)?)?
+            let left = add_parens(alloc, left, Level::Or)?;
+            unite(
+                alloc,
+                *operator,
+                left,
+                add_parens(alloc, right, Level::And)?,
+            )?
         }
         ParsedExpr::Intersection(operator, left, right) => {
-            let left = placed(alloc, left, Level::And)?;
-            let right = placed(alloc, right, Level::Basic)?;
-            joined(alloc, Joiner::Both(*operator), left, right)?
+            let left = add_parens(alloc, left, Level::And)?;
+            let right = add_parens(alloc, right, Level::Basic)?;
+            join(alloc, Joiner::Both(*operator), left, right)?
         }
         ParsedExpr::Difference(operator, left, right) => {
-            let left = placed(alloc, left, Level::And)?;
-            let right = placed(alloc, right, Level::Basic)?;
-            joined(alloc, Joiner::Without(*operator), left, right)?
+            let left = add_parens(alloc, left, Level::And)?;
+            let right = add_parens(alloc, right, Level::Basic)?;
+            join(alloc, Joiner::Without(*operator), left, right)?
         }
         ParsedExpr::SymmetricDifference(operator, left, right) => {
-            let left = placed(alloc, left, Level::And)?;
-            let right = placed(alloc, right, Level::Basic)?;
-            joined(alloc, Joiner::ExactlyOne(*operator), left, right)?
+            let left = add_parens(alloc, left, Level::And)?;
+            let right = add_parens(alloc, right, Level::Basic)?;
+            join(alloc, Joiner::ExactlyOne(*operator), left, right)?
         }
-        ParsedExpr::Parens(inner) => enclosed(alloc, placed(alloc, inner, Level::Or)?)?,
-        ParsedExpr::Set(leaf) => copied_set(alloc, leaf)?,
+        ParsedExpr::Parens(inner) => enclose(alloc, add_parens(alloc, inner, Level::Or)?)?,
+        ParsedExpr::Set(leaf) => copy_set(alloc, leaf)?,
     };
-    fitted(alloc, expr, level, copy)
+    fit_to_level(alloc, expr, level, copy)
 }
 
-/// The copy of a tree with parentheses added, between one pair more where the tree is not of the level.
+/// Encloses the copy of a tree if the tree is not of the level.
 #[inline(never)]
-fn fitted<S: Drop>(
+fn fit_to_level<S: Drop>(
     alloc: Global,
     expr: &ParsedExpr<S>,
     level: Level,
@@ -99,10 +102,10 @@ fn fitted<S: Drop>(
     if is_of_level(expr, level) {
         return Ok(copy);
     }
-    enclosed(alloc, copy)
+    enclose(alloc, copy)
 }
 
-/// Whether the operand is of the level without parentheses of its own.
+/// Returns whether the operand is of the level as it is.
 fn is_of_level<S>(operand: &ParsedExpr<S>, level: Level) -> bool
     ensures { IsTrue result ↔ IsOfLevel level (tree_of operand.now) }
 {

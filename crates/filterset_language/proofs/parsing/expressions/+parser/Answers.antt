@@ -106,10 +106,10 @@ read_and_level-returns-clause-value t c =
 
 pub read_and_rest-returns-in_default-clause-value : goal.read_and_rest-returns-in_default-clause-value
 read_and_rest-returns-in_default-clause-value t c = λ n before total le going.
-    and_ends c.args.first.end.text.now (operand_at _) _ _ _ _ _ _ _ c.before_blanks.ensures.value c.skip_blanks-start.ensures.value c.in_default.ensures.value (c.loop-joiner.invariant.same n before total le going)
+    and_ends c.args.first.end.text.now (operand_at _) _ _ _ _ _ _ _ c.remember_blanks.ensures.value c.skip_blanks-start.ensures.value c.in_default.ensures.value (c.loop-joiner.invariant.same n before total le going)
 
 pub read_and_rest-returns-in_default-clause-behind : goal.read_and_rest-returns-in_default-clause-behind
-read_and_rest-returns-in_default-clause-behind t c = AtOrBehind-then _ _ _ c.loop-joiner.invariant.behind c.before_blanks.ensures.behind
+read_and_rest-returns-in_default-clause-behind t c = AtOrBehind-then _ _ _ c.loop-joiner.invariant.behind c.remember_blanks.ensures.behind
 
 pub read_and_rest-read_operand-requires : goal.read_and_rest-read_operand-requires
 read_and_rest-read_operand-requires t c =
@@ -148,10 +148,10 @@ read_or_level-returns-clause-value t c =
 
 pub read_or_rest-returns-in_default-clause-value : goal.read_or_rest-returns-in_default-clause-value
 read_or_rest-returns-in_default-clause-value t c = λ n before total le going.
-    or_level_ends c.args.first.end.text.now (and_level_by (operand_at _)) _ _ _ _ _ _ _ c.before_blanks.ensures.value c.skip_blanks-start.ensures.value c.in_default.ensures.value (c.loop-operator.invariant.same n before total le going)
+    or_level_ends c.args.first.end.text.now (and_level_by (operand_at _)) _ _ _ _ _ _ _ c.remember_blanks.ensures.value c.skip_blanks-start.ensures.value c.in_default.ensures.value (c.loop-operator.invariant.same n before total le going)
 
 pub read_or_rest-returns-in_default-clause-behind : goal.read_or_rest-returns-in_default-clause-behind
-read_or_rest-returns-in_default-clause-behind t c = AtOrBehind-then _ _ _ c.loop-operator.invariant.behind c.before_blanks.ensures.behind
+read_or_rest-returns-in_default-clause-behind t c = AtOrBehind-then _ _ _ c.loop-operator.invariant.behind c.remember_blanks.ensures.behind
 
 pub read_or_rest-read_and_level-requires : goal.read_or_rest-read_and_level-requires
 read_or_rest-read_and_level-requires t c =

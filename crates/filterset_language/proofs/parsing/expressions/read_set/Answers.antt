@@ -11,4 +11,4 @@ pub returns-clause-value : goal.returns-clause-value
 returns-clause-value c =
     let text = c.args.input.text.now in
     let read = set_gives text _ _ _ (position_of c.in_ok-leaf.leaf.end) (leaf_at c.args.name c.args.start.offset (position_of c.args.input)) c.in_ok-leaf.ensures.value in
-    gives_as PatternsAreRead (LiesOnBody text) _ _ _ _ _ _ _ read c.in_ok-leaf_expr.ensures refl
+    gives_as PatternsAreRead (LiesOnBody text) _ _ _ _ _ _ _ read c.in_ok-make_set.ensures refl

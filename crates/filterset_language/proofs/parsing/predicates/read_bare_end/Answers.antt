@@ -8,11 +8,11 @@ use Rattle.filterset_language.proofs.parsing.predicates.read_bare_end.Goals as g
 use Rattle.filterset_language.proofs.parsing.predicates.read_bare_end.Goals.{then-not-is_white+in_ok-push, else-not-is_white}
 
 pub range-requires-clause-end_boundary : goal.range-requires-clause-end_boundary
-range-requires-clause-end_boundary c = close_boundary _ _ (count_is c.args.input c.next_close-end.result (close_len c.args.input.rest.now) c.next_close-end.ensures.value)
+range-requires-clause-end_boundary c = close_boundary _ _ (count_is c.args.input c.advance_to_close-end.result (close_len c.args.input.rest.now) c.advance_to_close-end.ensures.value)
 
 pub returns-clause-value : goal.returns-clause-value
 returns-clause-value c =
-    let front = front_is c.args.input.rest.now c.range.result.now _ c.range.ensures.value (count_is c.args.input c.next_close-end.result (close_len c.args.input.rest.now) c.next_close-end.ensures.value) in
+    let front = front_is c.args.input.rest.now c.range.result.now _ c.range.ensures.value (count_is c.args.input c.advance_to_close-end.result (close_len c.args.input.rest.now) c.advance_to_close-end.ensures.value) in
     let read = c.read_close.ensures.value in
     elim c.if-not-is_white.branch [
       | then-not-is_white+in_ok-push w ↦
@@ -20,18 +20,18 @@ returns-clause-value c =
           if_ok c.read_close.result _ _ (λ r v. refused _ _ _ _ _ _ w.in_ok-push.ensures.items v.grows (bare_end_none (position_of c.args.input) black)) (rw w.faults-is at read)
       | else-not-is_white w ↦
           let white : is_white (take (close_len c.args.input.rest.now) c.args.input.rest.now) ≡ true = ap is_white (sym front) ∙ sym c.is_white.ensures ∙ w.if-not-is_white.false in
-          let same = bare_end_is (position_of c.args.input) (position_of c.next_close-end.result) c.next_close-end.ensures.value white in
+          let same = bare_end_is (position_of c.args.input) (position_of c.advance_to_close-end.result) c.advance_to_close-end.ensures.value white in
           if_ok c.read_close.result _ _ (λ r v. recovers_as _ _ _ _ _ _ v refl (sym same)) (rw w.faults-is at read)
     ]
 
 pub returns-clause-stand : goal.returns-clause-stand
 returns-clause-stand c =
-    let front = front_is c.args.input.rest.now c.range.result.now _ c.range.ensures.value (count_is c.args.input c.next_close-end.result (close_len c.args.input.rest.now) c.next_close-end.ensures.value) in
+    let front = front_is c.args.input.rest.now c.range.result.now _ c.range.ensures.value (count_is c.args.input c.advance_to_close-end.result (close_len c.args.input.rest.now) c.advance_to_close-end.ensures.value) in
     let kept = c.read_close.ensures.stand in
     elim c.if-not-is_white.branch [
       | then-not-is_white+in_ok-push w ↦
           let black : is_white (take (close_len c.args.input.rest.now) c.args.input.rest.now) ≡ false = ap is_white (sym front) ∙ sym c.is_white.ensures ∙ w.if-not-is_white.true in
-          let first = reported _ _ _ _ w.in_ok-push.ensures.items (rw w.up_to.ensures (argument_found c.args.input c.next_close-end.result c.next_close-end.ensures.value black)) in
-          if_ok c.read_close.result _ _ (λ r keeps. keeps_then _ _ _ _ _ _ refl c.next_close-end.ensures.behind.text first keeps) (rw w.faults-is at kept)
-      | else-not-is_white w ↦ if_ok c.read_close.result _ _ (λ r keeps. keeps_along _ _ _ _ c.next_close-end.ensures.behind.text keeps) (rw w.faults-is at kept)
+          let first = reported _ _ _ _ w.in_ok-push.ensures.items (rw w.up_to.ensures (argument_found c.args.input c.advance_to_close-end.result c.advance_to_close-end.ensures.value black)) in
+          if_ok c.read_close.result _ _ (λ r keeps. keeps_then _ _ _ _ _ _ refl c.advance_to_close-end.ensures.behind.text first keeps) (rw w.faults-is at kept)
+      | else-not-is_white w ↦ if_ok c.read_close.result _ _ (λ r keeps. keeps_along _ _ _ _ c.advance_to_close-end.ensures.behind.text keeps) (rw w.faults-is at kept)
     ]

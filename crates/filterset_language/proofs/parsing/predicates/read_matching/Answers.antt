@@ -22,5 +22,5 @@ returns-clause-value c =
     let read =
     matching_gives c.skip_blanks.result.text.now i.text.now predicate (position_of i) (position_of c.skip_blanks.result) (position_of end) (position_of c.in_ok-end.end) _ _ _ _ c.skip_blanks.ensures.behind.text c.skip_blanks.ensures.value le c.in_ok-matcher.ensures.value c.in_ok-end.ensures.value
     in
-    let is = c.matching_leaf.ensures ∙ ap (λ (s : SourceSpan). option_map (λ (m : Matcher). Matching predicate m s) (option_map matcher_of c.in_ok-matcher.matcher.value)) c.up_to.ensures in
+    let is = c.make_leaf.ensures ∙ ap (λ (s : SourceSpan). option_map (λ (m : Matcher). Matching predicate m s) (option_map matcher_of c.in_ok-matcher.matcher.value)) c.up_to.ensures in
     gives_as LeafIsRead (λ (l : Leaf SourceSpan). LiesOnBody i.text.now (Set l)) _ _ _ _ _ _ _ read is refl

@@ -23,23 +23,23 @@ loop-behind-init c = record {
 
 pub advance-requires-clause-within : goal.advance-requires-clause-within
 advance-requires-clause-within c =
-    escape_within _ c.in-Some-leading_escape.escape.character _ (sym (c.in-Some-leading_escape.ensures ∙ ap escape_at c.as_bytes.ensures.value))
+    escape_within _ c.in-Some-read_escape.escape.character _ (sym (c.in-Some-read_escape.ensures ∙ ap escape_at c.as_bytes.ensures.value))
 
 pub advance-requires-clause-boundary : goal.advance-requires-clause-boundary
 advance-requires-clause-boundary c =
-    escape_boundary _ c.in-Some-leading_escape.escape.character _ (subst IsUtf8 c.as_bytes.ensures.value c.as_bytes.ensures.utf8) (sym (c.in-Some-leading_escape.ensures ∙ ap escape_at c.as_bytes.ensures.value))
+    escape_boundary _ c.in-Some-read_escape.escape.character _ (subst IsUtf8 c.as_bytes.ensures.value c.as_bytes.ensures.utf8) (sym (c.in-Some-read_escape.ensures ∙ ap escape_at c.as_bytes.ensures.value))
 
 pub loop-behind-preserved : goal.loop-behind-preserved
 loop-behind-preserved c =
     let inv = c.loop-behind.invariant in
-    let read = c.in-Some-leading_escape.ensures ∙ ap escape_at c.as_bytes.ensures.value in
+    let read = c.in-Some-read_escape.ensures ∙ ap escape_at c.as_bytes.ensures.value in
     let run = c.read_plain-in-Some.result.0.now in
     let turned =
     text_turns (position_of c.args.input) (position_of c.loop-behind.end) (position_of c.in-Some.behind) (position_of c.advance.result) (position_of c.read_plain-in-Some.result.1)
-    (string_bytes c.loop-behind.value) run c.in-Some-leading_escape.escape.character c.in-Some-leading_escape.escape.len
+    (string_bytes c.loop-behind.value) run c.in-Some-read_escape.escape.character c.in-Some-read_escape.escape.len
     inv.spelled c.in-Some.ensures.value read c.advance.ensures.value c.read_plain-in-Some.ensures.text c.read_plain-in-Some.ensures.value
     in
-    let bytes : string_bytes c.push_str.new.self ≡ (string_bytes c.loop-behind.value ++ encode_utf8 c.in-Some-leading_escape.escape.character) ++ run =
+    let bytes : string_bytes c.push_str.new.self ≡ (string_bytes c.loop-behind.value ++ encode_utf8 c.in-Some-read_escape.escape.character) ++ run =
     c.in_ok-push_str.ensures.bytes ∙ ap (λ (t : List ℕ). t ++ run) c.in_ok-push-2.ensures.bytes
     in
     let past = AtOrBehind-of _ _ (c.in-Some.ensures.behind (omega arith)) in
@@ -50,15 +50,15 @@ loop-behind-preserved c =
       behind = AtOrBehind-then _ _ _ inv.behind (AtOrBehind-then _ _ _ past (AtOrBehind-then _ _ _ c.advance.ensures.behind c.read_plain-in-Some.ensures.behind));
     }
 
-pub returns-in_default-leading_escape-clause-value : goal.returns-in_default-leading_escape-clause-value
-returns-in_default-leading_escape-clause-value c =
-    let none : None ≡ escape_at c.in-Some.behind.rest.now = c.in_default-leading_escape.ensures ∙ ap escape_at c.as_bytes.ensures.value in
+pub returns-in_default-read_escape-clause-value : goal.returns-in_default-read_escape-clause-value
+returns-in_default-read_escape-clause-value c =
+    let none : None ≡ escape_at c.in-Some.behind.rest.now = c.in_default-read_escape.ensures ∙ ap escape_at c.as_bytes.ensures.value in
     refused_along _ _ _ _ _ _ _ c.loop-behind.invariant.same c.in_ok-push.ensures.items c.in_ok-end.ensures.grows
     (unescaped_is_unread (position_of c.args.input) (position_of c.loop-behind.end) (position_of c.in-Some.behind) (string_bytes c.loop-behind.value) c.loop-behind.invariant.spelled c.in-Some.ensures.value none)
 
-pub returns-in_default-leading_escape-clause-stand : goal.returns-in_default-leading_escape-clause-stand
-returns-in_default-leading_escape-clause-stand c =
-    let none : None ≡ escape_at c.in-Some.behind.rest.now = c.in_default-leading_escape.ensures ∙ ap escape_at c.as_bytes.ensures.value in
+pub returns-in_default-read_escape-clause-stand : goal.returns-in_default-read_escape-clause-stand
+returns-in_default-read_escape-clause-stand c =
+    let none : None ≡ escape_at c.in-Some.behind.rest.now = c.in_default-read_escape.ensures ∙ ap escape_at c.as_bytes.ensures.value in
     let inv = c.loop-behind.invariant in
     let first = reported _ _ _ _ c.in_ok-push.ensures.items (rw c.backslash.ensures (unescaped_found c.loop-behind.end c.in-Some.behind c.in-Some.ensures.value none)) in
     keeps_from _ _ _ _ inv.same

@@ -14,9 +14,9 @@ advance-slash-requires-clause-boundary c = body_boundary _ _ (c.body_len-count.e
 
 pub returns-in_ok-push-in-None-clause-stand : goal.returns-in_ok-push-in-None-clause-stand
 returns-in_ok-push-in-None-clause-stand c =
-    let rest : c.next_close-end.result.rest.now ≡ drop (close_len c.args.input.rest.now) c.args.input.rest.now = ap (λ (p : Position). p.rest) c.next_close-end.ensures.value in
-    let closes : ClosesArgument c.next_close-end.result.rest.now = subst ClosesArgument (sym rest) (close_behind c.args.input.rest.now) in
-    keeps_along _ _ _ _ c.next_close-end.ensures.behind.text (reported _ _ _ _ c.in_ok-push-in-None.ensures.items (rw c.here.ensures (unclosed_found c.next_close-end.result closes)))
+    let rest : c.advance_to_close-end.result.rest.now ≡ drop (close_len c.args.input.rest.now) c.args.input.rest.now = ap (λ (p : Position). p.rest) c.advance_to_close-end.ensures.value in
+    let closes : ClosesArgument c.advance_to_close-end.result.rest.now = subst ClosesArgument (sym rest) (close_behind c.args.input.rest.now) in
+    keeps_along _ _ _ _ c.advance_to_close-end.ensures.behind.text (reported _ _ _ _ c.in_ok-push-in-None.ensures.items (rw c.here.ensures (unclosed_found c.advance_to_close-end.result closes)))
 
 pub returns-in_ok-pattern-in-Some-clause-taken : goal.returns-in_ok-pattern-in-Some-clause-taken
 returns-in_ok-pattern-in-Some-clause-taken c =

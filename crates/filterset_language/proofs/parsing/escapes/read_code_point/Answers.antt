@@ -1,6 +1,6 @@
 use Rattle.std.proofs.Common.{ℕ, zero, suc, ◌<◌, ◌≤◌, ◌^◌, ◌≢◌, get_or, arith, rules}
 use Rattle.filterset_language.proofs.EscapeReading.{digit_low}
-use Rattle.filterset_language.proofs.parsing.escapes.code_point.Goals as goal
+use Rattle.filterset_language.proofs.parsing.escapes.read_code_point.Goals as goal
 
 -- five digits or less
 below : (n code : ℕ) → n ≤ 5 → code < 16 ^ n → code < 1048576

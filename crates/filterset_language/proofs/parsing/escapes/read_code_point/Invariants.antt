@@ -1,6 +1,6 @@
 use Rattle.std.proofs.Common.{◌≡◌, ◌≤◌, ◌<◌, ◌^◌, drop}
 use Rattle.filterset_language.specs.Parsing.Escapes.{code_from}
-use Rattle.filterset_language.proofs.parsing.escapes.code_point.Given as goal
+use Rattle.filterset_language.proofs.parsing.escapes.read_code_point.Given as goal
 
 abbrev pub invariant-loop-seen : goal.invariant-loop-seen
 invariant-loop-seen l = record {

@@ -5,7 +5,7 @@ use Rattle.filterset_grammar.specs.Tree.{Parens}
 use Rattle.filterset_language.specs.Views.{tree_of}
 use Rattle.filterset_language.specs.Levels.{IsOfLevel, IsOperand}
 use Rattle.filterset_language.proofs.AddingParens.{stays, goes_in}
-use Rattle.filterset_language.proofs.tree.parens.fitted.Goals as goal
+use Rattle.filterset_language.proofs.tree.parens.fit_to_level.Goals as goal
 
 pub returns-then-is_of_level : goal.returns-then-is_of_level
 returns-then-is_of_level g c =
@@ -16,4 +16,4 @@ returns g c =
     let e = tree_of c.args.expr.now in
     let may = IsOfLevel c.args.level e in
     let isnt : may → ⊥ = λ h. false≢true (sym c.if-is_of_level.false ∙ c.is_of_level.ensures.1 h) in
-    record { tree = IfOk-weaker c.enclosed.result (λ new. tree_of new.value ≡ Parens (tree_of c.args.copy.value)) (λ new. IsOperand may e (tree_of new.value)) (λ new is. rw is (goes_in may c.requires.tree isnt)) c.enclosed.ensures }
+    record { tree = IfOk-weaker c.enclose.result (λ new. tree_of new.value ≡ Parens (tree_of c.args.copy.value)) (λ new. IsOperand may e (tree_of new.value)) (λ new is. rw is (goes_in may c.requires.tree isnt)) c.enclose.ensures }

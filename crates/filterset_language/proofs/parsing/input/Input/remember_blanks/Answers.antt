@@ -4,7 +4,7 @@ use Rattle.std.proofs.lemmas.Str.{IsUtf8-from_is_utf8, IsCharBoundary-at_seam}
 use Rattle.filterset_language.specs.Parsing.Seam.{Position, position, skip_from, AreBlanks}
 use Rattle.filterset_language.proofs.Positions.{skip_stop}
 use Rattle.filterset_language.proofs.StepsTakeText.{Skipped, skip_takes}
-use Rattle.filterset_language.proofs.parsing.input.Input.before_blanks.Goals as goal
+use Rattle.filterset_language.proofs.parsing.input.Input.remember_blanks.Goals as goal
 
 -- the blanks between a position and the one after them
 between : (at to : ℕ) (t u : List ℕ) → position to u ≡ skip_from at t → Skipped (position at t) (position to u)
