@@ -1,12 +1,9 @@
 //! Filtersets that are read where there are no packages and no custom groups.
-ghost use Rattle.nextest_filtering.specs.Groups.{IsKnown};
-
 use crate::judging::filtersets_agree;
 use nextest_filtering::{
     Filterset, FiltersetKind, KnownGroups, PackageGraph, ParseContext, ParseRefusal,
 };
 use std::alloc::{AllocError, Global};
-use std::collections::HashSet;
 
 /// What is read of a text: a filterset, or why it was refused.
 pub struct Reading {
@@ -53,19 +50,10 @@ impl Reading {
     }
 }
 
-/// What is known where there are no custom groups.
-fn no_custom_groups(alloc: Global) -> KnownGroups
-    ensures { IsKnown result }
-{
-    KnownGroups::Known {
-        custom_groups: HashSet::new(alloc),
-    }
-}
-
 /// What is read of a text over the packages of the graph.
 fn read(alloc: Global, input: String, graph: &PackageGraph) -> Result<Reading, AllocError> {
     let cx = ParseContext::new(alloc, graph)?;
-    let known = no_custom_groups(alloc);
+    let known = KnownGroups::global_only(alloc);
     Ok(Reading {
         read: Filterset::parse(alloc, input, &cx, FiltersetKind::Test, &known),
     })

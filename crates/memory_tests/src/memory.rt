@@ -10,7 +10,6 @@ use nextest_filtering::{
     ParseRefusal, ParseSingleError, ParsedExpr, ParsedLeaf, SourceSpan, TestQuery,
 };
 use std::alloc::{AllocError, Global};
-use std::collections::HashSet;
 use std::fmt::Debug;
 use std::process::Abort;
 use std::test::Fail;
@@ -99,16 +98,12 @@ fn refused_with(
     text: &str,
     faults: &[ParseSingleError],
 ) -> Option<FiltersetParseErrors> {
-    match refusal {
-        ParseRefusal::Faults(found) => {
-            assert!(rt;
-                !faults.is_empty() && found.errors.as_slice() == faults,
-                "{text}"
-            );
-            Some(found)
-        }
-        ParseRefusal::OutOfMemory { .. } => None,
-    }
+    let found = refusal.into_faults().ok()?;
+    assert!(rt;
+        !faults.is_empty() && found.errors.as_slice() == faults,
+        "{text}"
+    );
+    Some(found)
 }
 
 /// What is read of a text: a filterset where no fault is wanted, and else a refusal for these. None where memory is
@@ -120,9 +115,7 @@ fn read(
     faults: &[ParseSingleError],
 ) -> Option<Result<Filterset, FiltersetParseErrors>> {
     let alloc = rt.alloc();
-    let known_groups = KnownGroups::Known {
-        custom_groups: HashSet::new(alloc),
-    };
+    let known_groups = KnownGroups::global_only(alloc);
     let Ok(input) = String::from_str(alloc, text) else {
         return None;
     };
@@ -562,19 +555,10 @@ fn copies_are_made(rt: HostRuntime) {
     assert!(rt; copies(&rt));
 }
 
-/// The name `a` of a group, alone.
-fn one_name(alloc: Global) -> Result<HashSet<String>, AllocError> {
-    let mut names = HashSet::new(alloc);
-    names.insert(String::from_str(alloc, "a")?)?;
-    Ok(names)
-}
-
 /// The filterset of a text that may name the group `a`.
 fn of_one_group(alloc: Global, cx: &ParseContext<'_>, text: &str) -> Result<Filterset, Fail> {
     let input = String::from_str(alloc, text)?;
-    let groups = KnownGroups::Known {
-        custom_groups: one_name(alloc)?,
-    };
+    let groups = KnownGroups::of(alloc, vec![in alloc; String::from_str(alloc, "a")?]?)?;
     match Filterset::parse(alloc, input, cx, FiltersetKind::Test, &groups) {
         Ok(filterset) => Ok(filterset),
         Err(_) => Err(Fail::from("refused")),

@@ -1,5 +1,5 @@
 -- What is known of the groups of tests.
-use Rattle.std.specs.Prelude.{◌≡◌, ◌⊎◌, ℕ, List, Contains, codes, string_bytes}
+use Rattle.std.specs.Prelude.{◌≡◌, ◌⊎◌, ◌↔◌, ℕ, List, [], Contains, codes, map, string_bytes}
 use Rattle.std.specs.HashSet.{keys}
 use Rattle.std.specs.declared.alloc.Global.{Global}
 use Rattle.std.specs.declared.string.String.{String}
@@ -17,3 +17,14 @@ IsGroupName (Known custom_groups) name =
     (name ≡ codes "@global")
     ⊎ ((custom : String Global) × Contains (keys custom_groups) custom × (string_bytes custom ≡ name))
 IsGroupName Unavailable name = ⊥
+
+-- the groups are known, and the custom ones have these names and no others
+abbrev pub AreGroups : List (List ℕ) → KnownGroups → Type 0
+AreGroups names (Known custom_groups) =
+    (name : List ℕ) → Contains (map (λ s. string_bytes s) (keys custom_groups)) name ↔ Contains names name
+AreGroups names Unavailable = ⊥
+
+-- no group but `@global` is known
+abbrev pub IsGlobalOnly : KnownGroups → Type 0
+IsGlobalOnly (Known custom_groups) = keys custom_groups ≡ []
+IsGlobalOnly Unavailable = ⊥

@@ -1,5 +1,5 @@
 //! Filtersets: a text, its tree, and the compiled expression.
-ghost use Rattle.std.specs.Prelude.{◌≡◌, ◌≢◌, ◌↔◌, Bool, false, List, Some, None, IfOk, IfErr, IsTrue, codes, string_bytes};
+ghost use Rattle.std.specs.Prelude.{◌≡◌, ◌≢◌, ◌↔◌, Bool, false, List, Some, None, IfOk, IfErr, IsTrue, OnErr, codes, string_bytes};
 ghost use Rattle.std.specs.Str.Iter.{HasSubslice};
 ghost use Rattle.filterset_faults.specs.declared.kind.FiltersetKind.TheVariants as kinds;
 ghost use Rattle.filterset_graph.specs.declared.package.PackageMetadata.{PackageMetadata};
@@ -45,6 +45,22 @@ pub enum ParseRefusal {
     Faults(FiltersetParseErrors),
     /// There was not enough memory, and nothing is known of the text.
     OutOfMemory { input: String },
+}
+
+impl ParseRefusal {
+    ghost use Rattle.nextest_filtering.specs.Refusals.{IsOutOfMemory};
+    ghost use Rattle.nextest_filtering.specs.declared.filterset.ParseRefusal.TheVariants as refusals;
+
+    /// Returns the input and its faults. It is an error only if the parser ran out of memory.
+    pub fn into_faults(self) -> Result<FiltersetParseErrors, AllocError>
+        ensures faults { IfOk result (λ refused. self ≡ refusals.Faults refused) }
+        ensures memory { OnErr result (IsOutOfMemory self) }
+    {
+        match self {
+            ParseRefusal::Faults(refused) => Ok(refused),
+            ParseRefusal::OutOfMemory { .. } => Err(AllocError),
+        }
+    }
 }
 
 /// Reads a text.

@@ -1,5 +1,5 @@
 //! What filtersets are read against.
-ghost use Rattle.std.specs.Prelude.{◌≡◌, ◌++◌, IfOk, OnOk, map};
+ghost use Rattle.std.specs.Prelude.{◌≡◌, ◌++◌, IfOk, OnOk, map, string_bytes};
 ghost use Rattle.std.specs.List.{flat_map};
 ghost use Rattle.nextest_filtering.specs.Binaries.{binaries_of, name_and_id, binary_with, members_of, test_binaries};
 
@@ -154,6 +154,30 @@ impl Drop for KnownGroups {
                 custom_groups: _custom_groups,
             } => {}
             KnownGroups::Unavailable => {}
+        }
+    }
+}
+
+impl KnownGroups {
+    ghost use Rattle.nextest_filtering.specs.Groups.{AreGroups, IsGlobalOnly, IsKnown};
+
+    /// Returns the known groups with these custom groups, where a name may be repeated. The only error is out of memory.
+    pub fn of(alloc: Global, names: Vec<String>) -> Result<KnownGroups, AllocError>
+        ensures groups { IfOk result (AreGroups (map (λ s. string_bytes s) names.items)) }
+        ensures known { IfOk result IsKnown }
+    {
+        Ok(KnownGroups::Known {
+            custom_groups: names.into_iter().collect(alloc)?,
+        })
+    }
+
+    /// Returns the known groups without custom groups: only `@global` is known.
+    pub fn global_only(alloc: Global) -> KnownGroups
+        ensures global { IsGlobalOnly result }
+        ensures known { IsKnown result }
+    {
+        KnownGroups::Known {
+            custom_groups: HashSet::new(alloc),
         }
     }
 }
