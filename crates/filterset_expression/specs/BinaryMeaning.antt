@@ -1,4 +1,4 @@
--- What a filterset's tree tells of the tests of a binary.
+-- What a filterset's tree means for a binary, whatever the tests' names and groups are.
 use Rattle.std.specs.Prelude.{◌≡◌, ◌↔◌, Bool, true, false, List}
 use Rattle.filterset_faults.specs.declared.span.SourceSpan.{SourceSpan}
 use Rattle.filterset_graph.specs.declared.package.PackageMetadata.{PackageMetadata}
@@ -23,7 +23,7 @@ pub data EitherLeaf (S : Type 0) : Type 0 where
   OfTree : Leaf S → EitherLeaf S
   OfDefault : CompiledLeaf → EitherLeaf S
 
--- what stands in the place of a predicate: the default filter for `default`, and each other predicate for itself
+-- what replaces a predicate: the default filter for `default`, and each other predicate itself
 abbrev pub tree_leaf_with_default : {S : Type 0} → CompiledExpr → Leaf S → Formula (EitherLeaf S)
 tree_leaf_with_default default (Default span) = replaced (λ leaf. formulas.Leaf (OfDefault leaf)) (formula default)
 tree_leaf_with_default default leaf = formulas.Leaf (OfTree leaf)

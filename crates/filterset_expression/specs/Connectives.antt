@@ -1,5 +1,4 @@
--- Connectives, and the rules of each: what it makes of two propositions, of two truth values, and of three. The rules
--- stand here alone; whatever else speaks of connectives takes them from these tables.
+-- The connectives and their rules: for propositions, for two truth values, and for three. No other file states a rule.
 use Rattle.std.specs.Prelude.{◌≡◌, ◌⊎◌, ◌&&◌, ◌||◌, Bool, true, false, not, Option, Some, None}
 use Rattle.std.specs.Bool.{beq}
 pub use Rattle.filterset_expression.specs.declared.logic.Connective.{Connective}
@@ -44,7 +43,7 @@ connected Conjunction x y = x && y
 connected Disjunction x y = x || y
 connected ExclusiveDisjunction x y = exclusive_or x y
 
--- ---- three truth values, of which `None` is unknown
+-- ---- three truth values; `None` is unknown
 
 -- what is unknown stays unknown
 abbrev pub kleene_not : Option Bool → Option Bool

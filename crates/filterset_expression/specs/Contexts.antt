@@ -1,4 +1,4 @@
--- What the contexts hold.
+-- The contexts of evaluations.
 use Rattle.filterset_expression.specs.declared.expression.CompiledExpr.{CompiledExpr}
 use Rattle.filterset_expression.specs.declared.context.EvalContext.{EvalContext}
 

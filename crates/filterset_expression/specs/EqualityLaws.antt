@@ -26,7 +26,7 @@ by_compared f test d = record {
       one_answer (test a c) (test b c) (d a c) (λ h. (d a b).0 e ∙ (d b c).0 h, λ h. (d b c).1 (sym ((d a b).0 e) ∙ h));
 }
 
--- a matcher at a span, of which the leaves of one kind consist
+-- a matcher at a span: the fields of a leaf with a matcher
 at_is : (f : Matcher → SourceSpan → CompiledLeaf) (m n : Matcher) (s t : SourceSpan)
     → (alike m n && same_span s t) ≡ true
     → f (compared_matcher m) s ≡ f (compared_matcher n) t

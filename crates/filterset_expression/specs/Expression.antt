@@ -1,4 +1,5 @@
--- What a compiled expression is, without where its parts lie in memory, and what it means.
+-- Compiled expressions as formulas, without the memory that they lie in, and their meaning.
+use Rattle.std.specs.Prelude as prelude
 use Rattle.std.specs.Prelude.{◌≡◌, ◌↔◌, ℕ, Bool, true, false, List, Contains}
 use Rattle.std.specs.List.{list_any}
 use Rattle.filterset_faults.specs.declared.span.SourceSpan.{SourceSpan}
@@ -71,6 +72,15 @@ is_runtime_only (Test matcher span) = true
 is_runtime_only (Group matcher span) = true
 is_runtime_only Default = true
 is_runtime_only _ = false
+
+-- the leaf's matcher, if it has one
+abbrev pub leaf_matcher : CompiledLeaf → prelude.Option Matcher
+leaf_matcher (Kind matcher span) = prelude.Some matcher
+leaf_matcher (Binary matcher span) = prelude.Some matcher
+leaf_matcher (BinaryId matcher span) = prelude.Some matcher
+leaf_matcher (Test matcher span) = prelude.Some matcher
+leaf_matcher (Group matcher span) = prelude.Some matcher
+leaf_matcher _ = prelude.None
 
 -- whether a leaf of the expression passes the test
 abbrev pub has_leaf : (CompiledLeaf → Bool) → CompiledExpr → Bool

@@ -1,4 +1,4 @@
--- What a flat expression stands for.
+-- The expression that a flat expression evaluates.
 use Rattle.std.specs.Prelude.{◌≡◌, Bool, false, true, List, Option, Some}
 use Rattle.std.specs.List.{list_any}
 use Rattle.filterset_faults.specs.declared.span.SourceSpan.{SourceSpan}
@@ -34,9 +34,8 @@ leaf_passes test _ = false
 abbrev pub has_step : (CompiledLeaf → Bool) → FlatExpr → Bool
 has_step test flat = list_any (λ s. leaf_passes test (step_of s)) flat.steps.items
 
--- What is told of a binary: the value that Kleene's connectives give the expression, where what depends on the test is
--- unknown. Its evidence is kept for asking about tests: a value that is known is that of each test of the binary, also
--- where it is not known how a lookup would be answered.
+-- The answer for a binary: the value of the expression by Kleene's connectives, where leaves that depend on the test are
+-- unknown. A known value is the value for each test of the binary, whatever a lookup would answer.
 abbrev pub IsTold : FlatExpr → BinaryQuery → Option Bool → Type 0
 IsTold flat binary told = (expr default : CompiledExpr) → IsFlat flat expr default
     → Folds kleene_not kleene (Decides (Some true) (Some false)) (Settles is_of_test (HoldsOfBinary binary))

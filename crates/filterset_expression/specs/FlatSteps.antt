@@ -1,4 +1,4 @@
--- Formulas as lists of steps: the operands first, and then what is made of them.
+-- Formulas as lists of steps in postfix order.
 use Rattle.std.specs.Prelude.{List, [], ◌∷◌, ◌++◌, map}
 use Rattle.filterset_expression.specs.Connectives.{Connective, Conjunction, Disjunction, ExclusiveDisjunction}
 use Rattle.filterset_expression.specs.Expression.{CompiledLeaf, compiled_leaf}
@@ -24,7 +24,7 @@ push_leaf leaf = Push leaf ∷ []
 abbrev pub postfix : {A : Type 0} → Formula A → List (Step A)
 postfix f = steps_by push_leaf f
 
--- the step that a step of a flat expression stands for
+-- the step of a flat expression, without its reference
 abbrev pub step_of : FlatStep → Step CompiledLeaf
 step_of (step.Leaf leaf) = Push (compiled_leaf leaf.now)
 step_of step.Not = Negate

@@ -3,8 +3,8 @@ use Rattle.std.specs.Prelude.{◌≡◌, ◌↔◌, ◌⊎◌, Bool, Option, Non
 use Rattle.filterset_expression.specs.Connectives.{Connective}
 use Rattle.filterset_expression.specs.Formula.{Formula, Leaf, Negation, Compound}
 
--- The value is a fold of the formula: what `not_of` and `connect` make of values of the leaves, of which each is one
--- that `gives` allows. Where the value of a left operand decides a connective, nothing is said of the right operand.
+-- The value is a fold of the formula by `not_of` and `connect` over values of the leaves that `gives` allows. If the value
+-- of a left operand decides a connective, the right operand may have any value.
 abbrev pub Folds : {A L : Type 0} → (L → L) → (Connective → L → L → L) → (Connective → L → Type 0) → (A → L → Type 0)
     → Formula A → L → Type 0
 Folds not_of connect decides gives (Leaf leaf) value = gives leaf value

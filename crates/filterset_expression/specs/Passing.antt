@@ -1,4 +1,4 @@
--- Right operands that are passed over where the left one decides.
+-- Right operands that are skipped because the left operand decides.
 use Rattle.std.specs.Prelude.{◌≡◌, ◌⊎◌, ◌+◌, ◌-◌, ◌&&◌, ℕ, Bool, true, false, List, [], ◌∷◌, ◌++◌, Option, Some, None, length, take, drop}
 use Rattle.filterset_expression.specs.Connectives.{Connective, same_connective}
 use Rattle.filterset_expression.specs.FlatSteps.{Step, Combine, postfix}
@@ -45,7 +45,7 @@ are_passed_over (s ∷ steps) (operand ∷ operands) = is_passed_over operand st
 
 -- ---- runs
 
--- How far a run goes on, of which the last value is the operand to the left of these steps: one step, or past the right
+-- How far a run advances if its last value is the operand to the left of these steps: one step, or past the right
 -- operand too where the value decides the connective.
 abbrev pub Advances : {A L : Type 0} → (Connective → L → Type 0) → List (Step A) → L → ℕ → Type 0
 Advances decides steps value count =

@@ -5,7 +5,7 @@ use Rattle.std.specs.Prelude.{ℕ, zero, suc, ◌/◌, ◌%◌, ◌==◌, Bool, 
 abbrev pub is_odd : ℕ → Bool
 is_odd n = (n % 2) == 1
 
--- The values that stand in two words, as many as `height`, of which the top comes first: a value is a bit of each word
+-- The values in two words, `height` of them, the top first: a value is a bit of each word
 -- at the same position, and the top is at the lowest.
 abbrev pub values_of : {L : Type 0} → (Bool → Bool → L) → ℕ → ℕ → ℕ → List L
 values_of of_bits zero first second = []

@@ -1,4 +1,4 @@
--- The values that a formula can take where some of its leaves are left to be answered.
+-- The values that a formula can take if some of its leaves may have either value.
 use Rattle.std.specs.Prelude.{◌≡◌, ◌↔◌, ◌+◌, ℕ, Bool, true, false, List, [], ◌∷◌, length, take, drop, cond, IsTrue, MatchBool}
 use Rattle.filterset_expression.specs.Connectives.{Connects}
 use Rattle.filterset_expression.specs.Formula.{Formula, Leaf, Negation, Compound}

@@ -1,11 +1,11 @@
-//! What evaluation needs beside an expression and a question.
+//! The context of an evaluation.
 ghost use Rattle.std.specs.Prelude.{◌≡◌, false};
 ghost use Rattle.filterset_expression.specs.Expression.{has_leaf, is_default, is_group};
 
 use crate::CompiledExpr;
 
-/// The default filter, which stands in the place of each `default()`. It holds neither a `default()` nor a
-/// `group(..)` of its own, and so evaluation ends.
+/// The default filter, which replaces each `default` leaf. It has no `default` and no `group` leaf itself, so evaluation
+/// ends.
 #[derive(Clone, Copy, Debug)]
 pub struct EvalContext<'a> {
     default_filter: &'a CompiledExpr,
@@ -16,7 +16,7 @@ pub struct EvalContext<'a> {
 impl<'a> EvalContext<'a> {
     ghost use Rattle.filterset_expression.specs.Contexts.{default_of};
 
-    /// The context with this default filter.
+    /// Returns the context with this default filter.
     ///
     /// [`CompiledExpr::has_default_leaf`] and [`CompiledExpr::has_group_matchers`] test the two conditions. The compiled
     /// expression of a filterset of kind `DefaultFilter` meets both.
@@ -28,7 +28,7 @@ impl<'a> EvalContext<'a> {
         EvalContext { default_filter }
     }
 
-    /// The default filter.
+    /// Returns the default filter.
     pub fn default_filter(&self) -> &'a CompiledExpr
         ensures same { result.now ≡ default_of self.now }
         ensures no_default { has_leaf is_default result.now ≡ false }

@@ -1,4 +1,4 @@
-//! When compiled expressions are equal.
+//! Equality of compiled expressions.
 ghost use Rattle.std.specs.Cmp.{on_equiv, partial_equiv_from_equiv};
 ghost use Rattle.filterset_expression.specs.Equality.{same_compiled_leaf, same_formula};
 ghost use Rattle.filterset_expression.specs.EqualityLaws.{same_compiled_leaf_equiv, same_formula_equiv};
@@ -6,7 +6,7 @@ ghost use Rattle.filterset_expression.specs.Expression.{compiled_leaf, formula};
 
 use crate::{CompiledExpr, FiltersetLeaf};
 
-/// All that the two hold is equal, their spans too; of globs the tokens alone are compared.
+/// Compares all fields, spans included; globs are equal if their tokens are.
 impl PartialEq for FiltersetLeaf {
     ghost eq = { λ a b. same_compiled_leaf (compiled_leaf a) (compiled_leaf b) };
 
@@ -45,7 +45,7 @@ impl Eq for FiltersetLeaf {
     ghost laws = { on_equiv compiled_leaf same_compiled_leaf_equiv };
 }
 
-/// The two have the same shape, and their leaves are equal.
+/// Compares the shapes and the leaves.
 impl PartialEq for CompiledExpr {
     ghost eq = { λ a b. same_formula same_compiled_leaf (formula a) (formula b) };
 

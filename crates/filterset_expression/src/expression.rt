@@ -1,23 +1,24 @@
-//! Compiled expressions, and what they say of binaries and tests.
+//! Compiled expressions and their evaluation.
 ghost use Rattle.std.specs.Prelude.{◌≡◌, ◌↔◌, Bool, false, Some, None, IfOk, IsTrue};
 ghost use Rattle.filterset_expression.specs.Expression.{formula, has_leaf, is_default, is_group, no_groups};
 ghost use Rattle.filterset_expression.specs.Expression.{Holds, IsDefinite, IsUndecided};
 
-use crate::nodes::copied;
+use crate::nodes::copy_expr;
 use crate::{BinaryQuery, EvalContext, FiltersetLeaf, FlatExpr, GroupLookup, TestQuery};
 use std::alloc::{AllocError, Global};
 
-/// A compiled expression: sets of tests, and what is made of them.
+/// A compiled expression: sets of tests and operators on them.
 #[derive(Debug, Drop)]
 pub enum CompiledExpr {
     /// The tests that are not in the set.
     Not(Box<CompiledExpr>),
-    /// The tests that are in one of the two sets, or in both.
+    /// The tests that are in at least one of the two sets.
     Union(Box<CompiledExpr>, Box<CompiledExpr>),
     /// The tests that are in both sets.
     Intersection(Box<CompiledExpr>, Box<CompiledExpr>),
     /// The tests that are in exactly one of the two sets.
     SymmetricDifference(Box<CompiledExpr>, Box<CompiledExpr>),
+    /// The tests of a leaf.
     Set(FiltersetLeaf),
 }
 
@@ -27,7 +28,7 @@ impl CompiledExpr {
     /// The set of all tests.
     pub const ALL: CompiledExpr = CompiledExpr::Set(FiltersetLeaf::All);
 
-    /// Whether the expression holds a `default` leaf.
+    /// Returns whether the expression has a `default` leaf.
     pub fn has_default_leaf(&self) -> bool
         ensures { result ≡ has_leaf is_default self.now }
     {
@@ -42,7 +43,7 @@ impl CompiledExpr {
         }
     }
 
-    /// Whether the expression holds a `group` leaf.
+    /// Returns whether the expression has a `group` leaf.
     pub fn has_group_matchers(&self) -> bool
         ensures { result ≡ has_leaf is_group self.now }
     {
@@ -57,13 +58,12 @@ impl CompiledExpr {
         }
     }
 
-    /// Whether the expression holds of the tests of a binary, as far as the binary tells: true where it holds whatever
-    /// its `test` and `group` leaves say, false where it does not hold whatever they say, and `None` where it may be
-    /// either.
+    /// Evaluates the expression for a binary: `Some(true)` if it matches every test of the binary, `Some(false)` if it
+    /// matches none, whatever `test` and `group` leaves answer, and `None` if that depends on their answers.
     ///
-    /// Each `test` and `group` leaf says yes or no by itself, also where two are equal: `test(a) or not test(a)` may be
-    /// either. The context's default filter stands in the place of each `default` leaf, with leaves of its own at each.
-    /// The only error is out of memory.
+    /// Each `test` and `group` leaf may answer differently, even if two are equal: `test(a) or not test(a)` is `None`. The
+    /// context's default filter replaces each `default` leaf, each time with leaves of its own. The only error is out of
+    /// memory.
     pub fn matches_binary(
         &self,
         alloc: Global,
@@ -78,11 +78,10 @@ impl CompiledExpr {
         FlatExpr::new(alloc, self, cx)?.matches_binary(alloc, query)
     }
 
-    /// Whether the expression holds of the test, with the context's default filter in the place of each `default`
-    /// leaf.
+    /// Returns whether the expression matches the test. The context's default filter replaces each `default` leaf.
     ///
-    /// The expression holds no `group` leaf, which [`CompiledExpr::has_group_matchers`] tests. The only error is out of
-    /// memory.
+    /// The expression must have no `group` leaf, which [`CompiledExpr::has_group_matchers`] tests. The only error is out
+    /// of memory.
     pub fn matches_test(
         &self,
         alloc: Global,
@@ -93,15 +92,15 @@ impl CompiledExpr {
         ensures holds { IfOk result (λ answer.
             IsTrue answer ↔ Holds self.now query.now (default_of cx.now) no_groups) }
 
-        // What is definite of the test's binary is the answer.
+        // If the test's binary decides the expression, that is the answer.
         ensures settled { IfOk result (λ answer. (b : Bool)
             → IsDefinite self.now query.now.binary_query (default_of cx.now) b → answer ≡ b) }
     {
         FlatExpr::new(alloc, self, cx)?.matches_test(alloc, query)
     }
 
-    /// Whether the expression holds of the test, whose group the lookup tells, with the context's default filter in the
-    /// place of each `default` leaf. The only error is out of memory, the lookup's too.
+    /// Returns whether the expression matches the test; the lookup answers `group` leaves. The context's default filter
+    /// replaces each `default` leaf. The only error is out of memory, here or in the lookup.
     pub fn matches_test_with_groups(
         &self,
         alloc: Global,
@@ -112,8 +111,8 @@ impl CompiledExpr {
         ensures holds { IfOk result (λ answer.
             IsTrue answer ↔ Holds self.now query.now (default_of cx.now) (matches_group groups.now)) }
 
-        // What is definite of the test's binary is the answer, and where there is no `group` leaf every lookup gives
-        // the same.
+        // If the test's binary decides the expression, that is the answer. Without a `group` leaf every lookup gives the
+        // same answer.
         ensures settled { IfOk result (λ answer. (b : Bool)
             → IsDefinite self.now query.now.binary_query (default_of cx.now) b → answer ≡ b) }
         ensures ungrouped { has_leaf is_group self.now ≡ false → IfOk result (λ answer.
@@ -122,10 +121,10 @@ impl CompiledExpr {
         FlatExpr::new(alloc, self, cx)?.matches_test_with_groups(alloc, query, groups)
     }
 
-    /// A copy, equal in every field. The only error is out of memory.
+    /// Copies the expression. The only error is out of memory.
     pub fn try_clone(&self, alloc: Global) -> Result<CompiledExpr, AllocError>
         ensures { IfOk result (λ copy. formula copy ≡ formula self.now) }
     {
-        Ok(Box::into_inner(copied(alloc, self)?))
+        Ok(Box::into_inner(copy_expr(alloc, self)?))
     }
 }

@@ -1,4 +1,4 @@
-//! Compiled expressions as lists of steps, and what they say of binaries and tests.
+//! Compiled expressions as lists of steps, and their evaluation.
 ghost use Rattle.std.specs.Prelude.{◌≡◌, ◌↔◌, ◌∷◌, [], ◌+◌, Bool, true, false, List, Ok, Some, None, IfOk, IfSome, IsTrue};
 ghost use Rattle.std.specs.Prelude.{◌≤◌, ◌<◌, drop, length};
 ghost use Rattle.filterset_faults.specs.declared.span.SourceSpan.{SourceSpan};
@@ -17,14 +17,15 @@ ghost use Rattle.filterset_expression.specs.Passing.{are_passed_over, Advances};
 ghost use Rattle.filterset_expression.specs.declared.expression.CompiledExpr.{CompiledExpr};
 ghost use Rattle.filterset_expression.specs.declared.flat.asked.AskedLeaf.{AskedLeaf};
 
-use crate::logic::connected;
+use crate::logic::connect;
 use crate::{BinaryQuery, CompiledExpr, EvalContext, FiltersetLeaf, GroupLookup, Logic, TestQuery};
 use asked::AskedLeaf;
-use kept::{KeptMatcher, kept_matchers};
-use passing::{RightOperand, decides, right_operands};
+use kept::{KeptMatcher, keep_matchers};
+use passing::{RightOperand, decides, find_right_operands};
 use stack::{Reserved, Stack, TwoBits, Words};
 use std::alloc::{AllocError, Global};
-use steps::{Action, push_steps, reserved_height};
+use std::fmt::{self, Debug, Formatter};
+use steps::{Action, height_of, push_steps};
 
 mod asked;
 mod kept;
@@ -34,24 +35,23 @@ mod steps;
 
 pub use steps::FlatStep;
 
-/// An expression as a list of steps, with those of the default filter in the place of each `default` leaf.
+/// An expression as a list of steps in postfix order, where the steps of the default filter replace each `default` leaf.
 ///
-/// It is made for a caller that asks an expression of many binaries or tests.
-#[derive(Debug)]
+/// Make one to evaluate an expression for many binaries or tests.
 pub struct FlatExpr<'a> {
     steps: Vec<FlatStep<'a>>,
-    /// What is kept for the matcher of a leaf, in the leaf's place; none where nothing is kept for any.
+    /// The kept matcher of each step; empty if no step needs one.
     kept: Vec<KeptMatcher<'a>>,
-    /// The greatest number of values that stand on the stack while the steps run.
+    /// The greatest height of the stack while the steps run.
     height: usize,
-    /// What may be passed over after each step; none where no operand may be.
+    /// The right operand that may be skipped after each step; empty if there is none.
     right_operands: Vec<Option<RightOperand>>,
     ghost passed_over: { are_passed_over (steps_of steps.items) right_operands.items ≡ true },
     ghost one_value: { leaves_one (steps_of steps.items) 0 ≡ true },
     ghost fits: { height ≡ greatest_height (steps_of steps.items) 0 },
 }
 
-// Written out, so that a proof of who lets the list go has one call, and not the drop of each field.
+// Implemented by hand: a derived `Drop` is proved again, field by field, in each function that drops the list.
 impl Drop for FlatExpr<'_> {
     fn drop(self) {
         let FlatExpr {
@@ -63,12 +63,21 @@ impl Drop for FlatExpr<'_> {
     }
 }
 
+/// Writes the steps alone.
+impl Debug for FlatExpr<'_> {
+    fn fmt<W: fmt::Write>(&self, f: &mut Formatter<W>) -> fmt::Result {
+        f.debug_struct("FlatExpr")
+            .field("steps", &self.steps)
+            .finish_non_exhaustive()
+    }
+}
+
 impl<'a> FlatExpr<'a> {
     ghost use Rattle.filterset_expression.specs.Contexts.{default_of};
     ghost use Rattle.filterset_expression.specs.FlatExpressions.{flat_steps, has_step, IsFlat, IsFlatOfTree, IsTold};
 
-    /// The steps of the expression, with those of the context's default filter in the place of each `default` leaf. It
-    /// is an error only if it is out of memory.
+    /// Lists the steps of the expression, where those of the context's default filter replace each `default` leaf. The
+    /// only error is out of memory.
     pub fn new(
         alloc: Global,
         expr: &'a CompiledExpr,
@@ -81,9 +90,9 @@ impl<'a> FlatExpr<'a> {
         push_steps(&mut default_steps, cx.default_filter(), &[])?;
         let mut steps = Vec::new(alloc);
         push_steps(&mut steps, expr, &default_steps)?;
-        let kept = kept_matchers(alloc, &steps)?;
-        let height = reserved_height(&steps);
-        let right_operands = right_operands(alloc, &steps, expr, cx.default_filter())?;
+        let kept = keep_matchers(alloc, &steps)?;
+        let height = height_of(&steps);
+        let right_operands = find_right_operands(alloc, &steps, expr, cx.default_filter())?;
         Ok(FlatExpr {
             steps,
             kept,
@@ -92,23 +101,24 @@ impl<'a> FlatExpr<'a> {
         })
     }
 
-    /// The steps: the leaves from left to right, and each operator after its operands.
+    /// Returns the steps: the leaves from left to right, and each operator after its operands.
     pub fn steps(&self) -> &[FlatStep<'a>]
         ensures { steps_of result.now ≡ flat_steps self.now }
     {
         &self.steps
     }
 
-    /// Whether a `group` leaf is among the steps.
+    /// Returns whether a step is a `group` leaf.
     pub fn has_group_matchers(&self) -> bool
         ensures { result ≡ has_step is_group self.now }
     {
         self.steps.iter().any(|step| matches!(step, FlatStep::Leaf(FiltersetLeaf::Group(..))))
     }
 
-    /// What the expression says of a binary, as [`CompiledExpr::matches_binary`] says it.
+    /// Evaluates the expression for a binary, as [`CompiledExpr::matches_binary`] does.
     ///
-    /// Who keeps the answer asks [`FlatExpr::matches_test_of_told`] about the binary's tests.
+    /// If you keep the answer, pass it to [`FlatExpr::matches_test_of_told`] for each test of the binary. The only error
+    /// is out of memory.
     pub fn matches_binary(
         &self,
         alloc: Global,
@@ -120,7 +130,7 @@ impl<'a> FlatExpr<'a> {
         ensures undecided { IfOk result (λ answer. (expr default : CompiledExpr) → IsFlat self.now expr default
             → (answer ≡ None) ↔ IsUndecided expr query.now default) }
 
-        // Where it is made of what a tree is compiled to, the answer is what the tree tells of the binary.
+        // If it is made from a compiled tree, the answer is the tree's for the binary.
         ensures meaning { IfOk result (λ answer. (packages : List PackageMetadata) (e : Tree SourceSpan)
             (default : CompiledExpr) → IsFlatOfTree self.now packages e default
             → (b : Bool) → (answer ≡ Some b) ↔ IsDefiniteTree e packages query.now default b) }
@@ -134,9 +144,9 @@ impl<'a> FlatExpr<'a> {
         )
     }
 
-    /// Whether the expression holds of the test.
+    /// Returns whether the expression matches the test.
     ///
-    /// It holds no `group` leaf, which [`FlatExpr::has_group_matchers`] tests. The only error is out of memory.
+    /// It must have no `group` leaf, which [`FlatExpr::has_group_matchers`] tests. The only error is out of memory.
     pub fn matches_test(&self, alloc: Global, query: &TestQuery<'_>) -> Result<bool, AllocError>
         requires { has_step is_group self.now ≡ false }
         ensures holds { IfOk result (λ answer. (expr default : CompiledExpr) → IsFlat self.now expr default
@@ -144,7 +154,7 @@ impl<'a> FlatExpr<'a> {
         ensures settled { IfOk result (λ answer. (expr default : CompiledExpr) → IsFlat self.now expr default
             → (b : Bool) → IsDefinite expr query.now.binary_query default b → answer ≡ b) }
 
-        // Where it is made of what a tree is compiled to, the answer is the tree's meaning.
+        // If it is made from a compiled tree, the answer is the tree's meaning.
         ensures meaning { IfOk result (λ answer. (packages : List PackageMetadata) (e : Tree SourceSpan)
             (default : CompiledExpr) → IsFlatOfTree self.now packages e default
             → IsTrue answer ↔ Meaning e packages query.now default no_groups) }
@@ -155,8 +165,8 @@ impl<'a> FlatExpr<'a> {
         )
     }
 
-    /// Whether the expression holds of the test, whose group the lookup tells. The only error is out of memory,
-    /// the lookup's too.
+    /// Returns whether the expression matches the test; the lookup answers `group` leaves. The only error is out of
+    /// memory, here or in the lookup.
     pub fn matches_test_with_groups(
         &self,
         alloc: Global,
@@ -171,7 +181,7 @@ impl<'a> FlatExpr<'a> {
             → IfOk result (λ answer. (expr default : CompiledExpr) → IsFlat self.now expr default
             → IsTrue answer ↔ Holds expr query.now default no_groups) }
 
-        // Where it is made of what a tree is compiled to, the answer is the tree's meaning.
+        // If it is made from a compiled tree, the answer is the tree's meaning.
         ensures meaning { IfOk result (λ answer. (packages : List PackageMetadata) (e : Tree SourceSpan)
             (default : CompiledExpr) → IsFlatOfTree self.now packages e default
             → IsTrue answer ↔ Meaning e packages query.now default (matches_group groups.now)) }
@@ -185,9 +195,9 @@ impl<'a> FlatExpr<'a> {
         )
     }
 
-    /// Whether the expression holds of a test of a binary of which this was told, by [`FlatExpr::matches_binary`]. Where
-    /// that is yes or no, it is the answer, and nothing is asked of the test. The lookup tells the test's group. The only
-    /// error is out of memory, the lookup's too.
+    /// Returns whether the expression matches a test, given the answer of [`FlatExpr::matches_binary`] for its binary. If
+    /// that answer is not `None`, it is returned at once. The lookup answers `group` leaves. The only error is out of
+    /// memory, here or in the lookup.
     pub fn matches_test_of_told(
         &self,
         alloc: Global,
@@ -199,7 +209,7 @@ impl<'a> FlatExpr<'a> {
         ensures holds { IfOk result (λ answer. (expr default : CompiledExpr) → IsFlat self.now expr default
             → IsTrue answer ↔ Holds expr query.now default (matches_group groups.now)) }
 
-        // Where it is made of what a tree is compiled to, the answer is the tree's meaning.
+        // If it is made from a compiled tree, the answer is the tree's meaning.
         ensures meaning { IfOk result (λ answer. (packages : List PackageMetadata) (e : Tree SourceSpan)
             (default : CompiledExpr) → IsFlatOfTree self.now packages e default
             → IsTrue answer ↔ Meaning e packages query.now default (matches_group groups.now)) }
@@ -210,8 +220,8 @@ impl<'a> FlatExpr<'a> {
         }
     }
 
-    /// The value that the steps leave, where `of_leaf` gives the value of each leaf. A single leaf needs no stack, and
-    /// up to 64 values stand in words, which take no memory.
+    /// Runs the steps, where `of_leaf` evaluates the leaves, and returns the value that they leave. A single leaf needs no
+    /// stack. A stack of up to 64 values lies in two words and needs no memory.
     fn run<L: TwoBits, F: Fn(AskedLeaf<'_, 'a>) -> Result<L, AllocError>>(
         &self,
         alloc: Global,
@@ -236,7 +246,7 @@ impl<'a> FlatExpr<'a> {
         self.run_passing(Words::new(), of_leaf)
     }
 
-    /// The leaf that is the only step.
+    /// Returns the leaf if it is the only step.
     fn only_leaf(&self) -> Option<&'a FiltersetLeaf>
         ensures { IfSome result (λ leaf. flat_steps self.now ≡ Push (compiled_leaf leaf.now) ∷ []) }
     {
@@ -248,7 +258,7 @@ impl<'a> FlatExpr<'a> {
         None
     }
 
-    /// The same on this stack.
+    /// Runs all steps on this stack.
     fn run_on<L: Logic, S: Stack<L> + Drop, F: Fn(AskedLeaf<'_, 'a>) -> Result<L, AllocError>>(
         &self,
         mut stack: S,
@@ -277,14 +287,14 @@ impl<'a> FlatExpr<'a> {
                 Action::Combine(connective) => {
                     let right = stack.pop();
                     let left = stack.pop();
-                    stack.push(connected(connective, left, right));
+                    stack.push(connect(connective, left, right));
                 }
             }
         }
         Ok(stack.pop())
     }
 
-    /// The same, where right operands are passed over if the left ones decide.
+    /// Runs the steps on this stack, and skips right operands whose left operand decides their connective.
     fn run_passing<
         L: TwoBits,
         S: Stack<L> + Drop,
@@ -309,7 +319,7 @@ impl<'a> FlatExpr<'a> {
                 Action::Combine(connective) => {
                     let right = stack.pop();
                     let left = stack.pop();
-                    connected(connective, left, right)
+                    connect(connective, left, right)
                 }
             };
             stack.push(value);
@@ -318,8 +328,8 @@ impl<'a> FlatExpr<'a> {
         Ok(stack.pop())
     }
 
-    /// How many steps a run goes on after this step, whose value is on top: one, or past the right operand that stands
-    /// after it where the value decides its connective.
+    /// Returns how far a run advances after this step, given the step's value: one step, or past the right operand that
+    /// follows if the value decides its connective.
     fn steps_after<L: TwoBits>(&self, at: usize, value: L) -> usize
         requires { at < length (flat_steps self.now) }
         ensures { Advances (Decides L.top_value L.bottom_value) (drop (at + 1) (flat_steps self.now)) value result }

@@ -7,14 +7,14 @@ use filterset_matchers::NameMatcher;
 use std::alloc::{AllocError, Global};
 use std::fmt::Debug;
 
-/// Tells which tests are in which groups.
+/// A lookup of the groups of tests.
 pub trait GroupLookup: Debug {
     ghost use Rattle.filterset_expression.specs.Expression.{Lookup};
 
-    /// What the lookup says: of which tests a matcher matches the group.
+    /// Whether a matcher matches the group of a test.
     ghost matches_group: { Self → Lookup };
 
-    /// Whether the matcher matches the group of the test. The only error is out of memory.
+    /// Returns whether the matcher matches the test's group. The only error is out of memory.
     fn is_member_test(
         &self,
         alloc: Global,

@@ -1,4 +1,4 @@
-//! Laws of what filtersets mean: each stands in the contract of a function that gives nothing and takes no memory.
+//! Laws of the meaning of filtersets. Each law is the contract of a function that does nothing.
 ghost use Rattle.std.specs.Prelude.{◌≡◌, ◌↔◌, Bool, false, IsTrue, List};
 ghost use Rattle.filterset_faults.specs.declared.span.SourceSpan.{SourceSpan};
 ghost use Rattle.filterset_graph.specs.declared.package.PackageMetadata.{PackageMetadata};
@@ -20,7 +20,7 @@ ghost use Rattle.filterset_expression.specs.declared.query.TestQuery.{TestQuery}
 
 use crate::GroupLookup;
 
-/// `a - b` says of each test, and may say of each binary, what `a and not b` does, whatever the operators are spelled as.
+/// Proves that `a - b` has the value of `a and not b` for each test and each binary, however the operators are spelled.
 pub fn difference_is_and_not()
     ensures tests { (packages : List PackageMetadata) (test : TestQuery) (default : CompiledExpr)
         (lookup : TestQuery → Matcher → Bool) (minus : DifferenceOperator) (and : AndOperator) (not : NotOperator)
@@ -33,7 +33,7 @@ pub fn difference_is_and_not()
         ↔ PossibleOfTree (Join (Both and) a (Not not b)) packages binary default value }
 {}
 
-/// `a ^ b` says of each test what `(a - b) or (b - a)` does.
+/// Proves that `a ^ b` has the value of `(a - b) or (b - a)` for each test.
 pub fn symmetric_difference_is_two_differences()
     ensures { (packages : List PackageMetadata) (test : TestQuery) (default : CompiledExpr)
         (lookup : TestQuery → Matcher → Bool) (caret : SymmetricDifferenceOperator) (or : OrOperator)
@@ -43,7 +43,7 @@ pub fn symmetric_difference_is_two_differences()
         (λ t m. IsTrue (lookup t m)) }
 {}
 
-/// `a ^ b` says of each test, and may say of each binary, what `b ^ a` does.
+/// Proves that `a ^ b` has the value of `b ^ a` for each test and each binary.
 pub fn symmetric_difference_is_commutative()
     ensures tests { (packages : List PackageMetadata) (test : TestQuery) (default : CompiledExpr)
         (lookup : TestQuery → Matcher → Bool) (caret : SymmetricDifferenceOperator) (a b : Tree SourceSpan)
@@ -55,7 +55,7 @@ pub fn symmetric_difference_is_commutative()
         ↔ PossibleOfTree (Join (ExactlyOne caret) b a) packages binary default value }
 {}
 
-/// Parentheses change nothing of what is said of a test, or may be said of a binary.
+/// Proves that parentheses do not change the value for a test or a binary.
 pub fn parens_change_nothing()
     ensures tests { (packages : List PackageMetadata) (test : TestQuery) (default : CompiledExpr)
         (lookup : TestQuery → Matcher → Bool) (e : Tree SourceSpan)
@@ -67,8 +67,8 @@ pub fn parens_change_nothing()
         ↔ PossibleOfTree e packages binary default value }
 {}
 
-/// Parentheses added where operands ask for them change nothing of a tree's formula, and so nothing of what is said of a
-/// test, of what is true of a binary under a list of answers, or of what may be said of one.
+/// Proves that parentheses added round operands that need them do not change a tree's formula, and so neither its value
+/// for a test, nor its value for a binary under a list of answers, nor the values that are possible for a binary.
 pub fn added_parens_change_nothing()
     ensures formula { (e d : Tree SourceSpan) → IsWithParens e d → tree_formula d ≡ tree_formula e }
     ensures tests { (packages : List PackageMetadata) (test : TestQuery) (default : CompiledExpr)
@@ -84,8 +84,8 @@ pub fn added_parens_change_nothing()
         → PossibleOfTree d packages binary default value ↔ PossibleOfTree e packages binary default value }
 {}
 
-/// A binary of which `matches_binary` says no may be skipped: the filterset is false of each of its tests, whatever their
-/// names are, and whatever the lookup says of their groups.
+/// Proves that a binary may be skipped if `matches_binary` returns `Some(false)`: the filterset matches none of its tests,
+/// whatever their names and groups are.
 pub fn skipping_loses_no_test(groups: &dyn GroupLookup)
     ensures { (packages : List PackageMetadata) (e : Tree SourceSpan) (compiled default : CompiledExpr)
         (test : TestQuery) → IsCompiled packages e compiled

@@ -1,6 +1,7 @@
 //! The leaves of compiled expressions.
-ghost use Rattle.std.specs.Prelude.{◌≡◌, IfOk};
-ghost use Rattle.filterset_expression.specs.Expression.{compiled_leaf, is_runtime_only};
+ghost use Rattle.std.specs.Prelude.{◌≡◌, IfOk, option_map};
+ghost use Rattle.filterset_expression.specs.Expression.{compiled_leaf, is_runtime_only, leaf_matcher};
+ghost use Rattle.filterset_matchers.specs.Matchers.{matcher_of};
 
 use filterset_faults::SourceSpan;
 use filterset_graph::{BuildPlatform, PackageId};
@@ -8,25 +9,24 @@ use filterset_matchers::NameMatcher;
 use std::alloc::{AllocError, Global};
 use std::collections::BTreeSet;
 
-/// A set of tests that a compiled expression is made of. A span is that of the matcher, or of the platform, in the
-/// text that the leaf was read from.
+/// A leaf of a compiled expression: a set of tests. A span is that of the matcher or the platform in the input.
 ///
-/// It implements `Drop`, so a field is read by reference, and none is moved out of it.
+/// It implements `Drop`, so no field can be moved out of it.
 #[derive(Debug)]
 pub enum FiltersetLeaf {
     /// The tests of these packages.
     Packages(BTreeSet<PackageId>),
-    /// The tests of binaries of such a kind.
+    /// The tests of binaries whose kind matches.
     Kind(NameMatcher, SourceSpan),
-    /// The tests of binaries that are built for this platform.
+    /// The tests of binaries that are built for the platform.
     Platform(BuildPlatform, SourceSpan),
-    /// The tests of binaries with such a name.
+    /// The tests of binaries whose name matches.
     Binary(NameMatcher, SourceSpan),
-    /// The tests of binaries with such an id.
+    /// The tests of binaries whose id matches.
     BinaryId(NameMatcher, SourceSpan),
-    /// The tests with such a name.
+    /// The tests whose name matches.
     Test(NameMatcher, SourceSpan),
-    /// The tests that are in such a group.
+    /// The tests whose group matches.
     Group(NameMatcher, SourceSpan),
     /// The tests of the default filter.
     Default,
@@ -36,7 +36,8 @@ pub enum FiltersetLeaf {
     None,
 }
 
-// Written out, so that a proof of who lets a leaf go has one call, and not a branch a variant.
+// Implemented by hand: a derived `Drop` is proved again, with a branch for each variant, in each function that drops a
+// leaf.
 impl Drop for FiltersetLeaf {
     fn drop(self) {
         match self {
@@ -55,8 +56,8 @@ impl Drop for FiltersetLeaf {
 }
 
 impl FiltersetLeaf {
-    /// Whether what the leaf says of a test may depend on more than the test's binary: true of `Test`, `Group` and
-    /// `Default` alone.
+    /// Returns whether the leaf may have different values for tests of one binary: true for `Test`, `Group` and
+    /// `Default`.
     pub fn is_runtime_only(&self) -> bool
         ensures { result ≡ is_runtime_only (compiled_leaf self.now) }
     {
@@ -66,12 +67,30 @@ impl FiltersetLeaf {
         )
     }
 
-    /// A copy, equal in every field. The only error is out of memory.
+    /// Returns the leaf's matcher; `Packages`, `Platform`, `Default`, `All` and `None` have none.
+    pub fn matcher(&self) -> Option<&NameMatcher>
+        ensures { option_map (λ matcher. matcher_of matcher.now) result ≡ leaf_matcher (compiled_leaf self.now) }
+    {
+        match self {
+            FiltersetLeaf::Kind(matcher, _)
+            | FiltersetLeaf::Binary(matcher, _)
+            | FiltersetLeaf::BinaryId(matcher, _)
+            | FiltersetLeaf::Test(matcher, _)
+            | FiltersetLeaf::Group(matcher, _) => Some(matcher),
+            FiltersetLeaf::Packages(..)
+            | FiltersetLeaf::Platform(..)
+            | FiltersetLeaf::Default
+            | FiltersetLeaf::All
+            | FiltersetLeaf::None => None,
+        }
+    }
+
+    /// Copies the leaf. The only error is out of memory.
     pub fn try_clone(&self, alloc: Global) -> Result<FiltersetLeaf, AllocError>
         ensures { IfOk result (λ copy. compiled_leaf copy ≡ compiled_leaf self.now) }
     {
         Ok(match self {
-            FiltersetLeaf::Packages(ids) => FiltersetLeaf::Packages(copied_ids(alloc, ids)?),
+            FiltersetLeaf::Packages(ids) => FiltersetLeaf::Packages(copy_ids(alloc, ids)?),
             FiltersetLeaf::Kind(matcher, span) => {
                 FiltersetLeaf::Kind(matcher.try_clone(alloc)?, *span)
             }
@@ -95,8 +114,8 @@ impl FiltersetLeaf {
     }
 }
 
-/// A copy of a set of ids.
-fn copied_ids(alloc: Global, ids: &BTreeSet<PackageId>) -> Result<BTreeSet<PackageId>, AllocError>
+/// Copies a set of ids.
+fn copy_ids(alloc: Global, ids: &BTreeSet<PackageId>) -> Result<BTreeSet<PackageId>, AllocError>
     ensures { IfOk result (λ copy. copy.keys ≡ ids.now.keys) }
 {
     let mut copy = BTreeSet::new(alloc);

@@ -1,4 +1,4 @@
-//! Compiled expressions: their leaves, what they are asked, and what they answer of binaries and tests.
+//! Compiled expressions: their leaves, the queries that they take, and their evaluation.
 #![tactic(auto)]
 
 mod context;

@@ -1,4 +1,4 @@
-//! Connectives, and logics: two truth values, or three with an unknown one.
+//! Connectives, and logics of two truth values or of three.
 ghost use Rattle.std.specs.Prelude.{◌≡◌, true, false, not, Some};
 ghost use Rattle.filterset_expression.specs.Connectives.{Conjunction, Disjunction, ExclusiveDisjunction};
 ghost use Rattle.filterset_expression.specs.Connectives.{connected, kleene, kleene_not};
@@ -7,7 +7,7 @@ ghost use Rattle.filterset_expression.specs.LogicLaws.{bool_is_logic, kleene_is_
 ghost use Rattle.filterset_expression.specs.LogicLaws.{bool_has_exclusive_or, kleene_has_exclusive_or};
 ghost use Rattle.filterset_expression.specs.declared.logic.Connective.{Connective};
 
-/// What is made of two: of sets of tests, or of truth values.
+/// A binary operator on sets of tests or on truth values.
 #[derive(Clone, Copy, Debug, PartialEq, Eq)]
 pub enum Connective {
     /// Both.
@@ -18,42 +18,41 @@ pub enum Connective {
     ExclusiveDisjunction,
 }
 
-/// Truth values, and what is made of them.
+/// A type of truth values.
 ///
-/// True is the unit of `logic_and`, and false that of `logic_or`. Both are commutative and associative, `logic_not`
-/// turns each into the other, and twice `logic_not` is the value itself. `logic_xor` is commutative and associative,
-/// false is its unit, and with true it is `logic_not`.
+/// All three connectives are commutative and associative. True is the unit of `logic_and`, false that of `logic_or` and
+/// of `logic_xor`. `logic_not` is its own inverse, De Morgan's laws hold, and `logic_xor` with true is `logic_not`.
 pub trait Logic: Copy {
     ghost top_value: { Self };
 
     ghost bottom_value: { Self };
 
-    /// What each connective makes of two values.
+    /// The value of each connective.
     ghost connect: { Connective → Self → Self → Self };
 
     ghost not_of: { Self → Self };
 
-    /// True.
+    /// Returns true.
     fn top() -> Self
         ensures { result ≡ top_value };
 
-    /// False.
+    /// Returns false.
     fn bottom() -> Self
         ensures { result ≡ bottom_value };
 
-    /// Whether both are true.
+    /// Returns whether both are true.
     fn logic_and(self, other: Self) -> Self
         ensures { result ≡ connect Conjunction self other };
 
-    /// Whether one is true, or both are.
+    /// Returns whether at least one is true.
     fn logic_or(self, other: Self) -> Self
         ensures { result ≡ connect Disjunction self other };
 
-    /// Whether the value is false.
+    /// Returns whether the value is false.
     fn logic_not(self) -> Self
         ensures { result ≡ not_of self };
 
-    /// Whether exactly one is true.
+    /// Returns whether exactly one is true.
     fn logic_xor(self, other: Self) -> Self
         ensures { result ≡ connect ExclusiveDisjunction self other };
 
@@ -62,8 +61,8 @@ pub trait Logic: Copy {
     ghost xor_laws: { IsExclusiveOr top_value bottom_value connect not_of };
 }
 
-/// What the connective makes of two values.
-pub(crate) fn connected<L: Logic>(connective: Connective, left: L, right: L) -> L
+/// Applies the connective to two values.
+pub(crate) fn connect<L: Logic>(connective: Connective, left: L, right: L) -> L
     ensures { result ≡ L.connect connective left right }
 {
     match connective {
@@ -111,8 +110,7 @@ impl Logic for bool {
     }
 }
 
-/// `None` is unknown. What is made of it is known where the other side alone decides it, which it never does of
-/// `logic_xor`.
+/// `None` is unknown. A result is known if the known operand alone decides it; for `logic_xor` it never does.
 impl Logic for Option<bool> {
     ghost top_value = { Some true };
 

@@ -1,10 +1,10 @@
-//! What an expression is asked about.
+//! The binaries and tests that expressions are evaluated for.
 use filterset_graph::{BuildPlatform, PackageId, RustBinaryId, RustTestBinaryKind, TestCaseName};
 
-/// A question about a test binary.
+/// A test binary.
 #[derive(Clone, Copy, Debug, PartialEq, Eq)]
 pub struct BinaryQuery<'a> {
-    /// The id of the package that the binary is built of.
+    /// The id of the package that the binary is built from.
     pub package_id: &'a PackageId,
     pub binary_id: &'a RustBinaryId,
     pub binary_name: &'a str,
@@ -13,10 +13,10 @@ pub struct BinaryQuery<'a> {
     pub platform: BuildPlatform,
 }
 
-/// A question about a test of a binary.
+/// A test of a binary.
 #[derive(Clone, Copy, Debug, PartialEq, Eq)]
 pub struct TestQuery<'a> {
-    /// The binary that holds the test.
+    /// The binary that contains the test.
     pub binary_query: BinaryQuery<'a>,
     pub test_name: &'a TestCaseName,
 }

@@ -6,7 +6,7 @@ ghost use Rattle.filterset_expression.specs.Formula.{Compound, Leaf};
 ghost use Rattle.filterset_listing.specs.Selection.{IsSelection};
 
 use crate::union::union_of;
-use filterset_expression::nodes::compound;
+use filterset_expression::nodes::combine;
 use filterset_expression::{CompiledExpr, Connective, FiltersetLeaf};
 use std::alloc::{AllocError, Global};
 
@@ -15,7 +15,7 @@ fn within_default(alloc: Global, expr: Box<CompiledExpr>) -> Result<Box<Compiled
     ensures { IfOk result (λ made. formula made.value ≡ Compound Conjunction (Leaf Default) (formula expr.value)) }
 {
     let default = Box::new(alloc, CompiledExpr::Set(FiltersetLeaf::Default))?;
-    compound(alloc, Connective::Conjunction, default, expr)
+    combine(alloc, Connective::Conjunction, default, expr)
 }
 
 /// The tests that a runner runs which is given these filtersets: those that one of the filtersets holds of at least, and

@@ -5,7 +5,7 @@ ghost use Rattle.filterset_expression.specs.Expression.{formula};
 ghost use Rattle.filterset_expression.specs.Formula.{Compound};
 ghost use Rattle.filterset_listing.specs.Union.{IsUnion};
 
-use filterset_expression::nodes::compound;
+use filterset_expression::nodes::combine;
 use filterset_expression::{CompiledExpr, Connective, FiltersetLeaf};
 use std::alloc::{AllocError, Global};
 
@@ -20,7 +20,7 @@ fn union_with(
 {
     let expr = Box::new(alloc, expr)?;
     match before {
-        Some(before) => compound(alloc, Connective::Disjunction, before, expr),
+        Some(before) => combine(alloc, Connective::Disjunction, before, expr),
         None => Ok(expr),
     }
 }

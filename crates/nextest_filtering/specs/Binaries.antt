@@ -1,4 +1,4 @@
--- The packages and the test binaries of a workspace, as they are kept for reading filtersets.
+-- The packages and the test binaries of a workspace that filtersets may name.
 use Rattle.std.specs.Prelude.{List, ℕ, Option, option_map, string_bytes}
 use Rattle.std.specs.List.{filter, filter_map, flat_map}
 use Rattle.filterset_graph.specs.Binaries.{kind_of, written_id}
@@ -34,6 +34,6 @@ binaries_of p = filter_map (binary_of p) p.build_targets.items
 abbrev pub test_binaries : List PackageMetadata → List NameAndId
 test_binaries packages = flat_map binaries_of (members_of packages)
 
--- a test binary that is kept, as the name and the id that it stands for
+-- the name and the id of a kept test binary
 abbrev pub name_and_id : TestBinary → NameAndId
 name_and_id binary = record { name = binary.name.now; id = binary.id }

@@ -1,4 +1,4 @@
--- Which predicates match something of the workspace or of the known groups, and the faults of those that do not.
+-- Which predicates match a package, a test binary or a known group, and the faults of those that do not.
 use Rattle.std.specs.Prelude.{◌≡◌, ◌⊎◌, ◌++◌, ℕ, List, [], ◌∷◌, All}
 use Rattle.filterset_faults.specs.declared.error.ParseSingleError.{ParseSingleError}
 use Rattle.filterset_faults.specs.declared.error.ParseSingleError.TheVariants.{NoPackageMatch, NoBinaryNameMatch, NoBinaryIdMatch, NoGroupMatch}
@@ -60,6 +60,6 @@ abbrev pub AddsUnmatched :
 AddsUnmatched packages groups leaves old new =
     (added : List ParseSingleError) × (new ≡ old ++ added) × AreUnmatched packages groups leaves added
 
--- the fault was added, unless something holds that keeps it away
+-- the fault was added, unless this holds
 abbrev pub AddsUnless : Type 0 → ParseSingleError → List ParseSingleError → List ParseSingleError → Type 0
 AddsUnless Holds fault old new = (Holds × (new ≡ old)) ⊎ (¬ Holds × (new ≡ old ++ fault ∷ []))

@@ -1,4 +1,4 @@
--- What is promised of a filterset that was read, or refused.
+-- What it means that a filterset is accepted or rejected.
 use Rattle.std.specs.Prelude.{◌≡◌, ◌≢◌, ◌⊎◌, ℕ, List, [], All, string_bytes}
 use Rattle.std.specs.declared.alloc.Global.{Global}
 use Rattle.std.specs.declared.string.String.{String}
@@ -35,7 +35,7 @@ pub record IsFiltersetOf (text : List ℕ) (kind : FiltersetKind) (packages : Li
 -- ---- refusal
 
 -- Faults that refuse a tree that was read: where some of its predicates are banned, exactly their faults; else exactly
--- those of the predicates that match nothing. There is one at least, and they stand in the order of the predicates.
+-- those of the unmatched ones. There is at least one, and they are in the order of the predicates.
 pub data IsRejectedWith (kind : FiltersetKind) (packages : List PackageMetadata) (groups : KnownGroups)
     (e : Tree SourceSpan) (faults : List ParseSingleError) : Type 0 where
   banned : faults ≡ bans kind e → faults ≢ [] → IsRejectedWith kind packages groups e faults
@@ -51,7 +51,7 @@ pub data IsRefusedWith (text : List ℕ) (kind : FiltersetKind) (packages : List
   rejected : (e : Tree SourceSpan) → Reads text e → IsRejectedWith kind packages groups e faults
       → IsRefusedWith text kind packages groups faults
 
--- the refusal hands the input back, and its faults are ones that refuse it
+-- the refusal returns the input, and its faults are ones that refuse it
 abbrev pub IsRefusalOf :
     String Global → FiltersetKind → List PackageMetadata → KnownGroups → ParseRefusal → Type 0
 IsRefusalOf input kind packages groups (Faults refused) =
@@ -72,12 +72,12 @@ IsRefusalOfBodies text e (Faults refused) =
     (refused.errors.items ≢ []) × All (LiesOnBody text e) refused.errors.items
 IsRefusalOfBodies text e (OutOfMemory given) = Unit {0}
 
--- what a stopped reading says of the text
+-- why parsing a text stopped
 abbrev pub IsStopOf : List ℕ → FiltersetKind → List PackageMetadata → KnownGroups → ParseStop → Type 0
 IsStopOf text kind packages groups (stop.Faults faults) = IsRefusedWith text kind packages groups faults.items
 IsStopOf text kind packages groups (stop.OutOfMemory error) = Unit {0}
 
--- what a stopped compiler says of the tree
+-- why compiling a tree stopped
 abbrev pub IsRejectionOf :
     FiltersetKind → List PackageMetadata → KnownGroups → Tree SourceSpan → ParseStop → Type 0
 IsRejectionOf kind packages groups e (stop.Faults faults) = IsRejectedWith kind packages groups e faults.items

@@ -1,4 +1,4 @@
--- When filtersets are equal: in all that they hold, the spans too.
+-- Equality of filtersets: of all fields, spans included.
 use Rattle.std.specs.Prelude.{◌&&◌, Bool, string_bytes}
 use Rattle.std.specs.Str.{bytes_eq}
 use Rattle.filterset_expression.specs.Equality.{same_compiled_leaf, same_formula}
@@ -7,7 +7,7 @@ use Rattle.filterset_grammar.specs.Equality.{same_span, same_tree}
 use Rattle.filterset_language.specs.Views.{tree_of}
 use Rattle.nextest_filtering.specs.declared.filterset.Filterset.{Filterset}
 
--- whether filtersets are equal: their texts, their trees with the spans, and what these are compiled to
+-- whether filtersets are equal: their inputs, their trees with the spans, and the compiled trees
 abbrev pub same_filterset : Filterset → Filterset → Bool
 same_filterset a b =
     bytes_eq (string_bytes a.input) (string_bytes b.input)

@@ -1,4 +1,4 @@
--- What is known of the groups of tests.
+-- The groups that filtersets may name.
 use Rattle.std.specs.Prelude.{◌≡◌, ◌⊎◌, ◌↔◌, ℕ, List, [], Contains, codes, map, string_bytes}
 use Rattle.std.specs.HashSet.{keys}
 use Rattle.std.specs.declared.alloc.Global.{Global}
@@ -11,7 +11,7 @@ abbrev pub IsKnown : KnownGroups → Type 0
 IsKnown (Known custom_groups) = Unit {0}
 IsKnown Unavailable = ⊥
 
--- the name is that of a known group: `@global`, or a custom one
+-- a known group has the name: `@global`, or a custom one
 abbrev pub IsGroupName : KnownGroups → List ℕ → Type 0
 IsGroupName (Known custom_groups) name =
     (name ≡ codes "@global")

@@ -1,4 +1,4 @@
--- Which filtersets ask for packages that others depend on.
+-- Which filtersets have a `deps` or an `rdeps`.
 use Rattle.std.specs.Prelude.{◌⊎◌}
 use Rattle.filterset_grammar.specs.Tree.{Leaf, Tree, Matching, Not, Union, Join, Parens, Set}
 use Rattle.filterset_grammar.specs.declared.predicate.Predicate.TheVariants as predicates

@@ -1,4 +1,4 @@
--- A matcher that is made ready for many names.
+-- Matchers for many names.
 use Rattle.filterset_matchers.specs.Matcher as matcher
 use Rattle.filterset_matchers.specs.Matcher.{Matcher}
 use Rattle.filterset_matchers.specs.Matchers.{matcher_of}

@@ -1,4 +1,4 @@
-//! From a filterset's tree to a compiled expression.
+//! The compiler: trees of filtersets to compiled expressions.
 ghost use Rattle.std.specs.Prelude.{◌≡◌, ◌∷◌, [], IfOk, OnOk, IfErr};
 ghost use Rattle.nextest_filtering.specs.Bans.{IsAllowed};
 ghost use Rattle.nextest_filtering.specs.Checks.{AddsUnmatched, AllChecked};
@@ -10,7 +10,7 @@ ghost use Rattle.filterset_expression.specs.declared.logic.Connective.TheVariant
 ghost use Rattle.filterset_grammar.specs.Tree.{tree_leaves, Set};
 ghost use Rattle.filterset_language.specs.Views.{leaf_of, tree_of};
 
-use filterset_expression::nodes::{compound, negation};
+use filterset_expression::nodes::{combine, negate};
 use filterset_expression::{CompiledExpr, Connective};
 use filterset_faults::{FiltersetKind, ParseSingleError};
 use filterset_language::{ParseStop, ParsedExpr, ParsedLeaf};
@@ -23,15 +23,14 @@ mod leaves;
 mod packages;
 mod ready;
 
-use bans::{banned_leaves, bans};
+use bans::{find_banned, list_bans};
 pub use context::{KnownGroups, ParseContext};
 use leaves::compile_leaf;
 
-/// The compiled expression of a tree.
+/// Compiles a tree.
 ///
-/// Where a filterset of this kind may not hold some of its predicates, there is a fault for each of these alone. Else
-/// there is a fault for each predicate that has to match something and matches nothing. Faults stand in the order of the
-/// predicates.
+/// If predicates are banned from filtersets of this kind, it reports a fault for each of these only; otherwise one for
+/// each predicate that has to match something and does not. Faults are in the order of the predicates.
 pub(crate) fn compile(
     alloc: Global,
     cx: &ParseContext<'_>,
@@ -44,9 +43,9 @@ pub(crate) fn compile(
     ensures compiled { IfOk result (IsCompiled (packages_of cx.now) (tree_of expr.now)) }
     ensures refused { IfErr result (IsRejectionOf kind (packages_of cx.now) known_groups.now (tree_of expr.now)) }
 {
-    let banned = banned_leaves(alloc, kind, expr)?;
+    let banned = find_banned(alloc, kind, expr)?;
     if !banned.is_empty() {
-        return Err(ParseStop::Faults(bans(alloc, kind, &banned)?));
+        return Err(ParseStop::Faults(list_bans(alloc, kind, &banned)?));
     }
     let mut faults = Vec::new(alloc);
     let compiled = compile_expr(alloc, cx, known_groups, expr, &mut faults)?;
@@ -56,10 +55,10 @@ pub(crate) fn compile(
     Ok(Box::into_inner(compiled))
 }
 
-/// The compiled expression of a tree: `a - b` becomes `a` and not `b`, and parentheses become what they hold. Adds a
-/// fault for each predicate that matches nothing, from left to right.
+/// Compiles a tree: `a - b` becomes `a` and not `b`, and parentheses disappear. Appends a fault for each unmatched
+/// predicate, from left to right.
 ///
-/// It is recursive, so what it makes stands in boxes: an expression by value would take more of the stack at each level.
+/// It is recursive, so it returns a box: an expression by value would take more stack at each level.
 fn compile_expr(
     alloc: Global,
     cx: &ParseContext<'_>,
@@ -73,14 +72,14 @@ fn compile_expr(
 {
     match expr {
         ParsedExpr::Not(_, operand) => {
-            negation(
+            negate(
                 alloc,
                 compile_expr(alloc, cx, known_groups, operand, faults)?,
             )
         }
         ParsedExpr::Union(_, left, right) => {
             let left = compile_expr(alloc, cx, known_groups, left, faults)?;
-            compound(
+            combine(
                 alloc,
                 Connective::Disjunction,
                 left,
@@ -89,7 +88,7 @@ fn compile_expr(
         }
         ParsedExpr::Intersection(_, left, right) => {
             let left = compile_expr(alloc, cx, known_groups, left, faults)?;
-            compound(
+            combine(
                 alloc,
                 Connective::Conjunction,
                 left,
@@ -98,7 +97,7 @@ fn compile_expr(
         }
         ParsedExpr::Difference(_, left, right) => {
             let left = compile_expr(alloc, cx, known_groups, left, faults)?;
-            difference(
+            subtract(
                 alloc,
                 left,
                 compile_expr(alloc, cx, known_groups, right, faults)?,
@@ -106,7 +105,7 @@ fn compile_expr(
         }
         ParsedExpr::SymmetricDifference(_, left, right) => {
             let left = compile_expr(alloc, cx, known_groups, left, faults)?;
-            compound(
+            combine(
                 alloc,
                 Connective::ExclusiveDisjunction,
                 left,
@@ -118,7 +117,7 @@ fn compile_expr(
     }
 }
 
-/// The compiled expression of a predicate. Adds its fault where it has to match something and matches nothing.
+/// Compiles a predicate. Appends its fault if it is unmatched.
 #[inline(never)]
 fn compile_set(
     alloc: Global,
@@ -135,8 +134,8 @@ fn compile_set(
     Ok(Box::new(alloc, CompiledExpr::Set(set))?)
 }
 
-/// The tests that are in the first set and not in the second.
-fn difference(
+/// Returns the tests that are in the first set and not in the second.
+fn subtract(
     alloc: Global,
     left: Box<CompiledExpr>,
     right: Box<CompiledExpr>,
@@ -144,10 +143,5 @@ fn difference(
     ensures { IfOk result (λ made.
         formula made.value ≡ Compound Conjunction (formula left.value) (Negation (formula right.value))) }
 {
-    compound(
-        alloc,
-        Connective::Conjunction,
-        left,
-        negation(alloc, right)?,
-    )
+    combine(alloc, Connective::Conjunction, left, negate(alloc, right)?)
 }

@@ -1,4 +1,4 @@
-//! Filtersets: a text, its tree, and the compiled expression.
+//! Filtersets: the input, its tree, and the compiled expression.
 ghost use Rattle.std.specs.Prelude.{◌≡◌, ◌≢◌, ◌↔◌, Bool, false, List, Some, None, IfOk, IfErr, IsTrue, OnErr, codes, string_bytes};
 ghost use Rattle.std.specs.Str.Iter.{HasSubslice};
 ghost use Rattle.filterset_faults.specs.declared.kind.FiltersetKind.TheVariants as kinds;
@@ -27,23 +27,23 @@ use filterset_faults::{FiltersetKind, FiltersetParseErrors};
 use filterset_language::{ParseStop, Parsed, ParsedExpr};
 use std::alloc::{AllocError, Global};
 
-/// A filterset that was read and compiled.
+/// A filterset that was parsed and compiled.
 #[derive(Debug, Drop, PartialEq, Eq)]
 pub struct Filterset {
-    /// The text.
+    /// The input.
     pub input: String,
-    /// The tree that the text spells.
+    /// The tree that the input spells.
     pub parsed: ParsedExpr,
-    /// What the tree is compiled to.
+    /// The compiled tree.
     pub compiled: CompiledExpr,
 }
 
-/// Why a text was refused. Either way the text comes back.
+/// Why an input was rejected. Both variants return the input.
 #[derive(Debug, Drop)]
 pub enum ParseRefusal {
-    /// The text has faults.
+    /// The input has faults.
     Faults(FiltersetParseErrors),
-    /// There was not enough memory, and nothing is known of the text.
+    /// The parser ran out of memory, which says nothing about the input.
     OutOfMemory { input: String },
 }
 
@@ -63,7 +63,7 @@ impl ParseRefusal {
     }
 }
 
-/// Reads a text.
+/// Parses `text`.
 fn read_tree(alloc: Global, text: &str) -> Result<ParsedExpr, ParseStop>
     ensures spelled { IfOk result (λ parsed. Reads text.now (tree_of parsed)) }
     ensures refused { IfErr result (IsUnread text.now) }
@@ -75,7 +75,7 @@ fn read_tree(alloc: Global, text: &str) -> Result<ParsedExpr, ParseStop>
     }
 }
 
-/// Reads and compiles a text.
+/// Parses and compiles `text`.
 fn read(
     alloc: Global,
     text: &str,
@@ -94,22 +94,22 @@ fn read(
 }
 
 impl Filterset {
-    /// Reads a filterset and compiles it.
+    /// Parses and compiles a filterset.
     ///
-    /// A text is accepted only where the language spells it, the grammar of `regex` reads each of its patterns, none of
-    /// its predicates is banned from filtersets of this kind, and each predicate that names packages, test binaries or
-    /// groups matches one:
+    /// The input is valid if the grammar spells it, the grammar of `regex` reads each of its patterns, no predicate is
+    /// banned from filtersets of this kind, and each predicate that names packages, test binaries or groups matches one:
     ///
-    /// - `package`, `deps` and `rdeps` the name of a package of the workspace;
-    /// - `binary` the name, and `binary_id` the id, of a test binary of the workspace;
-    /// - `group` the name of a known group, of which `@global` is always one.
+    /// - `package`, `deps` and `rdeps` match the name of a package of the workspace;
+    /// - `binary` matches the name, and `binary_id` the id, of a test binary of the workspace;
+    /// - `group` matches the name of a known group; `@global` is always known.
     ///
-    /// Such a text is accepted, or refused with faults that all lie on bodies of its regular expressions.
+    /// It accepts exactly the valid inputs, with one exception: `regex` may reject a pattern that is not plain, and then
+    /// each fault lies on the body of such a pattern.
     ///
-    /// A refusal hands the text back. Where the text was read, its faults are those of the banned predicates alone,
-    /// or else those of the unmatched predicates, from left to right, with the spans of their arguments.
+    /// A refusal returns the input. If the input could be parsed, the faults are those of its banned predicates, or, if it
+    /// has none, those of its unmatched ones, from left to right, with the spans of their arguments.
     ///
-    /// For a filterset of kind `Test` the groups are known. All other kinds ban `group`, so they need not be.
+    /// For kind `Test` the groups must be known. All other kinds ban `group`.
     pub fn parse(
         alloc: Global,
         input: String,
@@ -119,15 +119,13 @@ impl Filterset {
     ) -> Result<Filterset, ParseRefusal>
         requires known { kind ≡ kinds.Test → IsKnown known_groups.now }
 
-        // What was accepted is the text, the tree that makes it a filterset of this kind, and what the tree is
-        // compiled to.
+        // The result has the input, a tree that makes it a filterset of this kind, and the compiled tree.
         ensures input { IfOk result (λ made. made.input ≡ input) }
         ensures accepted { IfOk result (λ made. IsFiltersetOf (string_bytes input) kind (packages_of cx.now)
             known_groups.now (tree_of made.parsed)) }
         ensures compiled { IfOk result (λ made. IsCompiled (packages_of cx.now) (tree_of made.parsed) made.compiled) }
 
-        // So the compiled expression says of each test and of each binary what the tree says, and holds the same
-        // leaves.
+        // So the compiled expression means what the tree means for each test and each binary, and has the same leaves.
         ensures meaning { IfOk result (λ made. SaysTheSame (packages_of cx.now) (tree_of made.parsed) made.compiled) }
         ensures binaries { IfOk result (λ made.
             TellsTheSame (packages_of cx.now) (tree_of made.parsed) made.compiled) }
@@ -136,24 +134,24 @@ impl Filterset {
         ensures groups { IfOk result (λ made.
             has_leaf is_group made.compiled ≡ has_tree_leaf is_group_predicate (tree_of made.parsed)) }
 
-        // A default filter holds no `default` leaf, and only a filterset of kind `Test` may hold a `group` leaf. So a
-        // default filter is one that evaluation may take.
+        // A default filter has no `default` leaf, and only a filterset of kind `Test` may have a `group` leaf. So an
+        // `EvalContext` may take each default filter.
         ensures no_default { kind ≡ kinds.DefaultFilter →
             IfOk result (λ made. has_leaf is_default made.compiled ≡ false) }
         ensures no_group { kind ≢ kinds.Test → IfOk result (λ made. has_leaf is_group made.compiled ≡ false) }
 
-        // A refusal is by faults that the parser found, or by banned predicates, or by ones that match nothing.
+        // The faults of a refusal are the parser's, or those of banned predicates, or those of unmatched ones.
         ensures refused { IfErr result (IsRefusalOf input kind (packages_of cx.now) known_groups.now) }
 
-        // Whichever it is by, each of its faults is true of the text, and its span lies within the text.
+        // Each of them is true of the input, and its span lies within the input.
         ensures stand { IfErr result (IsTrueOf (string_bytes input)) }
 
-        // Where the text spells a tree, only the bodies of its regular expressions, its banned predicates, those that
-        // match nothing and lack of memory refuse it.
+        // An input that spells a tree is rejected only for the bodies of its regular expressions, its banned predicates,
+        // its unmatched ones, or lack of memory.
         ensures spelled { (e : Tree SourceSpan) → Spells (string_bytes input) e
             → IfErr result (IsRefusalOfTree (string_bytes input) kind (packages_of cx.now) known_groups.now e) }
 
-        // Where a tree makes it a filterset, only the bodies of its regular expressions and lack of memory do.
+        // A valid input is rejected only for the bodies of its regular expressions or lack of memory.
         ensures complete { (e : Tree SourceSpan)
             → IsFiltersetOf (string_bytes input) kind (packages_of cx.now) known_groups.now e
             → IfErr result (IsRefusalOfBodies (string_bytes input) e) }
@@ -171,8 +169,9 @@ impl Filterset {
         }
     }
 
-    /// Whether the filterset holds of the tests of a binary, as far as the binary tells, as
-    /// [`CompiledExpr::matches_binary`] of `compiled` answers it. The only error is out of memory.
+    /// Evaluates the filterset for a binary, as [`CompiledExpr::matches_binary`] does: `Some(true)` if it matches every test
+    /// of the binary, `Some(false)` if it matches none, and `None` if that depends on names or groups of tests. The only
+    /// error is out of memory.
     pub fn matches_binary(
         &self,
         alloc: Global,
@@ -184,7 +183,7 @@ impl Filterset {
         ensures undecided { IfOk result (λ answer.
             (answer ≡ None) ↔ IsUndecided self.now.compiled query.now (default_of cx.now)) }
 
-        // Where the tree is compiled to the expression, the answer is what the tree tells of the binary.
+        // If the expression is the compiled tree, the answer is the tree's for the binary.
         ensures meaning { let e = tree_of self.now.parsed in
             IfOk result (λ answer. (packages : List PackageMetadata) → IsCompiled packages e self.now.compiled
             → (b : Bool) → (answer ≡ Some b) ↔ IsDefiniteTree e packages query.now (default_of cx.now) b) }
@@ -195,10 +194,10 @@ impl Filterset {
         self.compiled.matches_binary(alloc, query, cx)
     }
 
-    /// Whether the filterset holds of the test, with the context's default filter in the place of each `default()`.
+    /// Returns whether the filterset matches the test. The context's default filter replaces each `default()`.
     ///
-    /// The filterset holds no `group(..)`, which [`CompiledExpr::has_group_matchers`] of `compiled` tests. It is an
-    /// error only if it is out of memory.
+    /// The filterset must have no `group(..)`, which [`CompiledExpr::has_group_matchers`] of `compiled` tests. The only
+    /// error is out of memory.
     pub fn matches_test(
         &self,
         alloc: Global,
@@ -209,11 +208,11 @@ impl Filterset {
         ensures holds { IfOk result (λ answer.
             IsTrue answer ↔ Holds self.now.compiled query.now (default_of cx.now) no_groups) }
 
-        // What is definite of the test's binary is the answer.
+        // If the test's binary decides the filterset, that is the answer.
         ensures settled { IfOk result (λ answer. (b : Bool)
             → IsDefinite self.now.compiled query.now.binary_query (default_of cx.now) b → answer ≡ b) }
 
-        // Where the tree is compiled to the expression, the answer is the tree's meaning.
+        // If the expression is the compiled tree, the answer is the tree's meaning.
         ensures meaning { let e = tree_of self.now.parsed in
             IfOk result (λ answer. (packages : List PackageMetadata) → IsCompiled packages e self.now.compiled
             → IsTrue answer ↔ Meaning e packages query.now (default_of cx.now) no_groups) }
@@ -221,8 +220,8 @@ impl Filterset {
         self.compiled.matches_test(alloc, query, cx)
     }
 
-    /// Whether the filterset holds of the test, whose group the lookup tells, with the context's default filter in the
-    /// place of each `default()`. The only error is out of memory, the lookup's too.
+    /// Returns whether the filterset matches the test; the lookup answers each `group(..)`. The context's default filter
+    /// replaces each `default()`. The only error is out of memory, here or in the lookup.
     pub fn matches_test_with_groups(
         &self,
         alloc: Global,
@@ -233,14 +232,14 @@ impl Filterset {
         ensures holds { IfOk result (λ answer.
             IsTrue answer ↔ Holds self.now.compiled query.now (default_of cx.now) (matches_group groups.now)) }
 
-        // What is definite of the test's binary is the answer, and where there is no `group(..)` every lookup gives the
-        // same.
+        // If the test's binary decides the filterset, that is the answer. Without `group(..)` every lookup gives the same
+        // answer.
         ensures settled { IfOk result (λ answer. (b : Bool)
             → IsDefinite self.now.compiled query.now.binary_query (default_of cx.now) b → answer ≡ b) }
         ensures ungrouped { has_leaf is_group self.now.compiled ≡ false → IfOk result (λ answer.
             IsTrue answer ↔ Holds self.now.compiled query.now (default_of cx.now) no_groups) }
 
-        // Where the tree is compiled to the expression, the answer is the tree's meaning.
+        // If the expression is the compiled tree, the answer is the tree's meaning.
         ensures meaning { let e = tree_of self.now.parsed in
             IfOk result (λ answer. (packages : List PackageMetadata) → IsCompiled packages e self.now.compiled
             → IsTrue answer ↔ Meaning e packages query.now (default_of cx.now) (matches_group groups.now)) }
@@ -249,17 +248,17 @@ impl Filterset {
             .matches_test_with_groups(alloc, query, cx, groups)
     }
 
-    /// Whether `deps` stands in the text. Where it does not, no `deps(..)` and no `rdeps(..)` does.
+    /// Returns whether the text contains `deps`. If it does not, it has no `deps(..)` and no `rdeps(..)`.
     #[tactic(auto, using(std::proofs::lemmas::Str::Pattern::contains_text))]
     pub fn needs_deps(raw_expr: &str) -> bool
         ensures stands { IsTrue result ↔ HasSubslice raw_expr.now (codes "deps") }
-        // So it is true of each text whose tree has a `deps` or an `rdeps`.
+        // So it returns true for each text whose tree has a `deps` or an `rdeps`.
         ensures named { (e : Tree SourceSpan) → Spells raw_expr.now e → HasDeps e → IsTrue result }
     {
         raw_expr.contains("deps")
     }
 
-    /// A copy, equal in every field. The only error is out of memory.
+    /// Copies the filterset. The only error is out of memory.
     pub fn try_clone(&self, alloc: Global) -> Result<Filterset, AllocError>
         ensures input { IfOk result (λ copy. string_bytes copy.input ≡ string_bytes self.now.input) }
         ensures parsed { IfOk result (λ copy. tree_of copy.parsed ≡ tree_of self.now.parsed) }

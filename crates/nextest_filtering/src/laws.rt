@@ -1,5 +1,4 @@
-//! Laws of the language, and of what filtersets mean: each stands in the contract of a function that gives nothing and
-//! takes no memory.
+//! Laws of the language and of the meaning of filtersets. Each law is the contract of a function that does nothing.
 ghost use Rattle.std.specs.Prelude.{ℕ, List};
 ghost use Rattle.filterset_faults.specs.declared.kind.FiltersetKind.{FiltersetKind};
 ghost use Rattle.filterset_graph.specs.declared.package.PackageMetadata.{PackageMetadata};
@@ -18,8 +17,8 @@ pub use filterset_language::laws::{
     one_tree, one_tree_with_parens, printed_apart, printed_reads_back, spelled_is_well_formed,
 };
 
-/// What the tree of a filterset prints is a filterset of the same kind, over the same packages and groups, by the same
-/// tree, spans aside. So [`Filterset::parse`](crate::Filterset::parse), which gives such a tree, takes what it prints.
+/// Proves that the printed tree of a filterset is a filterset of the same kind, over the same packages and groups, with the
+/// same tree, spans aside. So [`Filterset::parse`](crate::Filterset::parse) accepts what its own trees print.
 pub fn printed_is_a_filterset(expr: &ParsedExpr)
     ensures { let e = tree_of expr.now in
         (text : List ℕ) (kind : FiltersetKind) (packages : List PackageMetadata) (groups : KnownGroups)

@@ -1,4 +1,4 @@
-//! The public root: reading and compiling filtersets, and the public types of the crates below.
+//! The public root: parses and compiles filtersets, and exports the public types of the crates below.
 #![tactic(auto)]
 
 mod compile;

@@ -1,4 +1,4 @@
-//! What a leaf says of binaries and tests.
+//! The evaluation of leaves.
 ghost use Rattle.std.specs.Prelude.{◌≡◌, ◌↔◌, IfOk, IsTrue};
 ghost use Rattle.filterset_matchers.specs.Matcher.{MatchesName};
 ghost use Rattle.filterset_matchers.specs.Matchers.{matcher_of};
@@ -10,16 +10,15 @@ use crate::{BinaryQuery, FiltersetLeaf, GroupLookup, TestQuery};
 use filterset_matchers::NameMatcher;
 use std::alloc::{AllocError, Global};
 
-/// A leaf that is asked, and what is kept for its matcher. A `default` leaf is the caller's: here it
-/// holds of nothing.
-#[derive(Clone, Copy, Debug)]
+/// A leaf to evaluate, with its kept matcher. The caller replaces `default` leaves: here they match nothing.
+#[derive(Clone, Copy)]
 pub struct AskedLeaf<'s, 'a> {
     pub leaf: &'a FiltersetLeaf,
     pub kept: Option<&'s KeptMatcher<'a>>,
 }
 
 impl<'s, 'a> AskedLeaf<'s, 'a> {
-    /// Whether the leaf's matcher matches the name.
+    /// Returns whether the leaf's matcher matches the name.
     #[inline(always)]
     fn matches(
         &self,
@@ -35,7 +34,7 @@ impl<'s, 'a> AskedLeaf<'s, 'a> {
         }
     }
 
-    /// What the leaf says of a binary: nothing where it speaks of the test's name or group.
+    /// Evaluates the leaf for a binary: `None` if that depends on the test's name or group.
     pub fn matches_binary(
         &self,
         alloc: Global,
@@ -62,7 +61,7 @@ impl<'s, 'a> AskedLeaf<'s, 'a> {
         })
     }
 
-    /// Whether the leaf holds of a test that is in no group.
+    /// Returns whether the leaf matches a test that is in no group.
     pub fn matches_test(&self, alloc: Global, query: &TestQuery<'_>) -> Result<bool, AllocError>
         ensures { IfOk result (λ answer.
             IsTrue answer ↔ HoldsOfTest query.now no_groups (compiled_leaf self.now.leaf.now)) }
@@ -80,8 +79,8 @@ impl<'s, 'a> AskedLeaf<'s, 'a> {
         }
     }
 
-    /// Whether the leaf holds of a test, whose group the lookup tells. A whole name is compared here without a further
-    /// call: unions may be of a thousand names.
+    /// Returns whether the leaf matches a test; the lookup answers `group` leaves. A whole name is compared without
+    /// another call, since a union may have a thousand of them.
     pub fn matches_test_with_groups(
         &self,
         alloc: Global,
@@ -99,7 +98,7 @@ impl<'s, 'a> AskedLeaf<'s, 'a> {
         }
     }
 
-    /// The same, of any leaf.
+    /// Does the same for any leaf.
     #[inline(never)]
     fn matches_otherwise(
         &self,

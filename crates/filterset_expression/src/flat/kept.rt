@@ -1,4 +1,4 @@
-//! What answers for matchers that search, kept from one question to the next.
+//! Matchers that are kept from one evaluation to the next.
 ghost use Rattle.std.specs.Prelude.{◌↔◌, IfOk, IsTrue};
 ghost use Rattle.filterset_matchers.specs.Matcher.{MatchesName};
 ghost use Rattle.filterset_matchers.specs.Matchers.{matcher_of};
@@ -10,19 +10,17 @@ use filterset_matchers::{GlobMatcher, NameMatcher, PatternMatcher, PatternRegex}
 use std::alloc::{AllocError, Global};
 use std::cell::RefCell;
 
-/// What is kept for the matcher of a step. It tells which pattern or glob it is of, so that an answer never depends on
-/// what is kept.
-#[derive(Debug)]
+/// What is kept for the matcher of a step. It knows its pattern or glob, so no answer depends on what is kept.
 pub enum KeptMatcher<'a> {
-    /// Nothing: to compare names wants nothing, and for some globs it does not pay.
+    /// Nothing: the matcher only compares, or keeping something does not pay.
     Nothing,
-    /// What searches for a pattern, which is made at the first question that wants it.
+    /// The searcher of a pattern, once a search has made it.
     Pattern(RefCell<Option<PatternMatcher<'a>>>),
-    /// A glob beside its longest literal.
+    /// A glob with its longest literal.
     Glob(GlobMatcher<'a>),
 }
 
-// Written out, so that a proof of who lets it go has one call, and not the drop of what lies in the cell.
+// Implemented by hand: a derived `Drop` is proved again, with the cell's, in each function that drops one.
 impl Drop for KeptMatcher<'_> {
     fn drop(self) {
         match self {
@@ -34,9 +32,9 @@ impl Drop for KeptMatcher<'_> {
 }
 
 impl<'a> KeptMatcher<'a> {
-    /// What is kept of the step's matcher before the first question. The only error is out of memory.
+    /// Returns what is kept for a step before the first evaluation. The only error is out of memory.
     fn new(alloc: Global, step: FlatStep<'a>) -> Result<KeptMatcher<'a>, AllocError> {
-        Ok(match searched(step) {
+        Ok(match searching_matcher(step) {
             Some(NameMatcher::Regex(_)) => KeptMatcher::Pattern(RefCell::new(None)),
             Some(NameMatcher::Glob { glob, .. }) => KeptMatcher::Glob(GlobMatcher::new(
                 alloc, glob,
@@ -45,7 +43,7 @@ impl<'a> KeptMatcher<'a> {
         })
     }
 
-    /// Whether the matcher matches the name. The only error is out of memory.
+    /// Returns whether the matcher matches the name. The only error is out of memory.
     #[inline(always)]
     pub fn is_match(
         &self,
@@ -57,7 +55,7 @@ impl<'a> KeptMatcher<'a> {
     {
         match (self, matcher) {
             (KeptMatcher::Pattern(kept), NameMatcher::Regex(pattern)) => {
-                is_found(kept, alloc, pattern, name)
+                search(kept, alloc, pattern, name)
             }
             (KeptMatcher::Glob(kept), NameMatcher::Glob { glob, .. }) if kept.is_of(glob) => {
                 kept.is_match(alloc, name)
@@ -67,8 +65,8 @@ impl<'a> KeptMatcher<'a> {
     }
 }
 
-/// Whether the pattern matches anywhere in the name. The only error is out of memory.
-fn is_found<'a>(
+/// Returns whether the pattern matches anywhere in the name. The only error is out of memory.
+fn search<'a>(
     kept: &RefCell<Option<PatternMatcher<'a>>>,
     alloc: Global,
     pattern: &'a PatternRegex,
@@ -86,13 +84,13 @@ fn is_found<'a>(
             }
         }
     }
-    first_search(kept, alloc, pattern, name)
+    search_first(kept, alloc, pattern, name)
 }
 
-/// The same by a new matcher, which is kept. It is not inlined, since a function clears the room of its locals.
+/// Does the same with a new searcher and keeps it. It is not inlined, since a function zeroes its locals on entry.
 #[cold]
 #[inline(never)]
-fn first_search<'a>(
+fn search_first<'a>(
     kept: &RefCell<Option<PatternMatcher<'a>>>,
     alloc: Global,
     pattern: &'a PatternRegex,
@@ -108,13 +106,13 @@ fn first_search<'a>(
     Ok(found)
 }
 
-/// What is kept for each step, at its position; none where nothing is kept for any. The only error is out of memory.
-pub fn kept_matchers<'a>(
+/// Returns what is kept for each step; empty if that is nothing for all of them. The only error is out of memory.
+pub fn keep_matchers<'a>(
     alloc: Global,
     steps: &[FlatStep<'a>],
 ) -> Result<Vec<KeptMatcher<'a>>, AllocError> {
     let mut kept = Vec::new(alloc);
-    if steps.iter().any(|step| searched(*step).is_some()) {
+    if steps.iter().any(|step| searching_matcher(*step).is_some()) {
         for step in steps {
             kept.push(KeptMatcher::new(alloc, *step)?)?;
         }
@@ -122,32 +120,19 @@ pub fn kept_matchers<'a>(
     Ok(kept)
 }
 
-/// The step's matcher, where it searches names and keeping something makes that faster.
-fn searched<'a>(step: FlatStep<'a>) -> Option<&'a NameMatcher> {
-    let FlatStep::Leaf(leaf) = step else {
-        return None;
+/// Returns the step's matcher if it searches names and keeping something makes that faster. Groups are left to the
+/// lookup.
+fn searching_matcher<'a>(step: FlatStep<'a>) -> Option<&'a NameMatcher> {
+    let leaf = match step {
+        FlatStep::Leaf(FiltersetLeaf::Group(..)) => return None,
+        FlatStep::Leaf(leaf) => leaf,
+        _ => return None,
     };
-    let matcher = matcher_of_leaf(leaf)?;
+    let matcher = leaf.matcher()?;
     let searches = match matcher {
         NameMatcher::Equal { .. } | NameMatcher::Contains { .. } => false,
         NameMatcher::Glob { glob, .. } => GlobMatcher::pays_for(glob),
         NameMatcher::Regex(_) => true,
     };
     searches.then_some(matcher)
-}
-
-/// The matcher that is put to names to answer the leaf. Each leaf is named, so that none is forgotten.
-fn matcher_of_leaf(leaf: &FiltersetLeaf) -> Option<&NameMatcher> {
-    match leaf {
-        FiltersetLeaf::Kind(matcher, _)
-        | FiltersetLeaf::Binary(matcher, _)
-        | FiltersetLeaf::BinaryId(matcher, _)
-        | FiltersetLeaf::Test(matcher, _) => Some(matcher),
-        FiltersetLeaf::Packages(..)
-        | FiltersetLeaf::Platform(..)
-        | FiltersetLeaf::Group(..)
-        | FiltersetLeaf::Default
-        | FiltersetLeaf::All
-        | FiltersetLeaf::None => None,
-    }
 }

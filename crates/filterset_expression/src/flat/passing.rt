@@ -1,5 +1,5 @@
-//! Right operands that are passed over, since the left one decides: of `package(p) and test(/x/)` the pattern need not be
-//! searched for where the package is another one.
+//! Right operands that are skipped because the left operand decides: `package(p) and test(/x/)` need not search for the
+//! pattern if the package is another one.
 ghost use Rattle.std.specs.Prelude.{◌≡◌, ◌≤◌, ◌++◌, ◌+◌, IfOk, IfSome, IsTrue, List, OnOk, length, reverse};
 ghost use Rattle.filterset_expression.specs.Connectives.{Decides};
 ghost use Rattle.filterset_expression.specs.Expression.{CompiledLeaf, compiled_leaf, formula, leaf_with_default, with_default};
@@ -13,25 +13,25 @@ use crate::{CompiledExpr, Connective, FiltersetLeaf};
 use filterset_matchers::NameMatcher;
 use std::alloc::{AllocError, Global};
 
-/// The steps after a left operand that are passed over where its value decides the connective.
-#[derive(Clone, Copy, Debug)]
+/// The steps after a left operand that are skipped if its value decides the connective.
+#[derive(Clone, Copy)]
 pub(super) struct RightOperand {
     pub(super) connective: Connective,
-    /// How many steps: those of the right operand, and that of the connective.
+    /// The number of steps: those of the right operand and the connective's.
     pub(super) steps: usize,
 }
 
-/// What it costs to ask an expression.
-#[derive(Clone, Copy, Debug, Default)]
+/// The cost of evaluating an expression.
+#[derive(Clone, Copy, Default)]
 pub(super) struct Cost {
-    /// Whether a name is searched for a pattern or a glob, or a test's group is looked up.
+    /// Whether it searches a name for a pattern or a glob, or looks up a group.
     searches: bool,
-    /// Whether a test's group is looked up.
+    /// Whether it looks up a group.
     looks_up: bool,
 }
 
 impl Cost {
-    /// What it costs to ask both.
+    /// Returns the cost of evaluating both.
     fn and(self, other: Cost) -> Cost {
         Cost {
             searches: self.searches || other.searches,
@@ -39,30 +39,18 @@ impl Cost {
         }
     }
 
-    /// What it costs to ask the leaf.
+    /// Returns the cost of evaluating the leaf.
     fn of_leaf(leaf: &FiltersetLeaf) -> Cost {
-        match leaf {
-            FiltersetLeaf::Kind(matcher, _)
-            | FiltersetLeaf::Binary(matcher, _)
-            | FiltersetLeaf::BinaryId(matcher, _)
-            | FiltersetLeaf::Test(matcher, _) => Cost {
-                searches: matches!(matcher, NameMatcher::Regex(_) | NameMatcher::Glob { .. }),
-                looks_up: false,
-            },
-            FiltersetLeaf::Group(..) => Cost {
-                searches: true,
-                looks_up: true,
-            },
-            FiltersetLeaf::Packages(..)
-            | FiltersetLeaf::Platform(..)
-            | FiltersetLeaf::Default
-            | FiltersetLeaf::All
-            | FiltersetLeaf::None => Cost::default(),
-        }
+        let looks_up = matches!(leaf, FiltersetLeaf::Group(..));
+        let searches = match leaf.matcher() {
+            Some(NameMatcher::Regex(_) | NameMatcher::Glob { .. }) => true,
+            _ => looks_up,
+        };
+        Cost { searches, looks_up }
     }
 
-    /// The right operand of the connective, where it pays to look whether the left one decides: of a conjunction where
-    /// something is searched, and of a union only where a group is looked up, since few tests are in either side.
+    /// Returns the right operand of the connective if its cost makes it worth testing whether the left operand decides: in
+    /// a conjunction if it searches, in a union only if it looks up a group, since few tests are in either operand.
     fn right_operand(self, connective: Connective, steps: usize) -> Option<RightOperand>
         ensures { IfSome result (λ operand. (operand.connective ≡ connective) × (operand.steps ≡ steps)) }
     {
@@ -75,14 +63,14 @@ impl Cost {
     }
 }
 
-/// What is passed over in the steps of the default filter, from the last step to the first, and what it costs to ask it.
-#[derive(Clone, Copy, Debug)]
+/// The right operands that may be skipped in the default filter, from its last step to its first, and its cost.
+#[derive(Clone, Copy)]
 pub(super) struct DefaultOperands<'s> {
     pub(super) operands: &'s [Option<RightOperand>],
     pub(super) cost: Cost,
 }
 
-/// Whether the value of a left operand decides what the connective makes.
+/// Returns whether the value of a left operand decides the connective.
 pub(super) fn decides<L: TwoBits>(connective: Connective, left: L) -> bool
     ensures { IsTrue result → Decides L.top_value L.bottom_value connective left }
 {
@@ -93,10 +81,9 @@ pub(super) fn decides<L: TwoBits>(connective: Connective, left: L) -> bool
     }
 }
 
-/// Appends what may be passed over after each step of an expression, from the last step to the first, with what is
-/// passed over in the default filter in the place of each `default` leaf, and `last` after the last step.
-///
-/// It returns what it costs to ask the expression. The only error is out of memory.
+/// Appends the right operand that may be skipped after each step of an expression, from the last step to the first, and
+/// returns the expression's cost. Those of the default filter replace each `default` leaf; `last` is for the last step.
+/// The only error is out of memory.
 pub(super) fn push_operands(
     operands: &mut Vec<Option<RightOperand>>,
     expr: &CompiledExpr,
@@ -142,7 +129,7 @@ pub(super) fn push_operands(
     }
 }
 
-/// The same of a leaf.
+/// Does the same for a leaf.
 fn push_leaf(
     operands: &mut Vec<Option<RightOperand>>,
     leaf: &FiltersetLeaf,
@@ -176,7 +163,7 @@ fn push_leaf(
     }
 }
 
-/// Whether the step is a leaf that something is searched for.
+/// Returns whether the step is a leaf that searches.
 fn searches(step: &FlatStep<'_>) -> bool {
     match step {
         FlatStep::Leaf(leaf) => Cost::of_leaf(leaf).searches,
@@ -184,9 +171,9 @@ fn searches(step: &FlatStep<'_>) -> bool {
     }
 }
 
-/// What may be passed over after each step of the expression, or nothing where no right operand costs enough to look.
-/// The only error is out of memory.
-pub(super) fn right_operands(
+/// Returns the right operand that may be skipped after each step of the expression; empty if none is worth it. The only
+/// error is out of memory.
+pub(super) fn find_right_operands(
     alloc: Global,
     steps: &[FlatStep<'_>],
     expr: &CompiledExpr,
@@ -195,7 +182,7 @@ pub(super) fn right_operands(
     ensures { IfOk result (λ operands. ArePassedOver (postfix (with_default default.now expr.now)) operands.items) }
 {
     if steps.iter().any(searches) {
-        let operands = searched_operands(alloc, expr, default)?;
+        let operands = list_right_operands(alloc, expr, default)?;
         if operands.iter().any(Option::is_some) {
             return Ok(operands);
         }
@@ -203,8 +190,8 @@ pub(super) fn right_operands(
     Ok(Vec::new(alloc))
 }
 
-/// What may be passed over after each step.
-fn searched_operands(
+/// Returns the right operand that may be skipped after each step. The only error is out of memory.
+fn list_right_operands(
     alloc: Global,
     expr: &CompiledExpr,
     default: &CompiledExpr,

@@ -1,24 +1,25 @@
-//! Stacks of truth values, on which steps run: up to 64 values are the bits of words, and more are in a `Vec`.
+//! The stacks of truth values that steps run on: up to 64 values as bits of two words, more in a `Vec`.
 ghost use Rattle.std.specs.Prelude.{◌≡◌, ◌≤◌, ◌<◌, ◌^◌, ◌∷◌, [], Bool, List, ℕ, IfOk, length, reverse, vec_capacity};
 ghost use Rattle.filterset_expression.specs.Stacks.{values_of, truth_of, known_truth_of};
 
 use crate::Logic;
 use std::alloc::{AllocError, Global};
 
-/// A stack of values, with room for so many.
+/// A stack of values with limited room.
 pub(super) trait Stack<L> {
-    /// The values, of which the top comes first.
+    /// The values, the top first.
     ghost values: { Self → List L };
 
+    /// How many values it has room for.
     ghost room: { Self → ℕ };
 
-    /// Puts a value on top.
+    /// Pushes a value.
     fn push(&mut self, value: L)
         requires { length (values self.old) < room self.old }
         ensures values { values self.new ≡ value ∷ values self.old }
         ensures room { room self.old ≤ room self.new };
 
-    /// Takes the value on top.
+    /// Pops the top value.
     fn pop(&mut self) -> L
         requires { 0 < length (values self.old) }
         ensures values { values self.old ≡ result ∷ values self.new }
@@ -32,7 +33,7 @@ pub(super) struct Reserved<L> {
 }
 
 impl<L> Reserved<L> {
-    /// An empty stack with this much room. The only error is out of memory.
+    /// Returns an empty stack with room for this many values. The only error is out of memory.
     pub(super) fn with_room(alloc: Global, room: usize) -> Result<Reserved<L>, AllocError>
         ensures empty { IfOk result (λ made. reverse made.values.items ≡ []) }
         ensures room { IfOk result (λ made. room ≤ vec_capacity made.values) }
@@ -60,14 +61,16 @@ impl<L: Copy> Stack<L> for Reserved<L> {
     }
 }
 
-/// A logic of at most four values: each is two bits.
+/// A logic whose values are pairs of bits.
 pub(super) trait TwoBits: Logic {
     /// The value of two bits.
     ghost of_bits: { Bool → Bool → Self };
 
+    /// Returns the value of two bits.
     fn from_bits(first: bool, second: bool) -> Self
         ensures { result ≡ of_bits first second };
 
+    /// Returns the bits of the value.
     fn bits(self) -> (bool, bool)
         ensures { of_bits result.0 result.1 ≡ self };
 }
@@ -85,7 +88,7 @@ impl TwoBits for bool {
     }
 }
 
-/// The second bit is whether the value is known, and the first is the value.
+/// The first bit is the value, and the second is whether it is known.
 impl TwoBits for Option<bool> {
     ghost of_bits = { known_truth_of };
 
@@ -98,9 +101,9 @@ impl TwoBits for Option<bool> {
     }
 }
 
-/// A stack of up to 64 values, which takes no memory: the bits of two words at one position are a value, the top is at
-/// the lowest position, and a push is a shift.
-#[derive(Clone, Copy, Debug)]
+/// A stack of up to 64 values in two words. The bits of both words at one position are a value, the top at the lowest
+/// position; a push is a shift.
+#[derive(Clone, Copy)]
 pub(super) struct Words {
     height: u32,
     first: u64,
@@ -111,7 +114,7 @@ pub(super) struct Words {
 }
 
 impl Words {
-    /// An empty stack.
+    /// Returns an empty stack.
     pub(super) fn new() -> Words
         ensures { result.height ≡ 0 }
     {

@@ -10,31 +10,31 @@ use std::alloc::AllocError;
 /// A step of a flat expression.
 #[derive(Clone, Copy, Debug)]
 pub enum FlatStep<'a> {
-    /// What the leaf says.
+    /// Pushes the leaf's value.
     Leaf(&'a FiltersetLeaf),
-    /// The negation of the last value.
+    /// Negates the top value.
     Not,
-    /// Whether the last two values both hold.
+    /// Replaces the top two values by their conjunction.
     And,
-    /// Whether one of the last two values holds.
+    /// Replaces the top two values by their disjunction.
     Or,
-    /// Whether exactly one of the last two values holds.
+    /// Replaces the top two values by their exclusive disjunction.
     Xor,
 }
 
-/// What a step does to the values that stand when it runs.
-#[derive(Clone, Copy, Debug)]
+/// What a step does to the stack.
+#[derive(Clone, Copy)]
 pub(super) enum Action<'a> {
-    /// Adds what the leaf says.
+    /// Pushes the leaf's value.
     Push(&'a FiltersetLeaf),
-    /// Takes the last value, and adds its negation.
+    /// Negates the top value.
     Negate,
-    /// Takes the last two values, and adds what the connective makes of them.
+    /// Applies the connective to the top two values.
     Combine(Connective),
 }
 
 impl<'a> FlatStep<'a> {
-    /// What the step does.
+    /// Returns what the step does.
     pub(super) fn action(self) -> Action<'a>
         ensures { step_of_action result ≡ step_of self.entry }
     {
@@ -48,7 +48,7 @@ impl<'a> FlatStep<'a> {
     }
 }
 
-/// Appends the steps of an expression, with these in the place of each `default` leaf.
+/// Appends the steps of an expression; `default_steps` replace each `default` leaf.
 pub(super) fn push_steps<'a>(
     steps: &mut Vec<FlatStep<'a>>,
     expr: &'a CompiledExpr,
@@ -83,8 +83,8 @@ pub(super) fn push_steps<'a>(
     Ok(())
 }
 
-/// The greatest number of values that stand on the stack while the steps run.
-pub(super) fn reserved_height(steps: &[FlatStep<'_>]) -> usize
+/// Returns the greatest height of the stack while the steps run.
+pub(super) fn height_of(steps: &[FlatStep<'_>]) -> usize
     requires { leaves_one (steps_of steps.now) 0 ≡ true }
     ensures { result ≡ greatest_height (steps_of steps.now) 0 }
 {

@@ -1,4 +1,4 @@
-//! Predicates that a filterset of some kind may not hold.
+//! Predicates that are banned from filtersets of a kind.
 ghost use Rattle.std.specs.Prelude.{◌≡◌, map, IfOk};
 ghost use Rattle.std.specs.List.{filter, filter_map};
 ghost use Rattle.nextest_filtering.specs.Bans.{ban, banned, is_banned};
@@ -9,8 +9,8 @@ use filterset_faults::{BannedPredicateReason, FiltersetKind, ParseSingleError, S
 use filterset_language::{ParsedExpr, ParsedLeaf};
 use std::alloc::{AllocError, Global};
 
-/// The predicates that a filterset of this kind may not hold, from left to right.
-pub(super) fn banned_leaves(
+/// Returns the banned predicates of a tree, from left to right.
+pub(super) fn find_banned(
     alloc: Global,
     kind: FiltersetKind,
     expr: &ParsedExpr,
@@ -18,13 +18,13 @@ pub(super) fn banned_leaves(
     ensures { IfOk result (λ found.
         map (λ leaf. leaf_of leaf.now) found.items ≡ filter (is_banned kind) (tree_leaves (tree_of expr.now))) }
 {
-    expr.leaves_where(alloc, |leaf| banned(kind, leaf).is_some())
+    expr.leaves_where(alloc, |leaf| ban_of(kind, leaf).is_some())
 }
 
-/// The faults of such predicates, in their order.
+/// Returns the faults of banned predicates, in their order.
 #[cold]
 #[inline(never)]
-pub(super) fn bans(
+pub(super) fn list_bans(
     alloc: Global,
     kind: FiltersetKind,
     leaves: &[&ParsedLeaf],
@@ -34,15 +34,15 @@ pub(super) fn bans(
 {
     let mut faults = Vec::with_capacity(alloc, leaves.len())?;
     for leaf in leaves {
-        if let Some((span, reason)) = banned(kind, leaf) {
+        if let Some((span, reason)) = ban_of(kind, leaf) {
             faults.push(ParseSingleError::BannedPredicate { span, kind, reason })?;
         }
     }
     Ok(faults)
 }
 
-/// The span of a predicate that a filterset of this kind may not hold, and why it may not.
-fn banned(kind: FiltersetKind, leaf: &ParsedLeaf) -> Option<(SourceSpan, BannedPredicateReason)>
+/// Returns the span of a predicate and why it is banned, if it is.
+fn ban_of(kind: FiltersetKind, leaf: &ParsedLeaf) -> Option<(SourceSpan, BannedPredicateReason)>
     ensures { result ≡ banned kind (leaf_of leaf.now) }
 {
     match (kind, leaf) {

@@ -1,4 +1,4 @@
-//! What predicates have to match: names and ids of test binaries, and names of groups.
+//! Checks that predicates match something: a name or an id of a test binary, or a group.
 ghost use Rattle.std.specs.Prelude.{◌≡◌, ◌↔◌, Any, IfOk, IsTrue, string_bytes};
 ghost use Rattle.std.specs.HashSet.{keys};
 ghost use Rattle.filterset_graph.specs.Binaries.{IsBinaryId, IsBinaryName};
@@ -16,7 +16,7 @@ use filterset_matchers::NameMatcher;
 use std::alloc::{AllocError, Global};
 use std::collections::HashSet;
 
-/// Whether the matcher matches the name of a test binary of the workspace.
+/// Returns whether the matcher matches the name of a test binary of the workspace.
 pub(super) fn matches_binary_name(
     alloc: Global,
     cx: &ParseContext<'_>,
@@ -35,7 +35,7 @@ pub(super) fn matches_binary_name(
     Ok(false)
 }
 
-/// Whether the matcher matches the id of a test binary of the workspace.
+/// Returns whether the matcher matches the id of a test binary of the workspace.
 pub(super) fn matches_binary_id(
     alloc: Global,
     cx: &ParseContext<'_>,
@@ -54,7 +54,7 @@ pub(super) fn matches_binary_id(
     Ok(false)
 }
 
-/// Whether the matcher matches the name of a known group.
+/// Returns whether the matcher matches the name of a known group.
 pub(super) fn matches_group(
     alloc: Global,
     known_groups: &KnownGroups,
@@ -72,7 +72,7 @@ pub(super) fn matches_group(
     matches_custom_group(alloc, custom_groups, &mut ready)
 }
 
-/// Whether the matcher matches the name of a custom group.
+/// Returns whether the matcher matches the name of a custom group.
 fn matches_custom_group(
     alloc: Global,
     custom_groups: &HashSet<String>,

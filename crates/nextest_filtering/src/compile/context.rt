@@ -1,4 +1,4 @@
-//! What filtersets are read against.
+//! The packages, test binaries and groups that filtersets are parsed against.
 ghost use Rattle.std.specs.Prelude.{◌≡◌, ◌++◌, IfOk, OnOk, map, string_bytes};
 ghost use Rattle.std.specs.List.{flat_map};
 ghost use Rattle.nextest_filtering.specs.Binaries.{binaries_of, name_and_id, binary_with, members_of, test_binaries};
@@ -9,18 +9,18 @@ use filterset_graph::{
 use std::alloc::{AllocError, Global};
 use std::collections::HashSet;
 
-/// A test binary of the workspace.
+/// The name and the id of a test binary of the workspace.
 #[derive(Debug, Drop)]
 pub(super) struct TestBinary<'g> {
     pub name: &'g str,
     pub id: RustBinaryId,
 }
 
-/// The packages that a filterset may name, and the test binaries of those of them that belong to the workspace.
+/// The packages and test binaries that a filterset may name.
 #[derive(Debug)]
 pub struct ParseContext<'g> {
     graph: &'g PackageGraph,
-    /// The packages of the workspace.
+    /// The packages of the workspace, in the graph's order.
     members: Vec<&'g PackageMetadata>,
     /// Their test binaries.
     binaries: Vec<TestBinary<'g>>,
@@ -28,7 +28,7 @@ pub struct ParseContext<'g> {
     ghost binaries_are: { map name_and_id binaries.items ≡ test_binaries graph.now },
 }
 
-// Written out, so that a proof of who lets a context go has one call, and not the drop of each field.
+// Implemented by hand: a derived `Drop` is proved again, field by field, in each function that drops a context.
 impl Drop for ParseContext<'_> {
     fn drop(self) {
         let ParseContext {
@@ -42,13 +42,13 @@ impl Drop for ParseContext<'_> {
 impl<'g> ParseContext<'g> {
     ghost use Rattle.nextest_filtering.specs.Compiling.{packages_of};
 
-    /// The context over these packages. It lists the packages of the workspace and the names and ids of their test
-    /// binaries, once for all filtersets. The only error is out of memory.
+    /// Returns the context over these packages. It lists the packages of the workspace and their test binaries, once for
+    /// all filtersets. The only error is out of memory.
     pub fn new(alloc: Global, graph: &'g PackageGraph) -> Result<ParseContext<'g>, AllocError>
         ensures { IfOk result (λ cx. packages_of cx ≡ graph.now) }
     {
-        let members = members(alloc, graph.packages())?;
-        let binaries = test_binaries(alloc, &members)?;
+        let members = list_members(alloc, graph.packages())?;
+        let binaries = list_binaries(alloc, &members)?;
         Ok(ParseContext {
             graph,
             members,
@@ -56,21 +56,21 @@ impl<'g> ParseContext<'g> {
         })
     }
 
-    /// The packages.
+    /// Returns the packages.
     pub fn graph(&self) -> &'g PackageGraph
         ensures { result.now ≡ packages_of self.now }
     {
         self.graph
     }
 
-    /// The packages of the workspace, in their order.
+    /// Returns the packages of the workspace, in the graph's order.
     pub(super) fn members(&self) -> &[&'g PackageMetadata]
         ensures { map (λ p. p.now) result.now ≡ members_of (packages_of self.now) }
     {
         &self.members
     }
 
-    /// The test binaries of the workspace.
+    /// Returns the test binaries of the workspace.
     pub(super) fn binaries(&self) -> &[TestBinary<'g>]
         ensures { map name_and_id result.now ≡ test_binaries (packages_of self.now) }
     {
@@ -78,8 +78,11 @@ impl<'g> ParseContext<'g> {
     }
 }
 
-/// The packages of the workspace, in their order.
-fn members(alloc: Global, packages: &[PackageMetadata]) -> Result<Vec<&PackageMetadata>, AllocError>
+/// Returns the packages of the workspace, in their order.
+fn list_members(
+    alloc: Global,
+    packages: &[PackageMetadata],
+) -> Result<Vec<&PackageMetadata>, AllocError>
     ensures { IfOk result (λ members. map (λ p. p.now) members.items ≡ members_of packages.now) }
 {
     let mut members = Vec::new(alloc);
@@ -91,8 +94,8 @@ fn members(alloc: Global, packages: &[PackageMetadata]) -> Result<Vec<&PackageMe
     Ok(members)
 }
 
-/// The test binaries of these packages, in their order.
-fn test_binaries<'g>(
+/// Returns the test binaries of these packages, in their order.
+fn list_binaries<'g>(
     alloc: Global,
     packages: &[&'g PackageMetadata],
 ) -> Result<Vec<TestBinary<'g>>, AllocError>
@@ -106,7 +109,7 @@ fn test_binaries<'g>(
     Ok(binaries)
 }
 
-/// Adds the test binaries of a package.
+/// Appends the test binaries of a package.
 fn push_binaries<'g>(
     alloc: Global,
     owner: &'g PackageMetadata,
@@ -117,14 +120,14 @@ fn push_binaries<'g>(
 {
     for target in &owner.build_targets {
         if let Some(kind) = target.id.binary_kind() {
-            binaries.push(test_binary(alloc, owner, target, kind)?)?;
+            binaries.push(make_binary(alloc, owner, target, kind)?)?;
         }
     }
     Ok(())
 }
 
-/// The test binary of this kind that is made of a target of a package.
-fn test_binary<'g>(
+/// Returns the test binary of this kind that a target of a package builds.
+fn make_binary<'g>(
     alloc: Global,
     owner: &PackageMetadata,
     target: &'g BuildTarget,
@@ -137,16 +140,16 @@ fn test_binary<'g>(
     Ok(TestBinary { name, id })
 }
 
-/// What is known of the groups of tests where a filterset is read.
+/// The groups that a filterset may name.
 #[derive(Debug)]
 pub enum KnownGroups {
-    /// These groups, and `@global`, which need not be named.
+    /// These groups and `@global`, which need not be listed.
     Known { custom_groups: HashSet<String> },
-    /// The groups are not known. No filterset of kind `Test` may be read so; those of all other kinds hold no `group`.
+    /// The groups are not known. A filterset of kind `Test` cannot be parsed; all other kinds ban `group`.
     Unavailable,
 }
 
-// Written out, as for `ParseContext`.
+// Implemented by hand, as for `ParseContext`.
 impl Drop for KnownGroups {
     fn drop(self) {
         match self {

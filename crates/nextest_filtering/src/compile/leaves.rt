@@ -1,4 +1,4 @@
-//! What the predicates of a tree are compiled to.
+//! The compiler of predicates.
 ghost use Rattle.std.specs.Prelude.{◌≡◌, ◌≢◌, ◌∷◌, [], Any, IfOk, OnOk};
 ghost use Rattle.filterset_faults.specs.declared.error.ParseSingleError.TheVariants as fault;
 ghost use Rattle.filterset_graph.specs.Binaries.{IsBinaryId, IsBinaryName};
@@ -13,7 +13,7 @@ ghost use Rattle.filterset_expression.specs.Meaning.{IsCompiledLeaf};
 
 use crate::compile::checks::{matches_binary_id, matches_binary_name, matches_group};
 use crate::compile::context::{KnownGroups, ParseContext};
-use crate::compile::packages::{dependencies, dependents, named};
+use crate::compile::packages::{select_dependencies, select_dependents, select_named};
 use filterset_expression::FiltersetLeaf;
 use filterset_faults::{ParseSingleError, SourceSpan};
 use filterset_graph::PackageId;
@@ -22,7 +22,7 @@ use filterset_matchers::NameMatcher;
 use std::alloc::{AllocError, Global};
 use std::collections::BTreeSet;
 
-/// What a predicate is compiled to. Adds its fault where it has to match something and matches nothing.
+/// Compiles a predicate. Appends its fault if it has to match something and does not.
 pub(super) fn compile_leaf(
     alloc: Global,
     cx: &ParseContext<'_>,
@@ -37,25 +37,25 @@ pub(super) fn compile_leaf(
 {
     match leaf {
         ParsedLeaf::Package(matcher, span) => {
-            packages_leaf(named(alloc, cx, matcher)?, *span, faults)
+            compile_packages(select_named(alloc, cx, matcher)?, *span, faults)
         }
         ParsedLeaf::Deps(matcher, span) => {
-            packages_leaf(dependencies(alloc, cx, matcher)?, *span, faults)
+            compile_packages(select_dependencies(alloc, cx, matcher)?, *span, faults)
         }
         ParsedLeaf::Rdeps(matcher, span) => {
-            packages_leaf(dependents(alloc, cx, matcher)?, *span, faults)
+            compile_packages(select_dependents(alloc, cx, matcher)?, *span, faults)
         }
         ParsedLeaf::Kind(matcher, span) => {
             Ok(FiltersetLeaf::Kind(matcher.try_clone(alloc)?, *span))
         }
-        ParsedLeaf::Binary(matcher, span) => binary_leaf(alloc, cx, matcher, *span, faults),
-        ParsedLeaf::BinaryId(matcher, span) => binary_id_leaf(alloc, cx, matcher, *span, faults),
+        ParsedLeaf::Binary(matcher, span) => compile_binary(alloc, cx, matcher, *span, faults),
+        ParsedLeaf::BinaryId(matcher, span) => compile_binary_id(alloc, cx, matcher, *span, faults),
         ParsedLeaf::Platform(platform, span) => Ok(FiltersetLeaf::Platform(*platform, *span)),
         ParsedLeaf::Test(matcher, span) => {
             Ok(FiltersetLeaf::Test(matcher.try_clone(alloc)?, *span))
         }
         ParsedLeaf::Group(matcher, span) => {
-            group_leaf(alloc, known_groups, matcher, *span, faults)
+            compile_group(alloc, known_groups, matcher, *span, faults)
         }
         ParsedLeaf::Default(_) => Ok(FiltersetLeaf::Default),
         ParsedLeaf::All => Ok(FiltersetLeaf::All),
@@ -63,8 +63,8 @@ pub(super) fn compile_leaf(
     }
 }
 
-/// The tests of these packages. Adds a fault where there are none.
-fn packages_leaf(
+/// Returns the leaf of these packages. Appends a fault if there are none.
+fn compile_packages(
     ids: BTreeSet<PackageId>,
     span: SourceSpan,
     faults: &mut Vec<ParseSingleError>,
@@ -79,8 +79,8 @@ fn packages_leaf(
     Ok(FiltersetLeaf::Packages(ids))
 }
 
-/// The tests of binaries with such a name. Adds a fault where no test binary of the workspace has one.
-fn binary_leaf(
+/// Compiles `binary(..)`. Appends a fault if the matcher matches no test binary's name.
+fn compile_binary(
     alloc: Global,
     cx: &ParseContext<'_>,
     matcher: &NameMatcher,
@@ -97,8 +97,8 @@ fn binary_leaf(
     Ok(FiltersetLeaf::Binary(matcher.try_clone(alloc)?, span))
 }
 
-/// The tests of binaries with such an id. Adds a fault where no test binary of the workspace has one.
-fn binary_id_leaf(
+/// Compiles `binary_id(..)`. Appends a fault if the matcher matches no test binary's id.
+fn compile_binary_id(
     alloc: Global,
     cx: &ParseContext<'_>,
     matcher: &NameMatcher,
@@ -115,8 +115,8 @@ fn binary_id_leaf(
     Ok(FiltersetLeaf::BinaryId(matcher.try_clone(alloc)?, span))
 }
 
-/// The tests that are in such a group. Adds a fault where no group has such a name.
-fn group_leaf(
+/// Compiles `group(..)`. Appends a fault if the matcher matches no known group.
+fn compile_group(
     alloc: Global,
     known_groups: &KnownGroups,
     matcher: &NameMatcher,

@@ -1,4 +1,4 @@
-//! The sets of packages that predicates of packages stand for.
+//! The sets of packages that `package`, `deps` and `rdeps` select.
 ghost use Rattle.std.specs.Prelude.{◌≡◌, ◌↔◌, ℕ, Contains, IfOk, List, length, vec_len};
 ghost use Rattle.filterset_matchers.specs.Matchers.{matcher_of};
 ghost use Rattle.filterset_expression.specs.Meaning.{IsDependency, IsDependent, IsPackage};
@@ -12,8 +12,8 @@ use filterset_matchers::NameMatcher;
 use std::alloc::{AllocError, Global};
 use std::collections::BTreeSet;
 
-/// The packages of the workspace whose names the matcher matches.
-pub(super) fn named(
+/// Returns the packages of the workspace whose names match.
+pub(super) fn select_named(
     alloc: Global,
     cx: &ParseContext<'_>,
     matcher: &NameMatcher,
@@ -32,8 +32,8 @@ pub(super) fn named(
     Ok(ids)
 }
 
-/// The packages of the workspace that such a one depends on, and these themselves.
-pub(super) fn dependencies(
+/// Returns the packages of the workspace whose names match, and those that they depend on.
+pub(super) fn select_dependencies(
     alloc: Global,
     cx: &ParseContext<'_>,
     matcher: &NameMatcher,
@@ -42,13 +42,13 @@ pub(super) fn dependencies(
         ↔ IsDependency (packages_of cx.now) (matcher_of matcher.now) id) }
 {
     let packages = cx.graph().packages();
-    let starts = marked_by_name(alloc, packages, matcher)?;
+    let starts = mark_named(alloc, packages, matcher)?;
     let marks = cx.graph().mark_reached(alloc, &starts)?;
-    marked_members(alloc, packages, &marks)
+    collect_marked(alloc, packages, &marks)
 }
 
-/// The packages of the workspace that depend on such a one, and these themselves.
-pub(super) fn dependents(
+/// Returns the packages of the workspace whose names match, and those that depend on them.
+pub(super) fn select_dependents(
     alloc: Global,
     cx: &ParseContext<'_>,
     matcher: &NameMatcher,
@@ -57,13 +57,13 @@ pub(super) fn dependents(
         ↔ IsDependent (packages_of cx.now) (matcher_of matcher.now) id) }
 {
     let packages = cx.graph().packages();
-    let ends = marked_by_name(alloc, packages, matcher)?;
+    let ends = mark_named(alloc, packages, matcher)?;
     let marks = cx.graph().mark_reaching(alloc, &ends)?;
-    marked_members(alloc, packages, &marks)
+    collect_marked(alloc, packages, &marks)
 }
 
-/// A mark for each package: whether it belongs to the workspace and the matcher matches its name.
-fn marked_by_name(
+/// Marks each package of the workspace whose name matches.
+fn mark_named(
     alloc: Global,
     packages: &[PackageMetadata],
     matcher: &NameMatcher,
@@ -80,9 +80,9 @@ fn marked_by_name(
     Ok(marks)
 }
 
-/// The ids of the marked packages of the workspace. They are many where a path leads far, so they are put in order at
-/// once, and not one by one.
-fn marked_members(
+/// Returns the ids of the marked packages of the workspace. There may be many, so it sorts them once instead of inserting
+/// them one by one.
+fn collect_marked(
     alloc: Global,
     packages: &[PackageMetadata],
     marks: &[bool],

@@ -1,4 +1,4 @@
-//! A matcher that is made ready for many names.
+//! Matchers for many names.
 ghost use Rattle.std.specs.Prelude.{◌≡◌, ◌↔◌, IsTrue, IfOk};
 ghost use Rattle.nextest_filtering.specs.ReadyMatchers.{ready_matcher};
 ghost use Rattle.filterset_matchers.specs.Matcher.{MatchesName};
@@ -7,7 +7,7 @@ ghost use Rattle.filterset_matchers.specs.Matchers.{matcher_of};
 use filterset_matchers::{NameMatcher, PatternMatcher};
 use std::alloc::{AllocError, Global};
 
-/// A matcher that is made ready for many names: what searches for a pattern is made once.
+/// A matcher for many names, which makes the searcher of a pattern once.
 #[derive(Drop)]
 pub(super) enum ReadyMatcher<'m> {
     Pattern(PatternMatcher<'m>),
@@ -15,7 +15,7 @@ pub(super) enum ReadyMatcher<'m> {
 }
 
 impl<'m> ReadyMatcher<'m> {
-    /// Makes this matcher ready. The only error is out of memory.
+    /// Prepares a matcher. The only error is out of memory.
     pub fn new(alloc: Global, matcher: &'m NameMatcher) -> Result<ReadyMatcher<'m>, AllocError>
         ensures { IfOk result (λ ready. ready_matcher ready ≡ matcher_of matcher.now) }
     {
@@ -25,7 +25,7 @@ impl<'m> ReadyMatcher<'m> {
         })
     }
 
-    /// Whether the matcher matches the name. The only error is out of memory.
+    /// Returns whether the matcher matches the name. The only error is out of memory.
     pub fn matches(&mut self, alloc: Global, name: &str) -> Result<bool, AllocError>
         ensures matches { IfOk result (λ matched. IsTrue matched ↔ MatchesName (ready_matcher self.old) name.now) }
         ensures same { ready_matcher self.new ≡ ready_matcher self.old }

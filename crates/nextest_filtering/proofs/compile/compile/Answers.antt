@@ -41,7 +41,7 @@ returns-then-not-is_empty-clause-refused c =
     let kind = c.args.kind in
     let e = tree_of c.args.expr.now in
     let some : c.in_ok-banned.banned.items ≢ [] = λ none. grind (arith, common_steps) in
-    let is = c.in_ok-bans.ensures ∙ ap (λ (t : List (Bor (ParsedLeaf SourceSpan))). filter_map (ban kind) (map seen t)) c.deref.ensures.value ∙ ap (filter_map (ban kind)) c.in_ok-banned.ensures ∙ bans_of_chosen kind e in
+    let is = c.in_ok-list_bans.ensures ∙ ap (λ (t : List (Bor (ParsedLeaf SourceSpan))). filter_map (ban kind) (map seen t)) c.deref.ensures.value ∙ ap (filter_map (ban kind)) c.in_ok-banned.ensures ∙ bans_of_chosen kind e in
     banned is (λ empty. some (nothing_seen c.in_ok-banned.banned.items (c.in_ok-banned.ensures ∙ some_ban kind (tree_leaves e) (bans_of_chosen kind e ∙ sym is ∙ empty))))
 
 pub returns-then-not-is_empty-2-clause-refused : goal.returns-then-not-is_empty-2-clause-refused

@@ -6,8 +6,8 @@ use Rattle.filterset_expression.proofs.FlatSteps.{made_steps, postfix_runs, no_d
 use Rattle.filterset_expression.proofs.Passing.{are_passed}
 use Rattle.filterset_expression.proofs.flat.FlatExpr.new.Goals as goal
 
-pub reserved_height-height-requires : goal.reserved_height-height-requires
-reserved_height-height-requires c =
+pub height_of-height-requires : goal.height_of-height-requires
+height_of-height-requires c =
     let made : steps_of c.push_steps-2.new.steps.items ≡ postfix (with_default (default_of c.args.cx.now) c.args.expr.now) = rw (← c.default_filter.ensures.same) (made_steps c.default_filter.result.now c.args.expr.now c.push_steps.new.steps.items c.push_steps-2.new.steps.items c.default_filter.ensures.no_default (rw c.new-default_steps.ensures.items at c.in_ok-push_steps.ensures) (rw (c.new-steps.ensures.items, c.deref.ensures.value) at c.in_ok-push_steps-2.ensures)) in
     rw (c.deref-3.ensures.value, made) (postfix_runs (with_default (default_of c.args.cx.now) c.args.expr.now))
 
@@ -16,7 +16,7 @@ invariant_of-result c =
     let made : steps_of c.push_steps-2.new.steps.items ≡ postfix (with_default (default_of c.args.cx.now) c.args.expr.now) = rw (← c.default_filter.ensures.same) (made_steps c.default_filter.result.now c.args.expr.now c.push_steps.new.steps.items c.push_steps-2.new.steps.items c.default_filter.ensures.no_default (rw c.new-default_steps.ensures.items at c.in_ok-push_steps.ensures) (rw (c.new-steps.ensures.items, c.deref.ensures.value) at c.in_ok-push_steps-2.ensures)) in
     record {
       one_value = rw made (postfix_runs (with_default (default_of c.args.cx.now) c.args.expr.now));
-      fits = rw (← c.deref-3.ensures.value) c.reserved_height-height.ensures;
+      fits = rw (← c.deref-3.ensures.value) c.height_of-height.ensures;
       passed_over = rw made (are_passed _ _ (rw c.default_filter-2.ensures.same at c.in_ok-right_operands.ensures));
     }
 

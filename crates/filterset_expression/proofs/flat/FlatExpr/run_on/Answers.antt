@@ -52,7 +52,7 @@ loop-step-preserved g c =
     let stands : Stands not_of connect decides gives (steps_of steps) rest new = elim c.match-action.branch [
       | in-Push+in_ok-value-in-Push w ↦ push_stands not_of connect decides gives (steps_of steps) rest (compiled_leaf w.in-Push.leaf.now) old new w.in_ok-value-in-Push.value (record { leaf = w.in-Push.leaf; kept = c.next-kept.result }, refl, w.in_ok-value-in-Push.ensures) (ap values w.stack-is ∙ w.push.ensures.values) (rw (here, acts, w.in-Push.is) at c.loop-step.invariant.so_far)
       | in-Negate w ↦ negate_stands not_of connect decides gives (steps_of steps) rest old (values w.pop-value.new.self) new w.pop-value.result w.logic_not.result w.pop-value.ensures.values w.logic_not.ensures (ap values w.stack-is ∙ w.push-in-Negate.ensures.values) (rw (here, acts, w.in-Negate.is) at c.loop-step.invariant.so_far)
-      | in-Combine w ↦ combine_stands not_of connect decides gives (steps_of steps) rest w.in-Combine.connective old (values w.pop-right.new.self) (values w.pop-left.new.self) new w.pop-left.result w.pop-right.result w.connected.result w.pop-right.ensures.values w.pop-left.ensures.values w.connected.ensures (ap values w.stack-is ∙ w.push-in-Combine.ensures.values) (rw (here, acts, w.in-Combine.is) at c.loop-step.invariant.so_far)
+      | in-Combine w ↦ combine_stands not_of connect decides gives (steps_of steps) rest w.in-Combine.connective old (values w.pop-right.new.self) (values w.pop-left.new.self) new w.pop-left.result w.pop-right.result w.connect.result w.pop-right.ensures.values w.pop-left.ensures.values w.connect.ensures (ap values w.stack-is ∙ w.push-in-Combine.ensures.values) (rw (here, acts, w.in-Combine.is) at c.loop-step.invariant.so_far)
     ] in
     let fits = rw (here, greatest_on (step_of s) rest (length old) (length new) after) at c.loop-step.invariant.fits in
     record {

@@ -75,7 +75,7 @@ loop-at-preserved g c =
     let stands : Stands not_of connect decides gives all rest new = elim c.match-action.branch [
       | in-Push+in_ok-value-in-Push w ↦ push_stands not_of connect decides gives all rest (compiled_leaf w.in-Push.leaf.now) old new w.in_ok-value-in-Push.value (record { leaf = w.in-Push.leaf; kept = w.get-kept.result }, refl, w.in_ok-value-in-Push.ensures) (rw (← w.value-is, ← w.stack-is) c.push.ensures.values) (rw (here, acts, w.in-Push.is) at c.loop-at.invariant.so_far)
       | in-Negate w ↦ negate_stands not_of connect decides gives all rest old (values w.pop.new.self) new w.pop.result w.logic_not-value.result w.pop.ensures.values w.logic_not-value.ensures (rw (← w.value-is, ← w.stack-is) c.push.ensures.values) (rw (here, acts, w.in-Negate.is) at c.loop-at.invariant.so_far)
-      | in-Combine w ↦ combine_stands not_of connect decides gives all rest w.in-Combine.connective old (values w.pop-right.new.self) (values w.pop-left.new.self) new w.pop-left.result w.pop-right.result w.connected-value.result w.pop-right.ensures.values w.pop-left.ensures.values w.connected-value.ensures (rw (← w.value-is, ← w.stack-is) c.push.ensures.values) (rw (here, acts, w.in-Combine.is) at c.loop-at.invariant.so_far)
+      | in-Combine w ↦ combine_stands not_of connect decides gives all rest w.in-Combine.connective old (values w.pop-right.new.self) (values w.pop-left.new.self) new w.pop-left.result w.pop-right.result w.connect-value.result w.pop-right.ensures.values w.pop-left.ensures.values w.connect-value.ensures (rw (← w.value-is, ← w.stack-is) c.push.ensures.values) (rw (here, acts, w.in-Combine.is) at c.loop-at.invariant.so_far)
     ] in
     let fits = rw (here, greatest_on (step_of s) rest (length old) (length new) after) at c.loop-at.invariant.fits in
     let runs = leaves_one_on (step_of s) rest (length old) (length new) after (rw here at c.loop-at.invariant.runs) in

@@ -11,56 +11,56 @@ use Rattle.nextest_filtering.proofs.PackageSets.{some_named, some_dependency, so
 use Rattle.nextest_filtering.proofs.Unmatched.{adds_one, kept_away}
 use Rattle.nextest_filtering.proofs.compile.leaves.compile_leaf.Goals as goal
 
-pub returns-in_ok-named-in-Package-clause-unmatched : goal.returns-in_ok-named-in-Package-clause-unmatched
-returns-in_ok-named-in-Package-clause-unmatched c =
+pub returns-in_ok-select_named-in-Package-clause-unmatched : goal.returns-in_ok-select_named-in-Package-clause-unmatched
+returns-in_ok-select_named-in-Package-clause-unmatched c =
     let packages = packages_of c.args.cx.now in
     let matcher = matcher_of c.in-Package.matcher in
     let fault = NoPackageMatch c.in-Package.span in
-    let keys = c.in_ok-named-in-Package.field-0.keys in
+    let keys = c.in_ok-select_named-in-Package.field-0.keys in
     let old = c.args.faults.now.items in
-    let new = c.packages_leaf.new.faults.items in
-    let some = some_named packages matcher keys c.in_ok-named-in-Package.ensures in
-    rw c.in-Package.is (on_ok_weaker c.packages_leaf.result
+    let new = c.compile_packages.new.faults.items in
+    let some = some_named packages matcher keys c.in_ok-select_named-in-Package.ensures in
+    rw c.in-Package.is (on_ok_weaker c.compile_packages.result
     (λ added. adds_one packages c.args.known_groups.now (Matching Package matcher c.in-Package.span) fault old new refl
-    (kept_away (keys ≢ []) ((p : PackageMetadata) × IsNamed packages matcher p) some.0 some.1 fault old new added)) c.packages_leaf.ensures.unmatched)
+    (kept_away (keys ≢ []) ((p : PackageMetadata) × IsNamed packages matcher p) some.0 some.1 fault old new added)) c.compile_packages.ensures.unmatched)
 
-pub returns-in_ok-dependencies-in-Deps-clause-unmatched : goal.returns-in_ok-dependencies-in-Deps-clause-unmatched
-returns-in_ok-dependencies-in-Deps-clause-unmatched c =
+pub returns-in_ok-select_dependencies-in-Deps-clause-unmatched : goal.returns-in_ok-select_dependencies-in-Deps-clause-unmatched
+returns-in_ok-select_dependencies-in-Deps-clause-unmatched c =
     let packages = packages_of c.args.cx.now in
     let matcher = matcher_of c.in-Deps.matcher in
     let fault = NoPackageMatch c.in-Deps.span in
-    let keys = c.in_ok-dependencies-in-Deps.field-0.keys in
+    let keys = c.in_ok-select_dependencies-in-Deps.field-0.keys in
     let old = c.args.faults.now.items in
-    let new = c.packages_leaf-in-Deps.new.faults.items in
-    let some = some_dependency packages matcher keys c.in_ok-dependencies-in-Deps.ensures in
-    rw c.in-Deps.is (on_ok_weaker c.packages_leaf-in-Deps.result
+    let new = c.compile_packages-in-Deps.new.faults.items in
+    let some = some_dependency packages matcher keys c.in_ok-select_dependencies-in-Deps.ensures in
+    rw c.in-Deps.is (on_ok_weaker c.compile_packages-in-Deps.result
     (λ added. adds_one packages c.args.known_groups.now (Matching Deps matcher c.in-Deps.span) fault old new refl
-    (kept_away (keys ≢ []) ((p : PackageMetadata) × IsNamed packages matcher p) some.0 some.1 fault old new added)) c.packages_leaf-in-Deps.ensures.unmatched)
+    (kept_away (keys ≢ []) ((p : PackageMetadata) × IsNamed packages matcher p) some.0 some.1 fault old new added)) c.compile_packages-in-Deps.ensures.unmatched)
 
-pub returns-in_ok-dependents-in-Rdeps-clause-unmatched : goal.returns-in_ok-dependents-in-Rdeps-clause-unmatched
-returns-in_ok-dependents-in-Rdeps-clause-unmatched c =
+pub returns-in_ok-select_dependents-in-Rdeps-clause-unmatched : goal.returns-in_ok-select_dependents-in-Rdeps-clause-unmatched
+returns-in_ok-select_dependents-in-Rdeps-clause-unmatched c =
     let packages = packages_of c.args.cx.now in
     let matcher = matcher_of c.in-Rdeps.matcher in
     let fault = NoPackageMatch c.in-Rdeps.span in
-    let keys = c.in_ok-dependents-in-Rdeps.field-0.keys in
+    let keys = c.in_ok-select_dependents-in-Rdeps.field-0.keys in
     let old = c.args.faults.now.items in
-    let new = c.packages_leaf-in-Rdeps.new.faults.items in
-    let some = some_dependent packages matcher keys c.in_ok-dependents-in-Rdeps.ensures in
-    rw c.in-Rdeps.is (on_ok_weaker c.packages_leaf-in-Rdeps.result
+    let new = c.compile_packages-in-Rdeps.new.faults.items in
+    let some = some_dependent packages matcher keys c.in_ok-select_dependents-in-Rdeps.ensures in
+    rw c.in-Rdeps.is (on_ok_weaker c.compile_packages-in-Rdeps.result
     (λ added. adds_one packages c.args.known_groups.now (Matching Rdeps matcher c.in-Rdeps.span) fault old new refl
-    (kept_away (keys ≢ []) ((p : PackageMetadata) × IsNamed packages matcher p) some.0 some.1 fault old new added)) c.packages_leaf-in-Rdeps.ensures.unmatched)
+    (kept_away (keys ≢ []) ((p : PackageMetadata) × IsNamed packages matcher p) some.0 some.1 fault old new added)) c.compile_packages-in-Rdeps.ensures.unmatched)
 
 pub returns-in-Binary-clause-unmatched : goal.returns-in-Binary-clause-unmatched
 returns-in-Binary-clause-unmatched c =
-    rw c.in-Binary.is (on_ok_weaker c.binary_leaf.result
-    (adds_one (packages_of c.args.cx.now) c.args.known_groups.now (Matching Binary (matcher_of c.in-Binary.matcher) c.in-Binary.span) (NoBinaryNameMatch c.in-Binary.span) c.args.faults.now.items c.binary_leaf.new.faults.items refl) c.binary_leaf.ensures.unmatched)
+    rw c.in-Binary.is (on_ok_weaker c.compile_binary.result
+    (adds_one (packages_of c.args.cx.now) c.args.known_groups.now (Matching Binary (matcher_of c.in-Binary.matcher) c.in-Binary.span) (NoBinaryNameMatch c.in-Binary.span) c.args.faults.now.items c.compile_binary.new.faults.items refl) c.compile_binary.ensures.unmatched)
 
 pub returns-in-BinaryId-clause-unmatched : goal.returns-in-BinaryId-clause-unmatched
 returns-in-BinaryId-clause-unmatched c =
-    rw c.in-BinaryId.is (on_ok_weaker c.binary_id_leaf.result
-    (adds_one (packages_of c.args.cx.now) c.args.known_groups.now (Matching BinaryId (matcher_of c.in-BinaryId.matcher) c.in-BinaryId.span) (NoBinaryIdMatch c.in-BinaryId.span) c.args.faults.now.items c.binary_id_leaf.new.faults.items refl) c.binary_id_leaf.ensures.unmatched)
+    rw c.in-BinaryId.is (on_ok_weaker c.compile_binary_id.result
+    (adds_one (packages_of c.args.cx.now) c.args.known_groups.now (Matching BinaryId (matcher_of c.in-BinaryId.matcher) c.in-BinaryId.span) (NoBinaryIdMatch c.in-BinaryId.span) c.args.faults.now.items c.compile_binary_id.new.faults.items refl) c.compile_binary_id.ensures.unmatched)
 
 pub returns-in-Group-clause-unmatched : goal.returns-in-Group-clause-unmatched
 returns-in-Group-clause-unmatched c =
-    rw c.in-Group.is (on_ok_weaker c.group_leaf.result
-    (adds_one (packages_of c.args.cx.now) c.args.known_groups.now (Matching Group (matcher_of c.in-Group.matcher) c.in-Group.span) (NoGroupMatch c.in-Group.span) c.args.faults.now.items c.group_leaf.new.faults.items refl) c.group_leaf.ensures.unmatched)
+    rw c.in-Group.is (on_ok_weaker c.compile_group.result
+    (adds_one (packages_of c.args.cx.now) c.args.known_groups.now (Matching Group (matcher_of c.in-Group.matcher) c.in-Group.span) (NoGroupMatch c.in-Group.span) c.args.faults.now.items c.compile_group.new.faults.items refl) c.compile_group.ensures.unmatched)

@@ -1,6 +1,0 @@
-use Rattle.std.proofs.Common.{rules}
-use Rattle.nextest_filtering.specs.Bans.{is_banned}
-use Rattle.nextest_filtering.proofs.compile.bans.banned_leaves.Goals as goal
-
-pub returns : goal.returns
-returns c = c.leaves_where.ensures (is_banned c.args.kind) (search rules)

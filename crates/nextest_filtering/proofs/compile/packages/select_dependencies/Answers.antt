@@ -1,0 +1,27 @@
+use Rattle.std.proofs.Common.{◌≡◌, ◌↔◌, ℕ, Bool, Contains, List, ◌∙◌, subst}
+use Rattle.std.proofs.lemmas.Result.{IfOk-weaker}
+use Rattle.filterset_graph.specs.Marked.{MarksReached}
+use Rattle.filterset_graph.specs.Packages.{AllDiffer, ids}
+use Rattle.filterset_graph.specs.declared.package.PackageMetadata.{PackageMetadata}
+use Rattle.filterset_matchers.specs.Matchers.{matcher_of}
+use Rattle.nextest_filtering.specs.Compiling.{packages_of}
+use Rattle.filterset_expression.specs.Meaning.{IsDependency}
+use Rattle.nextest_filtering.specs.PackageMarks.{IsMarkedMember, MarksNamed}
+use Rattle.nextest_filtering.proofs.PackageSets as sets
+use Rattle.nextest_filtering.proofs.compile.packages.select_dependencies.Goals as goal
+
+pub returns : goal.returns
+returns c =
+    let packages = packages_of c.args.cx.now in
+    let matcher = matcher_of c.args.matcher.now in
+    let starts = c.in_ok-starts.starts.items in
+    let marks = c.in_ok-marks.marks in
+    let list : c.packages-packages.result.now ≡ packages = c.packages-packages.ensures.list ∙ c.graph.ensures in
+    let marked = subst (λ (ps : List PackageMetadata). MarksNamed ps matcher starts) list c.in_ok-starts.ensures.marks in
+    let differ = subst (λ (ps : List PackageMetadata). AllDiffer (ids ps)) c.graph.ensures c.packages-packages.ensures.distinct in
+    let reached = subst (λ (ps : List PackageMetadata). MarksReached ps starts marks) c.graph-2.ensures (subst (λ (ms : List Bool). MarksReached c.graph-2.result.now ms marks) c.deref.ensures.value c.in_ok-marks.ensures.exact) in
+    IfOk-weaker c.collect_marked.result _ (λ found. (id : List ℕ) → Contains found.keys id ↔ IsDependency packages matcher id)
+    (λ found are id.
+    let is = sets.dependencies packages matcher starts marked differ marks reached id in
+    let here = subst (λ (ps : List PackageMetadata). Contains found.keys id ↔ IsMarkedMember ps marks.items id) list (subst (λ (ms : List Bool). Contains found.keys id ↔ IsMarkedMember c.packages-packages.result.now ms id) c.deref-2.ensures.value (are id)) in
+    ((λ has. is.0 (here.0 has)), (λ so. here.1 (is.1 so)))) c.collect_marked.ensures
