@@ -1,5 +1,5 @@
-//! A fault of a filterset text.
-ghost use Rattle.std.specs.Prelude.{◌≡◌, Ok, option_map};
+//! Faults of filterset texts: one fault, its code, span, label and help.
+ghost use Rattle.std.specs.Prelude.{◌≡◌, Ok, Some, None, option_map};
 ghost use Rattle.filterset_faults.specs.Equality.{held_of};
 ghost use Rattle.filterset_faults.specs.EqualityLaws.{held_as};
 ghost use Rattle.filterset_faults.specs.Faults.{code_of, span_of, label_of, help_of};
@@ -12,99 +12,100 @@ use filterset_glob::GlobConstructError;
 use std::alloc::{AllocError, Global};
 use thiserror::Error;
 
-// The gate takes a literal with this word, in an attribute, for a test of the crate.
+// A constant, since the gate takes an attribute that has the word `test` for a test of this crate.
 const TEST_GROUPS: &str = "test groups";
 
-/// A fault of a filterset text, with the span where it stands. It displays as a message of its own.
-#[derive(Debug, Drop, Error)]
+/// A fault of a filterset text. Every variant but `Unknown` has the span of the text that it is about. Displays as a
+/// message.
+#[derive(Clone, Copy, Debug, Error)]
 pub enum ParseSingleError {
-    /// A glob matcher whose text is no glob.
+    /// The text of a glob matcher is not a glob.
     #[error("invalid glob")]
     InvalidGlob {
         span: SourceSpan,
         error: GlobConstructError,
     },
-    /// A predicate that filtersets of this kind may not hold.
+    /// A predicate is banned from filtersets of this kind.
     #[error("predicate not allowed in `{kind}` expressions")]
     BannedPredicate {
         span: SourceSpan,
         kind: FiltersetKind,
         reason: BannedPredicateReason,
     },
-    /// A pattern that `regex` refused, and was not out of memory.
+    /// `regex` rejected a pattern, for a reason other than out of memory.
     #[error("invalid regex")]
     InvalidRegexWithoutMessage(SourceSpan),
-    /// A regular expression without its closing `/`.
+    /// A regular expression has no closing `/`.
     #[error("expected close regex")]
     ExpectedCloseRegex(SourceSpan),
-    /// `||` or `OR`.
+    /// `||` or `OR` stands for an operator.
     #[error("invalid OR operator")]
     InvalidOrOperator(SourceSpan),
-    /// `&&` or `AND`.
+    /// `&&` or `AND` stands for an operator.
     #[error("invalid AND operator")]
     InvalidAndOperator(SourceSpan),
-    /// An argument of a predicate that takes none.
+    /// A predicate that takes no argument has one.
     #[error("unexpected argument")]
     UnexpectedArgument(SourceSpan),
-    /// A second argument.
+    /// A predicate has a second argument.
     #[error("unexpected comma")]
     UnexpectedComma(SourceSpan),
-    /// A raw text that is empty.
+    /// The text of a matcher is empty.
     #[error("invalid string")]
     InvalidString(SourceSpan),
-    /// A predicate without its `(`.
+    /// A predicate has no `(`.
     #[error("expected open parenthesis")]
     ExpectedOpenParenthesis(SourceSpan),
-    /// A `(` without its `)`.
+    /// A `(` has no `)`.
     #[error("expected close parenthesis")]
     ExpectedCloseParenthesis(SourceSpan),
-    /// A backslash that begins no escape.
+    /// A backslash begins no escape.
     #[error("invalid escape character")]
     InvalidEscapeCharacter(SourceSpan),
-    /// An operand that is missing.
+    /// An operand is missing.
     #[error("expected expression")]
     ExpectedExpr(SourceSpan),
-    /// An operator with two operands where an operand belongs: as it stands, and the one to write.
+    /// A binary operator is where an operand belongs. `op` is its text, `suggest` the operator to write.
     #[error("expected expression, found `{op}`")]
     ExprFoundBinaryOp {
         span: SourceSpan,
         op: &'static str,
         suggest: &'static str,
     },
-    /// `NOT` where an operand belongs, and the operator to write.
+    /// `NOT` is where an operand belongs. `op` is its text, `suggest` the operator to write.
     #[error("expected expression, found `{op}`")]
     ExprFoundUnaryOp {
         span: SourceSpan,
         op: &'static str,
         suggest: &'static str,
     },
-    /// Text after the expression.
+    /// Text follows the expression.
     #[error("expected end of expression")]
     ExpectedEndOfExpression(SourceSpan),
-    /// A matcher that matches no package of the workspace.
+    /// A matcher matches no package of the workspace.
     #[error("operator didn't match any packages")]
     NoPackageMatch(SourceSpan),
-    /// A matcher that matches no test group.
+    /// A matcher matches no test group.
     #[error("operator didn't match any {groups}", groups = TEST_GROUPS)]
     NoGroupMatch(SourceSpan),
-    /// A matcher that matches no id of a test binary.
+    /// A matcher matches no id of a test binary.
     #[error("operator didn't match any binary IDs")]
     NoBinaryIdMatch(SourceSpan),
-    /// A matcher that matches no name of a test binary.
+    /// A matcher matches no name of a test binary.
     #[error("operator didn't match any binary names")]
     NoBinaryNameMatch(SourceSpan),
-    /// An argument of `platform` that is neither `host` nor `target`.
+    /// The argument of `platform` is neither `host` nor `target`.
     #[error("invalid argument for platform")]
     InvalidPlatformArgument(SourceSpan),
-    /// A predicate that cannot be compiled. It is never made, since every predicate is compiled.
+    /// A predicate cannot be compiled. Never reported: every predicate can be.
     #[error("unsupported expression")]
     UnsupportedExpression(SourceSpan),
-    /// Never made.
+    /// Never reported.
     #[error("unknown parsing error")]
     Unknown,
 }
 
-/// What a fault holds beside its span.
+/// The fields of a fault, beside its span.
 #[derive(Clone, Copy, PartialEq, Eq)]
 enum Details<'f> {
     None,
@@ -113,8 +114,30 @@ enum Details<'f> {
     Operators(&'f str, &'f str),
 }
 
-/// Two faults are equal where they are of one variant, which the code tells, and equal in every field, texts byte for
-/// byte.
+/// What `code`, `label` and `help` return for a fault.
+#[derive(Clone, Copy)]
+struct Row<'f> {
+    code: &'static str,
+    label: Option<Label<'f>>,
+    help: Option<Help>,
+}
+
+impl<'f> Row<'f> {
+    /// Returns the row of a fault whose label is a constant, and that has no help.
+    fn fixed(code: &'static str, label: &'static str) -> Row<'f>
+        ensures code { result.code.now ≡ code.now }
+        ensures label { option_map label_text result.label ≡ Some label.now }
+        ensures help { result.help ≡ None }
+    {
+        Row {
+            code,
+            label: Some(Label::Text(label)),
+            help: None,
+        }
+    }
+}
+
+/// Compares the variants, by their codes, and all fields.
 impl PartialEq for ParseSingleError {
     ghost use Rattle.std.specs.Cmp.{partial_equiv_from_equiv};
     ghost use Rattle.filterset_faults.specs.Equality.{same_fault};
@@ -138,198 +161,164 @@ impl Eq for ParseSingleError {
 }
 
 impl ParseSingleError {
-    /// What it holds beside its span.
+    /// Returns the row of the fault in the table of codes, labels and help.
+    fn row(&self) -> Row<'_>
+        ensures code { result.code.now ≡ code_of self.now }
+        ensures label { option_map label_text result.label ≡ label_of self.now }
+        ensures help { option_map help_text result.help ≡ help_of self.now }
+    {
+        match self {
+            Self::InvalidGlob { error, .. } => Row {
+                code: "InvalidGlob",
+                label: Some(Label::Glob(error)),
+                help: None,
+            },
+            Self::BannedPredicate { reason, .. } => Row {
+                code: "BannedPredicate",
+                label: Some(Label::Reason(*reason)),
+                help: None,
+            },
+            Self::InvalidRegexWithoutMessage(_) => Row::fixed(
+                "InvalidRegexWithoutMessage",
+                "invalid regex",
+            ),
+            Self::ExpectedCloseRegex(_) => Row::fixed("ExpectedCloseRegex", "missing `/`"),
+            Self::InvalidOrOperator(_) => Row::fixed(
+                "InvalidOrOperator",
+                "expected `|`, `+`, or `or`",
+            ),
+            Self::InvalidAndOperator(_) => Row::fixed(
+                "InvalidAndOperator",
+                "expected `&` or `and`",
+            ),
+            Self::UnexpectedArgument(_) => Row::fixed(
+                "UnexpectedArgument",
+                "this set doesn't take an argument",
+            ),
+            Self::UnexpectedComma(_) => Row::fixed(
+                "UnexpectedComma",
+                "this set doesn't take multiple arguments",
+            ),
+            Self::InvalidString(_) => Row::fixed("InvalidString", "invalid string"),
+            Self::ExpectedOpenParenthesis(_) => Row::fixed(
+                "ExpectedOpenParenthesis",
+                "missing `(`",
+            ),
+            Self::ExpectedCloseParenthesis(_) => Row::fixed(
+                "ExpectedCloseParenthesis",
+                "missing `)`",
+            ),
+            Self::InvalidEscapeCharacter(_) => Row::fixed(
+                "InvalidEscapeCharacter",
+                "invalid escape character",
+            ),
+            Self::ExpectedExpr(_) => Row::fixed("ExpectedExpr", "missing expression"),
+            Self::ExprFoundBinaryOp { suggest, .. } => Row {
+                code: "ExprFoundBinaryOp",
+                label: Some(Label::BinaryOp(*suggest)),
+                help: Some(Help::Infix(*suggest)),
+            },
+            Self::ExprFoundUnaryOp { op, suggest, .. } => Row {
+                code: "ExprFoundUnaryOp",
+                label: Some(Label::UnaryOp(*op)),
+                help: Some(Help::Prefix(*suggest)),
+            },
+            Self::ExpectedEndOfExpression(_) => Row::fixed(
+                "ExpectedEndOfExpression",
+                "unparsed input",
+            ),
+            Self::NoPackageMatch(_) => Row::fixed("NoPackageMatch", "no packages matched this"),
+            Self::NoGroupMatch(_) => Row::fixed("NoGroupMatch", "no test groups matched this"),
+            Self::NoBinaryIdMatch(_) => Row::fixed("NoBinaryIdMatch", "no binary IDs matched this"),
+            Self::NoBinaryNameMatch(_) => Row::fixed(
+                "NoBinaryNameMatch",
+                "no binary names matched this",
+            ),
+            Self::InvalidPlatformArgument(_) => Row::fixed(
+                "InvalidPlatformArgument",
+                "expected \"target\" or \"host\"",
+            ),
+            Self::UnsupportedExpression(_) => Row::fixed(
+                "UnsupportedExpression",
+                "contained an unsupported expression",
+            ),
+            Self::Unknown => Row {
+                code: "Unknown",
+                label: None,
+                help: None,
+            },
+        }
+    }
+
+    /// Returns what the fault holds beside its span.
     fn details(&self) -> Details<'_>
         ensures { held_as result ≡ held_of self.now }
     {
         match self {
-            ParseSingleError::InvalidGlob { error, .. } => Details::Glob(error),
-            ParseSingleError::BannedPredicate { kind, reason, .. } => Details::Ban(*kind, *reason),
-            ParseSingleError::ExprFoundBinaryOp { op, suggest, .. }
-            | ParseSingleError::ExprFoundUnaryOp { op, suggest, .. } => Details::Operators(
-                *op, *suggest,
-            ),
+            Self::InvalidGlob { error, .. } => Details::Glob(error),
+            Self::BannedPredicate { kind, reason, .. } => Details::Ban(*kind, *reason),
+            Self::ExprFoundBinaryOp { op, suggest, .. }
+            | Self::ExprFoundUnaryOp { op, suggest, .. } => Details::Operators(*op, *suggest),
             _ => Details::None,
         }
     }
 
-    /// The name of the variant, which tells the fault to programs.
+    /// Returns the name of the variant, by which programs tell faults apart.
     pub fn code(&self) -> &'static str
         ensures { result.now ≡ code_of self.now }
     {
-        match self {
-            ParseSingleError::InvalidGlob { .. } => "InvalidGlob",
-            ParseSingleError::BannedPredicate { .. } => "BannedPredicate",
-            ParseSingleError::InvalidRegexWithoutMessage(_) => "InvalidRegexWithoutMessage",
-            ParseSingleError::ExpectedCloseRegex(_) => "ExpectedCloseRegex",
-            ParseSingleError::InvalidOrOperator(_) => "InvalidOrOperator",
-            ParseSingleError::InvalidAndOperator(_) => "InvalidAndOperator",
-            ParseSingleError::UnexpectedArgument(_) => "UnexpectedArgument",
-            ParseSingleError::UnexpectedComma(_) => "UnexpectedComma",
-            ParseSingleError::InvalidString(_) => "InvalidString",
-            ParseSingleError::ExpectedOpenParenthesis(_) => "ExpectedOpenParenthesis",
-            ParseSingleError::ExpectedCloseParenthesis(_) => "ExpectedCloseParenthesis",
-            ParseSingleError::InvalidEscapeCharacter(_) => "InvalidEscapeCharacter",
-            ParseSingleError::ExpectedExpr(_) => "ExpectedExpr",
-            ParseSingleError::ExprFoundBinaryOp { .. } => "ExprFoundBinaryOp",
-            ParseSingleError::ExprFoundUnaryOp { .. } => "ExprFoundUnaryOp",
-            ParseSingleError::ExpectedEndOfExpression(_) => "ExpectedEndOfExpression",
-            ParseSingleError::NoPackageMatch(_) => "NoPackageMatch",
-            ParseSingleError::NoGroupMatch(_) => "NoGroupMatch",
-            ParseSingleError::NoBinaryIdMatch(_) => "NoBinaryIdMatch",
-            ParseSingleError::NoBinaryNameMatch(_) => "NoBinaryNameMatch",
-            ParseSingleError::InvalidPlatformArgument(_) => "InvalidPlatformArgument",
-            ParseSingleError::UnsupportedExpression(_) => "UnsupportedExpression",
-            ParseSingleError::Unknown => "Unknown",
-        }
+        self.row().code
     }
 
-    /// The span, in bytes of the text; only `Unknown` has none.
+    /// Returns the span, in bytes of the text. Only `Unknown` has none.
     pub fn span(&self) -> Option<SourceSpan>
         ensures { result ≡ span_of self.now }
     {
         match self {
-            ParseSingleError::InvalidGlob { span, .. }
-            | ParseSingleError::BannedPredicate { span, .. }
-            | ParseSingleError::InvalidRegexWithoutMessage(span)
-            | ParseSingleError::ExpectedCloseRegex(span)
-            | ParseSingleError::InvalidOrOperator(span)
-            | ParseSingleError::InvalidAndOperator(span)
-            | ParseSingleError::UnexpectedArgument(span)
-            | ParseSingleError::UnexpectedComma(span)
-            | ParseSingleError::InvalidString(span)
-            | ParseSingleError::ExpectedOpenParenthesis(span)
-            | ParseSingleError::ExpectedCloseParenthesis(span)
-            | ParseSingleError::InvalidEscapeCharacter(span)
-            | ParseSingleError::ExpectedExpr(span)
-            | ParseSingleError::ExprFoundBinaryOp { span, .. }
-            | ParseSingleError::ExprFoundUnaryOp { span, .. }
-            | ParseSingleError::ExpectedEndOfExpression(span)
-            | ParseSingleError::NoPackageMatch(span)
-            | ParseSingleError::NoGroupMatch(span)
-            | ParseSingleError::NoBinaryIdMatch(span)
-            | ParseSingleError::NoBinaryNameMatch(span)
-            | ParseSingleError::InvalidPlatformArgument(span)
-            | ParseSingleError::UnsupportedExpression(span) => Some(*span),
-            ParseSingleError::Unknown => None,
+            Self::InvalidGlob { span, .. }
+            | Self::BannedPredicate { span, .. }
+            | Self::InvalidRegexWithoutMessage(span)
+            | Self::ExpectedCloseRegex(span)
+            | Self::InvalidOrOperator(span)
+            | Self::InvalidAndOperator(span)
+            | Self::UnexpectedArgument(span)
+            | Self::UnexpectedComma(span)
+            | Self::InvalidString(span)
+            | Self::ExpectedOpenParenthesis(span)
+            | Self::ExpectedCloseParenthesis(span)
+            | Self::InvalidEscapeCharacter(span)
+            | Self::ExpectedExpr(span)
+            | Self::ExprFoundBinaryOp { span, .. }
+            | Self::ExprFoundUnaryOp { span, .. }
+            | Self::ExpectedEndOfExpression(span)
+            | Self::NoPackageMatch(span)
+            | Self::NoGroupMatch(span)
+            | Self::NoBinaryIdMatch(span)
+            | Self::NoBinaryNameMatch(span)
+            | Self::InvalidPlatformArgument(span)
+            | Self::UnsupportedExpression(span) => Some(*span),
+            Self::Unknown => None,
         }
     }
 
-    /// What to write beside the span; only `Unknown` has none.
+    /// Returns the text to write beside the span. Only `Unknown` has none.
     pub fn label(&self) -> Option<Label<'_>>
         ensures { option_map label_text result ≡ label_of self.now }
     {
-        match self {
-            ParseSingleError::InvalidGlob { error, .. } => Some(Label::Glob(error)),
-            ParseSingleError::BannedPredicate { reason, .. } => Some(Label::Reason(*reason)),
-            ParseSingleError::ExprFoundBinaryOp { suggest, .. } => Some(Label::BinaryOp(*suggest)),
-            ParseSingleError::ExprFoundUnaryOp { op, .. } => Some(Label::UnaryOp(*op)),
-            ParseSingleError::InvalidRegexWithoutMessage(_) => Some(Label::Text("invalid regex")),
-            ParseSingleError::ExpectedCloseRegex(_) => Some(Label::Text("missing `/`")),
-            ParseSingleError::InvalidOrOperator(_) => Some(Label::Text(
-                "expected `|`, `+`, or `or`",
-            )),
-            ParseSingleError::InvalidAndOperator(_) => Some(Label::Text("expected `&` or `and`")),
-            ParseSingleError::UnexpectedArgument(_) => Some(Label::Text(
-                "this set doesn't take an argument",
-            )),
-            ParseSingleError::UnexpectedComma(_) => Some(Label::Text(
-                "this set doesn't take multiple arguments",
-            )),
-            ParseSingleError::InvalidString(_) => Some(Label::Text("invalid string")),
-            ParseSingleError::ExpectedOpenParenthesis(_) => Some(Label::Text("missing `(`")),
-            ParseSingleError::ExpectedCloseParenthesis(_) => Some(Label::Text("missing `)`")),
-            ParseSingleError::InvalidEscapeCharacter(_) => Some(Label::Text(
-                "invalid escape character",
-            )),
-            ParseSingleError::ExpectedExpr(_) => Some(Label::Text("missing expression")),
-            ParseSingleError::ExpectedEndOfExpression(_) => Some(Label::Text("unparsed input")),
-            ParseSingleError::NoPackageMatch(_) => Some(Label::Text("no packages matched this")),
-            ParseSingleError::NoGroupMatch(_) => Some(Label::Text("no test groups matched this")),
-            ParseSingleError::NoBinaryIdMatch(_) => Some(Label::Text("no binary IDs matched this")),
-            ParseSingleError::NoBinaryNameMatch(_) => Some(Label::Text(
-                "no binary names matched this",
-            )),
-            ParseSingleError::InvalidPlatformArgument(_) => Some(Label::Text(
-                "expected \"target\" or \"host\"",
-            )),
-            ParseSingleError::UnsupportedExpression(_) => Some(Label::Text(
-                "contained an unsupported expression",
-            )),
-            ParseSingleError::Unknown => None,
-        }
+        self.row().label
     }
 
-    /// How to write what a misplaced operator means; other faults have none.
+    /// Returns how to write what a misplaced operator means. Other faults have no help.
     pub fn help(&self) -> Option<Help>
         ensures { option_map help_text result ≡ help_of self.now }
     {
-        match self {
-            ParseSingleError::ExprFoundBinaryOp { suggest, .. } => Some(Help::Infix(*suggest)),
-            ParseSingleError::ExprFoundUnaryOp { suggest, .. } => Some(Help::Prefix(*suggest)),
-            _ => None,
-        }
+        self.row().help
     }
 
-    /// A copy, equal in every field. A fault owns no memory, so this never fails.
+    /// Copies the fault. A fault owns no memory, so this always succeeds.
     pub fn try_clone(&self, _alloc: Global) -> Result<ParseSingleError, AllocError>
         ensures { result ≡ Ok self.now }
     {
-        Ok(match self {
-            ParseSingleError::InvalidGlob { span, error } => ParseSingleError::InvalidGlob {
-                span: *span,
-                error: *error,
-            },
-            ParseSingleError::BannedPredicate { span, kind, reason } =>
-                ParseSingleError::BannedPredicate {
-                    span: *span,
-                    kind: *kind,
-                    reason: *reason,
-                },
-            ParseSingleError::InvalidRegexWithoutMessage(span) =>
-                ParseSingleError::InvalidRegexWithoutMessage(*span),
-            ParseSingleError::ExpectedCloseRegex(span) => ParseSingleError::ExpectedCloseRegex(
-                *span,
-            ),
-            ParseSingleError::InvalidOrOperator(span) => ParseSingleError::InvalidOrOperator(*span),
-            ParseSingleError::InvalidAndOperator(span) => ParseSingleError::InvalidAndOperator(
-                *span,
-            ),
-            ParseSingleError::UnexpectedArgument(span) => ParseSingleError::UnexpectedArgument(
-                *span,
-            ),
-            ParseSingleError::UnexpectedComma(span) => ParseSingleError::UnexpectedComma(*span),
-            ParseSingleError::InvalidString(span) => ParseSingleError::InvalidString(*span),
-            ParseSingleError::ExpectedOpenParenthesis(span) =>
-                ParseSingleError::ExpectedOpenParenthesis(*span),
-            ParseSingleError::ExpectedCloseParenthesis(span) =>
-                ParseSingleError::ExpectedCloseParenthesis(*span),
-            ParseSingleError::InvalidEscapeCharacter(span) =>
-                ParseSingleError::InvalidEscapeCharacter(*span),
-            ParseSingleError::ExpectedExpr(span) => ParseSingleError::ExpectedExpr(*span),
-            ParseSingleError::ExprFoundBinaryOp { span, op, suggest } =>
-                ParseSingleError::ExprFoundBinaryOp {
-                    span: *span,
-                    op: *op,
-                    suggest: *suggest,
-                },
-            ParseSingleError::ExprFoundUnaryOp { span, op, suggest } =>
-                ParseSingleError::ExprFoundUnaryOp {
-                    span: *span,
-                    op: *op,
-                    suggest: *suggest,
-                },
-            ParseSingleError::ExpectedEndOfExpression(span) =>
-                ParseSingleError::ExpectedEndOfExpression(*span),
-            ParseSingleError::NoPackageMatch(span) => ParseSingleError::NoPackageMatch(*span),
-            ParseSingleError::NoGroupMatch(span) => ParseSingleError::NoGroupMatch(*span),
-            ParseSingleError::NoBinaryIdMatch(span) => ParseSingleError::NoBinaryIdMatch(*span),
-            ParseSingleError::NoBinaryNameMatch(span) => ParseSingleError::NoBinaryNameMatch(*span),
-            ParseSingleError::InvalidPlatformArgument(span) =>
-                ParseSingleError::InvalidPlatformArgument(*span),
-            ParseSingleError::UnsupportedExpression(span) =>
-                ParseSingleError::UnsupportedExpression(*span),
-            ParseSingleError::Unknown => ParseSingleError::Unknown,
-        })
+        Ok(*self)
     }
 }

@@ -1,16 +1,16 @@
-//! Kinds of filtersets, and the reasons of bans.
+//! Kinds of filtersets, and the reasons for bans.
 use std::fmt;
 
-/// What a filterset is for. Displays as `test`, `archive-filter`, `override-filter` or `default-filter`.
+/// The purpose of a filterset. Displays as `test`, `archive-filter`, `override-filter` or `default-filter`.
 #[derive(Clone, Copy, Debug, PartialEq, Eq)]
 pub enum FiltersetKind {
-    /// Picks the tests to run.
+    /// Selects the tests to run.
     Test,
-    /// Picks the binaries to archive.
+    /// Selects the binaries to archive.
     TestArchive,
-    /// Picks the tests that settings of a configuration file apply to.
+    /// Selects the tests that an override of the configuration applies to.
     OverrideFilter,
-    /// Is what `default()` stands for.
+    /// The filterset that `default()` means.
     DefaultFilter,
 }
 
@@ -30,7 +30,7 @@ impl fmt::Display for FiltersetKind {
     }
 }
 
-/// Why a predicate is banned from filtersets of a kind. Displays as a label.
+/// The reason why a predicate is banned from filtersets of a kind. Displays as a label.
 #[derive(Clone, Copy, Debug, PartialEq, Eq)]
 pub enum BannedPredicateReason {
     /// `default()` in the default filter.

@@ -1,4 +1,4 @@
-//! Faults of filterset texts, and what is said of them.
+//! Faults of filterset texts, with their codes, spans, labels and help.
 #![tactic(auto)]
 
 mod error;

@@ -1,20 +1,20 @@
-//! The faults of one filterset text, beside the text.
+//! The faults of one filterset text, with the text.
 ghost use Rattle.std.specs.Prelude.{◌≡◌, IfOk, string_bytes};
 
 use crate::error::ParseSingleError;
 use std::alloc::{AllocError, Global};
 
-/// Why a filterset text was refused: the text, and its faults in the order in which they were found.
+/// A rejected filterset text, and its faults in the order in which they were found.
 #[derive(Debug, Drop)]
 pub struct FiltersetParseErrors {
-    /// The refused text.
+    /// The rejected text.
     pub input: String,
-    /// Its faults. Their spans count bytes of `input`.
+    /// The faults. Their spans count bytes of `input`.
     pub errors: Vec<ParseSingleError>,
 }
 
 impl FiltersetParseErrors {
-    /// A copy, equal in every field. The only error is out of memory.
+    /// Copies the text and the faults. The only error is out of memory.
     pub fn try_clone(&self, alloc: Global) -> Result<FiltersetParseErrors, AllocError>
         ensures input { IfOk result (λ copy. string_bytes copy.input ≡ string_bytes self.now.input) }
         ensures errors { IfOk result (λ copy. copy.errors.items ≡ self.now.errors.items) }

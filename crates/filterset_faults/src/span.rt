@@ -1,7 +1,7 @@
-//! Stretches of a filterset text.
+//! Spans of filterset texts.
 ghost use Rattle.std.specs.Prelude.{◌≡◌, ◌↔◌, IsTrue};
 
-/// A stretch of a text: its offset and its length, in bytes.
+/// A span of a text: its offset and its length, in bytes.
 #[derive(Clone, Copy, Debug, PartialEq, Eq)]
 pub struct SourceSpan {
     offset: usize,
@@ -11,7 +11,7 @@ pub struct SourceSpan {
 impl SourceSpan {
     ghost use Rattle.filterset_faults.specs.Span.{span, offset_of, length_of};
 
-    /// The stretch of this length from this offset on.
+    /// Returns the span at this offset, with this length.
     pub fn new(offset: usize, length: usize) -> SourceSpan
         ensures { result ≡ span offset length }
     {
@@ -21,21 +21,21 @@ impl SourceSpan {
         }
     }
 
-    /// How many bytes stand before it.
+    /// Returns the number of bytes before the span.
     pub fn offset(&self) -> usize
         ensures { result ≡ offset_of self.now }
     {
         self.offset
     }
 
-    /// How many bytes it has.
+    /// Returns the number of bytes in the span.
     pub fn len(&self) -> usize
         ensures { result ≡ length_of self.now }
     {
         self.len
     }
 
-    /// Whether it has no bytes, and is a position alone.
+    /// Returns whether the span has no bytes.
     pub fn is_empty(&self) -> bool
         ensures { IsTrue result ↔ (length_of self.now ≡ 0) }
     {

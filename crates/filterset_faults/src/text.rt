@@ -3,18 +3,18 @@ use crate::kind::BannedPredicateReason;
 use filterset_glob::GlobConstructError;
 use std::fmt;
 
-/// What to write beside the span of a fault. Displays as its exact text.
+/// The text to write beside the span of a fault. Displays as that text.
 #[derive(Clone, Copy, Debug)]
 pub enum Label<'a> {
-    /// A fixed text.
+    /// A constant.
     Text(&'static str),
-    /// What is wrong with a glob.
+    /// The fault of a glob.
     Glob(&'a GlobConstructError),
-    /// Why a predicate is banned.
+    /// The reason for a ban.
     Reason(BannedPredicateReason),
-    /// The operator with two operands to write.
+    /// The binary operator to write.
     BinaryOp(&'static str),
-    /// The operator that is none.
+    /// A word that is no operator.
     UnaryOp(&'static str),
 }
 
@@ -35,12 +35,12 @@ impl fmt::Display for Label<'_> {
     }
 }
 
-/// How to write what a misplaced operator means. Displays as its exact text.
+/// How to write what a misplaced operator means. Displays as a sentence.
 #[derive(Clone, Copy, Debug)]
 pub enum Help {
-    /// The operator to write between two expressions.
+    /// Write this operator between two expressions.
     Infix(&'static str),
-    /// The operator to write before an expression.
+    /// Write this operator before an expression.
     Prefix(&'static str),
 }
 
