@@ -1,0 +1,3 @@
+pub mod Shape
+pub mod Paths
+pub mod Refusals
