@@ -1,7 +1,7 @@
 -- What is answered of two texts that are read.
 use Rattle.std.proofs.Common.{◌≡◌, List, Option, Some, None, subst, sym}
 use Rattle.filterset_drawing.specs.Columns.{Text}
-use Rattle.filterset_explaining.specs.declared.candidate.Candidate.{Candidate}
+use Rattle.filterset_listing.specs.declared.explaining.candidate.Candidate.{Candidate}
 use Rattle.filterset_graph.specs.declared.package.PackageMetadata.{PackageMetadata}
 use Rattle.nextest_filtering.specs.declared.filterset.Filterset.{Filterset}
 use Rattle.filterset_command.specs.ExplainingAsked.{ExplainsRead, IsExplanation}

@@ -6,12 +6,12 @@ use Rattle.std.specs.Str.{bytes_eq}
 use Rattle.filterset_answers.specs.Forms.{FaultPieces}
 use Rattle.filterset_answers.specs.declared.form.Form.{Form}
 use Rattle.filterset_drawing.specs.Columns.{Text}
-use Rattle.filterset_explaining.specs.Explaining.{IsExplained}
-use Rattle.filterset_explaining.specs.Nodes.{tree_nodes}
-use Rattle.filterset_explaining.specs.Writing.{explained_line}
-use Rattle.filterset_explaining.specs.declared.candidate.Candidate.{Candidate}
-use Rattle.filterset_explaining.specs.declared.candidate.Candidate.TheVariants.{Binary, Test}
-use Rattle.filterset_explaining.specs.declared.explaining.ExplainedNode.{ExplainedNode}
+use Rattle.filterset_listing.specs.Explaining.{IsExplained}
+use Rattle.filterset_listing.specs.Nodes.{tree_nodes}
+use Rattle.filterset_listing.specs.ExplanationText.{explained_line}
+use Rattle.filterset_listing.specs.declared.explaining.candidate.Candidate.{Candidate}
+use Rattle.filterset_listing.specs.declared.explaining.candidate.Candidate.TheVariants.{Binary, Test}
+use Rattle.filterset_listing.specs.declared.explaining.ExplainedNode.{ExplainedNode}
 use Rattle.filterset_expression.specs.Expression.{has_leaf, is_default, is_group}
 use Rattle.filterset_expression.specs.Meaning.{IsCompiled}
 use Rattle.filterset_faults.specs.declared.error.ParseSingleError.{ParseSingleError}

@@ -15,15 +15,15 @@ use Rattle.filterset_answers.specs.Checked.{TextRow}
 use Rattle.filterset_answers.specs.Compiled.{HasRefusal, IsExpressionOf}
 use Rattle.filterset_answers.specs.declared.form.Form.{Form}
 use Rattle.filterset_answers.specs.declared.form.Form.TheVariants.{Drawn, Json}
-use Rattle.filterset_listing.specs.Comparing.{IsComparison}
-use Rattle.filterset_listing.specs.Comparison.{comparison_text, differs}
-use Rattle.filterset_listing.specs.Listing.{IsSection}
-use Rattle.filterset_listing.specs.Marking.{IsListJson}
+use Rattle.filterset_listing.specs.Comparing.{IsBinaryDifference}
+use Rattle.filterset_listing.specs.ComparisonText.{comparison_text, differs}
+use Rattle.filterset_listing.specs.Listing.{IsBinaryPicks}
+use Rattle.filterset_listing.specs.ListJson.{IsListJson}
 use Rattle.filterset_listing.specs.Selection.{IsSelection}
-use Rattle.filterset_listing.specs.Writing.{list_text}
+use Rattle.filterset_listing.specs.ListText.{list_text}
 use Rattle.filterset_listing.specs.declared.binary.AskedBinary.{AskedBinary}
-use Rattle.filterset_listing.specs.declared.comparing.Compared.{Compared}
-use Rattle.filterset_listing.specs.declared.listing.Section.{Section}
+use Rattle.filterset_listing.specs.declared.comparing.BinaryDifference.{BinaryDifference}
+use Rattle.filterset_listing.specs.declared.listing.BinaryPicks.{BinaryPicks}
 use Rattle.filterset_command.specs.Ending.{differing_ending}
 use Rattle.filterset_command.specs.Entries.{AreAskedRows}
 use Rattle.filterset_command.specs.Workspaces.{IsAsked, IsWorkspaceIn}
@@ -55,28 +55,28 @@ kept_of Json list = Some list
 kept_of (Drawn color) list = None
 
 -- what is picked is written for people, or in the shape of the list, where that is kept
-abbrev pub WritesList : Option Data → List Section → Text → Type 0
+abbrev pub WritesList : Option Data → List BinaryPicks → Text → Type 0
 WritesList None sections text = text ≡ list_text sections
 WritesList (Some list) sections text = IsListJson sections list text
 
 -- the sections tell what one of the filtersets holds of, where there are any, and the default filter, unless it is ignored
-abbrev pub AreSections : Bool → CompiledExpr → List CompiledExpr → List AskedBinary → List Section → Type 0
+abbrev pub AreSections : Bool → CompiledExpr → List CompiledExpr → List AskedBinary → List BinaryPicks → Type 0
 AreSections ignores_default default filters binaries sections =
     (selection : CompiledExpr) × IsSelection ignores_default filters selection
-    × AllZip (IsSection selection default) binaries sections
+    × AllZip (IsBinaryPicks selection default) binaries sections
 
 -- The answer is these sections.
 abbrev pub Lists :
     Bool → CompiledExpr → List CompiledExpr → Option Data → List AskedBinary → Ending → Text → Type 0
 Lists ignores_default default filters kept binaries ending text =
-    (sections : List Section) × AreSections ignores_default default filters binaries sections
+    (sections : List BinaryPicks) × AreSections ignores_default default filters binaries sections
     × WritesList kept sections text × (ending ≡ Fine)
 
 -- The answer is how two filtersets differ.
 abbrev pub Compares : Bool → CompiledExpr → List CompiledExpr → List AskedBinary → Ending → Text → Type 0
 Compares has_names default filters binaries ending text =
-    (one : CompiledExpr) × (other : CompiledExpr) × (all : List Compared) × (filters ≡ one ∷ other ∷ [])
-    × AllZip (IsComparison one other default) binaries all
+    (one : CompiledExpr) × (other : CompiledExpr) × (all : List BinaryDifference) × (filters ≡ one ∷ other ∷ [])
+    × AllZip (IsBinaryDifference one other default) binaries all
     × (text ≡ comparison_text has_names all) × (ending ≡ differing_ending (list_any differs all))
 
 -- what is answered where all texts are filtersets

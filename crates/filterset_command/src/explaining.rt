@@ -17,7 +17,7 @@ use crate::outcome::Outcome;
 use crate::picking::global_group;
 use crate::workspace::{Workspace, WorkspacePaths, asked_binaries, read_workspace};
 use filterset_answers::{Form, push_faults};
-use filterset_explaining::{Candidate, explain, explain_text};
+use filterset_listing::{Candidate, explain, explain_text};
 use filterset_listing::AskedBinary;
 use nextest_filtering::{
     EvalContext, Filterset, FiltersetKind, KnownGroups, PackageGraph, ParseContext, ParseRefusal,

@@ -14,7 +14,7 @@ use crate::request::{Asked, Question};
 use crate::workspace::{Workspace, asked_binaries, read_workspace};
 use filterset_answers::{Compiled, Form, TextEntry, compile_texts};
 use filterset_listing::{
-    AskedBinary, Section, compare, comparison_text, differ, list, list_json, list_text,
+    AskedBinary, BinaryPicks, compare, comparison_text, differ, list, list_json, list_text,
     selection_of,
 };
 use nextest_filtering::{CompiledExpr, EvalContext, KnownGroups, PackageGraph, ParseContext};
@@ -45,7 +45,7 @@ fn kept_of(form: Form, value: Value) -> Option<Value>
 fn list_answer(
     alloc: Global,
     kept: Option<Value>,
-    sections: &[Section<'_>],
+    sections: &[BinaryPicks<'_>],
 ) -> Result<String, AllocError>
     ensures { IfOk result (λ text. WritesList (option_map view kept) sections.now (string_bytes text)) }
 {
@@ -62,7 +62,7 @@ fn sections_of<'s>(
     ignores_default: bool,
     context: &EvalContext<'_>,
     binaries: &[AskedBinary<'s>],
-) -> Result<Vec<Section<'s>>, AllocError>
+) -> Result<Vec<BinaryPicks<'s>>, AllocError>
     ensures { IfOk result (λ sections. AreSections ignores_default (default_of context.now) filters.items binaries.now
         sections.items) }
 {

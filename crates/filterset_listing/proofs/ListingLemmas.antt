@@ -1,6 +1,6 @@
 -- Tests that are picked one after the other.
 use Rattle.std.proofs.Common.{◌≡◌, ℕ, ◌+◌, ◌<◌, Bool, true, false, List, [], ◌∷◌, ◌++◌, length, take, get_or, ◌∙◌, sym, ap, append_assoc, refl}
-use Rattle.std.specs.Prelude.{◌↔◌, Option, Some, None}
+use Rattle.std.specs.Prelude.{◌↔◌, ◌&&◌, not, Option, Some, None}
 use Rattle.std.specs.List.{AllZip}
 use Rattle.std.proofs.lemmas.Bool.{false≢true}
 use Rattle.std.proofs.lemmas.List.{append-nil, take_more}
@@ -9,7 +9,7 @@ use Rattle.filterset_expression.specs.declared.expression.CompiledExpr.{Compiled
 use Rattle.filterset_expression.specs.declared.query.TestQuery.{TestQuery}
 use Rattle.filterset_expression.proofs.LeafAnswers.{definite_of_test}
 use Rattle.filterset_listing.specs.Asking.{Text, in_global, is_no}
-use Rattle.filterset_listing.specs.Comparing.{Divides, both_of, only}
+use Rattle.filterset_listing.specs.Comparing.{Divides}
 use Rattle.filterset_listing.specs.Listing.{Picked, one_of}
 
 -- where the binary tells that a filterset does not hold, it holds of no test of it
@@ -18,7 +18,7 @@ none_holds expr default query definite holds =
     absurd (false≢true (sym (definite_of_test expr default query in_global true false (λ _. holds, λ _. refl) definite)))
 
 -- an answer is no where it is no
-pub is_no_alone : (told : Option Bool) → (is_no told ≡ true) ↔ (told ≡ Some false)
+pub is_no_alone : (answer : Option Bool) → (is_no answer ≡ true) ↔ (answer ≡ Some false)
 is_no_alone None = (λ e. absurd (false≢true e), λ e. cc)
 is_no_alone (Some true) = (λ e. absurd (false≢true e), λ e. cc)
 is_no_alone (Some false) = (λ e. refl, λ e. refl)
@@ -42,10 +42,10 @@ Picked-push Says [] test picked answer none says =
 Picked-push Says (u ∷ tests) test picked answer (first, others, is_first, whole, are) says =
     (first, others ++ one_of answer test, is_first, ap (λ t. t ++ one_of answer test) whole ∙ append_assoc (one_of first u) others (one_of answer test), Picked-push Says tests test others answer are says)
 
--- the same where they are divided
+-- the same where they are divide
 pub Divides-push : (One Other : Text → Bool → Type 0) (tests : List Text) (test : Text) (first second both : List Text) (x y : Bool)
     → Divides One Other tests first second both → One test x → Other test y
-    → Divides One Other (tests ++ test ∷ []) (first ++ one_of (only x y) test) (second ++ one_of (only y x) test) (both ++ one_of (both_of x y) test)
+    → Divides One Other (tests ++ test ∷ []) (first ++ one_of (x && not y) test) (second ++ one_of (y && not x) test) (both ++ one_of (x && y) test)
 Divides-push One Other [] test first second both x y (no_first, no_second, none) one other = (
   x,
   y,
@@ -54,21 +54,21 @@ Divides-push One Other [] test first second both x y (no_first, no_second, none)
   [],
   one,
   other,
-  ap (λ t. t ++ one_of (only x y) test) no_first ∙ sym (append-nil (one_of (only x y) test)),
-  ap (λ t. t ++ one_of (only y x) test) no_second ∙ sym (append-nil (one_of (only y x) test)),
-  ap (λ t. t ++ one_of (both_of x y) test) none ∙ sym (append-nil (one_of (both_of x y) test)),
+  ap (λ t. t ++ one_of (x && not y) test) no_first ∙ sym (append-nil (one_of (x && not y) test)),
+  ap (λ t. t ++ one_of (y && not x) test) no_second ∙ sym (append-nil (one_of (y && not x) test)),
+  ap (λ t. t ++ one_of (x && y) test) none ∙ sym (append-nil (one_of (x && y) test)),
   (refl, refl, refl),
 )
 Divides-push One Other (u ∷ tests) test first second both x y (a, b, f, s, t, is_one, is_other, firsts, seconds, boths, are) one other = (
   a,
   b,
-  f ++ one_of (only x y) test,
-  s ++ one_of (only y x) test,
-  t ++ one_of (both_of x y) test,
+  f ++ one_of (x && not y) test,
+  s ++ one_of (y && not x) test,
+  t ++ one_of (x && y) test,
   is_one,
   is_other,
-  ap (λ ts. ts ++ one_of (only x y) test) firsts ∙ append_assoc (one_of (only a b) u) f (one_of (only x y) test),
-  ap (λ ts. ts ++ one_of (only y x) test) seconds ∙ append_assoc (one_of (only b a) u) s (one_of (only y x) test),
-  ap (λ ts. ts ++ one_of (both_of x y) test) boths ∙ append_assoc (one_of (both_of a b) u) t (one_of (both_of x y) test),
+  ap (λ ts. ts ++ one_of (x && not y) test) firsts ∙ append_assoc (one_of (a && not b) u) f (one_of (x && not y) test),
+  ap (λ ts. ts ++ one_of (y && not x) test) seconds ∙ append_assoc (one_of (b && not a) u) s (one_of (y && not x) test),
+  ap (λ ts. ts ++ one_of (x && y) test) boths ∙ append_assoc (one_of (a && b) u) t (one_of (x && y) test),
   Divides-push One Other tests test f s t x y are one other,
 )

@@ -11,7 +11,7 @@ use Rattle.std.specs.BTreeSet.{BTreeSet, contains}
 use Rattle.std.specs.Str.{bytes_eq}
 use Rattle.filterset_graph.specs.declared.binary.TestCaseName.{TestCaseName}
 use Rattle.filterset_listing.specs.Asking.{Text}
-use Rattle.filterset_listing.specs.Marking.{AreNames, MarksAt, at_key, at_other, MarksObject, an_object, no_object}
+use Rattle.filterset_listing.specs.ListJson.{AreNames, MarksAt, at_key, at_other, MarksObject, an_object, no_object}
 use Rattle.std.proofs.lemmas.Cmp.{nat_list_cmp_total}
 use Rattle.std.specs.BTreeMap.{insert_entry}
 use Rattle.std.specs.Cmp.Lexicographic.{slice_cmp}

@@ -5,7 +5,7 @@ use Rattle.filterset_expression.specs.declared.expression.CompiledExpr.{Compiled
 use Rattle.filterset_expression.specs.declared.query.TestQuery.{TestQuery}
 use Rattle.filterset_listing.specs.Asking.{Tells, Text, in_global}
 use Rattle.filterset_listing.specs.declared.binary.AskedBinary.{AskedBinary}
-use Rattle.filterset_listing.specs.declared.listing.Section.{Section}
+use Rattle.filterset_listing.specs.declared.listing.BinaryPicks.{BinaryPicks}
 
 -- the test, where the answer is yes
 abbrev pub one_of : Bool → Text → List Text
@@ -19,14 +19,14 @@ Picked Says (test ∷ tests) picked =
     (answer : Bool) × (others : List Text) × Says test answer × (picked ≡ one_of answer test ++ others)
     × Picked Says tests others
 
-abbrev pub tests_of : Section → List Text
-tests_of section = map (λ t. t.now) section.tests.items
+abbrev pub tests_of : BinaryPicks → List Text
+tests_of picks = map (λ t. t.now) picks.tests.items
 
 -- What is picked of the binary: where it is left out, nothing, since it alone tells that the filterset holds of none of
 -- its tests, whatever their names and groups are; else exactly the tests that the filterset holds of.
-pub data IsSection (expr default : CompiledExpr) (binary : AskedBinary) (section : Section) : Type 0 where
-  left_out : section.binary ≡ binary → section.is_left_out ≡ true → tests_of section ≡ [] → IsDefinite expr binary.query default false
+pub data IsBinaryPicks (expr default : CompiledExpr) (binary : AskedBinary) (picks : BinaryPicks) : Type 0 where
+  left_out : picks.binary ≡ binary → picks.is_left_out ≡ true → tests_of picks ≡ [] → IsDefinite expr binary.query default false
       → ((query : TestQuery) → query.binary_query ≡ binary.query → ¬ Holds expr query default in_global)
-      → IsSection expr default binary section
-  asked : section.binary ≡ binary → section.is_left_out ≡ false → Picked (Tells expr default binary.query) binary.tests.now (tests_of section)
-      → IsSection expr default binary section
+      → IsBinaryPicks expr default binary picks
+  asked : picks.binary ≡ binary → picks.is_left_out ≡ false → Picked (Tells expr default binary.query) binary.tests.now (tests_of picks)
+      → IsBinaryPicks expr default binary picks

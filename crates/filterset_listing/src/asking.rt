@@ -1,4 +1,4 @@
-//! Asking a filterset about a binary, and about a test.
+//! Questions to a filterset about a binary and about a test.
 ghost use Rattle.std.specs.Prelude.{◌≡◌, IfOk};
 ghost use Rattle.filterset_expression.specs.FlatExpressions.{IsFlat, IsTold};
 ghost use Rattle.filterset_expression.specs.declared.expression.CompiledExpr.{CompiledExpr};
@@ -9,17 +9,17 @@ use filterset_expression::{BinaryQuery, FlatExpr, TestQuery};
 use filterset_graph::TestCaseName;
 use std::alloc::{AllocError, Global};
 
-/// Whether the answer about a binary is no: it alone tells that the filterset picks none of its tests.
-pub fn is_no(told: Option<bool>) -> bool
-    ensures { result ≡ is_no told }
+/// Returns whether the answer about a binary is no, so that the filterset picks none of its tests.
+pub fn is_no(binary_answer: Option<bool>) -> bool
+    ensures { result ≡ is_no binary_answer }
 {
-    match told {
+    match binary_answer {
         Some(answer) => !answer,
         None => false,
     }
 }
 
-/// The question about a test of a binary.
+/// Returns the query of a test of the binary.
 fn query_of<'a>(query: &BinaryQuery<'a>, test: &'a TestCaseName) -> TestQuery<'a>
     ensures binary { result.binary_query ≡ query.now }
     ensures test { result.test_name.now ≡ test.entry.now }
@@ -30,19 +30,19 @@ fn query_of<'a>(query: &BinaryQuery<'a>, test: &'a TestCaseName) -> TestQuery<'a
     }
 }
 
-/// Whether the filterset picks the test of the binary, of which it told this.
+/// Returns whether the filterset picks the test, where `binary_answer` is its answer about the test's binary.
 pub fn picks(
     alloc: Global,
     flat: &FlatExpr<'_>,
     lookup: &GlobalLookup,
     query: &BinaryQuery<'_>,
-    told: Option<bool>,
+    binary_answer: Option<bool>,
     test: &TestCaseName,
 ) -> Result<bool, AllocError>
-    requires { IsTold flat.now query.now told }
+    requires { IsTold flat.now query.now binary_answer }
     ensures { IfOk result (λ answer. (expr default : CompiledExpr) → IsFlat flat.now expr default
         → Tells expr default query.now test.now answer) }
 {
     let query = query_of(query, test);
-    flat.matches_test_of_told(alloc, told, &query, lookup)
+    flat.matches_test_of_told(alloc, binary_answer, &query, lookup)
 }

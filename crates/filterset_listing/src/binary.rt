@@ -1,4 +1,4 @@
-//! Test binaries that are asked about.
+//! Test binaries that a filterset is asked about.
 use filterset_expression::BinaryQuery;
 use filterset_graph::TestCaseName;
 
@@ -7,6 +7,6 @@ use filterset_graph::TestCaseName;
 pub struct AskedBinary<'s> {
     pub query: BinaryQuery<'s>,
     pub tests: &'s [TestCaseName],
-    /// Whether nobody asked the binary for its tests. Then it has none here.
+    /// Whether nextest skipped the binary when it listed tests. Its tests are then unknown, and there are none here.
     pub is_skipped: bool,
 }

@@ -1,4 +1,4 @@
-//! The groups of tests where nothing puts a test in a group of its own.
+//! The lookup of groups that puts every test in the group `@global`.
 ghost use Rattle.filterset_listing.specs.Asking.{in_global};
 
 use filterset_expression::{GroupLookup, TestQuery};
@@ -6,7 +6,7 @@ use filterset_graph::GLOBAL_TEST_GROUP;
 use filterset_matchers::NameMatcher;
 use std::alloc::{AllocError, Global};
 
-/// Every test is in the group `@global`.
+/// A lookup in which every test is in the group `@global`.
 #[derive(Clone, Copy, Debug)]
 pub struct GlobalLookup;
 

@@ -1,23 +1,25 @@
-//! Which tests of a list a filterset picks, and how two filtersets differ on it.
+//! Which tests of a list a filterset picks, how two filtersets differ on it, and why a filterset picks a test or not.
 #![tactic(auto)]
 
 mod asking;
 mod binary;
 mod comparing;
-mod comparison;
 mod counting;
+mod explaining;
 mod global;
 mod listing;
-mod marking;
 mod selection;
 mod union;
-mod writing;
 
 pub use binary::AskedBinary;
-pub use comparing::{Compared, compare};
-pub use comparison::{comparison_text, differ};
+pub use comparing::text::{comparison_text, differ};
+pub use comparing::{BinaryDifference, compare};
+pub use explaining::candidate::Candidate;
+pub use explaining::packages::NamedPackages;
+pub use explaining::text::explain_text;
+pub use explaining::{ExplainedNode, explain};
 pub use global::GlobalLookup;
-pub use listing::{Section, list};
-pub use marking::list_json;
+pub use listing::json::list_json;
+pub use listing::text::list_text;
+pub use listing::{BinaryPicks, list};
 pub use selection::selection_of;
-pub use writing::list_text;

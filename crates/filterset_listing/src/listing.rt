@@ -5,7 +5,10 @@ ghost use Rattle.filterset_expression.specs.Contexts.{default_of};
 ghost use Rattle.filterset_expression.specs.FlatExpressions.{IsFlat, IsTold};
 ghost use Rattle.filterset_expression.specs.declared.expression.CompiledExpr.{CompiledExpr};
 ghost use Rattle.filterset_listing.specs.Asking.{Tells};
-ghost use Rattle.filterset_listing.specs.Listing.{IsSection, Picked, one_of};
+ghost use Rattle.filterset_listing.specs.Listing.{IsBinaryPicks, Picked, one_of};
+
+pub mod json;
+pub mod text;
 
 use crate::asking::{is_no, picks};
 use crate::binary::AskedBinary;
@@ -14,104 +17,108 @@ use filterset_expression::{BinaryQuery, CompiledExpr, EvalContext, FlatExpr};
 use filterset_graph::TestCaseName;
 use std::alloc::{AllocError, Global};
 
-/// What a filterset picks of a binary.
+/// The tests of a binary that a filterset picks.
 #[derive(Debug, Drop)]
-pub struct Section<'s> {
+pub struct BinaryPicks<'s> {
     pub binary: AskedBinary<'s>,
-    /// Whether the binary alone told that none of its tests is picked, so that they were not asked about.
+    /// Whether the filterset picks none of the binary's tests, whatever their names are, so that it was not asked about
+    /// them.
     pub is_left_out: bool,
-    /// The tests that are picked, in the order of the list.
+    /// The tests that the filterset picks, in the order of the list.
     pub tests: Vec<&'s TestCaseName>,
 }
 
-/// Adds a test, where it is so.
-pub(crate) fn push_if<'s>(
+/// Adds a test if `is_picked`.
+fn push_if<'s>(
     tests: &mut Vec<&'s TestCaseName>,
     test: &'s TestCaseName,
-    is_so: bool,
+    is_picked: bool,
 ) -> Result<(), AllocError>
     ensures { OnOk result (map (λ t. t.now) tests.new.items
-        ≡ map (λ t. t.now) tests.old.items ++ one_of is_so test.entry.now) }
+        ≡ map (λ t. t.now) tests.old.items ++ one_of is_picked test.entry.now) }
 {
-    if is_so {
+    if is_picked {
         tests.push(test)?;
     }
     Ok(())
 }
 
-/// The tests that are picked of these tests of a binary, of which this was told, in their order.
-fn picked<'s>(
+/// Returns the tests that the filterset picks, in their order, where `binary_answer` is its answer about their binary.
+fn pick_tests<'s>(
     alloc: Global,
     flat: &FlatExpr<'_>,
     query: &BinaryQuery<'_>,
-    told: Option<bool>,
+    binary_answer: Option<bool>,
     tests: &'s [TestCaseName],
 ) -> Result<Vec<&'s TestCaseName>, AllocError>
-    requires { IsTold flat.now query.now told }
+    requires { IsTold flat.now query.now binary_answer }
     ensures { IfOk result (λ picked. (expr default : CompiledExpr) → IsFlat flat.now expr default
         → Picked (Tells expr default query.now) tests.now (map (λ t. t.now) picked.items)) }
 {
     let lookup = GlobalLookup;
     let mut picked = Vec::new(alloc);
     for test in tests {
-        let is_picked = picks(alloc, flat, &lookup, query, told, test)?;
+        let is_picked = picks(alloc, flat, &lookup, query, binary_answer, test)?;
         push_if(&mut picked, test, is_picked)?;
     }
     Ok(picked)
 }
 
-/// What is picked of a binary.
-fn section_of<'s>(
+/// Returns the tests of a binary that the filterset picks.
+fn picks_of<'s>(
     alloc: Global,
     flat: &FlatExpr<'_>,
     binary: &AskedBinary<'s>,
-) -> Result<Section<'s>, AllocError>
-    ensures { IfOk result (λ section. (expr default : CompiledExpr) → IsFlat flat.now expr default
-        → IsSection expr default binary.now section) }
+) -> Result<BinaryPicks<'s>, AllocError>
+    ensures { IfOk result (λ picks. (expr default : CompiledExpr) → IsFlat flat.now expr default
+        → IsBinaryPicks expr default binary.now picks) }
 {
-    let told = flat.matches_binary(alloc, &binary.query)?;
-    if is_no(told) {
-        return Ok(Section {
+    let binary_answer = flat.matches_binary(alloc, &binary.query)?;
+    if is_no(binary_answer) {
+        return Ok(BinaryPicks {
             binary: *binary,
             is_left_out: true,
             tests: Vec::new(alloc),
         });
     }
-    Ok(Section {
+    Ok(BinaryPicks {
         binary: *binary,
         is_left_out: false,
-        tests: picked(alloc, flat, &binary.query, told, binary.tests)?,
+        tests: pick_tests(alloc, flat, &binary.query, binary_answer, binary.tests)?,
     })
 }
 
-/// What is picked of binaries.
-fn sections_of<'s>(
+/// Returns the tests of each binary that the filterset picks.
+fn all_picks_of<'s>(
     alloc: Global,
     flat: &FlatExpr<'_>,
     binaries: &[AskedBinary<'s>],
-) -> Result<Vec<Section<'s>>, AllocError>
-    ensures { IfOk result (λ sections. (expr default : CompiledExpr) → IsFlat flat.now expr default
-        → AllZip (IsSection expr default) binaries.now sections.items) }
+) -> Result<Vec<BinaryPicks<'s>>, AllocError>
+    ensures { IfOk result (λ all. (expr default : CompiledExpr) → IsFlat flat.now expr default
+        → AllZip (IsBinaryPicks expr default) binaries.now all.items) }
 {
-    let mut sections = Vec::with_capacity(alloc, binaries.len())?;
+    let mut all = Vec::with_capacity(alloc, binaries.len())?;
     for binary in binaries {
-        sections.push(section_of(alloc, flat, binary)?)?;
+        all.push(picks_of(alloc, flat, binary)?)?;
     }
-    Ok(sections)
+    Ok(all)
 }
 
-/// What a filterset picks of each binary: exactly those of its tests that the filterset holds of, in their order. Each
-/// binary is asked about first: where it alone tells that the filterset holds of all of its tests, or of none, nothing is
-/// asked of these. Every test is in the group `@global`. The only error is out of memory.
+/// Returns the tests of each binary that the filterset picks, in the order of the list. Every test is in the group
+/// `@global`.
+///
+/// The filterset is asked about a binary first. If that decides the binary, it is asked about none of the tests.
+///
+/// Returns an error only if out of memory.
 pub fn list<'s>(
     alloc: Global,
     expr: &CompiledExpr,
     context: &EvalContext<'_>,
     binaries: &[AskedBinary<'s>],
-) -> Result<Vec<Section<'s>>, AllocError>
-    ensures { IfOk result (λ sections.
-        AllZip (IsSection expr.now (default_of context.now)) binaries.now sections.items) }
+) -> Result<Vec<BinaryPicks<'s>>, AllocError>
+    ensures { IfOk result (λ all.
+        AllZip (IsBinaryPicks expr.now (default_of context.now)) binaries.now all.items) }
 {
     let flat = FlatExpr::new(alloc, expr, context)?;
-    sections_of(alloc, &flat, binaries)
+    all_picks_of(alloc, &flat, binaries)
 }

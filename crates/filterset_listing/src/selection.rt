@@ -1,4 +1,4 @@
-//! The tests that a runner runs, by the filtersets it is given and the default filter.
+//! The tests that a runner runs, given filtersets and the default filter.
 ghost use Rattle.std.specs.Prelude.{◌≡◌, IfOk};
 ghost use Rattle.filterset_expression.specs.declared.logic.Connective.TheVariants.{Conjunction};
 ghost use Rattle.filterset_expression.specs.Expression.{Default, formula};
@@ -10,7 +10,7 @@ use filterset_expression::nodes::combine;
 use filterset_expression::{CompiledExpr, Connective, FiltersetLeaf};
 use std::alloc::{AllocError, Global};
 
-/// Those tests of a set that the default filter picks too.
+/// Returns the set of the tests that the default filter picks too.
 fn within_default(alloc: Global, expr: Box<CompiledExpr>) -> Result<Box<CompiledExpr>, AllocError>
     ensures { IfOk result (λ made. formula made.value ≡ Compound Conjunction (Leaf Default) (formula expr.value)) }
 {
@@ -18,11 +18,10 @@ fn within_default(alloc: Global, expr: Box<CompiledExpr>) -> Result<Box<Compiled
     combine(alloc, Connective::Conjunction, default, expr)
 }
 
-/// The tests that a runner runs which is given these filtersets: those that one of the filtersets holds of at least, and
-/// the default filter too, unless it is ignored. Where there is no filterset, the tests of the default filter, or all
-/// tests where that is ignored.
+/// Returns the set of the tests that a runner runs: those that at least one of the filtersets picks, or all tests if
+/// there is no filterset, and of these only those that the default filter picks, unless `ignores_default`.
 ///
-/// The only error is out of memory.
+/// Returns an error only if out of memory.
 pub fn selection_of(
     alloc: Global,
     exprs: Vec<CompiledExpr>,

@@ -9,7 +9,7 @@ use filterset_expression::nodes::combine;
 use filterset_expression::{CompiledExpr, Connective, FiltersetLeaf};
 use std::alloc::{AllocError, Global};
 
-/// The union of the sets before a set, if there are any, and that set.
+/// Returns the union of the sets before a set, if there are any, and the set.
 fn union_with(
     alloc: Global,
     before: Option<Box<CompiledExpr>>,
@@ -25,9 +25,9 @@ fn union_with(
     }
 }
 
-/// The tests that are in one of the sets at least. Where there is no set, all tests.
+/// Returns the union of the sets, or the set of all tests if there are none.
 ///
-/// The only error is out of memory.
+/// Returns an error only if out of memory.
 pub(crate) fn union_of(
     alloc: Global,
     exprs: Vec<CompiledExpr>,

@@ -9,7 +9,7 @@ use Rattle.filterset_listing.proofs.asking.picks.Goals as goal
 
 pub matches_test_of_told-requires : goal.matches_test_of_told-requires
 matches_test_of_told-requires c =
-    subst (λ (binary : BinaryQuery). IsTold c.args.flat.now binary c.args.told) (sym c.query_of-query.ensures.binary) c.requires
+    subst (λ (binary : BinaryQuery). IsTold c.args.flat.now binary c.args.binary_answer) (sym c.query_of-query.ensures.binary) c.requires
 
 pub returns : goal.returns
 returns c =

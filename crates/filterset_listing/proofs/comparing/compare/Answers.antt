@@ -4,4 +4,4 @@ use Rattle.filterset_listing.proofs.comparing.compare.Goals as goal
 
 pub returns : goal.returns
 returns c =
-    IfOk-weaker c.comparisons_of.result _ _ (λ all are. are c.args.first.now c.args.second.now (default_of c.args.context.now) c.in_ok-first.ensures.flat c.in_ok-second.ensures.flat) c.comparisons_of.ensures
+    IfOk-weaker c.differences_of.result _ _ (λ all are. are c.args.first.now c.args.second.now (default_of c.args.context.now) c.in_ok-first.ensures.flat c.in_ok-second.ensures.flat) c.differences_of.ensures

@@ -4,4 +4,4 @@ use Rattle.filterset_listing.proofs.listing.list.Goals as goal
 
 pub returns : goal.returns
 returns c =
-    IfOk-weaker c.sections_of.result _ _ (λ sections all. all c.args.expr.now (default_of c.args.context.now) c.in_ok-flat.ensures.flat) c.sections_of.ensures
+    IfOk-weaker c.all_picks_of.result _ _ (λ all are. are c.args.expr.now (default_of c.args.context.now) c.in_ok-flat.ensures.flat) c.all_picks_of.ensures

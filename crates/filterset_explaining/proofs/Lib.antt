@@ -1,4 +1,0 @@
-pub mod Defaults
-pub mod NamedLemmas
-pub mod ValueLemmas
-pub mod NodeLemmas

@@ -1,0 +1,9 @@
+use Rattle.serde_json.specs.View.{members_view}
+use Rattle.filterset_listing.specs.ListJson.{MarksSuites}
+use Rattle.filterset_listing.proofs.MarkingLemmas.{Made}
+use Rattle.filterset_listing.proofs.listing.json.mark_suites.Given as goal
+
+-- the tests of the suites so far say whether they are picked, and the all of the others are left
+abbrev pub invariant-loop-id : goal.invariant-loop-id
+invariant-loop-id l =
+    Made (MarksSuites l.initial.left) (MarksSuites l.left) (members_view l.fn.suites.entries) l.marked.entries l.id-iterator

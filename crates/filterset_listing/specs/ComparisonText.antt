@@ -1,0 +1,47 @@
+-- How two filtersets differ, as text.
+use Rattle.std.specs.Prelude.{ℕ, ◌==◌, ◌||◌, Bool, true, false, not, List, [], ◌++◌, length, codes, decimal, map}
+use Rattle.std.specs.List.{flat_map, sum_by}
+use Rattle.filterset_listing.specs.Asking.{Text}
+use Rattle.filterset_listing.specs.declared.comparing.BinaryDifference.{BinaryDifference}
+use Rattle.filterset_listing.specs.declared.comparing.text.Part.{Part}
+use Rattle.filterset_listing.specs.declared.comparing.text.Part.TheVariants.{OnlyFirst, OnlySecond, Both}
+
+abbrev pub part_heading : Part → Text
+part_heading OnlyFirst = codes "only A"
+part_heading OnlySecond = codes "only B"
+part_heading Both = codes "both"
+
+-- the tests of a binary that are picked so
+abbrev pub tests_in : Part → BinaryDifference → List Text
+tests_in OnlyFirst difference = map (λ t. t.now) difference.first.items
+tests_in OnlySecond difference = map (λ t. t.now) difference.second.items
+tests_in Both difference = map (λ t. t.now) difference.both.items
+
+abbrev pub part_count : Part → List BinaryDifference → ℕ
+part_count part all = sum_by (λ difference. length (tests_in part difference)) all
+
+-- a test after the id of its binary, in a line
+abbrev pub named_line : Text → Text → Text
+named_line id test = codes "    " ++ (id ++ (codes " " ++ (test ++ codes "\n")))
+
+-- the tests of a binary that are picked so, a line each
+abbrev pub named_lines : Part → BinaryDifference → Text
+named_lines part difference = flat_map (named_line difference.binary.query.binary_id.now) (tests_in part difference)
+
+-- the names, where they are asked for
+abbrev pub names_if : Bool → Part → List BinaryDifference → Text
+names_if true part all = flat_map (named_lines part) all
+names_if false part all = []
+
+-- how many tests are picked so, and which
+abbrev pub part_text : Bool → Part → List BinaryDifference → Text
+part_text has_names part all =
+    (part_heading part ++ (codes ": " ++ (decimal (part_count part all) ++ codes "\n"))) ++ names_if has_names part all
+
+abbrev pub comparison_text : Bool → List BinaryDifference → Text
+comparison_text has_names all =
+    part_text has_names OnlyFirst all ++ (part_text has_names OnlySecond all ++ part_text has_names Both all)
+
+-- one filterset picks a test of the binary that the other does not
+abbrev pub differs : BinaryDifference → Bool
+differs difference = not (length difference.first.items == 0) || not (length difference.second.items == 0)

@@ -1,0 +1,52 @@
+-- Explanations as text.
+use Rattle.std.specs.Prelude.{ℕ, ◌-◌, zero, suc, Bool, true, false, [], ◌++◌, Option, Some, None, codes, decimal}
+use Rattle.std.specs.List.{join_by, repeat}
+use Rattle.filterset_graph.specs.Packages.{Text}
+use Rattle.filterset_grammar.specs.Grammar.{not_text, or_text, join_text}
+use Rattle.filterset_grammar.specs.Printing.{printed_leaf}
+use Rattle.filterset_grammar.specs.Tree.{Tree, Not, Union, Join, Parens, Set}
+use Rattle.filterset_language.specs.Views.{tree_of}
+use Rattle.filterset_listing.specs.declared.explaining.ExplainedNode.{ExplainedNode}
+use Rattle.filterset_listing.specs.declared.explaining.packages.NamedPackages.{NamedPackages}
+
+abbrev pub value_text : Option Bool → Text
+value_text (Some true) = codes "yes"
+value_text (Some false) = codes "no"
+value_text None = codes "unknown"
+
+-- a node without its operands: an operator as it is written, a predicate as it prints; parentheses as what they hold
+abbrev pub head : {S : Type 0} → Tree S → Text
+head (Not op e) = not_text op
+head (Union op a b) = or_text op
+head (Join op a b) = join_text op
+head (Parens e) = head e
+head (Set leaf) = printed_leaf leaf
+
+-- how many packages are not named, if there are any
+abbrev pub others_text : ℕ → Text
+others_text zero = []
+others_text (suc n) = codes " and " ++ (decimal (suc n) ++ codes " more")
+
+-- the packages that a predicate stands for
+abbrev pub packages_text : NamedPackages → Text
+packages_text packages =
+    codes " (packages: " ++ (join_by (λ n. n.now) (codes ", ") packages.names.items ++ (others_text packages.others ++ codes ")"))
+
+abbrev pub packages_part : Option NamedPackages → Text
+packages_part (Some packages) = packages_text packages
+packages_part None = []
+
+-- What stands before a node of this depth, which is that much deeper than can be shown by blanks alone: two blanks for
+-- each operator above it, and in brackets how many operators there are where there are more than 32.
+abbrev pub indented_by : ℕ → ℕ → Text
+indented_by depth zero = repeat depth (codes "  ")
+indented_by depth (suc more) = repeat 32 (codes "  ") ++ (codes "[" ++ (decimal depth ++ codes "] "))
+
+abbrev pub indentation : ℕ → Text
+indentation depth = indented_by depth (depth - 32)
+
+-- the line of a node: its indentation, the node, its value, and its packages
+abbrev pub explained_line : ExplainedNode → Text
+explained_line explained =
+    indentation explained.depth ++ (head (tree_of explained.node.now) ++ (codes ": "
+    ++ (value_text explained.value ++ (packages_part explained.packages ++ codes "\n"))))

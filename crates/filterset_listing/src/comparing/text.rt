@@ -1,0 +1,142 @@
+//! How two filtersets differ on a list, as text.
+ghost use Rattle.std.specs.Prelude.{◌≡◌, ◌++◌, IfOk, OnOk, map, string_bytes};
+ghost use Rattle.std.specs.List.{flat_map, list_any};
+ghost use Rattle.filterset_listing.specs.ComparisonText.{comparison_text, differs, named_line, named_lines, part_count, part_heading, part_text, tests_in};
+
+use crate::comparing::BinaryDifference;
+use crate::counting::add_count;
+use filterset_graph::{RustBinaryId, TestCaseName};
+use std::alloc::{AllocError, Global};
+use std::fmt::Write;
+
+/// Which of two filtersets pick a test.
+#[derive(Clone, Copy)]
+enum Part {
+    OnlyFirst,
+    OnlySecond,
+    Both,
+}
+
+impl Part {
+    /// Returns what the text writes before the number of the tests.
+    fn heading(self) -> &'static str
+        ensures { result.now ≡ part_heading self }
+    {
+        match self {
+            Part::OnlyFirst => "only A",
+            Part::OnlySecond => "only B",
+            Part::Both => "both",
+        }
+    }
+}
+
+impl<'s> BinaryDifference<'s> {
+    /// Returns the tests of one part.
+    fn part(&self, part: Part) -> &[&'s TestCaseName]
+        ensures { map (λ t. t.now) result.now ≡ tests_in part self.now }
+    {
+        match part {
+            Part::OnlyFirst => self.first.as_slice(),
+            Part::OnlySecond => self.second.as_slice(),
+            Part::Both => self.both.as_slice(),
+        }
+    }
+
+    /// Returns whether one filterset picks a test that the other does not.
+    fn differs(&self) -> bool
+        ensures { result ≡ differs self.now }
+    {
+        !self.first.is_empty() || !self.second.is_empty()
+    }
+}
+
+/// Counts the tests of one part.
+fn part_count(all: &[BinaryDifference<'_>], part: Part) -> Result<usize, AllocError>
+    ensures { IfOk result (λ count. count ≡ part_count part all.now) }
+{
+    let mut count = 0;
+    for difference in all {
+        count = add_count(count, difference.part(part).len())?;
+    }
+    Ok(count)
+}
+
+/// Writes tests, a line each, after the id of their binary.
+fn push_named(
+    output: &mut String,
+    id: &RustBinaryId,
+    tests: &[&TestCaseName],
+) -> Result<(), AllocError>
+    ensures { OnOk result (string_bytes output.new
+        ≡ string_bytes output.old ++ flat_map (named_line id.now) (map (λ t. t.now) tests.now)) }
+{
+    let id = id.as_str();
+    for test in tests {
+        let test = test.as_str();
+        writeln!(output, "    {id} {test}")?;
+    }
+    Ok(())
+}
+
+/// Writes the tests of one part of all binaries.
+fn push_all_named(
+    output: &mut String,
+    all: &[BinaryDifference<'_>],
+    part: Part,
+) -> Result<(), AllocError>
+    ensures { OnOk result (string_bytes output.new
+        ≡ string_bytes output.old ++ flat_map (named_lines part) all.now) }
+{
+    for difference in all {
+        push_named(
+            output,
+            difference.binary.query.binary_id,
+            difference.part(part),
+        )?;
+    }
+    Ok(())
+}
+
+/// Writes the number of the tests of one part, and with `has_names` the tests.
+fn push_part(
+    output: &mut String,
+    all: &[BinaryDifference<'_>],
+    part: Part,
+    has_names: bool,
+) -> Result<(), AllocError>
+    ensures { OnOk result (string_bytes output.new
+        ≡ string_bytes output.old ++ part_text has_names part all.now) }
+{
+    let heading = part.heading();
+    let count = part_count(all, part)?;
+    writeln!(output, "{heading}: {count}")?;
+    if has_names {
+        push_all_named(output, all, part)?;
+    }
+    Ok(())
+}
+
+/// Writes how many tests only the first filterset picks, how many only the second, and how many both. With `has_names`
+/// it writes the tests under each number, a line each, after the id of their binary.
+///
+/// Returns an error only if out of memory.
+pub fn comparison_text(
+    alloc: Global,
+    all: &[BinaryDifference<'_>],
+    has_names: bool,
+) -> Result<String, AllocError>
+    ensures { IfOk result (λ text. string_bytes text ≡ comparison_text has_names all.now) }
+{
+    let mut text = String::new(alloc);
+    push_part(&mut text, all, Part::OnlyFirst, has_names)?;
+    push_part(&mut text, all, Part::OnlySecond, has_names)?;
+    push_part(&mut text, all, Part::Both, has_names)?;
+    Ok(text)
+}
+
+/// Returns whether one of the two filtersets picks a test that the other does not.
+pub fn differ(all: &[BinaryDifference<'_>]) -> bool
+    ensures { result ≡ list_any differs all.now }
+{
+    all.iter().any(|difference| difference.differs())
+}

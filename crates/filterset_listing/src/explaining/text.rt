@@ -1,0 +1,119 @@
+//! Explanations as text.
+ghost use Rattle.std.specs.Prelude.{◌≡◌, ◌++◌, IfOk, OnOk, codes, string_bytes};
+ghost use Rattle.std.specs.List.{flat_map, join_by};
+ghost use Rattle.filterset_language.specs.Views.{tree_of};
+ghost use Rattle.filterset_listing.specs.ExplanationText.{explained_line, head, indentation, others_text, packages_part, packages_text, value_text};
+
+use crate::explaining::ExplainedNode;
+use crate::explaining::packages::NamedPackages;
+use filterset_language::ParsedExpr;
+use std::alloc::{AllocError, Global};
+use std::fmt::Write;
+
+/// Returns the word for a value.
+fn value_text(value: Option<bool>) -> &'static str
+    ensures { result.now ≡ value_text value }
+{
+    match value {
+        Some(true) => "yes",
+        Some(false) => "no",
+        None => "unknown",
+    }
+}
+
+/// Prints a node without its operands: an operator as the text spells it, or a predicate.
+fn head(alloc: Global, node: &ParsedExpr) -> Result<String, AllocError>
+    ensures { IfOk result (λ text. string_bytes text ≡ head (tree_of node.now)) }
+{
+    match node {
+        ParsedExpr::Not(operator, _) => format!(in alloc; "{operator}"),
+        ParsedExpr::Union(operator, _, _) => format!(in alloc; "{operator}"),
+        ParsedExpr::Intersection(operator, _, _) => format!(in alloc; "{operator}"),
+        ParsedExpr::Difference(operator, _, _) => format!(in alloc; "{operator}"),
+        ParsedExpr::SymmetricDifference(operator, _, _) => format!(in alloc; "{operator}"),
+        ParsedExpr::Parens(inner) => head(alloc, inner),
+        ParsedExpr::Set(leaf) => format!(in alloc; "{leaf}"),
+    }
+}
+
+/// Writes how many packages are not named, if there are any.
+fn others_text(alloc: Global, others: usize) -> Result<String, AllocError>
+    ensures { IfOk result (λ text. string_bytes text ≡ others_text others) }
+{
+    if others == 0 {
+        return Ok(String::new(alloc));
+    }
+    format!(in alloc; " and {others} more")
+}
+
+/// Joins names by commas.
+fn join_names(alloc: Global, names: &[&str]) -> Result<String, AllocError>
+    ensures { IfOk result (λ text. string_bytes text ≡ join_by (λ n. n.now) (codes ", ") names.now) }
+{
+    names.join(alloc, ", ")
+}
+
+/// Writes the packages that a predicate matches.
+fn packages_text(alloc: Global, packages: &NamedPackages<'_>) -> Result<String, AllocError>
+    ensures { IfOk result (λ text. string_bytes text ≡ packages_text packages.now) }
+{
+    let names = join_names(alloc, packages.names.as_slice())?;
+    let others = others_text(alloc, packages.others)?;
+    format!(in alloc; " (packages: {names}{others})")
+}
+
+/// Writes what follows the value of a node.
+fn packages_part(alloc: Global, packages: &Option<NamedPackages<'_>>) -> Result<String, AllocError>
+    ensures { IfOk result (λ text. string_bytes text ≡ packages_part packages.now) }
+{
+    match packages {
+        Some(packages) => packages_text(alloc, packages),
+        None => Ok(String::new(alloc)),
+    }
+}
+
+/// Writes what precedes a node.
+fn indentation(alloc: Global, depth: usize) -> Result<String, AllocError>
+    ensures { IfOk result (λ text. string_bytes text ≡ indentation depth) }
+{
+    match depth.saturating_sub(32) {
+        0 => "  ".repeat(alloc, depth),
+        _ => {
+            let blanks = "  ".repeat(alloc, 32)?;
+            format!(in alloc; "{blanks}[{depth}] ")
+        }
+    }
+}
+
+/// Writes the line of a node.
+fn push_explained(
+    output: &mut String,
+    alloc: Global,
+    explained: &ExplainedNode<'_>,
+) -> Result<(), AllocError>
+    ensures { OnOk result (string_bytes output.new ≡ string_bytes output.old ++ explained_line explained.now) }
+{
+    let indentation = indentation(alloc, explained.depth)?;
+    let head = head(alloc, explained.node)?;
+    let value = value_text(explained.value);
+    let packages = packages_part(alloc, &explained.packages)?;
+    writeln!(output, "{indentation}{head}: {value}{packages}")
+}
+
+/// Writes an explanation, a line a node: two blanks for each operator above the node, the operator as the text spells it
+/// or the predicate as it prints, and the value, `yes`, `no` or `unknown`. A predicate of packages is followed by the
+/// names of the first ten that it matches and the number of the others.
+///
+/// A node under more than 32 operators is indented as one under 32, after their number in brackets. So the text of a long
+/// chain grows with the number of its operands, and not with the square.
+///
+/// Returns an error only if out of memory.
+pub fn explain_text(alloc: Global, nodes: &[ExplainedNode<'_>]) -> Result<String, AllocError>
+    ensures { IfOk result (λ text. string_bytes text ≡ flat_map explained_line nodes.now) }
+{
+    let mut text = String::new(alloc);
+    for explained in nodes {
+        push_explained(&mut text, alloc, explained)?;
+    }
+    Ok(text)
+}

@@ -1,0 +1,129 @@
+//! The tests of a list that a filterset picks, as text.
+ghost use Rattle.std.specs.Prelude.{◌≡◌, ◌++◌, IfOk, OnOk, string_bytes};
+ghost use Rattle.std.specs.List.{count_by, flat_map};
+ghost use Rattle.filterset_listing.specs.ListText.{counts_line, has_tests, is_open, left_out_count, list_text, picks_text, skipped_line, test_count, test_line, under_id};
+
+use crate::counting::add_count;
+use crate::listing::BinaryPicks;
+use filterset_graph::TestCaseName;
+use std::alloc::{AllocError, Global};
+use std::fmt::Write;
+
+impl BinaryPicks<'_> {
+    /// Returns whether the filterset picks tests of the binary.
+    fn has_tests(&self) -> bool
+        ensures { result ≡ has_tests self.now }
+    {
+        !self.tests.is_empty()
+    }
+
+    /// Returns whether the filterset may pick tests that the list does not have: nextest skipped the binary, and the
+    /// filterset does not leave it out.
+    fn is_open(&self) -> bool
+        ensures { result ≡ is_open self.now }
+    {
+        self.binary.is_skipped && !self.is_left_out
+    }
+}
+
+/// Writes tests, a line each.
+fn push_tests(output: &mut String, tests: &[&TestCaseName]) -> Result<(), AllocError>
+    ensures { OnOk result (string_bytes output.new
+        ≡ string_bytes output.old ++ flat_map (λ t. test_line t.now) tests.now) }
+{
+    for test in tests {
+        let test = test.as_str();
+        writeln!(output, "    {test}")?;
+    }
+    Ok(())
+}
+
+/// Returns what the text writes in place of tests that the list does not have.
+fn skipped_line(is_open: bool) -> &'static str
+    ensures { result.now ≡ skipped_line is_open }
+{
+    if is_open { "    (skipped)\n" } else { "" }
+}
+
+/// Writes the id of a binary, and under it the tests that the filterset picks.
+fn push_shown(output: &mut String, picks: &BinaryPicks<'_>) -> Result<(), AllocError>
+    ensures { OnOk result (string_bytes output.new ≡ string_bytes output.old ++ under_id picks.now) }
+{
+    let id = picks.binary.query.binary_id.as_str();
+    let skipped = skipped_line(picks.is_open());
+    write!(output, "{id}:\n{skipped}")?;
+    push_tests(output, picks.tests.as_slice())
+}
+
+/// Writes the tests of a binary that the filterset picks, if there are any or nextest skipped the binary.
+fn push_picks(output: &mut String, picks: &BinaryPicks<'_>) -> Result<(), AllocError>
+    ensures { OnOk result (string_bytes output.new ≡ string_bytes output.old ++ picks_text picks.now) }
+{
+    if picks.is_open() || picks.has_tests() {
+        push_shown(output, picks)?;
+    }
+    Ok(())
+}
+
+/// Writes the tests of all binaries that the filterset picks.
+fn push_all_picks(output: &mut String, all: &[BinaryPicks<'_>]) -> Result<(), AllocError>
+    ensures { OnOk result (string_bytes output.new
+        ≡ string_bytes output.old ++ flat_map picks_text all.now) }
+{
+    for picks in all {
+        push_picks(output, picks)?;
+    }
+    Ok(())
+}
+
+/// Counts the tests that the filterset picks.
+fn test_count(all: &[BinaryPicks<'_>]) -> Result<usize, AllocError>
+    ensures { IfOk result (λ count. count ≡ test_count all.now) }
+{
+    let mut count = 0;
+    for picks in all {
+        count = add_count(count, picks.tests.len())?;
+    }
+    Ok(count)
+}
+
+/// Counts the binaries with tests that the filterset picks.
+fn binary_count(all: &[BinaryPicks<'_>]) -> usize
+    ensures { result ≡ count_by has_tests all.now }
+{
+    all.iter().filter(|picks| picks.has_tests()).count()
+}
+
+/// Counts the binaries that are left out without asking about their tests.
+fn left_out_count(all: &[BinaryPicks<'_>]) -> usize
+    ensures { result ≡ left_out_count all.now }
+{
+    all.iter().filter(|picks| picks.is_left_out).count()
+}
+
+/// Writes how many tests of how many binaries the filterset picks, and how many binaries it leaves out.
+fn push_counts(output: &mut String, all: &[BinaryPicks<'_>]) -> Result<(), AllocError>
+    ensures { OnOk result (string_bytes output.new ≡ string_bytes output.old ++ counts_line all.now) }
+{
+    let tests = test_count(all)?;
+    let binaries = binary_count(all);
+    let left_out = left_out_count(all);
+    writeln!(
+        output,
+        "tests: {tests}, in binaries: {binaries}, binaries left out without asking: {left_out}"
+    )
+}
+
+/// Writes the tests that a filterset picks, a line each, under the ids of their binaries. A binary that nextest skipped is
+/// written as skipped, unless it is left out. The last line says how many tests of how many binaries there are, and how
+/// many binaries were left out without asking about their tests.
+///
+/// Returns an error only if out of memory.
+pub fn list_text(alloc: Global, all: &[BinaryPicks<'_>]) -> Result<String, AllocError>
+    ensures { IfOk result (λ text. string_bytes text ≡ list_text all.now) }
+{
+    let mut text = String::new(alloc);
+    push_all_picks(&mut text, all)?;
+    push_counts(&mut text, all)?;
+    Ok(text)
+}
