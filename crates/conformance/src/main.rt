@@ -1,5 +1,5 @@
-//! Reads the rows of the language's suite on standard input, puts each to the library, and writes a line for each thing
-//! that was found otherwise than its row says, and then how many rows there were.
+//! Reads the rows of the suite on standard input, puts each to the library, and writes a line for each difference and
+//! then the number of rows.
 #![tactic(auto)]
 
 mod program;

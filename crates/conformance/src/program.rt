@@ -1,31 +1,31 @@
-//! The program: the report of rows, and the exit status of each outcome.
+//! The program and its exit statuses.
 use crate::report::report;
 use filterset_io::Program;
 use std::alloc::{AllocError, Global};
-use suite_verdicts::Outcome;
+use suite_rows::Verdict;
 
-/// The program that reports which rows of a suite the library differs from.
+/// The program that reports where the library differs from the rows of a suite.
 pub struct Rows;
 
 impl Program for Rows {
     ghost use Rattle.conformance.specs.Report.{Report};
     ghost use Rattle.conformance.specs.Ending.{status_of};
 
-    type Outcome = Outcome;
+    type Outcome = Verdict;
 
     ghost reports = { λ rows. Report };
 
     ghost status_of = { status_of };
 
-    fn report(alloc: Global, bytes: &[u8]) -> Result<(String, Outcome), AllocError> {
+    fn report(alloc: Global, bytes: &[u8]) -> Result<(String, Verdict), AllocError> {
         report(alloc, bytes)
     }
 
-    fn status(outcome: Outcome) -> u8 {
-        match outcome {
-            Outcome::AllHold => 0,
-            Outcome::SomeDiffer => 1,
-            Outcome::NotASuite => 2,
+    fn status(verdict: Verdict) -> u8 {
+        match verdict {
+            Verdict::AllHold => 0,
+            Verdict::SomeDiffer => 1,
+            Verdict::NotASuite => 2,
         }
     }
 }

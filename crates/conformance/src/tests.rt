@@ -1,10 +1,10 @@
-//! Rows that are wrong, one in each thing that a row can say, and the whole report of them: no judge is lax. Rows that
-//! hold, values that are no rows, and refused memory.
+//! Rows that are wrong in one key each, and their whole report: no judge is lax. Rows that hold, values that are no
+//! rows, and refused memory.
 use crate::report::report;
 use std::alloc::AllocError;
 use std::process::Abort;
 use std::test::Fail;
-use suite_verdicts::Outcome;
+use suite_rows::Verdict;
 
 const WRONG: &str = r#"{
 "texts":[
@@ -34,7 +34,9 @@ const WRONG: &str = r#"{
 {"glob":"a","fault":"UnclosedClass"},
 {"glob":"a}b"},
 {"glob":"a}b","fault":"UnclosedAlternates"},
-{"glob":"a}b","fault":"UnopenedAlternates","message":"unopened"}
+{"glob":"a}b","fault":"UnopenedAlternates","message":"unopened"},
+{"glob":"a","equal":["**/a","[","a"]},
+{"glob":"a","unequal":["b","[","a"]}
 ],
 "matchers":[
 {"matcher":"equal","value":"a","matches":["a","ab"]},
@@ -78,7 +80,7 @@ const WRONG: &str = r#"{
 {"filterset":"platform(host)","matches":[{"platform":"target"}]},
 {"filterset":"group(g)","matches":["t"]},
 {"filterset":"group(h)"},
-{"filterset":"group(g)","kind":"default-filter","faults":[["BannedPredicate",6,1]],"labels":["no test groups matched this"]},
+{"filterset":"group(g)","kind":"default-filter","faults":[["BannedPredicate",6,1]],"told":[["predicate not allowed in `default-filter` expressions","no test groups matched this"]]},
 {"filterset":"group(g)","misses":[{"group":"g"}]},
 {"filterset":"package(a)","binaries":{"yes":[{"package":"b"}]}},
 {"filterset":"binary_id(a)","binaries":{"yes":[{"id":"b"}]}},
@@ -113,9 +115,9 @@ missing expression
 at 12: message of the text : expected expression
 missing expression
 at 13: count of faults of the text : another count
-at 14: predicate of the text test(a): test(a)
-at 15: predicates of the text test(a): another count
+at 14: predicates of the text test(a): [test(a)]
 at 15: predicate by itself of the text test(a): otherwise
+at 15: predicates of the text test(a): [test(a)]
 at 16: predicates of the text and: no tree
 at 17: tokens of the glob a?: [Literal(a), AnyChar]
 at 18: match of the glob a?: a
@@ -126,55 +128,60 @@ at 22: fault of the glob a: none
 at 23: fault of the glob a}b: UnopenedAlternates
 at 24: fault of the glob a}b: UnopenedAlternates
 at 25: message of the glob a}b: unopened alternates; missing '{'
-at 26: match of the matcher =a: ab
-at 26: match of the matcher =a: ab
-at 27: miss of the matcher ~a: ab
-at 27: miss of the matcher ~a: ab
-at 28: print of the matcher a: a
-at 28: print of the matcher a: a
-at 29: value of the matcher a: not refused
-at 30: value of the matcher (: refused
-at 31: match of the filterset test(=a): p p::bin/cli ab
-at 32: miss of the filterset test(=a): p p::bin/cli a
-at 33: faults of the filterset all(): none
-at 34: faults of the filterset and: ExprFoundBinaryOp (0, 3)
-at 35: faults of the filterset and: ExprFoundBinaryOp (0, 3)
-at 36: default filter of the filterset all(): BannedPredicate (0, 9)
-at 37: match of the filterset default(): p p::bin/cli b
-at 37: miss of the filterset default(): p p::bin/cli a
-at 38: steps of the filterset not all(): [all()][Not]
-at 39: steps of the filterset all() or test(a): [all()][test(a)][Or]
-at 40: yes of the filterset test(a): p p::bin/cli cli bin host
-at 40: no of the filterset test(a): p p::bin/cli cli bin host
-at 41: no of the filterset all(): p p::bin/cli cli bin host
-at 41: unknown of the filterset all(): p p::bin/cli cli bin host
-at 42: yes of the filterset none(): p p::bin/cli cli bin host
-at 42: unknown of the filterset none(): p p::bin/cli cli bin host
-at 43: yes of the filterset default(): p p::bin/cli cli bin host
-at 44: refusal of the graph : none
-at 45: refusal of the graph : Unknown { package: 0, link: 0 }
-at 46: refusal of the graph : Unknown { package: 0, link: 0 }
-at 47: refusal of the graph : Repeated { at: 1 }
-at 48: question of the graph a: Some(true)
-at 49: question of the graph a: None
-at 50: search of the graph reached: others
-at 51: search of the graph reaching: others
-at 52: packages of the workspace : no graph
-at 53: match of the filterset package(a): b p::bin/cli t
-at 54: miss of the filterset binary_id(a): p a t
-at 55: match of the filterset binary(a): p p::bin/cli t
-at 56: match of the filterset kind(bin): p p::bin/cli t
-at 57: match of the filterset platform(host): p p::bin/cli t
-at 58: match of the filterset group(g): p p::bin/cli t
-at 59: faults of the filterset group(h): NoGroupMatch (6, 1)
-at 60: labels of the filterset group(g): [group() is not available in default-filter expressions]
-at 61: miss of the filterset group(g): p p::bin/cli t
-at 62: yes of the filterset package(a): b p::bin/cli cli bin host
-at 63: yes of the filterset binary_id(a): p b cli bin host
-at 64: yes of the filterset binary(a): p p::bin/cli b bin host
-at 65: yes of the filterset kind(bin): p p::bin/cli cli lib host
-at 66: yes of the filterset platform(host): p p::bin/cli cli bin target
-66 rows
+at 26: equality of the glob a: **/a
+at 26: equality of the glob a: [
+at 27: difference of the glob a: [
+at 27: difference of the glob a: a
+at 28: match of the matcher =a: ab
+at 28: match of the matcher =a: ab
+at 29: miss of the matcher ~a: ab
+at 29: miss of the matcher ~a: ab
+at 30: print of the matcher a: a
+at 30: print of the matcher a: a
+at 31: value of the matcher a: not refused
+at 32: value of the matcher (: refused
+at 33: match of the filterset test(=a): p p::bin/cli ab
+at 34: miss of the filterset test(=a): p p::bin/cli a
+at 35: faults of the filterset all(): none
+at 36: faults of the filterset and: ExprFoundBinaryOp (0, 3)
+at 37: faults of the filterset and: ExprFoundBinaryOp (0, 3)
+at 38: default filter of the filterset default(): BannedPredicate (0, 9)
+at 39: match of the filterset default(): p p::bin/cli b
+at 39: miss of the filterset default(): p p::bin/cli a
+at 40: steps of the filterset not all(): [all()][Not]
+at 41: steps of the filterset all() or test(a): [all()][test(a)][Or]
+at 42: yes of the filterset test(a): p p::bin/cli cli bin host
+at 42: no of the filterset test(a): p p::bin/cli cli bin host
+at 43: no of the filterset all(): p p::bin/cli cli bin host
+at 43: unknown of the filterset all(): p p::bin/cli cli bin host
+at 44: yes of the filterset none(): p p::bin/cli cli bin host
+at 44: unknown of the filterset none(): p p::bin/cli cli bin host
+at 45: yes of the filterset default(): p p::bin/cli cli bin host
+at 46: refusal of the graph : none
+at 47: refusal of the graph : Unknown { package: 0, link: 0 }
+at 48: refusal of the graph : Unknown { package: 0, link: 0 }
+at 49: refusal of the graph : Repeated { at: 1 }
+at 50: question of the graph a: Some(true)
+at 51: question of the graph a: None
+at 52: search of the graph reached: others
+at 53: search of the graph reaching: others
+at 54: packages of the workspace : no graph
+at 55: match of the filterset package(a): b p::bin/cli t
+at 56: miss of the filterset binary_id(a): p a t
+at 57: match of the filterset binary(a): p p::bin/cli t
+at 58: match of the filterset kind(bin): p p::bin/cli t
+at 59: match of the filterset platform(host): p p::bin/cli t
+at 60: match of the filterset group(g): p p::bin/cli t
+at 61: faults of the filterset group(h): NoGroupMatch (6, 1)
+at 62: message of the filterset group(g): predicate not allowed in `default-filter` expressions
+group() is not available in default-filter expressions
+at 63: miss of the filterset group(g): p p::bin/cli t
+at 64: yes of the filterset package(a): b p::bin/cli cli bin host
+at 65: yes of the filterset binary_id(a): p b cli bin host
+at 66: yes of the filterset binary(a): p p::bin/cli b bin host
+at 67: yes of the filterset kind(bin): p p::bin/cli cli lib host
+at 68: yes of the filterset platform(host): p p::bin/cli cli bin target
+68 rows
 ";
 
 const RIGHT: &str = r#"{
@@ -188,30 +195,30 @@ const RIGHT: &str = r#"{
 ],
 "matchers":[{"matcher":"regex","value":"a|b","print":"/a|b/","matches":["b"],"misses":["c"]}],
 "filtersets":[{"filterset":"test(=a)","matches":["a"],"misses":["ab"]}],
-"graphs":[{"packages":[{"name":"a","in_workspace":true,"links":["a"]}],"depends":[["a","a",true]],"searches":[{"starts":["a"],"reached":["a"],"reaching":["a"]}]}],
+"graphs":[{"packages":[{"name":"a","in_workspace":true,"links":["b"]},{"name":"b","in_workspace":true,"links":[]}],"depends":[["a","b",true],["b","a",false]],"searches":[{"starts":["a"],"reached":["a","b"],"reaching":["a"]}]}],
 "workspaces":[{"packages":[{"name":"a","in_workspace":true,"targets":[["lib","a"]],"links":[]}],"groups":["g"],"filtersets":[{"filterset":"default() and group(g)","default":"deps(a)","steps":["packages(a)","group(g)","And"],"binaries":{"yes":[],"no":[{}],"unknown":[{"package":"a"}]},"matches":[{"package":"a","group":"g"}],"misses":["t"]}]}]}"#;
 
-/// The report of these rows is this one.
-fn reports(
+/// Asserts that the report of these rows is this one.
+fn assert_report(
     rt: &(impl AllocGlobal + Abort),
     rows: &str,
     wanted: &str,
-    outcome: Outcome,
+    verdict: Verdict,
 ) -> Result<(), Fail> {
     let (text, found) = report(rt.alloc(), rows.as_bytes())?;
     assert!(rt; text.as_str() == wanted, "{text}");
-    assert_eq!(rt; found, outcome);
+    assert_eq!(rt; found, verdict);
     Ok(())
 }
 
 #[test]
 fn wrong_rows_have_a_line_each(rt: HostRuntime) -> Result<(), Fail> {
-    reports(&rt, WRONG, REPORT_OF_WRONG, Outcome::SomeDiffer)
+    assert_report(&rt, WRONG, REPORT_OF_WRONG, Verdict::SomeDiffer)
 }
 
 #[test]
 fn other_values_are_no_rows(rt: HostRuntime) -> Result<(), Fail> {
-    reports(&rt, "{", "rows refused: not JSON\n", Outcome::NotASuite)?;
+    assert_report(&rt, "{", "rows refused: not JSON\n", Verdict::NotASuite)?;
     for rows in [
         "[]",
         r#"{"texts":[],"globs":[],"matchers":[],"filtersets":[],"workspaces":[]}"#,
@@ -223,7 +230,7 @@ fn other_values_are_no_rows(rt: HostRuntime) -> Result<(), Fail> {
         r#"{"texts":[],"globs":[],"matchers":[],"filtersets":[{"filterset":"all()","binaries":{"maybe":[]}}],"graphs":[],"workspaces":[]}"#,
         r#"{"texts":[],"globs":[],"matchers":[],"filtersets":[{"filterset":"all()","binaries":{"yes":[{"name":"t"}]}}],"graphs":[],"workspaces":[]}"#,
     ] {
-        reports(&rt, rows, "rows refused: not a suite\n", Outcome::NotASuite)?;
+        assert_report(&rt, rows, "rows refused: not a suite\n", Verdict::NotASuite)?;
     }
     Ok(())
 }
@@ -231,9 +238,9 @@ fn other_values_are_no_rows(rt: HostRuntime) -> Result<(), Fail> {
 #[test]
 fn rows_or_wants_memory(rt: HostRuntime) {
     match report(rt.alloc(), RIGHT.as_bytes()) {
-        Ok((text, outcome)) => {
+        Ok((text, verdict)) => {
             assert!(rt; text.as_str() == "8 rows\n", "{text}");
-            assert_eq!(rt; outcome, Outcome::AllHold);
+            assert_eq!(rt; verdict, Verdict::AllHold);
         }
         Err(AllocError) => {}
     }

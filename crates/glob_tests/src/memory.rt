@@ -2,7 +2,7 @@
 use filterset_glob::{GenericGlob, GlobConstructError, GlobRefusal};
 use std::alloc::{AllocError, Global};
 use std::process::Abort;
-use suite_verdicts::is_answer;
+use suite_rows::is_answer;
 
 /// Whether a copy of the glob gives the wanted answer for a text of so many copies of the piece. The copy and the glob
 /// are equal afterwards, whatever the answer was.

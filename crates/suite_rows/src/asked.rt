@@ -1,12 +1,12 @@
-//! Binaries and tests that filtersets are asked of.
+//! Binaries and tests about which filtersets are asked.
 use crate::entry::{Entry, RowRefusal, object_with, optional};
 use filterset_graph::{
     BuildPlatform, GLOBAL_TEST_GROUP, PackageId, RustBinaryId, RustTestBinaryKind, TestCaseName,
 };
 use serde_json::Value;
-use std::alloc::{AllocError, Global};
+use std::alloc::Global;
 
-/// A binary of tests.
+/// A test binary.
 #[derive(Drop)]
 pub struct BinaryRow {
     pub package_id: PackageId,
@@ -16,7 +16,7 @@ pub struct BinaryRow {
     pub platform: BuildPlatform,
 }
 
-/// A test, the binary that holds it, and the group that it is in.
+/// A test, its binary and its group.
 #[derive(Drop)]
 pub struct TestRow {
     pub binary: BinaryRow,
@@ -34,7 +34,7 @@ impl Entry for BuildPlatform {
     }
 }
 
-/// The text under a key, or this one where the key is missing.
+/// Reads the text under a key; `text` if there is none.
 fn text_or(alloc: Global, value: &Value, key: &str, text: &str) -> Result<String, RowRefusal> {
     match optional(alloc, value, key)? {
         Some(given) => Ok(given),
@@ -42,19 +42,9 @@ fn text_or(alloc: Global, value: &Value, key: &str, text: &str) -> Result<String
     }
 }
 
-/// The binary `cli` of the package `p`, built for the host.
-fn plain_binary(alloc: Global) -> Result<BinaryRow, AllocError> {
-    Ok(BinaryRow {
-        package_id: PackageId::new(String::from_str(alloc, "p")?),
-        binary_id: RustBinaryId::new(alloc, "p::bin/cli")?,
-        binary_name: String::from_str(alloc, "cli")?,
-        kind: RustTestBinaryKind::BIN,
-        platform: BuildPlatform::Host,
-    })
-}
-
-/// The binary of an object, with what is otherwise than in the plain one.
-fn binary_of(alloc: Global, value: &Value) -> Result<BinaryRow, RowRefusal> {
+/// Reads a binary from an object or from the object of a test. A missing key is that of the binary `cli` of the package
+/// `p`, built for the host; a value that is no object has no keys.
+fn read_binary(alloc: Global, value: &Value) -> Result<BinaryRow, RowRefusal> {
     let id = text_or(alloc, value, "id", "p::bin/cli")?;
     Ok(BinaryRow {
         package_id: PackageId::new(text_or(alloc, value, "package", "p")?),
@@ -68,32 +58,27 @@ fn binary_of(alloc: Global, value: &Value) -> Result<BinaryRow, RowRefusal> {
 impl Entry for BinaryRow {
     fn read(alloc: Global, value: &Value) -> Result<BinaryRow, RowRefusal> {
         object_with(value, &["package", "id", "binary", "kind", "platform"])?;
-        binary_of(alloc, value)
+        read_binary(alloc, value)
     }
 }
 
-/// The test of this name in the plain binary, which is in no custom group.
-fn test_named(alloc: Global, name: &str) -> Result<TestRow, AllocError> {
-    Ok(TestRow {
-        binary: plain_binary(alloc)?,
-        name: TestCaseName::new(alloc, name)?,
-        group: String::from_str(alloc, GLOBAL_TEST_GROUP)?,
-    })
-}
-
-/// A name alone, or an object with what is otherwise than in the test `t`.
+/// Reads a name alone, or an object in which a missing key is that of the test `t`.
 impl Entry for TestRow {
     fn read(alloc: Global, value: &Value) -> Result<TestRow, RowRefusal> {
-        if let Some(name) = value.as_str() {
-            return Ok(test_named(alloc, name)?);
-        }
-        let names = [
-            "package", "id", "binary", "kind", "platform", "name", "group",
-        ];
-        object_with(value, &names)?;
-        let name = text_or(alloc, value, "name", "t")?;
+        let name = match value.as_str() {
+            Some(name) => String::from_str(alloc, name)?,
+            None => {
+                object_with(
+                    value,
+                    &[
+                        "package", "id", "binary", "kind", "platform", "name", "group",
+                    ],
+                )?;
+                text_or(alloc, value, "name", "t")?
+            }
+        };
         Ok(TestRow {
-            binary: binary_of(alloc, value)?,
+            binary: read_binary(alloc, value)?,
             name: TestCaseName::new(alloc, name.as_str())?,
             group: text_or(alloc, value, "group", GLOBAL_TEST_GROUP)?,
         })

@@ -1,11 +1,11 @@
-//! Rows of filtersets: what they say of binaries and tests, or why they are refused.
+//! Rows of filtersets.
 use crate::asked::{BinaryRow, TestRow};
 use crate::entry::{
     Entry, RowRefusal, list_if_given, object_with, optional, optional_list, required, required_list,
 };
 use crate::graphs::PackageRow;
 use crate::pieces::Written;
-use crate::texts::FaultRow;
+use crate::texts::{FaultRow, ToldRow};
 use filterset_faults::FiltersetKind;
 use serde_json::Value;
 use std::alloc::Global;
@@ -22,7 +22,7 @@ impl Entry for FiltersetKind {
     }
 }
 
-/// Binaries, by what a filterset says of all tests of each: that it holds them, that it holds none, or neither.
+/// Binaries, by the answer that holds for all their tests: yes, no, or neither.
 #[derive(Drop)]
 pub struct BinariesRow {
     pub yes: Vec<BinaryRow>,
@@ -41,14 +41,14 @@ impl Entry for BinariesRow {
     }
 }
 
-/// A filterset of a kind, its faults and their labels where it is refused. Where it is accepted, its steps, and what it
-/// says of binaries and tests under a default filter.
+/// A filterset of a kind, and its faults if it is refused. If it is accepted, its steps, and its answers for binaries
+/// and tests under a default filter.
 #[derive(Drop)]
 pub struct FiltersetRow {
     pub filterset: Written,
     pub kind: FiltersetKind,
     pub faults: Option<Vec<FaultRow>>,
-    pub labels: Option<Vec<String>>,
+    pub told: Option<Vec<ToldRow>>,
     pub default: Option<Written>,
     pub steps: Option<Vec<String>>,
     pub binaries: Option<BinariesRow>,
@@ -62,7 +62,7 @@ impl Entry for FiltersetRow {
             "filterset",
             "kind",
             "faults",
-            "labels",
+            "told",
             "default",
             "steps",
             "binaries",
@@ -74,7 +74,7 @@ impl Entry for FiltersetRow {
             filterset: required(alloc, value, "filterset")?,
             kind: optional(alloc, value, "kind")?.unwrap_or(FiltersetKind::Test),
             faults: list_if_given(alloc, value, "faults")?,
-            labels: list_if_given(alloc, value, "labels")?,
+            told: list_if_given(alloc, value, "told")?,
             default: optional(alloc, value, "default")?,
             steps: list_if_given(alloc, value, "steps")?,
             binaries: optional(alloc, value, "binaries")?,

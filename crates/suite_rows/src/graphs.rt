@@ -1,4 +1,4 @@
-//! Rows of graphs of packages: which depend on which, or why a list of packages is no graph.
+//! Rows of graphs of packages.
 ghost use Rattle.std.specs.Prelude.{◌≡◌, IfOk, map, string_bytes};
 
 use crate::entry::{
@@ -40,7 +40,7 @@ impl Entry for TargetRow {
     }
 }
 
-/// A package, whose id is its name, its build targets, and the ids of the packages that it stands on.
+/// A package, whose id is its name, with its build targets and the ids of the packages that it depends on.
 #[derive(Drop)]
 pub struct PackageRow {
     pub name: String,
@@ -84,7 +84,7 @@ impl Entry for RefusedRow {
     }
 }
 
-/// Whether a package depends on another one. None where one of both is no package of the graph.
+/// Whether a package depends on another one. `None` if one of them is no package of the graph.
 #[derive(Drop)]
 pub struct DependsRow {
     pub from: String,
@@ -108,7 +108,7 @@ impl Entry for DependsRow {
     }
 }
 
-/// One search: the packages that it starts from, those that these depend on, and those that depend on these.
+/// A search: the packages that it starts from, those that they depend on, and those that depend on them.
 #[derive(Drop)]
 pub struct SearchRow {
     pub starts: Vec<String>,
@@ -127,7 +127,7 @@ impl Entry for SearchRow {
     }
 }
 
-/// A list of packages, and what is known of it.
+/// A list of packages, which of them depend on which, or why it is no graph.
 #[derive(Drop)]
 pub struct GraphRow {
     pub packages: Vec<PackageRow>,
@@ -148,15 +148,15 @@ impl Entry for GraphRow {
     }
 }
 
-/// The id with this text.
+/// Makes the id of this text.
 pub fn package_id(alloc: Global, text: &str) -> Result<PackageId, AllocError>
     ensures { IfOk result (λ id. id ≡ text.now) }
 {
     Ok(PackageId::new(String::from_str(alloc, text)?))
 }
 
-/// The packages of the rows, each with its name for its id.
-pub fn packages(alloc: Global, rows: &[PackageRow]) -> Result<Vec<PackageMetadata>, AllocError>
+/// Makes the packages of the rows.
+pub fn packages_of(alloc: Global, rows: &[PackageRow]) -> Result<Vec<PackageMetadata>, AllocError>
     ensures ids { IfOk result (λ made. map (λ p. p.id) made.items ≡ map (λ r. string_bytes r.name) rows.now) }
     ensures members { IfOk result (λ made. map (λ p. p.in_workspace) made.items
         ≡ map (λ r. r.in_workspace) rows.now) }
@@ -165,13 +165,13 @@ pub fn packages(alloc: Global, rows: &[PackageRow]) -> Result<Vec<PackageMetadat
 {
     let mut all = Vec::new(alloc);
     for row in rows {
-        all.push(package(alloc, row)?)?;
+        all.push(package_of(alloc, row)?)?;
     }
     Ok(all)
 }
 
-/// The package of the row.
-fn package(alloc: Global, row: &PackageRow) -> Result<PackageMetadata, AllocError>
+/// Makes the package of the row.
+fn package_of(alloc: Global, row: &PackageRow) -> Result<PackageMetadata, AllocError>
     ensures id { IfOk result (λ made. made.id ≡ string_bytes row.now.name) }
     ensures name { IfOk result (λ made. string_bytes made.name ≡ string_bytes row.now.name) }
     ensures member { IfOk result (λ made. made.in_workspace ≡ row.now.in_workspace) }
@@ -185,13 +185,13 @@ fn package(alloc: Global, row: &PackageRow) -> Result<PackageMetadata, AllocErro
         id: package_id(alloc, row.name.as_str())?,
         name: String::from_str(alloc, row.name.as_str())?,
         in_workspace: row.in_workspace,
-        build_targets: targets(alloc, &row.targets)?,
-        links: ids(alloc, &row.links)?,
+        build_targets: targets_of(alloc, &row.targets)?,
+        links: ids_of(alloc, &row.links)?,
     })
 }
 
-/// The build targets of the rows.
-fn targets(alloc: Global, rows: &[TargetRow]) -> Result<Vec<BuildTarget>, AllocError>
+/// Makes the build targets of the rows.
+fn targets_of(alloc: Global, rows: &[TargetRow]) -> Result<Vec<BuildTarget>, AllocError>
     ensures kinds { IfOk result (λ made. map (λ t. t.id) made.items ≡ map (λ t. t.id) rows.now) }
     ensures names { IfOk result (λ made. map (λ t. string_bytes t.name) made.items
         ≡ map (λ t. string_bytes t.name) rows.now) }
@@ -206,8 +206,8 @@ fn targets(alloc: Global, rows: &[TargetRow]) -> Result<Vec<BuildTarget>, AllocE
     Ok(all)
 }
 
-/// The ids with these texts.
-fn ids(alloc: Global, texts: &[String]) -> Result<Vec<PackageId>, AllocError>
+/// Makes the ids of these texts.
+fn ids_of(alloc: Global, texts: &[String]) -> Result<Vec<PackageId>, AllocError>
     ensures { IfOk result (λ ids. ids.items ≡ map (λ text. string_bytes text) texts.now) }
 {
     let mut all = Vec::new(alloc);

@@ -1,4 +1,4 @@
-//! The rows of the language's suite, as they are read.
+//! The rows of the suite: reads them, and reports where the library differs from them.
 #![tactic(auto)]
 
 mod asked;
@@ -6,19 +6,27 @@ mod entry;
 mod filtersets;
 mod globs;
 mod graphs;
+mod judging;
+mod lines;
 mod matchers;
 mod pieces;
+mod showing;
 mod suite;
 mod texts;
+mod written;
 
 pub use asked::{BinaryRow, TestRow};
 pub use entry::{Entry, RowRefusal};
 pub use filtersets::{BinariesRow, FiltersetRow, WorkspaceRow};
 pub use globs::GlobRow;
 pub use graphs::{
-    DependsRow, GraphRow, PackageRow, RefusedRow, SearchRow, TargetRow, package_id, packages,
+    DependsRow, GraphRow, PackageRow, RefusedRow, SearchRow, TargetRow, package_id, packages_of,
 };
+pub use judging::{are_faults, is_answer, is_fault, is_match_wanted};
+pub use lines::{Lines, Verdict};
 pub use matchers::{MatcherRow, MatcherWay};
 pub use pieces::{Count, Piece, Written};
+pub use showing::{show_fault, show_faults};
 pub use suite::Suite;
 pub use texts::{FaultRow, TextRow, ToldRow, TreeRow};
+pub use written::text_of;

@@ -1,9 +1,9 @@
-//! Rows of matchers of names.
+//! Rows of matchers.
 use crate::entry::{Entry, RowRefusal, object_with, optional, optional_list, required, text_of};
 use serde_json::Value;
 use std::alloc::Global;
 
-/// How a matcher looks for its value.
+/// The kind of a matcher.
 #[derive(Clone, Copy)]
 pub enum MatcherWay {
     Equal,
@@ -24,7 +24,7 @@ impl Entry for MatcherWay {
     }
 }
 
-/// A matcher, and what is known of it.
+/// A matcher, how it prints, and what it matches.
 #[derive(Drop)]
 pub struct MatcherRow {
     pub matcher: MatcherWay,

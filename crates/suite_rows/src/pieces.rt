@@ -1,13 +1,13 @@
-//! Texts as the file writes them: a string, or a list of pieces.
+//! Texts as rows write them: a string, or a list of pieces.
 use crate::entry::{Entry, RowRefusal, list_of, part, parts_of, text_of};
 use serde_json::Value;
 use std::alloc::Global;
 
-/// How often a piece stands.
+/// How many copies of a piece there are.
 #[derive(Clone, Copy)]
 pub enum Count {
     Number(usize),
-    /// As often as the number says at which the row is tried.
+    /// The number with which the row is tried.
     Length,
 }
 
@@ -21,7 +21,7 @@ impl Entry for Count {
     }
 }
 
-/// A piece of a text: a text, and how often it stands.
+/// A piece of a text, and the number of its copies.
 #[derive(Drop)]
 pub struct Piece {
     pub text: String,
@@ -44,7 +44,7 @@ impl Entry for Piece {
     }
 }
 
-/// A text, by its pieces.
+/// A text by its pieces.
 #[derive(Drop)]
 pub struct Written {
     pub pieces: Vec<Piece>,

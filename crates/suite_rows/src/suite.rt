@@ -8,7 +8,7 @@ use crate::texts::TextRow;
 use serde_json::Value;
 use std::alloc::Global;
 
-/// A list of rows of each kind.
+/// The rows of each kind.
 #[derive(Drop)]
 pub struct Suite {
     pub texts: Vec<TextRow>,

@@ -1,4 +1,4 @@
-//! Rows of texts: what a text is read as.
+//! Rows of texts.
 use crate::entry::{
     Entry, RowRefusal, list_if_given, list_of, object_with, optional, part, parts_of, required,
 };
@@ -6,7 +6,7 @@ use crate::pieces::Written;
 use serde_json::Value;
 use std::alloc::Global;
 
-/// A fault: its code, and its span in bytes.
+/// A fault by its code and its span in bytes.
 #[derive(Drop)]
 pub struct FaultRow {
     pub code: String,
@@ -25,21 +25,22 @@ impl Entry for FaultRow {
     }
 }
 
-/// What is told of a fault: its message, its label, and its help where there is one.
+/// The message of a fault, its label, and its help if it has one, each on a line of its own.
 #[derive(Drop)]
 pub struct ToldRow {
-    pub parts: Vec<String>,
+    pub text: String,
 }
 
 impl Entry for ToldRow {
     fn read(alloc: Global, value: &Value) -> Result<ToldRow, RowRefusal> {
+        let parts: Vec<String> = list_of(alloc, value)?;
         Ok(ToldRow {
-            parts: list_of(alloc, value)?,
+            text: parts.join(alloc, "\n")?,
         })
     }
 }
 
-/// A tree, written out, or that there is none.
+/// A tree as a text, or none.
 #[derive(Drop)]
 pub enum TreeRow {
     NoTree,
@@ -55,7 +56,7 @@ impl Entry for TreeRow {
     }
 }
 
-/// A text, and what is known of it. Where a field is missing, nothing is said of it.
+/// A text, its faults, and its tree.
 #[derive(Drop)]
 pub struct TextRow {
     pub text: Written,
