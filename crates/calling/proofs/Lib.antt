@@ -1,1 +1,2 @@
 pub mod AnswersOfTests
+pub mod ComingBack

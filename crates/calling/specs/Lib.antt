@@ -1,2 +1,3 @@
-pub mod Underlining
+pub mod Formatting
 pub mod Selecting
+pub mod Underlining

@@ -1,25 +1,27 @@
-//! A caller of `nextest_filtering`: reads filtersets, says which tests each of them holds of, and underlines the faults
-//! of those that are refused. `docs/CALLING.md` goes through it.
+//! An example of a caller: reads filtersets, asks each about some tests, underlines the faults of those that are refused,
+//! and formats texts. `docs/CALLING.md` walks through it.
 #![tactic(auto)]
 
-ghost use Rattle.std.specs.Prelude.{◌≡◌, All, IfOk, [], string_bytes};
+ghost use Rattle.std.specs.Prelude.{All, string_bytes};
 ghost use Rattle.calling.specs.Selecting.{CanBeUnderlined};
 ghost use Rattle.calling.specs.Underlining.{LiesWithin};
 
+mod formatting;
 mod selecting;
 mod underlining;
 
+use formatting::{format_text, print_alike, read_back};
 use nextest_filtering::{
-    BinaryQuery, BuildPlatform, CompiledExpr, EvalContext, FiltersetParseErrors, GraphRefusal,
-    PackageGraph, PackageId, ParseContext, RustBinaryId, RustTestBinaryKind, TestCaseName,
-    TestQuery,
+    BinaryQuery, BuildPlatform, CompiledExpr, EvalContext, FiltersetParseErrors, PackageGraph,
+    PackageId, ParseContext, ParsedExpr, ParsedLeaf, RustBinaryId, RustTestBinaryKind,
+    TestCaseName, TestQuery,
 };
 use selecting::{Selection, select};
 use std::alloc::{AllocError, Global};
 use std::io;
 use underlining::underline;
 
-/// The filtersets that are read. The third one needs groups, and those after it are refused.
+/// The filtersets that are asked. The third needs groups, and those after it are refused.
 const FILTERSETS: [&str; 7] = [
     "test(parse) and not test(slow) or test(=net::get)",
     "test(#parse::*) - test(/_list$/)",
@@ -30,18 +32,10 @@ const FILTERSETS: [&str; 7] = [
     "test(get) or package(core)",
 ];
 
-/// The workspace without packages.
-fn no_packages(alloc: Global) -> Result<PackageGraph, AllocError>
-    ensures { IfOk result (λ graph. graph ≡ []) }
-{
-    match PackageGraph::new(alloc, Vec::new(alloc)) {
-        Ok(graph) => Ok(graph),
-        Err(GraphRefusal::OutOfMemory(refused)) => Err(refused),
-        Err(_) => unreachable!(),
-    }
-}
+/// The texts that are formatted. The last has a fault.
+const UNFORMATTED: [&str; 4] = [" all ( ) ", "not!all()", "not  test  ( foo)", "and"];
 
-/// Prints a filterset, and whether it holds of each test.
+/// Prints a filterset and its answer for each test.
 fn print_answers(
     rt: &impl Print,
     filterset: &str,
@@ -57,7 +51,7 @@ fn print_answers(
     Ok(())
 }
 
-/// Prints each fault: the text, underlined, with what is said of it, and help.
+/// Prints each fault: the underlined text, the label and the help.
 fn print_faults(rt: &impl Print, alloc: Global, refused: &FiltersetParseErrors) -> io::Result<()>
     requires { All (LiesWithin (string_bytes refused.now.input)) refused.now.errors.items }
 {
@@ -76,7 +70,7 @@ fn print_faults(rt: &impl Print, alloc: Global, refused: &FiltersetParseErrors) 
     Ok(())
 }
 
-/// Prints what a filterset says of the tests: its answers, or why there are none.
+/// Prints the answers of a filterset, or why there are none.
 fn print_selection(
     rt: &impl Print,
     alloc: Global,
@@ -93,7 +87,7 @@ fn print_selection(
     }
 }
 
-/// Reads a filterset, and prints what it says of the tests.
+/// Reads a filterset and prints its answers.
 fn answer(
     rt: &impl Print,
     alloc: Global,
@@ -107,9 +101,9 @@ fn answer(
     print_selection(rt, alloc, filterset, tests, &selection)
 }
 
-/// Makes the contexts, and prints what each filterset says of the tests.
+/// Makes the contexts and prints the answers of each filterset.
 fn answer_all(rt: &impl Print, alloc: Global, tests: &[TestQuery<'_>]) -> io::Result<()> {
-    let graph = no_packages(alloc)?;
+    let graph = PackageGraph::empty(alloc);
     let parse_context = ParseContext::new(alloc, &graph)?;
     let default_filter = CompiledExpr::ALL;
     let eval_context = EvalContext::new(&default_filter);
@@ -119,7 +113,30 @@ fn answer_all(rt: &impl Print, alloc: Global, tests: &[TestQuery<'_>]) -> io::Re
     Ok(())
 }
 
-/// The names of the tests.
+/// Prints each text and what it is formatted to.
+fn print_formatted(rt: &impl Print, alloc: Global) -> io::Result<()> {
+    for text in &UNFORMATTED {
+        match format_text(alloc, text)? {
+            Some(formatted) => println!(rt; "`{text}` is formatted `{formatted}`")?,
+            None => println!(rt; "`{text}` has faults")?,
+        }
+    }
+    Ok(())
+}
+
+/// Prints a tree that is made without spans, and whether what it prints reads back to it.
+fn print_made(rt: &impl Print, alloc: Global) -> io::Result<()> {
+    let made: ParsedExpr<()> = ParsedExpr::Set(ParsedLeaf::Default(()));
+    let parsed = read_back(alloc, &made)?;
+    let is_back = match &parsed.tree {
+        Some(tree) => print_alike(alloc, &made, tree)?,
+        None => false,
+    };
+    let answer = if is_back { "reads back" } else { "is lost" };
+    println!(rt; "`{made}` {answer}")
+}
+
+/// Makes the names of the tests.
 fn test_names(alloc: Global) -> Result<[TestCaseName; 3], AllocError> {
     Ok([
         TestCaseName::new(alloc, "parse::reads_a_list")?,
@@ -128,7 +145,7 @@ fn test_names(alloc: Global) -> Result<[TestCaseName; 3], AllocError> {
     ])
 }
 
-/// The questions about the tests of a binary that have these names.
+/// Makes the questions about the tests of a binary that have these names.
 fn tests_of<'a>(binary_query: BinaryQuery<'a>, names: &'a [TestCaseName; 3]) -> [TestQuery<'a>; 3] {
     [
         TestQuery {
@@ -158,5 +175,7 @@ fn main(rt: HostRuntime) -> io::Result<()> {
         platform: BuildPlatform::Target,
     };
     let names = test_names(alloc)?;
-    answer_all(&rt, alloc, &tests_of(binary_query, &names))
+    answer_all(&rt, alloc, &tests_of(binary_query, &names))?;
+    print_formatted(&rt, alloc)?;
+    print_made(&rt, alloc)
 }

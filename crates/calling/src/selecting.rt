@@ -1,4 +1,4 @@
-//! Which tests a filterset holds of.
+//! Asks filtersets about tests.
 ghost use Rattle.std.specs.Prelude.{◌≡◌, false, IfOk, List};
 ghost use Rattle.std.specs.List.{AllZip};
 ghost use Rattle.filterset_graph.specs.declared.package.PackageMetadata.{PackageMetadata};
@@ -11,24 +11,24 @@ ghost use Rattle.calling.specs.Selecting.{CanBeUnderlined, IsAnswered, IsLeftToG
 
 use nextest_filtering::{
     EvalContext, Filterset, FiltersetKind, FiltersetParseErrors, KnownGroups, ParseContext,
-    ParseRefusal, TestQuery,
+    TestQuery,
 };
 use std::alloc::{AllocError, Global};
-use std::collections::HashSet;
 
-/// What a text says of some tests.
+/// The answers of a text for some tests, or why there are none.
 #[derive(Debug, Drop)]
 pub enum Selection {
-    /// For each test, in their order, whether the filterset holds of it.
+    /// For each test, in their order, whether the filterset picks it.
     Answers(Vec<bool>),
-    /// The filterset, which holds a `group(..)`: whether it holds of a test depends on the test's group too.
+    /// The filterset, which has a `group(..)`: its answers depend on the groups of tests too.
     NeedsGroups(Filterset),
-    /// The text, which comes back, and its faults.
+    /// The text and its faults.
     Refused(FiltersetParseErrors),
 }
 
-/// Reads a filterset and asks it of each test, unless it holds a `group(..)`: then it is read, and comes back. No group
-/// is known but `@global`. The only error is out of memory, and then nothing is known of the text.
+/// Reads a filterset and asks it about each test, unless it has a `group(..)`. No group is known but `@global`.
+///
+/// Errors: out of memory.
 pub fn select(
     alloc: Global,
     text: String,
@@ -43,9 +43,7 @@ pub fn select(
     ensures refused { IfOk result (IsRefused (packages_of parse_context.now) text) }
     ensures within { IfOk result CanBeUnderlined }
 {
-    let known_groups = KnownGroups::Known {
-        custom_groups: HashSet::new(alloc),
-    };
+    let known_groups = KnownGroups::global_only(alloc);
     let filterset = match Filterset::parse(
         alloc,
         text,
@@ -54,8 +52,7 @@ pub fn select(
         &known_groups,
     ) {
         Ok(filterset) => filterset,
-        Err(ParseRefusal::Faults(refused)) => return Ok(Selection::Refused(refused)),
-        Err(ParseRefusal::OutOfMemory { .. }) => return Err(AllocError),
+        Err(refusal) => return Ok(Selection::Refused(refusal.into_faults()?)),
     };
     if filterset.compiled.has_group_matchers() {
         return Ok(Selection::NeedsGroups(filterset));
@@ -64,7 +61,7 @@ pub fn select(
     Ok(Selection::Answers(answers))
 }
 
-/// Asks a filterset of each test.
+/// Asks a filterset about each test.
 fn answers_of(
     alloc: Global,
     filterset: &Filterset,

@@ -1,4 +1,4 @@
-//! Underlining stretches of a text.
+//! Underlines spans of a text.
 ghost use Rattle.std.specs.Prelude.{◌≡◌, ◌+◌, ◌≤◌, ◌++◌, IfOk, codes, length, string_bytes};
 ghost use Rattle.filterset_faults.specs.Span.{length_of, offset_of};
 ghost use Rattle.calling.specs.Underlining.{begins_character, characters, underlining};
@@ -6,23 +6,22 @@ ghost use Rattle.calling.specs.Underlining.{begins_character, characters, underl
 use nextest_filtering::SourceSpan;
 use std::alloc::{AllocError, Global};
 
-/// Whether a character begins with this byte of a text.
+/// Returns whether a character begins with this byte.
 fn begins_character(byte: u8) -> bool
     ensures { result ≡ begins_character byte }
 {
     byte < 0x80 || 0xC0 <= byte
 }
 
-/// How many characters begin in these bytes of a text.
+/// Counts the characters that begin in these bytes.
 fn characters(bytes: &[u8]) -> usize
     ensures { result ≡ characters bytes.now }
 {
     bytes.iter().filter(|byte| begins_character(**byte)).count()
 }
 
-/// The text, and below it a `^` under each character of the span, and one at the place of a span without any. Offset
-/// and length of a span count bytes, and so characters are counted here: each takes one column. A text of several lines
-/// is underlined as if it stood in one.
+/// Returns the text, and below it a `^` under each character of the span, or one at an empty span. Spans count bytes,
+/// so this counts characters; each takes one column. Line feeds are treated as other characters.
 pub fn underline(alloc: Global, text: &str, span: SourceSpan) -> Result<String, AllocError>
     requires { offset_of span + length_of span ≤ length text.now }
     ensures { IfOk result (λ lines. string_bytes lines ≡ text.now ++ codes "\n" ++ underlining text.now span) }

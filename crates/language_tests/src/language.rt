@@ -1,42 +1,9 @@
-//! Texts written anew, trees that are compared, and predicates that no text is read as.
+//! Trees that are compared, and predicates that no text is read as.
 use crate::support::tree_of;
 use nextest_filtering::{NameMatcher, ParsedExpr, ParsedLeaf, SourceSpan};
-use reading_back::{formatted, print_alike, read_back};
 use std::alloc::{AllocError, Global};
 use std::process::Abort;
 use std::test::Fail;
-
-#[test]
-fn writes_texts_anew(rt: HostRuntime) -> Result<(), Fail> {
-    let alloc = rt.alloc();
-    for (text, wanted) in [
-        (" all ( ) ", "all()"),
-        ("not!all()", "not ! all()"),
-        ("not  test  ( foo)", "not test(foo)"),
-    ] {
-        let new = formatted(alloc, text)?.ok_or("faults in a text without faults")?;
-        assert!(rt; new.as_str() == wanted, "{text}: {new}");
-    }
-    assert!(rt; formatted(alloc, "and")?.is_none());
-    Ok(())
-}
-
-/// Whether both trees print one text, which has no faults.
-fn are_read_alike(
-    alloc: Global,
-    bare: &ParsedExpr<()>,
-    placed: &ParsedExpr,
-) -> Result<bool, AllocError> {
-    Ok(print_alike(alloc, bare, placed)? && read_back(alloc, bare)?.faults.is_empty())
-}
-
-#[test]
-fn spans_of_any_type_print_alike(rt: HostRuntime) -> Result<(), Fail> {
-    let bare = ParsedExpr::Set(ParsedLeaf::Default(()));
-    let placed = ParsedExpr::Set(ParsedLeaf::Default(SourceSpan::new(3, 9)));
-    assert!(rt; are_read_alike(rt.alloc(), &bare, &placed)?);
-    Ok(())
-}
 
 /// Whether the tree is equal to that of the text.
 fn equals(rt: &(impl AllocGlobal + Abort), tree: &ParsedExpr, text: &str) -> Result<bool, Fail> {

@@ -1,4 +1,4 @@
--- Which group a runner's settings put a test in.
+-- The groups of tests by a runner's settings.
 use Rattle.std.specs.Prelude.{◌≡◌, ◌⊎◌, ℕ, List, [], ◌∷◌, codes, string_bytes}
 use Rattle.filterset_expression.specs.Expression.{Holds, Lookup, no_groups}
 use Rattle.filterset_expression.specs.declared.expression.CompiledExpr.{CompiledExpr}
@@ -10,7 +10,7 @@ use Rattle.runner.specs.declared.overrides.Override.{Override}
 abbrev pub PutsTest : CompiledExpr → Override → TestQuery → Type 0
 PutsTest default rule test = Holds rule.tests.compiled test default no_groups
 
--- the test is in this group: that of the first override that picks it, or `@global` where none does
+-- the test is in this group: that of the first override that picks it, or `@global` if none does
 abbrev pub IsInGroup : CompiledExpr → List Override → TestQuery → List ℕ → Type 0
 IsInGroup default [] test group = group ≡ codes "@global"
 IsInGroup default (rule ∷ rules) test group =

@@ -1,4 +1,4 @@
--- Which tests a filterset picks, binary by binary.
+-- Plans of a runner, binary by binary.
 use Rattle.std.specs.Prelude.{◌≡◌, ◌↔◌, ℕ, Bool, List, IsTrue, string_bytes}
 use Rattle.std.specs.List.{AllZip}
 use Rattle.std.specs.declared.alloc.Global.{Global}
@@ -31,7 +31,7 @@ pub record IsTestOf (binary : Binary) (name : List ℕ) (test : TestQuery) : Typ
   pub of_binary : test.binary_query ≡ binary.query
   pub test_name : test.test_name.now ≡ name
 
--- the answer tells whether the test of the binary that has this name is picked
+-- the answer is whether the test of the binary that has this name is picked
 pub record Tells (packages : List PackageMetadata) (e : Tree SourceSpan) (groups : Groups) (binary : Binary)
     (name : List ℕ) (answer : Bool) : Type 0 where
   pub test : TestQuery
@@ -56,7 +56,7 @@ IsPlanned packages known groups text binaries (Choices choices) =
     × AllZip (IsChoice packages e groups) binaries choices.items
 IsPlanned packages known groups text binaries (Refused refused) = Unit {0}
 
--- a refused text comes back, with faults that refuse it
+-- a refused text is returned with faults that refuse it
 abbrev pub IsRefused : List PackageMetadata → KnownGroups → String Global → Plan → Type 0
 IsRefused packages known text (Choices choices) = Unit {0}
 IsRefused packages known text (Refused refused) =

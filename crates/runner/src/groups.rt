@@ -1,4 +1,4 @@
-//! Which group a test is in: a runner's settings say it, by filtersets.
+//! Finds the groups of tests by a runner's settings.
 ghost use Rattle.std.specs.Prelude.{IfOk};
 ghost use Rattle.filterset_expression.specs.Contexts.{default_of};
 ghost use Rattle.runner.specs.Groups.{MatchesGroup, IsInGroup};
@@ -7,8 +7,8 @@ use crate::overrides::Override;
 use nextest_filtering::{EvalContext, GLOBAL_TEST_GROUP, GroupLookup, NameMatcher, TestQuery};
 use std::alloc::{AllocError, Global};
 
-/// Tells the groups of tests by overrides: a test is in the group of the first override whose filterset picks it, and
-/// in `@global` where none does.
+/// The lookup of groups: a test is in the group of the first override whose filterset picks it, and in `@global` if none
+/// does.
 #[derive(Clone, Copy, Debug)]
 pub struct Groups<'a> {
     pub overrides: &'a [Override],
@@ -16,7 +16,9 @@ pub struct Groups<'a> {
 }
 
 impl<'a> Groups<'a> {
-    /// The group of a test. The only error is out of memory.
+    /// Returns the group of the test.
+    ///
+    /// Errors: out of memory.
     fn group_of(&self, alloc: Global, test: &TestQuery<'_>) -> Result<&'a str, AllocError>
         ensures { IfOk result (λ group.
             IsInGroup (default_of self.now.eval_context) self.now.overrides.now test.now group.now) }

@@ -1,5 +1,5 @@
-//! A small runner: it has packages, a default filter and groups, reads filtersets, skips the binaries of which a
-//! filterset picks no test, and picks tests of the others. `docs/CALLING.md` goes through it.
+//! An example of a test runner, which has packages, a default filter and groups: reads filtersets, skips binaries of which
+//! a filterset picks no test, and picks tests of the others. `docs/CALLING.md` walks through it.
 #![tactic(auto)]
 
 ghost use Rattle.nextest_filtering.specs.Groups.{IsKnown};
@@ -17,16 +17,16 @@ use settings::{Failure, known_groups, read_default_filter, read_overrides};
 use std::alloc::Global;
 use std::io;
 
-/// Which tests are run where nobody says which.
+/// The default filter.
 const DEFAULT_FILTER: &str = "not test(slow)";
 
-/// Which tests are in which groups: those that the filterset picks are in the group.
+/// The overrides: filtersets, and the groups of the tests that they pick.
 const OVERRIDES: [(&str, &str); 2] = [
     ("binary_id(net) and test(/^live_/)", "network"),
     ("test(slow)", "serial"),
 ];
 
-/// The filtersets that are asked for. Of the last one the group is not known.
+/// The filtersets for which plans are made. The group of the last is not known.
 const FILTERSETS: [&str; 5] = [
     "default()",
     "rdeps(net) and default()",
@@ -51,7 +51,7 @@ fn print_choice(rt: &impl Print, binary: &Binary<'_>, choice: &Choice) -> io::Re
     Ok(())
 }
 
-/// Prints where each fault of a text is, and what it is.
+/// Prints the offset and the label of each fault.
 fn print_faults(rt: &impl Print, refused: &FiltersetParseErrors) -> io::Result<()> {
     for fault in &refused.errors {
         if let Some(span) = fault.span() {
@@ -64,7 +64,7 @@ fn print_faults(rt: &impl Print, refused: &FiltersetParseErrors) -> io::Result<(
     Ok(())
 }
 
-/// Prints what a filterset asks for: what is done with each binary, or why the filterset is refused.
+/// Prints a plan, or why the filterset is refused.
 fn print_plan(rt: &impl Print, binaries: &[Binary<'_>], plan: &Plan) -> io::Result<()> {
     match plan {
         Plan::Choices(choices) => {
@@ -77,7 +77,7 @@ fn print_plan(rt: &impl Print, binaries: &[Binary<'_>], plan: &Plan) -> io::Resu
     }
 }
 
-/// Prints each filterset, and what it asks for.
+/// Prints each filterset and its plan.
 fn print_plans(
     rt: &impl Print,
     alloc: Global,
@@ -97,7 +97,7 @@ fn print_plans(
     Ok(())
 }
 
-/// Reads the settings, and prints the plans of the filtersets.
+/// Reads the settings and prints the plans.
 fn run(rt: &impl Print, alloc: Global) -> Result<(), Failure> {
     let graph = workspace::graph(alloc)?;
     let parse_context = ParseContext::new(alloc, &graph)?;
@@ -119,7 +119,7 @@ fn main(rt: HostRuntime) -> io::Result<()> {
         Ok(()) => Ok(()),
         Err(Failure::Io(error)) => Err(error),
         Err(Failure::Packages(refusal)) => {
-            println!(rt; "the packages make no graph: {refusal:?}")?;
+            println!(rt; "the packages are no graph: {refusal:?}")?;
             Err(io::Error::from(io::ErrorKind::InvalidData))
         }
         Err(Failure::Setting(refused)) => {

@@ -1,4 +1,4 @@
-//! Settings that put tests into groups.
+//! Overrides, which put tests into groups.
 ghost use Rattle.std.specs.Prelude.{◌≡◌, ◌↔◌, false, IfOk, IsTrue, string_bytes};
 ghost use Rattle.filterset_expression.specs.Contexts.{default_of};
 ghost use Rattle.filterset_expression.specs.Expression.{has_leaf, is_group, no_groups, Holds};
@@ -6,7 +6,7 @@ ghost use Rattle.filterset_expression.specs.Expression.{has_leaf, is_group, no_g
 use nextest_filtering::{EvalContext, Filterset, TestQuery};
 use std::alloc::{AllocError, Global};
 
-/// Puts the tests that a filterset picks into a group.
+/// A filterset, and the group of the tests that it picks.
 #[derive(Debug, Drop)]
 pub struct Override {
     tests: Filterset,
@@ -15,7 +15,7 @@ pub struct Override {
 }
 
 impl Override {
-    /// The filterset has no `group(..)`, as none of kind `OverrideFilter` has.
+    /// Makes an override of a filterset without `group(..)`, as each of kind `OverrideFilter` is.
     pub fn new(tests: Filterset, group: String) -> Override
         requires { has_leaf is_group tests.compiled ≡ false }
         ensures tests { result.tests ≡ tests }
@@ -24,7 +24,9 @@ impl Override {
         Override { tests, group }
     }
 
-    /// Whether the filterset picks the test. The only error is out of memory.
+    /// Returns whether the filterset picks the test.
+    ///
+    /// Errors: out of memory.
     pub fn picks(
         &self,
         alloc: Global,
@@ -37,7 +39,7 @@ impl Override {
         self.tests.matches_test(alloc, test, eval_context)
     }
 
-    /// The group of the tests that it picks.
+    /// Returns the group of the tests that it picks.
     pub fn group(&self) -> &str
         ensures { result.now ≡ string_bytes self.now.group }
     {

@@ -1,4 +1,4 @@
-//! Which tests a filterset picks, binary by binary.
+//! Plans which tests are run, binary by binary.
 ghost use Rattle.std.specs.Prelude.{◌≡◌, IfOk, List};
 ghost use Rattle.std.specs.List.{AllZip};
 ghost use Rattle.filterset_faults.specs.declared.span.SourceSpan.{SourceSpan};
@@ -14,36 +14,38 @@ ghost use Rattle.runner.specs.Planning.{IsChoice, IsPlanned, IsRefused, IsTestOf
 use crate::groups::Groups;
 use nextest_filtering::{
     BinaryQuery, Filterset, FiltersetKind, FiltersetParseErrors, FlatExpr, KnownGroups,
-    ParseContext, ParseRefusal, TestCaseName, TestQuery, laws,
+    ParseContext, TestCaseName, TestQuery, laws,
 };
 use std::alloc::{AllocError, Global};
 
-/// A test binary, and the names of its tests. A runner starts the binary to learn these.
+/// A test binary and the names of its tests, which a runner learns by starting it.
 #[derive(Clone, Copy)]
 pub struct Binary<'a> {
     pub query: BinaryQuery<'a>,
     pub tests: &'a [TestCaseName],
 }
 
-/// What is to be done with a binary.
+/// What to do with a binary.
 #[derive(Drop)]
 pub enum Choice {
-    /// No test of the binary is picked, whatever tests it has: it need not be started.
+    /// No test of the binary is picked, whatever tests it has: do not start it.
     Skip,
     /// For each test of the binary, in their order, whether it is picked.
     Pick(Vec<bool>),
 }
 
-/// What a filterset asks of a runner.
+/// What to do with all binaries.
 #[derive(Drop)]
 pub enum Plan {
-    /// What is to be done with each binary, in their order.
+    /// What to do with each binary, in their order.
     Choices(Vec<Choice>),
-    /// The text, which comes back, and its faults.
+    /// The text of the filterset and its faults.
     Refused(FiltersetParseErrors),
 }
 
-/// Reads a filterset, and says for each binary which of its tests it picks. The only error is out of memory.
+/// Reads a filterset and plans what to do with each binary.
+///
+/// Errors: out of memory.
 pub fn plan_of(
     alloc: Global,
     text: String,
@@ -60,14 +62,13 @@ pub fn plan_of(
     let kind = FiltersetKind::Test;
     let filterset = match Filterset::parse(alloc, text, parse_context, kind, known_groups) {
         Ok(filterset) => filterset,
-        Err(ParseRefusal::Faults(refused)) => return Ok(Plan::Refused(refused)),
-        Err(ParseRefusal::OutOfMemory { .. }) => return Err(AllocError),
+        Err(refusal) => return Ok(Plan::Refused(refusal.into_faults()?)),
     };
     let choices = choices_of(alloc, &filterset, groups, binaries)?;
     Ok(Plan::Choices(choices))
 }
 
-/// What is to be done with each binary. The filterset is laid out as steps once for all of them.
+/// Plans by the steps of the filterset, which are made once for all binaries.
 fn choices_of(
     alloc: Global,
     filterset: &Filterset,
@@ -82,7 +83,6 @@ fn choices_of(
     choices_by(alloc, &flat, groups, binaries)
 }
 
-/// What is to be done with each binary, by the steps of a filterset.
 fn choices_by(
     alloc: Global,
     flat: &FlatExpr<'_>,
@@ -100,8 +100,8 @@ fn choices_by(
     Ok(choices)
 }
 
-/// What is to be done with a binary, which is asked about once. Where the filterset is false of it, and so of each of its
-/// tests, they are not looked at; and where it is true of it, none of them is asked about.
+/// Asks about a binary once. If the answer is no, its tests are not asked about; otherwise the answer is passed on to the
+/// questions about them.
 fn choice_of(
     alloc: Global,
     flat: &FlatExpr<'_>,
@@ -121,7 +121,7 @@ fn choice_of(
     Ok(Choice::Pick(picked))
 }
 
-/// For each test of a binary, of which this was told, whether it is picked.
+/// Returns for each test of the binary whether it is picked. `told` is the answer for the binary.
 fn picked_of(
     alloc: Global,
     flat: &FlatExpr<'_>,
@@ -141,7 +141,7 @@ fn picked_of(
     Ok(picked)
 }
 
-/// The question about the test of the binary that has this name.
+/// Makes the question about the test of the binary that has this name.
 fn test_of<'a>(binary: &Binary<'a>, name: &'a TestCaseName) -> TestQuery<'a>
     ensures { IsTestOf binary.now name.now result }
 {
@@ -151,7 +151,7 @@ fn test_of<'a>(binary: &Binary<'a>, name: &'a TestCaseName) -> TestQuery<'a>
     }
 }
 
-/// Whether the test of the binary that has this name is picked, where this was told of the binary.
+/// Returns whether the test of the binary that has this name is picked.
 fn is_picked(
     alloc: Global,
     flat: &FlatExpr<'_>,

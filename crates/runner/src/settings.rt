@@ -1,4 +1,4 @@
-//! The texts of a runner's settings: its default filter and its overrides, which are read before any filterset.
+//! Reads a runner's settings: its default filter and its overrides.
 ghost use Rattle.std.specs.Prelude.{◌≡◌, ◌≢◌, false, IfOk};
 ghost use Rattle.filterset_expression.specs.Expression.{has_leaf, is_default, is_group};
 ghost use Rattle.filterset_faults.specs.declared.kind.FiltersetKind.TheVariants as kinds;
@@ -10,15 +10,14 @@ use nextest_filtering::{
     ParseContext, ParseRefusal,
 };
 use std::alloc::{AllocError, AllocFailed, Global};
-use std::collections::HashSet;
 use std::io;
 
 /// Why a run ends early.
 #[derive(Drop)]
 pub enum Failure {
-    /// The packages make no graph.
+    /// The packages are no graph.
     Packages(GraphRefusal),
-    /// A text of the settings is refused.
+    /// A filterset of the settings is refused.
     Setting(FiltersetParseErrors),
     /// Out of memory, or a write failed.
     Io(io::Error),
@@ -53,14 +52,14 @@ impl From<GraphRefusal> for Failure {
 
 impl From<ParseRefusal> for Failure {
     fn from(refusal: ParseRefusal) -> Failure {
-        match refusal {
-            ParseRefusal::Faults(refused) => Failure::Setting(refused),
-            ParseRefusal::OutOfMemory { .. } => Failure::from(AllocError),
+        match refusal.into_faults() {
+            Ok(refused) => Failure::Setting(refused),
+            Err(error) => Failure::from(error),
         }
     }
 }
 
-/// Reads a filterset of the settings. No group is known for it: it is of a kind that bans `group(..)`.
+/// Reads a filterset of the settings, of a kind that bans `group(..)`: so no group has to be known.
 fn read_setting(
     alloc: Global,
     text: &str,
@@ -91,7 +90,7 @@ pub fn read_default_filter(
     Ok(filterset.compiled)
 }
 
-/// Reads the overrides, each a filterset and the group of the tests that it picks.
+/// Reads the overrides from pairs of a filterset and the group of the tests that it picks.
 pub fn read_overrides(
     alloc: Global,
     rows: &[(&str, &str)],
@@ -106,13 +105,13 @@ pub fn read_overrides(
     Ok(overrides)
 }
 
-/// The groups of the overrides are the known ones.
+/// Makes the groups of the overrides the known ones.
 pub fn known_groups(alloc: Global, rows: &[(&str, &str)]) -> Result<KnownGroups, Failure>
     ensures { IfOk result IsKnown }
 {
-    let mut custom_groups = HashSet::new(alloc);
+    let mut names = Vec::new(alloc);
     for (_, group) in rows {
-        custom_groups.insert(String::from_str(alloc, group)?)?;
+        names.push(String::from_str(alloc, group)?)?;
     }
-    Ok(KnownGroups::Known { custom_groups })
+    Ok(KnownGroups::of(alloc, names)?)
 }

@@ -1,4 +1,4 @@
-//! The workspace of the example. A runner reads its own from cargo's metadata, and has each binary list its tests.
+//! The workspace of the example. A real runner reads cargo's metadata, and lets each binary list its tests.
 use crate::planning::Binary;
 use nextest_filtering::{
     BinaryQuery, BuildPlatform, BuildTarget, BuildTargetId, GraphRefusal, PackageGraph, PackageId,
@@ -6,7 +6,7 @@ use nextest_filtering::{
 };
 use std::alloc::{AllocError, Global};
 
-/// A package as cargo tells of it. Here its name is its id too.
+/// A package as in cargo's metadata. Here its name is its id too.
 struct CargoPackage {
     name: &'static str,
     in_workspace: bool,
@@ -68,7 +68,7 @@ const PACKAGES: [CargoPackage; 4] = [
     },
 ];
 
-/// A test binary: what it was built from, and the tests that it lists.
+/// A test binary, by its target, and the tests that it lists.
 #[derive(Drop)]
 pub struct TestBinary {
     package_id: PackageId,
@@ -79,7 +79,7 @@ pub struct TestBinary {
 }
 
 impl TestBinary {
-    /// The binary as filtersets are asked about it.
+    /// Returns the binary with the question about it.
     pub fn binary(&self) -> Binary<'_> {
         Binary {
             query: BinaryQuery {
@@ -98,7 +98,7 @@ fn package_id(alloc: Global, name: &str) -> Result<PackageId, AllocError> {
     Ok(PackageId::new(String::from_str(alloc, name)?))
 }
 
-/// The ids of the packages that a package depends on.
+/// Makes the ids of the packages that the package depends on.
 fn links(alloc: Global, package: &CargoPackage) -> Result<Vec<PackageId>, AllocError> {
     let mut links = Vec::new(alloc);
     for dependency in package.dependencies {
@@ -107,7 +107,7 @@ fn links(alloc: Global, package: &CargoPackage) -> Result<Vec<PackageId>, AllocE
     Ok(links)
 }
 
-/// The targets of a package, as a graph has them.
+/// Makes the targets of the package as a graph has them.
 fn build_targets(alloc: Global, package: &CargoPackage) -> Result<Vec<BuildTarget>, AllocError> {
     let mut targets = Vec::new(alloc);
     for target in package.targets {
@@ -119,7 +119,7 @@ fn build_targets(alloc: Global, package: &CargoPackage) -> Result<Vec<BuildTarge
     Ok(targets)
 }
 
-/// A package, as a graph has it.
+/// Makes the package as a graph has it.
 fn metadata(alloc: Global, package: &CargoPackage) -> Result<PackageMetadata, AllocError> {
     Ok(PackageMetadata {
         id: package_id(alloc, package.name)?,
@@ -130,7 +130,7 @@ fn metadata(alloc: Global, package: &CargoPackage) -> Result<PackageMetadata, Al
     })
 }
 
-/// The graph of the packages.
+/// Makes the graph of the packages.
 pub fn graph(alloc: Global) -> Result<PackageGraph, GraphRefusal> {
     let mut packages = Vec::new(alloc);
     for package in &PACKAGES {
@@ -139,7 +139,7 @@ pub fn graph(alloc: Global) -> Result<PackageGraph, GraphRefusal> {
     PackageGraph::new(alloc, packages)
 }
 
-/// The tests that the binary of a target lists.
+/// Makes the names of the tests that the target's binary lists.
 fn tests(alloc: Global, target: &CargoTarget) -> Result<Vec<TestCaseName>, AllocError> {
     let mut tests = Vec::new(alloc);
     for name in target.tests {
@@ -148,7 +148,7 @@ fn tests(alloc: Global, target: &CargoTarget) -> Result<Vec<TestCaseName>, Alloc
     Ok(tests)
 }
 
-/// Adds the test binaries of a package: one for each target that is no build script.
+/// Adds the test binaries of the package: one for each target that is no build script.
 fn add_test_binaries(
     alloc: Global,
     package: &CargoPackage,
@@ -168,7 +168,7 @@ fn add_test_binaries(
     Ok(())
 }
 
-/// The test binaries of the workspace.
+/// Makes the test binaries of the workspace.
 pub fn test_binaries(alloc: Global) -> Result<Vec<TestBinary>, AllocError> {
     let mut all = Vec::new(alloc);
     for package in &PACKAGES {
@@ -179,7 +179,7 @@ pub fn test_binaries(alloc: Global) -> Result<Vec<TestBinary>, AllocError> {
     Ok(all)
 }
 
-/// The binaries as filtersets are asked about them.
+/// Returns the binaries with the questions about them.
 pub fn binaries(
     alloc: Global,
     test_binaries: &[TestBinary],

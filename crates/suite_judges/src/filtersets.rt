@@ -12,10 +12,9 @@ use crate::showing::show_in_brackets;
 use crate::steps::show_steps;
 use nextest_filtering::{
     EvalContext, Filterset, FiltersetKind, FiltersetParseErrors, GraphRefusal, KnownGroups,
-    PackageGraph, ParseContext, ParseRefusal,
+    PackageGraph, ParseContext,
 };
 use std::alloc::{AllocError, Global};
-use std::collections::HashSet;
 use suite_rows::{
     BinariesRow, BinaryRow, FiltersetRow, Lines, PackageRow, TestRow, WorkspaceRow, packages_of,
     show_faults, text_of,
@@ -29,7 +28,7 @@ pub fn judge_filtersets(
 ) -> Result<(), AllocError>
     ensures { OnOk result (IsClean lines.new → IsClean lines.old) }
 {
-    judge_workspace(alloc, lines, &[], &[], rows)
+    judge_workspace(alloc, lines, &[], Vec::new(alloc), rows)
 }
 
 /// Notes where the library differs from the rows of workspaces.
@@ -41,7 +40,8 @@ pub fn judge_workspaces(
     ensures { OnOk result (IsClean lines.new → IsClean lines.old) }
 {
     for row in rows {
-        judge_workspace(alloc, lines, &row.packages, &row.groups, &row.filtersets)?;
+        let groups = row.groups.clone()?;
+        judge_workspace(alloc, lines, &row.packages, groups, &row.filtersets)?;
     }
     Ok(())
 }
@@ -51,7 +51,7 @@ fn judge_workspace(
     alloc: Global,
     lines: &mut Lines,
     members: &[PackageRow],
-    groups: &[String],
+    groups: Vec<String>,
     rows: &[FiltersetRow],
 ) -> Result<(), AllocError>
     ensures { OnOk result (IsClean lines.new → IsClean lines.old) }
@@ -65,9 +65,7 @@ fn judge_workspace(
         }
     };
     let context = ParseContext::new(alloc, &graph)?;
-    let known_groups = KnownGroups::Known {
-        custom_groups: collect_names(alloc, groups)?,
-    };
+    let known_groups = KnownGroups::of(alloc, groups)?;
     judge_rows(alloc, lines, &context, &known_groups, rows)
 }
 
@@ -86,14 +84,6 @@ fn judge_rows(
         judge_filterset(alloc, lines, context, known_groups, row)?;
     }
     Ok(())
-}
-
-fn collect_names(alloc: Global, texts: &[String]) -> Result<HashSet<String>, AllocError> {
-    let mut names = HashSet::new(alloc);
-    for text in texts {
-        names.insert(String::from_str(alloc, text.as_str())?)?;
-    }
-    Ok(names)
 }
 
 fn judge_filterset(
@@ -119,10 +109,10 @@ fn judge_filterset(
             )?;
             judge_accepted(alloc, lines, context, known_groups, row, &filterset)
         }
-        Err(ParseRefusal::Faults(refused)) => {
+        Err(refusal) => {
+            let refused = refusal.into_faults()?;
             judge_refused(alloc, lines, row, text.as_str(), &refused)
         }
-        Err(ParseRefusal::OutOfMemory { .. }) => Err(AllocError),
     }
 }
 
@@ -168,7 +158,8 @@ fn judge_accepted(
             let asked = Asked::new(alloc, filterset, EvalContext::new(&default.compiled))?;
             judge_asked(alloc, lines, row, &asked)
         }
-        Err(ParseRefusal::Faults(refused)) => {
+        Err(refusal) => {
+            let refused = refusal.into_faults()?;
             let shown = show_faults(alloc, &refused.errors)?;
             lines.note(
                 false,
@@ -177,7 +168,6 @@ fn judge_accepted(
                 shown.as_str(),
             )
         }
-        Err(ParseRefusal::OutOfMemory { .. }) => Err(AllocError),
     }
 }
 

@@ -1,7 +1,7 @@
 use Rattle.std.proofs.Common.{rules}
 use Rattle.filterset_language.specs.Views.{tree_of}
-use Rattle.reading_back.proofs.ComingBack.{printed_same}
-use Rattle.reading_back.proofs.print_alike.Goals as goal
+use Rattle.calling.proofs.ComingBack.{printed_same}
+use Rattle.calling.proofs.formatting.print_alike.Goals as goal
 
 pub returns-clause-alike : goal.returns-clause-alike
 returns-clause-alike g c same =

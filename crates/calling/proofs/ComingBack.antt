@@ -12,9 +12,9 @@ use Rattle.filterset_grammar.specs.Printing.{printed, printed_leaf, operands, We
 use Rattle.filterset_language.specs.Parsed.{Reads, Comes, LiesOnBody, HasRefusedBodies}
 use Rattle.filterset_language.specs.declared.parsing.parse.Parsed.{Parsed}
 use Rattle.filterset_language.specs.declared.tree.ParsedExpr.{ParsedExpr}
-use Rattle.reading_back.specs.ReadingBack.{SpellAlike, IsRefused}
+use Rattle.calling.specs.Formatting.{SpellAlike, IsRefused}
 
--- ---- spans do not show in print
+-- ---- spans are not printed
 
 leaf_bare : {S : Type 0} (l : Leaf S) → printed_leaf (leaf_without_span l) ≡ printed_leaf l
 leaf_bare (tree.Matching p m s) = refl

@@ -1,4 +1,4 @@
--- What comes of a tree that is printed and read again.
+-- Trees that are printed and read again.
 use Rattle.std.specs.Prelude.{◌≡◌, ◌⊎◌, ℕ, List, []}
 use Rattle.filterset_faults.specs.declared.span.SourceSpan.{SourceSpan}
 use Rattle.filterset_faults.specs.declared.error.ParseSingleError.{ParseSingleError}
@@ -8,16 +8,16 @@ use Rattle.filterset_grammar.specs.Printing.{printed}
 use Rattle.filterset_language.specs.Parsed.{Comes, LiesOnBody, HasRefusedBodies}
 use Rattle.filterset_language.specs.declared.parsing.parse.Parsed.{Parsed}
 
--- the same tree comes without a fault, spans aside; or no tree comes, but faults, each on the body of one of its
+-- the same tree is read without a fault, spans aside; or there is no tree, but faults, each on the body of one of its
 -- patterns
 abbrev pub ComesBack : {S : Type 0} → Tree S → Parsed → Type 0
 ComesBack e p =
     (d : Tree SourceSpan) × SameTree d e × ((Comes p d × (p.faults.items ≡ [])) ⊎ HasRefusedBodies (printed e) d p)
 
--- both texts spell a tree, and it is the same but for its spans
+-- both texts spell the same tree, spans aside
 abbrev pub SpellAlike : List ℕ → List ℕ → Type 0
 SpellAlike one other = (d : Tree SourceSpan) × (e : Tree SourceSpan) × Spells one d × Spells other e × SameTree d e
 
--- where the text spells a tree, a fault lies on the body of one of its patterns
+-- if the text spells a tree, there is a fault on the body of one of its patterns
 abbrev pub IsRefused : List ℕ → Type 0
 IsRefused text = (e : Tree SourceSpan) → Spells text e → (fault : ParseSingleError) × LiesOnBody text e fault

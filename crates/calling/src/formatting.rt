@@ -1,17 +1,15 @@
-//! What a program can rely on that prints trees and reads texts, proved from the public calls alone.
-#![tactic(auto)]
-
+//! Writes filtersets anew, and reads back what trees print. Each contract follows from the public calls alone.
 ghost use Rattle.std.specs.Prelude.{IfOk, IfSome, IfNone, IsTrue, string_bytes};
 ghost use Rattle.filterset_grammar.specs.Tree.{SameTree};
 ghost use Rattle.filterset_language.specs.Views.{tree_of};
 ghost use Rattle.filterset_grammar.specs.Printing.{WellFormed};
-ghost use Rattle.reading_back.specs.ReadingBack.{ComesBack, SpellAlike, IsRefused};
+ghost use Rattle.calling.specs.Formatting.{ComesBack, SpellAlike, IsRefused};
 
 use nextest_filtering::{Parsed, ParsedExpr, laws};
 use std::alloc::{AllocError, Global};
 
-/// Reads what a tree prints. A well-formed tree comes back without a fault, spans aside, or `regex` refuses one of its
-/// patterns, which the faults then name.
+/// Reads what the tree prints. A well-formed tree comes back without a fault, spans aside, unless `regex` rejects one of
+/// its patterns: then the faults point at such patterns.
 pub fn read_back<S>(alloc: Global, expr: &ParsedExpr<S>) -> Result<Parsed, AllocError>
     ensures { WellFormed (tree_of expr.now) → IfOk result (ComesBack (tree_of expr.now)) }
 {
@@ -20,7 +18,8 @@ pub fn read_back<S>(alloc: Global, expr: &ParsedExpr<S>) -> Result<Parsed, Alloc
     ParsedExpr::parse_with_faults(alloc, text.as_str())
 }
 
-/// Whether two trees print one text. Trees that are the same, spans aside, do; well-formed trees that do are the same.
+/// Returns whether two trees print the same text. Trees that are equal, spans aside, do; well-formed trees that do are
+/// equal, spans aside.
 pub fn print_alike<S, T>(
     alloc: Global,
     one: &ParsedExpr<S>,
@@ -37,9 +36,9 @@ pub fn print_alike<S, T>(
     Ok(text == other_text)
 }
 
-/// A text without faults, written anew; the new text spells the same tree. None where the text has faults: it spells no
-/// tree, or `regex` refuses one of its patterns.
-pub fn formatted(alloc: Global, text: &str) -> Result<Option<String>, AllocError>
+/// Returns a text as its tree prints, which spells the same tree. Returns `None` if the text has faults: it spells no
+/// tree, or `regex` rejects one of its patterns.
+pub fn format_text(alloc: Global, text: &str) -> Result<Option<String>, AllocError>
     ensures alike { IfOk result (λ found. IfSome found (λ new. SpellAlike text.now (string_bytes new))) }
     ensures refused { IfOk result (λ found. IfNone found (IsRefused text.now)) }
 {

@@ -3,8 +3,8 @@ use Rattle.std.specs.Prelude.{◌==◌}
 use Rattle.std.proofs.lemmas.Bool.{eqb-true}
 use Rattle.filterset_language.specs.Views.{tree_of}
 use Rattle.filterset_grammar.specs.Printing.{printed}
-use Rattle.reading_back.proofs.ComingBack.{is_refused, spell_alike}
-use Rattle.reading_back.proofs.formatted.Goals as goal
+use Rattle.calling.proofs.ComingBack.{is_refused, spell_alike}
+use Rattle.calling.proofs.formatting.format_text.Goals as goal
 
 is_nil : {A : Type 0} (xs : List A) → length xs ≡ 0 → xs ≡ []
 is_nil [] e = refl

@@ -6,8 +6,8 @@ use Rattle.filterset_grammar.specs.Printing.{printed}
 use Rattle.filterset_language.specs.Parsed.{Comes, HasRefusedBodies}
 use Rattle.filterset_language.specs.declared.parsing.parse.Parsed.{Parsed}
 use Rattle.filterset_faults.specs.declared.span.SourceSpan.{SourceSpan}
-use Rattle.reading_back.specs.ReadingBack.{ComesBack}
-use Rattle.reading_back.proofs.read_back.Goals as goal
+use Rattle.calling.specs.Formatting.{ComesBack}
+use Rattle.calling.proofs.formatting.read_back.Goals as goal
 
 from_ok : {T E : Type 0} (P Q : T → Type 0) (r : Result T E) → IfOk r P → ((x : T) → P x → Q x) → IfOk r Q
 from_ok P Q (Ok x) h f = f x h
