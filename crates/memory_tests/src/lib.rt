@@ -1,9 +1,20 @@
-//! Tests of calls that are refused memory: each answers as it does with memory, or says that it is out of memory.
+//! Tests of calls that may run out of memory: each returns what it returns with memory, or an error that says so, and
+//! leaves what it borrows unchanged.
 //!
-//! Expected values follow from the rules in docs/, none from what the program says. A test whose name ends in
-//! `_or_wants_memory` passes where a call is out of memory too, since a script refuses each request in turn.
+//! `scripts/refusals.sh` runs the tests whose names end in `_or_wants_memory`, refusing each request for memory in turn.
+//! Expected values follow from the rules in docs/, and none is taken from what the library returns.
 #![tactic(auto)]
 
-mod judging;
 #[cfg(test)]
-mod memory;
+mod copies;
+#[cfg(test)]
+mod filtersets;
+#[cfg(test)]
+mod matchers;
+mod refusals;
+#[cfg(test)]
+mod returning;
+#[cfg(test)]
+mod support;
+#[cfg(test)]
+mod trees;

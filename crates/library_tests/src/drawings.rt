@@ -1,0 +1,52 @@
+//! Faults that no program reports: spans past the end of the text, and none.
+use filterset_drawing::{Color, Source, draw, fault_json};
+use filterset_faults::{ParseSingleError, SourceSpan};
+use std::alloc::{AllocError, Global};
+use std::test::Fail;
+
+/// Draws a fault under `all()`.
+fn drawing(alloc: Global, fault: &ParseSingleError) -> Result<String, AllocError> {
+    let source = Source::new(alloc, "here", "all()", Color::Never)?;
+    let mut drawing = String::new(alloc);
+    draw(&mut drawing, alloc, &source, fault)?;
+    Ok(drawing)
+}
+
+#[test]
+fn draws_spans_past_the_end_and_none(rt: HostRuntime) -> Result<(), Fail> {
+    for (fault, wanted) in [
+        (
+            ParseSingleError::ExpectedEndOfExpression(SourceSpan::new(3, 9)),
+            "error: ExpectedEndOfExpression: expected end of expression
+ --> here:1:4
+  |
+1 | all()
+  |    ^^ unparsed input
+",
+        ),
+        (
+            ParseSingleError::UnsupportedExpression(SourceSpan::new(9, 9)),
+            "error: UnsupportedExpression: unsupported expression
+ --> here:1:6
+  |
+1 | all()
+  |      ^ contained an unsupported expression
+",
+        ),
+        (
+            ParseSingleError::Unknown,
+            "error: Unknown: unknown parsing error\n",
+        ),
+    ] {
+        let drawing = drawing(rt.alloc(), &fault)?;
+        assert!(rt; drawing.as_str() == wanted, "{drawing}");
+    }
+    let source = Source::new(rt.alloc(), "here", "x", Color::Never)?;
+    let json = fault_json(rt.alloc(), &source, 7, &ParseSingleError::Unknown)?;
+    let json = json.to_string(rt.alloc())?;
+    let wanted =
+        "{\"code\":\"Unknown\",\"column\":null,\"help\":null,\"label\":null,\"length\":null,\"line\":null,\
+        \"offset\":null,\"origin\":\"here\",\"text\":7}";
+    assert!(rt; json.as_str() == wanted, "{json}");
+    Ok(())
+}

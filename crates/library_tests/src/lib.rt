@@ -1,0 +1,16 @@
+//! Tests of public calls where no clause, row or transcript says enough.
+//!
+//! Expected values follow from the rules in docs/, and none is taken from what the library returns.
+#![tactic(auto)]
+
+#[cfg(test)]
+mod deep;
+#[cfg(test)]
+mod drawings;
+mod equality;
+#[cfg(test)]
+mod groups;
+#[cfg(test)]
+mod matchers;
+#[cfg(test)]
+mod support;

@@ -1,0 +1,140 @@
+#!/usr/bin/env python3
+"""Runs the shell sessions in examples/transcripts/, and compares what the built programs write with what they show.
+
+    scripts/transcripts.py [--programs FOLDER] [PAGE..]
+
+A session is a block ```console of a page. `$ ` begins a command, which `> ` continues on the next line. Below it are the
+lines that it writes on standard output, then those of standard error, each after `! `, then its status, if that is not
+0, as `[2]`. `(no line break)` follows a line without a line feed.
+
+bash runs the commands of a page in order, with `set -o pipefail`, in a new folder that has the files of examples/ and
+of crates/filterset_command/data. `filterset` is the program for people if it has arguments, and else the one that reads
+a record; `rt ci` builds both. With --programs FOLDER they are FOLDER/filterset_command and FOLDER/filterset_cli.
+
+The last line is 'N passed, M failed', by commands. The status is 1 if one failed.
+"""
+
+import re
+import shutil
+import subprocess
+import sys
+import tempfile
+from dataclasses import dataclass, field
+from pathlib import Path
+
+TOP = Path(__file__).resolve().parent.parent
+DATA = "crates/filterset_command/data"
+BUILT = {name: TOP / "crates" / name / "out" / name for name in ("filterset_command", "filterset_cli")}
+
+FILTERSET = """\
+#!/bin/bash
+if [ $# -gt 0 ]; then exec -a filterset '{filterset_command}' "$@"; else exec '{filterset_cli}'; fi
+"""
+
+
+@dataclass
+class Step:
+    """A command of a page, and the lines that the page shows below it."""
+
+    page: Path
+    line: int
+    command: str
+    shown: list = field(default_factory=list)
+
+
+def steps_of(page):
+    """The commands of a page."""
+    steps, inside = [], False
+    for number, line in enumerate(page.read_text(errors="surrogateescape").split("\n"), 1):
+        if line in {"```console", "```"}:
+            inside = line == "```console"
+        elif inside and line.startswith("$ "):
+            steps.append(Step(page, number, line[2:]))
+        elif inside and re.match(r">( |$)", line) and not steps[-1].shown:
+            steps[-1].command += "\n" + line[2:]
+        elif inside:
+            steps[-1].shown.append(line)
+    return steps
+
+
+def lines_of(written):
+    """The lines of what a program wrote."""
+    if not written:
+        return []
+    text = written.decode(errors="surrogateescape")
+    return text[:-1].split("\n") if text.endswith("\n") else [*text.split("\n"), "(no line break)"]
+
+
+def script_of(steps, room):
+    """A script that runs the commands, and keeps what each writes and its status."""
+    parts = ["set -o pipefail"]
+    for i, step in enumerate(steps):
+        parts.append(f"{{ {step.command}\n}} > {room}/{i}.out 2> {room}/{i}.err\necho $? > {room}/{i}.status")
+    return "\n".join(parts) + "\n"
+
+
+def written_by(room, i):
+    """What a page shows of the i-th command, or nothing if it was not run to its end."""
+    status = room / f"{i}.status"
+    if not status.is_file():
+        return None
+    lines = lines_of((room / f"{i}.out").read_bytes())
+    lines += ["! " + line for line in lines_of((room / f"{i}.err").read_bytes())]
+    number = status.read_text().strip()
+    return lines if number == "0" else [*lines, f"[{number}]"]
+
+
+def run(page, programs):
+    """Runs the commands of a page. Returns how many passed, and how many failed."""
+    steps = steps_of(page)
+    with tempfile.TemporaryDirectory() as made:
+        room, where, tools = (Path(made) / name for name in ("kept", "work", "bin"))
+        for folder in (room, where, tools):
+            folder.mkdir()
+        for file in [*(TOP / "examples").glob("*.*"), *(TOP / DATA).iterdir()]:
+            shutil.copy(file, where)
+        (tools / "filterset").write_text(FILTERSET.format(**programs))
+        (tools / "filterset").chmod(0o755)
+        environment = {"PATH": f"{tools}:/usr/local/bin:/usr/bin:/bin", "LC_ALL": "C.UTF-8", "HOME": made}
+        ran = subprocess.run(["bash", "-c", script_of(steps, room)], cwd=where, env=environment, timeout=600,
+                             stdin=subprocess.DEVNULL, capture_output=True, check=False)
+        failed = sum(not compare(step, written_by(room, i), ran.stderr) for i, step in enumerate(steps))
+    return len(steps) - failed, failed
+
+
+def compare(step, written, said):
+    """Returns whether a command wrote what its page shows; if not, prints both."""
+    if written == step.shown:
+        return True
+    print(f"transcripts: {step.page.relative_to(TOP)}:{step.line}: FAILED: $ {step.command}")
+    if written is None:
+        print(f"  it was not run: {said.decode(errors='replace').strip()[:300]}")
+    else:
+        at = next(i for i, pair in enumerate(zip([*step.shown, None], [*written, None])) if pair[0] != pair[1])
+        wanted, found = ([*lines, "(nothing more)"][at] for lines in (step.shown, written))
+        print(f"  line {at + 1} is {found!r}, and not {wanted!r}")
+    return False
+
+
+def main(arguments):
+    programs = BUILT
+    if arguments[:1] == ["--programs"] and len(arguments) > 1:
+        programs = {name: Path(arguments[1]).resolve() / name for name in BUILT}
+        arguments = arguments[2:]
+    if any(word.startswith("-") for word in arguments):
+        print(__doc__, file=sys.stderr)
+        return 2
+    passed, failed = 0, 0
+    for program in (program for program in programs.values() if not program.is_file()):
+        print(f"transcripts: there is no {program}: run rt ci first")
+        failed += 1
+    if not failed:
+        pages = [Path(word).resolve() for word in arguments] or sorted((TOP / "examples/transcripts").glob("*.md"))
+        for counts in (run(page, programs) for page in pages):
+            passed, failed = passed + counts[0], failed + counts[1]
+    print(f"{passed} passed, {failed} failed")
+    return 1 if failed or not passed else 0
+
+
+if __name__ == "__main__":
+    sys.exit(main(sys.argv[1:]))
