@@ -1,5 +1,4 @@
--- The equality of faults is one: it says exactly that they are the same, spans and texts included. Tools of the proofs: no
--- public clause cites them.
+-- The equality test of faults is true exactly of equal faults. Only proofs cite this file.
 use Rattle.std.specs.Prelude.{◌≡◌, ℕ, ◌==◌, ◌&&◌, true, List, Option, Some, None, refl}
 use Rattle.std.specs.Bool.{Decides}
 use Rattle.std.specs.Str.{bytes_eq}

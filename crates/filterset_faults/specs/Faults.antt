@@ -1,4 +1,4 @@
--- What stands in the table of faults: code, span, label and help.
+-- The table of faults: code, span, label and help.
 use Rattle.std.specs.Prelude.{List, ℕ, codes, ◌++◌, Option, Some, None}
 use Rattle.filterset_glob.specs.FaultTexts.{glob_fault_text}
 use Rattle.filterset_faults.specs.Texts.{reason_text}

@@ -1,4 +1,4 @@
--- Sets of positions in a text, one truth value a position.
+-- Sets of positions in a text, with one truth value for each position.
 use Rattle.std.specs.Prelude.{◌≡◌, ℕ, Bool, true, false, List, ◌++◌, length}
 use Rattle.std.specs.List.{slice_index_or}
 

@@ -1,5 +1,4 @@
--- Characters by their signs, in the position of their numbers. All signs named so are ASCII, so a sign is one byte of
--- UTF-8 too.
+-- Names for characters: `sign "["` is the number of `[`. All are ASCII, so the number is also the byte.
 use Rattle.std.specs.Prelude.{ℕ, List, [], ◌∷◌, Bool, false, ◌==◌, ◌||◌, codes}
 use Prim.Native.String.{String}
 

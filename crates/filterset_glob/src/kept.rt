@@ -1,5 +1,5 @@
-//! What is kept while the branches of a group are passed. The frame of the matcher's function that keeps it is on the
-//! stack once for each group around a token, so the sets are in a box, and none of this is made part of that function.
+//! The two sets of positions that the matcher keeps while it passes the branches of a group. The matcher has one frame on
+//! the stack for each group around a token. To keep that frame small, the sets are boxed and nothing here is inlined.
 
 ghost use Rattle.std.specs.Prelude.{◌≡◌, ℕ, ◌+◌, ◌↔◌, ◌⊎◌, false, length, replicate, IfOk};
 ghost use Rattle.filterset_glob.specs.Positions.{Holds};
@@ -9,17 +9,17 @@ use crate::steps::Steps;
 use std::alloc::{AllocError, Global};
 use std::mem::swap;
 
-/// Two sets of positions of the same text.
+/// Positions before and after the branches of a group.
 #[derive(Drop)]
 pub(crate) struct KeptPositions {
-    /// The positions before the group, where each branch begins.
+    /// The positions before the group, where every branch starts.
     before: Positions,
-    /// The positions after the branches so far.
+    /// The positions after the branches that were passed.
     after: Positions,
 }
 
 impl KeptPositions {
-    /// What is kept before the first branch.
+    /// Keeps these positions as those before the group.
     #[cold]
     #[inline(never)]
     pub(crate) fn new(
@@ -32,11 +32,11 @@ impl KeptPositions {
         ensures steps { steps.new.count ≡ steps.old.count + length positions.now }
     {
         let before = positions.try_clone(alloc, steps)?;
-        let after = positions.none_of_them(alloc)?;
+        let after = positions.make_empty(alloc)?;
         Ok(Box::new(alloc, KeptPositions { before, after })?)
     }
 
-    /// Makes `positions` those before the group.
+    /// Sets `positions` to those before the group, to pass the next branch.
     #[inline(never)]
     pub(crate) fn begin(&self, positions: &mut Positions, steps: &mut Steps)
         requires { length positions.old ≡ length self.now.before }
@@ -46,7 +46,7 @@ impl KeptPositions {
         positions.set(&self.before, steps);
     }
 
-    /// Adds the positions after one more branch.
+    /// Adds the positions after a branch.
     #[inline(never)]
     pub(crate) fn add(&mut self, positions: &Positions, steps: &mut Steps)
         requires { length self.old.after ≡ length positions.now }
@@ -58,7 +58,7 @@ impl KeptPositions {
         self.after.join(positions, steps);
     }
 
-    /// Makes `positions` those after the branches. The sets are exchanged, and no position is read or written.
+    /// Sets `positions` to those after the branches, by swapping the sets.
     #[inline(never)]
     pub(crate) fn end(&mut self, positions: &mut Positions)
         ensures { positions.new ≡ self.old.after }

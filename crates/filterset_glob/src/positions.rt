@@ -1,4 +1,4 @@
-//! A set of positions in a text, one bit a position.
+//! Sets of positions in a text, with one bit for each position.
 
 ghost use Rattle.std.specs.Prelude.{◌≡◌, ℕ, ◌+◌, ◌-◌, ◌*◌, ◌/◌, ◌^◌, ◌<◌, ◌≤◌, ◌↔◌, ◌⊎◌, ◌∷◌, false, true, List, [], Bool, length, take, replicate, slice_index, IfNone, IfOk, IfSome, IsOk, IsTrue};
 ghost use Rattle.filterset_glob.specs.Positions.{Holds, Moves};
@@ -13,15 +13,15 @@ use crate::{word, words};
 use std::alloc::{AllocError, Global};
 use std::marker::Model;
 
-/// The positions of a text that a matcher has reached. Each call of the matcher that reads, copies, writes, joins or moves
-/// positions counts them, except `holds_last`, which looks at the last one alone.
+/// The positions of a text that the matcher has reached. Every method that reads or writes all positions counts a step for
+/// each.
 #[derive(Drop)]
 pub(crate) struct Positions {
-    /// How many positions the text has.
+    /// The number of positions of the text.
     count: usize,
-    /// The first 64 of them, the lowest bit for the first. Bits after the last position may be anything.
+    /// The first 64 positions, the lowest bit for the first. Bits after the last position may be anything.
     first: u64,
-    /// The others, 64 a word.
+    /// The other positions, 64 in each word.
     later: Vec<u64>,
 }
 
@@ -34,20 +34,20 @@ impl Model for Positions {
 }
 
 impl Positions {
-    /// The set of no position of the same text.
+    /// Returns the empty set, for the same text.
     #[inline(always)]
-    pub(crate) fn none_of_them(&self, alloc: Global) -> Result<Positions, AllocError>
+    pub(crate) fn make_empty(&self, alloc: Global) -> Result<Positions, AllocError>
         ensures none { IfOk result (λ none. none ≡ replicate (length self.now) false) }
         ensures no_memory { length self.now ≤ 64 → IsOk result }
     {
         Ok(Positions {
             count: self.count,
             first: 0,
-            later: words::none(alloc, self.later.len())?,
+            later: words::make_empty(alloc, self.later.len())?,
         })
     }
 
-    /// The set of the first position alone, for a text of so many characters.
+    /// Returns the set of the first position, for a text of `last` characters.
     pub(crate) fn start(alloc: Global, last: usize) -> Result<Positions, AllocError>
         requires { last + 1 < 2 ^ 64 }
         ensures start { IfOk result (λ positions. positions ≡ true ∷ replicate last false) }
@@ -56,11 +56,11 @@ impl Positions {
         Ok(Positions {
             count: last + 1,
             first: 1,
-            later: words::none(alloc, last / 64)?,
+            later: words::make_empty(alloc, last / 64)?,
         })
     }
 
-    /// A copy of the set.
+    /// Copies the set.
     pub(crate) fn try_clone(
         &self,
         alloc: Global,
@@ -78,7 +78,7 @@ impl Positions {
         })
     }
 
-    /// Makes the set the other one, of the same text.
+    /// Sets the positions to those of another set for the same text.
     pub(crate) fn set(&mut self, other: &Positions, steps: &mut Steps)
         requires { length self.old ≡ length other.now }
         ensures same { self.new ≡ other.now }
@@ -89,7 +89,7 @@ impl Positions {
         self.later.copy_from_slice(&other.later);
     }
 
-    /// The word whose bits are these positions, if a word has so many: for texts of up to 63 characters.
+    /// Returns the set as one word, if its text has at most 63 characters.
     #[inline(always)]
     pub(crate) fn word(&self) -> Option<u64>
         ensures short { IfSome result (λ _. length self.now ≤ 64) }
@@ -103,7 +103,7 @@ impl Positions {
         }
     }
 
-    /// Makes the set the bits of this word.
+    /// Sets the positions to the bits of this word.
     #[inline(always)]
     pub(crate) fn set_word(&mut self, word: u64, steps: &mut Steps)
         requires { length self.old ≤ 64 }
@@ -115,19 +115,19 @@ impl Positions {
         self.first = word;
     }
 
-    /// This word with these positions.
+    /// Returns the union of this word and the set.
     #[inline(always)]
-    pub(crate) fn joined_word(&self, word: u64, steps: &mut Steps) -> u64
+    pub(crate) fn unite_word(&self, word: u64, steps: &mut Steps) -> u64
         requires { length self.now ≤ 64 }
         ensures joined { (i : ℕ) → Holds (positions_of (length self.now) (result ∷ [])) i
             ↔ (Holds (positions_of (length self.now) (word ∷ [])) i ⊎ Holds self.now i) }
         ensures steps { steps.new.count ≡ steps.old.count + length self.now }
     {
         steps.add(self.count); // each position is joined
-        word::joined(word, self.first)
+        word::unite(word, self.first)
     }
 
-    /// Adds the positions of the other set.
+    /// Adds the positions of another set for the same text.
     pub(crate) fn join(&mut self, other: &Positions, steps: &mut Steps)
         requires { length self.old ≡ length other.now }
         ensures length { length self.new ≡ length self.old }
@@ -135,11 +135,11 @@ impl Positions {
         ensures steps { steps.new.count ≡ steps.old.count + length self.old }
     {
         steps.add(self.count); // each position is joined
-        self.first = word::joined(self.first, other.first);
+        self.first = word::unite(self.first, other.first);
         words::join(&mut self.later, &other.later);
     }
 
-    /// Adds each position after the lowest.
+    /// Adds all positions after the lowest.
     pub(crate) fn fill(&mut self, steps: &mut Steps)
         ensures length { length self.new ≡ length self.old }
         ensures filled { (j : ℕ) → j < length self.old → Holds self.new j → (i : ℕ) × (i ≤ j) × Holds self.old i }
@@ -147,11 +147,11 @@ impl Positions {
         ensures steps { steps.new.count ≡ steps.old.count + length self.old }
     {
         steps.add(self.count); // each position is looked at for the lowest
-        self.first = word::filled(self.first, false);
+        self.first = word::fill_up(self.first, false);
         words::fill(&mut self.later, word::has(self.first, 63));
     }
 
-    /// Adds each position after a slash that is after the lowest position.
+    /// Adds the positions after slashes, from the lowest position on.
     pub(crate) fn add_behind_slashes(&mut self, text: &Text, steps: &mut Steps)
         requires { length self.old ≡ length text.now + 1 }
         ensures length { length self.new ≡ length self.old }
@@ -172,7 +172,7 @@ impl Positions {
         }
     }
 
-    /// Moves each position after the next character, where the token takes that character.
+    /// Moves each position over the next character. Removes the position if the token does not admit the character.
     #[inline(always)]
     pub(crate) fn step_over(&mut self, text: &mut Text, token: &GlobToken, steps: &mut Steps)
         requires { length self.old ≡ length text.old + 1 }
@@ -186,15 +186,16 @@ impl Positions {
         ensures steps { steps.new.count ≡ steps.old.count + length self.old }
     {
         steps.add(self.count); // each position is moved
-        let kept = words::kept(self.first, text, token);
-        self.first = word::shifted(kept, 0);
+        let kept = words::keep_first(self.first, text, token);
+        self.first = word::shift_up(kept, 0);
         words::step_over(&mut self.later, text, token, word::highest(kept));
     }
 
-    /// Moves a position that is plainly alone over several tokens at once: over the first of them, and on as long as each
-    /// takes the next character. Returns how many tokens that were. If the first does not take its character, it is one
-    /// token, and no position is left. If there is plainly no position to begin with, it is all of them. It is 0, and
-    /// nothing moves, if there may be several positions, or the one is the end of the text.
+    /// Moves a single position over as many of the tokens as admit the next characters. Returns the number of tokens:
+    ///
+    /// - 1 if the first token does not admit its character; the set is then empty.
+    /// - all tokens if the set is found to be empty, as in `is_none`.
+    /// - 0 if there may be several positions, or the position is at the end of the text; the set is then unchanged.
     #[inline(always)]
     pub(crate) fn run_over(&mut self, text: &Text, tokens: &[GlobToken], steps: &mut Steps) -> usize
         requires long { length self.old ≡ length text.now + 1 }
@@ -203,7 +204,7 @@ impl Positions {
         ensures length { length self.new ≡ length self.old }
         ensures short { result ≤ length tokens.now }
         ensures moved { Moves (Matches (tokens_of (take result tokens.now))) text.now self.old self.new }
-        // Each position is counted, and a position that is alone as often as it is moved.
+        // Each position counts, and a single position as often as it moves.
         ensures counted { steps.old.count + length self.old ≤ steps.new.count }
         ensures exactly { (i : ℕ) → Holds self.old i → steps.new.count ≡ steps.old.count + length self.old + result }
         ensures once { result ≡ 0 → steps.new.count ≡ steps.old.count + length self.old }
@@ -218,13 +219,13 @@ impl Positions {
             return 0;
         }
         let position = word::lowest(word);
-        if word != word::only(position) || position as usize >= text.len() {
+        if word != word::mask_of(position) || position as usize >= text.len() {
             return 0;
         }
         if !words::are_none(&self.later) {
             return 0;
         }
-        let run = text.run(position as usize, tokens);
+        let run = text.count_admitted(position as usize, tokens);
         self.first = 0;
         if run == 0 {
             steps.add(1); // the position, whose next character is not taken
@@ -235,7 +236,7 @@ impl Positions {
         run
     }
 
-    /// Whether it is plain that no position is left.
+    /// Returns true only if the set is empty. For a text of more than 63 characters it returns false.
     #[inline(always)]
     pub(crate) fn is_none(&self, steps: &mut Steps) -> bool
         ensures none { IsTrue result → (i : ℕ) → ¬ Holds self.now i }
@@ -245,7 +246,7 @@ impl Positions {
         self.first == 0 && self.later.is_empty()
     }
 
-    /// Whether the last position is held.
+    /// Returns whether the set has the last position. Counts no step.
     #[inline(always)]
     pub(crate) fn holds_last(&self) -> bool
         ensures { IsTrue result ↔ Holds self.now (length self.now - 1) }
@@ -260,7 +261,7 @@ impl Positions {
         steps.add(self.count);
     }
 
-    /// Whether this position is held.
+    /// Returns whether the set has this position.
     #[inline(always)]
     fn holds(&self, position: usize) -> bool
         requires { position < length self.now }
@@ -280,10 +281,10 @@ impl Positions {
         ensures held { (i : ℕ) → Holds self.new i ↔ ((i ≡ position) ⊎ Holds self.old i) }
     {
         if position < 64 {
-            self.first = word::with(self.first, position);
+            self.first = word::insert(self.first, position);
         } else {
             let word = &mut self.later[position / 64 - 1];
-            *word = word::with(*word, position % 64);
+            *word = word::insert(*word, position % 64);
         }
     }
 }

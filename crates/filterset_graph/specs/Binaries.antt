@@ -1,4 +1,4 @@
--- The names and the ids of the test binaries.
+-- Names and ids of test binaries.
 use Rattle.std.specs.Prelude.{◌≡◌, ◌≢◌, ◌++◌, ◌||◌, List, Option, Some, None, IsTrue, Contains, codes, if◌then◌else◌, string_bytes}
 use Rattle.std.specs.Str.{bytes_eq}
 use Rattle.filterset_graph.specs.declared.package.BuildTargetId.{BuildTargetId}

@@ -1,4 +1,4 @@
--- Walks along edges between positions, which rows of positions give. Tools of the proofs: no public clause cites them.
+-- Walks along edges between positions, given as rows of positions. Only proofs cite this file.
 use Rattle.std.specs.Prelude.{◌≡◌, ◌<◌, List, ℕ, Bool, Some, Contains, slice_get}
 use Rattle.std.specs.declared.vec.Vec.{Vec}
 use Rattle.std.specs.declared.alloc.Global.{Global}

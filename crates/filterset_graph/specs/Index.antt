@@ -1,4 +1,4 @@
--- What a graph keeps beside its packages.
+-- The index of a graph.
 use Rattle.std.specs.Prelude.{◌≡◌, ◌↔◌, ◌⊎◌, Contains, List, ℕ, Option, Some, length, map, slice_get, Vec}
 use Rattle.std.specs.Global.{Global}
 use Rattle.std.specs.BTreeMap.{BTreeMap, get}

@@ -1,4 +1,4 @@
--- Packages that marks name by their positions.
+-- Packages that are marked by position.
 use Rattle.std.specs.Prelude.{◌≡◌, ◌↔◌, List, ℕ, Bool, Some, Vec, slice_get}
 use Rattle.std.specs.Global.{Global}
 use Rattle.filterset_graph.specs.declared.package.PackageMetadata.{PackageMetadata}

@@ -1,4 +1,4 @@
--- Packages, their links and the paths between them.
+-- Packages, their links, and paths of links.
 use Rattle.std.specs.Prelude.{◌≡◌, ◌<◌, List, ℕ, Some, All, Contains, length, map, slice_get}
 use Rattle.filterset_graph.specs.declared.package.PackageMetadata.{PackageMetadata}
 use Rattle.filterset_graph.specs.Walks.{Follows}

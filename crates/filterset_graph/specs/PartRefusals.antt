@@ -1,5 +1,4 @@
--- What a refusal says of the ids alone, of the links alone, and of the links of one package. Tools of the proofs: no
--- public clause cites them.
+-- What an error says about the ids, about the links, and about the links of one package. Only proofs cite this file.
 use Rattle.std.specs.Prelude.{◌≡◌, List, ℕ, Some, None, take, slice_get}
 use Rattle.std.specs.BTreeMap.{BTreeMap}
 use Rattle.filterset_graph.specs.declared.package.PackageMetadata.{PackageMetadata}

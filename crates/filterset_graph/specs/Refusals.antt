@@ -1,4 +1,4 @@
--- What a refusal of a list of packages says.
+-- What an error says about the packages.
 use Rattle.std.specs.Prelude.{List}
 use Rattle.filterset_graph.specs.declared.package.PackageMetadata.{PackageMetadata}
 use Rattle.filterset_graph.specs.declared.refusal.GraphRefusal.{GraphRefusal}

@@ -1,4 +1,4 @@
--- Lists of which each is related to the one before it, and positions that truth values mark.
+-- Lists in which each element is related to the one before it, and positions that are marked.
 use Rattle.std.specs.Prelude.{◌≡◌, List, [], ◌∷◌, ℕ, Bool, true, Some, slice_get}
 
 -- from a, each of the list is related to the one before it, and the last is b

@@ -1,4 +1,4 @@
--- What a compiled pattern is, and where its matches lie.
+-- Compiled patterns, and the places of their matches.
 use Rattle.std.specs.Prelude.{◌≡◌, ℕ, ◌≤◌, Bool, List, Option, Some, None, IsSomeAnd, true, false, chars, string_bytes}
 use Rattle.std.specs.Str.Iter.{HasSubslice}
 use Rattle.regex_hir.specs.Meaning.{meaning}

@@ -1,4 +1,4 @@
--- What stands in each text that a glob matches, and which globs begin with any text.
+-- The literals that every match of a glob contains, and globs that begin with any text.
 use Rattle.std.specs.Prelude.{◌≡◌, ℕ, Bool, true, false, List, ◌++◌, encode_utf8_all}
 use Rattle.filterset_glob.specs.Matching.{Matches}
 use Rattle.filterset_glob.specs.Tokens.{Tokens, deep_first, next_token, star}

@@ -1,4 +1,4 @@
--- What a matcher of names is, and what it matches.
+-- Matchers of names as values, and what they match.
 use Rattle.std.specs.Prelude.{◌≡◌, ℕ, Bool, List, chars}
 use Rattle.std.specs.Str.Iter.{HasSubslice}
 use Rattle.filterset_glob.specs.Matching.{Matches}

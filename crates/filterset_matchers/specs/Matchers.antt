@@ -1,4 +1,4 @@
--- A `NameMatcher` as the matcher that it stands for.
+-- The value of a `NameMatcher`.
 use Rattle.std.specs.Prelude.{string_bytes}
 use Rattle.filterset_matchers.specs.Matcher as matcher
 use Rattle.filterset_matchers.specs.Matcher.{Matcher}

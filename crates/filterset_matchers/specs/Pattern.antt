@@ -1,4 +1,4 @@
--- What a pattern of the crate `regex` is, and where it matches, told by its text alone.
+-- Patterns of the crate `regex`, and their matches.
 use Rattle.std.specs.Prelude.{◌≡◌, ◌↔◌, ℕ, ◌<◌, ◌≤◌, false, List, map, IsTrue, is_some, IsSomeAnd, IsCharBoundary, IsUtf8, get_or, chars, string_bytes}
 use Rattle.std.specs.List.{list_any, Any}
 use Rattle.std.specs.Str.Iter.{HasSubslice}

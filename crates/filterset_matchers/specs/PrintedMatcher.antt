@@ -1,4 +1,4 @@
--- What a matcher prints.
+-- How a matcher prints.
 use Rattle.std.specs.Prelude.{ℕ, List, [], ◌∷◌, ◌++◌, codes, Bool, false, cond, ◌==◌, ◌&&◌, nat_le, chars, encode_utf8, if◌then◌else◌}
 use Rattle.std.specs.List.{flat_map}
 use Rattle.std.specs.Fmt.{digits}

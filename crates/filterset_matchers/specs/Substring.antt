@@ -1,4 +1,4 @@
--- Where a text stands in another.
+-- Occurrences of a text in another.
 use Rattle.std.specs.Prelude.{◌≡◌, ℕ, List, length, take, drop}
 
 -- the text has these bytes from this position on

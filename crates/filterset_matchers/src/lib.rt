@@ -1,4 +1,4 @@
-//! Matchers of names: how they are kept, what they match, and what they print.
+//! Matchers of names: what they match and what they print.
 #![tactic(auto)]
 
 mod matcher;

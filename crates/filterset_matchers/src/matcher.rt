@@ -14,35 +14,35 @@ mod substring;
 pub use glob::GlobMatcher;
 pub use pattern::{PatternMatcher, PatternRefusal, PatternRegex};
 
-/// How a name is matched. `implicit` tells whether the text that the matcher was read from has no sign before it.
+/// A matcher of names. `implicit` is true if the matcher was parsed from a text without a sign.
 ///
-/// Two matchers are equal where they are of one variant and hold the same: an `Equal` or a `Contains` in both fields,
-/// a `Glob` in its tokens, whatever its text and `implicit` are, and a `Regex` in the text of its pattern.
+/// Two matchers are equal if their variants and fields are. Of globs only the tokens are compared, and of patterns the
+/// texts.
 ///
-/// It implements `Drop`, so a field is read by reference, and none is moved out of it.
+/// The type implements `Drop`, so no field can be moved out of it.
 #[derive(Debug)]
 pub enum NameMatcher {
-    /// The name is the value.
+    /// Matches the name that is equal to the value.
     Equal {
         value: String,
         implicit: bool,
     },
-    /// The value stands somewhere in the name.
+    /// Matches names that contain the value.
     Contains {
         value: String,
         implicit: bool,
     },
-    /// The glob matches the whole name.
+    /// Matches names that the glob matches as a whole.
     Glob {
         glob: GenericGlob,
-        /// Equality passes over this field.
+        /// Equality ignores this field.
         implicit: bool,
     },
-    /// The pattern matches somewhere in the name.
+    /// Matches names in which the pattern has a match.
     Regex(Rc<PatternRegex>),
 }
 
-// Written out, so that a proof of who lets a matcher go has one call, and not a branch a variant.
+// Implemented by hand: a derived `Drop` is proved again, variant by variant, in each function that drops a matcher.
 impl Drop for NameMatcher {
     fn drop(self) {
         match self {
@@ -63,7 +63,7 @@ impl Drop for NameMatcher {
     }
 }
 
-/// What is compared of the two is the same: of globs their tokens alone.
+/// Compares all fields, but of globs only the tokens.
 impl PartialEq for NameMatcher {
     ghost use Rattle.std.specs.Cmp.{partial_equiv_from_equiv};
     ghost use Rattle.filterset_matchers.specs.Equality.{same_matcher, same_matcher_equiv};
@@ -113,9 +113,8 @@ impl NameMatcher {
     ghost use Rattle.filterset_matchers.specs.Matcher.{MatchesName, ByComparing};
     ghost use Rattle.filterset_matchers.specs.Matchers.{matcher_of};
 
-    /// Whether the matcher matches the input.
-    ///
-    /// For `Equal` and `Contains` it always succeeds. The only error is out of memory.
+    /// Returns whether the matcher matches the input. The only error is out of memory; `Equal` and `Contains` always
+    /// succeed.
     pub fn is_match(&self, alloc: Global, input: &str) -> Result<bool, AllocError>
         ensures matches { IfOk result (λ matched. IsTrue matched ↔ MatchesName (matcher_of self.now) input.now) }
         ensures no_memory { ByComparing (matcher_of self.now) → IsOk result }
@@ -131,7 +130,7 @@ impl NameMatcher {
         }
     }
 
-    /// A copy, equal in every field; a pattern is shared. The only error is out of memory.
+    /// Copies the matcher. A pattern is shared. The only error is out of memory.
     pub fn try_clone(&self, alloc: Global) -> Result<NameMatcher, AllocError>
         ensures { IfOk result (λ copy. matcher_of copy ≡ matcher_of self.now) }
     {

@@ -1,4 +1,4 @@
-//! What matchers print.
+//! Printing of matchers.
 ghost use Rattle.std.specs.Prelude.{◌≡◌, ◌<◌, ◌≤◌, ◌↔◌, ◌++◌, All, IsTrue, Some, chars, cond, length, slice_index, take};
 ghost use Rattle.std.specs.Fmt.{WritesOnOk};
 ghost use Rattle.std.specs.List.{flat_map};
@@ -10,11 +10,11 @@ use crate::matcher::NameMatcher;
 use std::fmt;
 use std::fmt::Display;
 
-/// The sign (`=`, `~`, `#`, or none where the matcher is implicit) and the text; a pattern stands between slashes.
+/// Prints the sign (`=`, `~`, `#`, or none if the matcher is implicit) and the text, or a pattern between slashes.
 ///
-/// In a text `/`, `)`, `,`, `\`, TAB, LF and CR print as `\/`, `\)`, `\,`, `\\`, `\t`, `\n` and `\r`, all else from
-/// U+0020 to U+007E as it is, and the rest as `\u{h}`. So does the first character of a text without a sign, where it
-/// is U+0020, `=`, `~` or `#`. In a pattern each `/` prints as `\/`, and all else as it is.
+/// In a text `/`, `)`, `,`, `\`, TAB, LF and CR print as `\/`, `\)`, `\,`, `\\`, `\t`, `\n` and `\r`. Other characters from
+/// U+0020 to U+007E print as they are, and all others as `\u{h}`; so does a U+0020, `=`, `~` or `#` that begins a text
+/// without a sign. In a pattern `/` prints as `\/`, and all other characters as they are.
 impl fmt::Display for NameMatcher {
     ghost output = { λ m. Some (printed_matcher (matcher_of m)) };
 
@@ -38,7 +38,7 @@ impl fmt::Display for NameMatcher {
     }
 }
 
-/// Writes a value, after its sign or without one.
+/// Writes a value, after its sign unless it is implicit.
 fn write_signed<W: fmt::Write>(
     f: &mut fmt::Formatter<W>,
     sign: &str,
@@ -60,7 +60,7 @@ fn write_signed<W: fmt::Write>(
     write_value(f, rest.as_str())
 }
 
-/// Writes the characters of a value, each run of those that print as they are at once.
+/// Writes a value, in runs of characters that print as they are.
 fn write_value<W: fmt::Write>(f: &mut fmt::Formatter<W>, value: &str) -> fmt::Result
     ensures { WritesOnOk W.write_str_gives f.old result (printed_value value.now) f.new }
 {
@@ -76,7 +76,7 @@ fn write_value<W: fmt::Write>(f: &mut fmt::Formatter<W>, value: &str) -> fmt::Re
     Ok(())
 }
 
-/// What stands at the front of a value and prints as it is, and the rest.
+/// Splits a value after its leading characters that print as they are.
 fn split_plain(value: &str) -> (&str, &str)
     ensures whole { value.now ≡ result.0.now ++ result.1.now }
     ensures plain { All IsPlain result.0.now }
@@ -85,7 +85,7 @@ fn split_plain(value: &str) -> (&str, &str)
     (&value[..count], &value[count..])
 }
 
-/// How many bytes at the front are characters that print as they are: all, up to the first that does not.
+/// Returns the number of leading bytes that print as they are.
 fn plain_len(value: &[u8]) -> usize
     ensures within { result ≤ length value.now }
     ensures plain { All IsPlain (take result value.now) }
@@ -99,7 +99,7 @@ fn plain_len(value: &[u8]) -> usize
     value.len()
 }
 
-/// Whether a byte is a character that prints as it is.
+/// Returns whether a byte is a character that prints as it is.
 fn is_plain(b: u8) -> bool
     ensures { IsTrue result ↔ IsPlain b }
 {
@@ -115,7 +115,7 @@ fn write_pattern<W: fmt::Write>(f: &mut fmt::Formatter<W>, pattern: &str) -> fmt
     f.write_str("/")
 }
 
-/// Writes the characters of a pattern, each run of those between slashes at once.
+/// Writes a pattern, in runs between its slashes.
 fn write_slashed<W: fmt::Write>(f: &mut fmt::Formatter<W>, pattern: &str) -> fmt::Result
     ensures { WritesOnOk W.write_str_gives f.old result (flat_map printed_slash (chars pattern.now)) f.new }
 {
@@ -128,7 +128,7 @@ fn write_slashed<W: fmt::Write>(f: &mut fmt::Formatter<W>, pattern: &str) -> fmt
     f.write_str(rest)
 }
 
-/// A character of a value, escaped where it has to be.
+/// A character of a value. Displays escaped, if it must be.
 #[derive(Clone, Copy)]
 struct EscapedChar(char);
 
@@ -151,7 +151,7 @@ impl fmt::Display for EscapedChar {
     }
 }
 
-/// The first character of a value that prints without a sign.
+/// The first character of a value without a sign. Displays escaped, if it must be.
 #[derive(Clone, Copy)]
 struct FirstChar(char);
 

@@ -1,6 +1,6 @@
-//! Patterns of which it is known where each match lies: at the start of a text, at its end, or in a text that has some
-//! literal. They are compiled by crates that `regex` is made of, within the limits of `Regex::new`, and one DFA searches for
-//! them. A `Regex` would weigh more ways to search, which costs more than names of tests give back.
+//! Patterns whose matches are all at the start of a text, all at its end, or all in texts that contain some literal. The
+//! parts of `regex` compile them, within the limits of `Regex::new`, and one DFA searches for them. A `Regex` would choose
+//! among more ways to search, which costs more than it saves on names of tests.
 ghost use Rattle.std.specs.Prelude.{◌≡◌, ◌↔◌, List, ℕ, IfOk, IfSome, IsTrue, vec_len};
 ghost use Rattle.regex.specs.Patterns.{literal};
 ghost use Rattle.regex_hir.specs.Meaning.{meaning};
@@ -15,26 +15,26 @@ use regex_vm::PikeVm;
 use std::alloc::{AllocError, Global};
 use std::fmt;
 
-/// How many bytes a compiled pattern may take: as many as of a `Regex`.
+/// The limit on the bytes of a compiled pattern, which is that of a `Regex`.
 const SIZE_LIMIT: usize = 10 << 20;
 
-/// A shorter literal stands in too many texts.
+/// The least length of a literal, in bytes. Too many texts contain a shorter one.
 pub(super) const LEAST_LITERAL: usize = 3;
 
-/// Where each match of a pattern lies.
+/// The place of all matches of a pattern.
 #[derive(Debug, Drop)]
 pub(super) enum Place {
     /// At the start of the text.
     Start,
     /// At the end of the text.
     End,
-    /// Somewhere in a text that has this literal.
+    /// In a text that contains this literal.
     Literal(String),
 }
 
-/// Where each match of the tree lies, where that is found. The only error is out of memory.
+/// Returns the place of all matches of the tree, if it finds one. The only error is out of memory.
 ///
-/// Nothing is found of a tree that may match the empty text elsewhere than at the start: that may lie within a character.
+/// For a tree that may match the empty text it finds only the start, since such a match may split a character.
 pub(super) fn place_of(alloc: Global, tree: &Hir) -> Result<Option<Place>, AllocError>
     ensures { IfOk result (λ found. IfSome found (IsPlaceOf (meaning tree.now))) }
 {
@@ -47,7 +47,7 @@ pub(super) fn place_of(alloc: Global, tree: &Hir) -> Result<Option<Place>, Alloc
     if is_anchored_end(tree) {
         return Ok(Some(Place::End));
     }
-    match first_literal(tree) {
+    match find_first_literal(tree) {
         Some(literal) if literal.len() >= LEAST_LITERAL => {
             let literal = String::from_str(alloc, literal)?;
             Ok(Some(Place::Literal(literal)))
@@ -56,8 +56,8 @@ pub(super) fn place_of(alloc: Global, tree: &Hir) -> Result<Option<Place>, Alloc
     }
 }
 
-/// The literal with which the tree begins, where it is a sequence that begins with one.
-fn first_literal(tree: &Hir) -> Option<&str>
+/// Returns the literal that the tree begins with, if it is a sequence that begins with one.
+fn find_first_literal(tree: &Hir) -> Option<&str>
     ensures { IfSome result (λ literal. HasLiteral (meaning tree.now) literal.now) }
 {
     let Hir::Concat(parts) = tree else {
@@ -69,7 +69,7 @@ fn first_literal(tree: &Hir) -> Option<&str>
     literal_of(&parts[0])
 }
 
-/// The text that the tree is, where it is a literal.
+/// Returns the text of the tree, if it is a literal.
 fn literal_of(tree: &Hir) -> Option<&str>
     ensures { IfSome result (λ text. meaning tree.now ≡ literal text.now) }
 {
@@ -79,7 +79,7 @@ fn literal_of(tree: &Hir) -> Option<&str>
     }
 }
 
-/// A pattern that is compiled, and where each of its matches lies.
+/// A compiled pattern, and the place of its matches.
 #[derive(Drop)]
 pub(super) struct Compiled {
     dfa: Dfa,
@@ -87,8 +87,8 @@ pub(super) struct Compiled {
 }
 
 impl Compiled {
-    /// The tree of a pattern with so many groups, the whole pattern among them, compiled. It is an error if it is too
-    /// large, or out of memory.
+    /// Compiles the tree of a pattern with so many groups, counting the whole pattern. It is an error if the result is
+    /// too large, or out of memory.
     pub(super) fn new(
         alloc: Global,
         tree: &Hir,
@@ -103,7 +103,7 @@ impl Compiled {
         Ok(Compiled { dfa, place })
     }
 
-    /// What searches for the pattern. The only error is out of memory.
+    /// Returns a matcher for the pattern. The only error is out of memory.
     pub(super) fn matcher(&self, alloc: Global) -> Result<CompiledMatcher<'_>, AllocError>
         ensures { IfOk result (λ matcher. matcher.compiled.now ≡ self.now) }
     {
@@ -127,7 +127,7 @@ impl fmt::Debug for Compiled {
     }
 }
 
-/// A walk through a text by the DFA, whose states are made when it comes to them.
+/// A walk of the DFA over a text. The states of the DFA are made when the walk comes to them.
 #[derive(Drop)]
 enum Walk {
     /// From the start of a text.
@@ -136,12 +136,12 @@ enum Walk {
     Backward(Reverse),
 }
 
-/// What searches for a compiled pattern.
+/// A matcher for a compiled pattern.
 #[derive(Drop)]
 pub(super) struct CompiledMatcher<'p> {
     pub(super) compiled: &'p Compiled,
     walk: Walk,
-    /// What searches where the DFA gives up, since its states are too many.
+    /// Searches if the DFA gives up, because it has too many states.
     stepwise: PikeVm,
     ghost walks: { WalksBy walk compiled.now.dfa },
     ghost states: { stepwise.states ≡ vec_len compiled.now.dfa.nfa.states },
@@ -150,7 +150,7 @@ pub(super) struct CompiledMatcher<'p> {
 impl CompiledMatcher<'_> {
     ghost use Rattle.filterset_matchers.specs.Pattern.{HasMatch};
 
-    /// Whether the pattern matches anywhere in the input.
+    /// Returns whether the pattern has a match in the input.
     pub(super) fn is_match(&mut self, input: &str) -> bool
         ensures found { (pattern : List ℕ) → IsCompiledOf pattern self.old.compiled.now
             → IsTrue result ↔ HasMatch pattern input.now }
@@ -161,14 +161,14 @@ impl CompiledMatcher<'_> {
                 return false;
             }
         }
-        match self.walked(input) {
+        match self.walk(input) {
             Some(found) => found,
-            None => self.found_stepwise(input),
+            None => self.search_stepwise(input),
         }
     }
 
-    /// Whether the pattern matches anywhere in the input, unless the DFA gives up.
-    fn walked(&mut self, input: &str) -> Option<bool>
+    /// Walks the DFA over the input. Returns whether the pattern has a match, or `None` if the DFA gives up.
+    fn walk(&mut self, input: &str) -> Option<bool>
         ensures found { IfSome result (λ found. (pattern : List ℕ) → IsCompiledOf pattern self.old.compiled.now
             → IsTrue found ↔ HasMatch pattern input.now) }
         ensures same { self.new.compiled.now ≡ self.old.compiled.now }
@@ -177,22 +177,22 @@ impl CompiledMatcher<'_> {
         let dfa = &self.compiled.dfa;
         match (&self.compiled.place, &mut self.walk) {
             (Place::End, Walk::Backward(reverse)) => {
-                begun(reverse.find_start(dfa, text, 0, text.len()))
+                answer_of_start(reverse.find_start(dfa, text, 0, text.len()))
             }
             (Place::Start, Walk::Forward(forward)) => {
-                ended(forward.find_end(dfa, text, 0, text.len(), true, true))
+                answer_of_end(forward.find_end(dfa, text, 0, text.len(), true, true))
             }
             (Place::Literal(_), Walk::Forward(forward)) => {
-                ended(forward.find_end(dfa, text, 0, text.len(), false, true))
+                answer_of_end(forward.find_end(dfa, text, 0, text.len(), false, true))
             }
             _ => None,
         }
     }
 
-    /// The same, from one state of the NFA to the next.
+    /// Returns whether the pattern has a match in the input, by the NFA.
     #[cold]
     #[inline(never)]
-    fn found_stepwise(&mut self, input: &str) -> bool
+    fn search_stepwise(&mut self, input: &str) -> bool
         ensures found { (pattern : List ℕ) → IsCompiledOf pattern self.old.compiled.now
             → IsTrue result ↔ HasMatch pattern input.now }
         ensures same { self.new.compiled.now ≡ self.old.compiled.now }
@@ -203,8 +203,8 @@ impl CompiledMatcher<'_> {
     }
 }
 
-/// Whether there is a match, where the search for its end ended so, and did not give up.
-fn ended(end: End) -> Option<bool>
+/// Returns whether a search for the end of a match found one, or `None` if it gave up.
+fn answer_of_end(end: End) -> Option<bool>
     ensures { result ≡ told_by_end end }
 {
     match end {
@@ -214,8 +214,8 @@ fn ended(end: End) -> Option<bool>
     }
 }
 
-/// Whether there is a match, where the search for its start ended so, and did not give up.
-fn begun(start: Start) -> Option<bool>
+/// Returns whether a search for the start of a match found one, or `None` if it gave up.
+fn answer_of_start(start: Start) -> Option<bool>
     ensures { result ≡ told_by_start start }
 {
     match start {

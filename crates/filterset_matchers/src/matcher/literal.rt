@@ -1,4 +1,4 @@
-//! The longest literal of a glob: what stands in each text that the glob matches.
+//! The longest literal of a glob. Every text that the glob matches contains it.
 ghost use Rattle.std.specs.Prelude.{◌≡◌, ◌⊎◌, [], IfOk, string_bytes};
 ghost use Rattle.filterset_glob.specs.Tokens.{tokens_of};
 ghost use Rattle.filterset_matchers.specs.Literals.{StandsInEach};
@@ -7,9 +7,12 @@ use filterset_glob::GlobToken;
 use std::alloc::{AllocError, Global};
 use std::mem::swap;
 
-/// The longest run of literals among the tokens, outside groups: it stands in each text that the tokens match. Where
-/// there is no literal it is empty. The only error is out of memory.
-pub(super) fn longest_literal(alloc: Global, tokens: &[GlobToken]) -> Result<String, AllocError>
+/// Returns the longest run of literals among the tokens, outside of groups. It is empty if there is no literal. The only
+/// error is out of memory.
+pub(super) fn find_longest_literal(
+    alloc: Global,
+    tokens: &[GlobToken],
+) -> Result<String, AllocError>
     ensures { IfOk result (λ literal. StandsInEach (tokens_of tokens.now) (string_bytes literal)) }
 {
     let mut longest = String::new(alloc);
@@ -24,7 +27,7 @@ pub(super) fn longest_literal(alloc: Global, tokens: &[GlobToken]) -> Result<Str
     Ok(longest)
 }
 
-/// Keeps the longer one as the longest, and begins an empty run.
+/// Ends a run: keeps it if it is longer than `longest`, and empties it.
 fn end_run(longest: &mut String, run: &mut String)
     ensures kept { string_bytes longest.new ≡ string_bytes longest.old ⊎ string_bytes longest.new ≡ string_bytes run.old }
     ensures begun { string_bytes run.new ≡ [] }

@@ -1,6 +1,6 @@
-//! A pattern's text beside what is searched for it, and what searches. A pattern that is a choice of few texts, as `slow`,
-//! `net::tcp` or `unix|windows`, has no regex: the texts are searched for. Another of which it is known where each match
-//! lies is compiled, and not weighed as a regex is.
+//! Patterns and their matchers. A pattern that is a choice of few texts, such as `net::tcp` or `unix|windows`, needs no
+//! regex: the texts are searched for. A pattern whose matches all have a known place is compiled to one DFA. Any other
+//! pattern has a `Regex`.
 ghost use Rattle.std.specs.Prelude.{◌≡◌, ◌≢◌, ◌↔◌, [], ◌∷◌, All, IsTrue, IsUtf8, IfErr, IfOk, IfSome, List, ℕ, map, string_bytes};
 ghost use Rattle.regex.specs.declared.error.Error.TheVariants as regex;
 ghost use Rattle.regex_hir.specs.Meaning.{meaning};
@@ -18,12 +18,12 @@ use std::alloc::{AllocError, Global};
 use std::fmt;
 use std::marker::Model;
 
-/// Why there is no regex for a text.
+/// The reason why a text is not a pattern.
 #[derive(Debug, Drop)]
 pub enum PatternRefusal {
-    /// `regex`, or a crate that it is made of, refused the text, and was not out of memory.
+    /// `regex`, or a part of it, rejected the text, for a reason other than out of memory.
     NotBuilt,
-    /// There was not enough memory.
+    /// Out of memory.
     OutOfMemory(AllocError),
 }
 
@@ -37,23 +37,22 @@ impl From<AllocError> for PatternRefusal {
     }
 }
 
-/// More texts than this are not searched for one after the other.
+/// The most texts that are searched for one by one.
 const MAX_TEXTS: usize = 4;
 
-/// What is searched for a pattern.
+/// The way to search for a pattern.
 #[derive(Debug, Drop)]
 enum Searched {
-    /// One of these texts, of which the pattern is a choice.
+    /// The pattern is a choice of these texts.
     Texts(Vec<String>),
-    /// What was compiled of the pattern, of which it is known where each match lies.
-    ///
-    /// This and a regex are large, and stand in boxes: a function clears the room of all its locals whenever it is called.
+    /// The compiled pattern, whose matches have a known place. This and a `Regex` are large, and boxed because a function
+    /// zeroes its locals on entry.
     Compiled(Box<Compiled>),
-    /// The regex that was built of the pattern.
+    /// The regex of the pattern.
     Regex(Box<Regex>),
 }
 
-/// A pattern: its text, and what is searched for it. Contracts see the text.
+/// A pattern: its text, and the way to search for it. Contracts see the text.
 #[derive(Debug)]
 pub struct PatternRegex {
     pattern: String,
@@ -72,21 +71,20 @@ impl Model for PatternRegex {
 }
 
 impl PatternRegex {
-    /// The pattern of this text, which does not come back where it is refused.
+    /// Compiles a pattern. An error drops the text.
     ///
-    /// The grammar of `regex` reads the text of each pattern. That `regex` builds each text that its grammar reads is
-    /// not promised. Nothing is built of a text that is found to be a choice of few texts. A text of which each character
-    /// stands for itself is refused only where memory is.
+    /// The grammar of `regex` accepts the text of every pattern, but `regex` may reject a text that its grammar accepts. A
+    /// text without meta characters is rejected only if it is out of memory.
     pub fn new(alloc: Global, pattern: String) -> Result<PatternRegex, PatternRefusal>
         ensures text { IfOk result (λ p. p ≡ string_bytes pattern) }
         ensures read { IfOk result (λ p. IsPattern p) }
         ensures plain { IsPlain (string_bytes pattern) → IfErr result (λ refused. refused ≢ refusal.NotBuilt) }
     {
-        let searched = searched_for(alloc, pattern.as_str())?;
+        let searched = choose_search(alloc, pattern.as_str())?;
         Ok(PatternRegex { pattern, searched })
     }
 
-    /// The text.
+    /// Returns the text of the pattern.
     pub fn as_str(&self) -> &str
         ensures text { result.now ≡ self.now }
         ensures read { IsPattern self.now }
@@ -94,10 +92,10 @@ impl PatternRegex {
         self.pattern.as_str()
     }
 
-    /// Whether the pattern matches anywhere in the input. The only error is out of memory.
+    /// Returns whether the pattern has a match in the input. The only error is out of memory.
     ///
-    /// Unless the pattern is a choice of few texts, it makes a matcher for this one question. [`PatternRegex::matcher`] is
-    /// for whoever asks more often.
+    /// Unless the pattern is a choice of few texts, this makes a matcher for one search. To search more than once, call
+    /// [`PatternRegex::matcher`].
     #[cold]
     #[inline(never)]
     pub fn is_match(&self, alloc: Global, input: &str) -> Result<bool, AllocError>
@@ -110,7 +108,7 @@ impl PatternRegex {
         Ok(matcher.is_match(input))
     }
 
-    /// Whether the pattern matches anywhere in the input, where that is told without a matcher: of a pattern that is known
+    /// Returns whether the pattern has a match in the input, or `None` if that needs a matcher: if the pattern is not known
     /// to be a choice of few texts.
     pub fn is_match_at_once(&self, input: &str) -> Option<bool>
         ensures { IfSome result (λ found. IsTrue found ↔ HasMatch self.now input.now) }
@@ -121,7 +119,7 @@ impl PatternRegex {
         }
     }
 
-    /// What searches for the pattern. The only error is out of memory.
+    /// Returns a matcher for the pattern. The only error is out of memory.
     #[cold]
     #[inline(never)]
     pub fn matcher(&self, alloc: Global) -> Result<PatternMatcher<'_>, AllocError>
@@ -141,7 +139,7 @@ impl PatternRegex {
     }
 }
 
-// Written out, so that a proof of who lets a pattern go has one call, and not the drop of each field.
+// Implemented by hand: a derived `Drop` is proved again in each function that drops a pattern.
 impl Drop for PatternRegex {
     fn drop(self) {
         let PatternRegex {
@@ -151,31 +149,31 @@ impl Drop for PatternRegex {
     }
 }
 
-/// What is searched for a pattern of the text.
-fn searched_for(alloc: Global, text: &str) -> Result<Searched, PatternRefusal>
+/// Chooses the way to search for a pattern.
+fn choose_search(alloc: Global, text: &str) -> Result<Searched, PatternRefusal>
     ensures searched { IfOk result (λ searched. IsSearchedFor text.now searched) }
     ensures plain { IsPlain text.now → IfErr result (λ refused. refused ≢ refusal.NotBuilt) }
 {
     if is_plain(text) {
-        return Ok(Searched::Texts(only_text(alloc, text)?));
+        return Ok(Searched::Texts(copy_alone(alloc, text)?));
     }
     if is_worth_reading(text) {
-        if let Some(searched) = searched_for_tree(alloc, text)? {
+        if let Some(searched) = choose_search_by_tree(alloc, text)? {
             return Ok(searched);
         }
     }
-    Ok(Searched::Regex(built_of(alloc, text)?))
+    Ok(Searched::Regex(build_regex(alloc, text)?))
 }
 
-/// This text alone. The only error is out of memory.
-fn only_text(alloc: Global, text: &str) -> Result<Vec<String>, AllocError>
+/// Copies the text, as the only one of a list. The only error is out of memory.
+fn copy_alone(alloc: Global, text: &str) -> Result<Vec<String>, AllocError>
     ensures { IfOk result (λ texts. map string_bytes texts.items ≡ text.now ∷ []) }
 {
     let only = String::from_str(alloc, text)?;
     Ok(vec![in alloc; only]?)
 }
 
-/// Whether each character of the text stands for itself in a pattern.
+/// Returns whether no character of the text is a meta character.
 fn is_plain(text: &str) -> bool
     ensures { IsTrue result ↔ IsPlain text.now }
 {
@@ -187,13 +185,13 @@ fn is_plain(text: &str) -> bool
     true
 }
 
-/// Whether it is worth the time to read the tree of a pattern of the text before a regex is built of it: it may be a
-/// choice of few texts, or show where each match lies. What the pattern matches does not hang on the answer.
+/// Returns whether to parse the text before a regex is built: it may be a choice of few texts, or its matches may have a
+/// known place. The answer does not change what the pattern matches.
 fn is_worth_reading(text: &str) -> bool {
     text.starts_with("^") || text.ends_with("$") || begins_with_literal(text) || may_be_choice(text)
 }
 
-/// Whether each of the first characters of the text stands for itself in a pattern.
+/// Returns whether no meta character is among the first `LEAST_LITERAL` characters of the text.
 fn begins_with_literal(text: &str) -> bool {
     !text
         .chars()
@@ -201,7 +199,7 @@ fn begins_with_literal(text: &str) -> bool {
         .any(|character| is_meta_character(character))
 }
 
-/// Whether the text has none of the characters that seldom stand in a choice of few texts.
+/// Returns whether the text has none of the characters that are rare in a choice of few texts.
 fn may_be_choice(text: &str) -> bool {
     !text.bytes().any(|byte| {
         matches!(
@@ -211,13 +209,13 @@ fn may_be_choice(text: &str) -> bool {
     })
 }
 
-/// What is searched for a pattern of the text, where its tree shows that it is a choice of few texts, or where each match
-/// lies.
+/// Parses the text, and chooses the way to search for it, if it is a choice of few texts or its matches have a known
+/// place.
 ///
-/// It is not inlined, so that a plain text does not pay for the room of a parser.
+/// It is not inlined, so that a text without meta characters does not pay for the locals of a parser.
 #[cold]
 #[inline(never)]
-fn searched_for_tree(alloc: Global, text: &str) -> Result<Option<Searched>, PatternRefusal>
+fn choose_search_by_tree(alloc: Global, text: &str) -> Result<Option<Searched>, PatternRefusal>
     ensures { IfOk result (λ found. IfSome found (IsSearchedFor text.now)) }
 {
     let (tree, groups) = tree_of(alloc, text)?;
@@ -225,12 +223,12 @@ fn searched_for_tree(alloc: Global, text: &str) -> Result<Option<Searched>, Patt
         return Ok(Some(Searched::Texts(texts)));
     }
     match place_of(alloc, &tree)? {
-        Some(place) => Ok(Some(Searched::Compiled(compiled_of(alloc, &tree, groups, place)?))),
+        Some(place) => Ok(Some(Searched::Compiled(compile_tree(alloc, &tree, groups, place)?))),
         None => Ok(None),
     }
 }
 
-/// The tree as which the grammar reads the text, and how many groups it has, that of the whole pattern included.
+/// Parses the text. Returns its tree and the number of its groups, counting the whole pattern.
 fn tree_of(alloc: Global, text: &str) -> Result<(Hir, u32), PatternRefusal>
     ensures { IfOk result (λ read. IsReadAs text.now read.0) }
 {
@@ -243,8 +241,8 @@ fn tree_of(alloc: Global, text: &str) -> Result<(Hir, u32), PatternRefusal>
     }
 }
 
-/// The tree of a pattern with so many groups compiled, where each match lies at the place.
-fn compiled_of(
+/// Compiles the tree of a pattern with so many groups, whose matches have this place.
+fn compile_tree(
     alloc: Global,
     tree: &Hir,
     groups: u32,
@@ -263,8 +261,7 @@ fn compiled_of(
     }
 }
 
-/// The texts of which a pattern that is read as this tree is a choice, where that is found to be so and they are few. The
-/// only error is out of memory.
+/// Returns the texts that the tree is a choice of, if they are found and few. The only error is out of memory.
 fn texts_of_tree(alloc: Global, tree: &Hir) -> Result<Option<Vec<String>>, AllocError>
     ensures { IfOk result (λ found. IfSome found (λ texts. (pattern : List ℕ) → IsReadAs pattern tree.now
         → IsChoice pattern (map string_bytes texts.items))) }
@@ -275,7 +272,7 @@ fn texts_of_tree(alloc: Global, tree: &Hir) -> Result<Option<Vec<String>>, Alloc
     }
 }
 
-/// The needles as texts, where each is UTF-8. The only error is out of memory.
+/// Copies the needles as texts, if all are UTF-8. The only error is out of memory.
 fn texts_of_needles(alloc: Global, needles: &[Vec<u8>]) -> Result<Option<Vec<String>>, AllocError>
     ensures same { IfOk result (λ found. IfSome found (λ texts. map string_bytes texts.items ≡ map (λ n. n.items) needles.now)) }
     ensures utf8 { IfOk result (λ found. IfSome found (λ texts. All IsUtf8 (map string_bytes texts.items))) }
@@ -290,10 +287,10 @@ fn texts_of_needles(alloc: Global, needles: &[Vec<u8>]) -> Result<Option<Vec<Str
     Ok(Some(texts))
 }
 
-/// The regex of a text. It is not inlined, since a regex is large.
+/// Builds the regex of a text. It is not inlined, since a regex is large.
 #[cold]
 #[inline(never)]
-fn built_of(alloc: Global, text: &str) -> Result<Box<Regex>, PatternRefusal>
+fn build_regex(alloc: Global, text: &str) -> Result<Box<Regex>, PatternRefusal>
     ensures { IfOk result (λ regex. IsBuiltOf text.now regex.value) }
 {
     match Regex::new(alloc, text) {
@@ -305,7 +302,7 @@ fn built_of(alloc: Global, text: &str) -> Result<Box<Regex>, PatternRefusal>
     }
 }
 
-/// Why there is no regex: out of memory is no fault of the text.
+/// Converts an error of `regex`. Out of memory is not a fault of the text.
 fn refusal_of(error: regex::Error) -> PatternRefusal
     ensures { result ≡ refusal.NotBuilt ↔ error ≢ regex.OutOfMemory }
 {
@@ -315,7 +312,7 @@ fn refusal_of(error: regex::Error) -> PatternRefusal
     }
 }
 
-/// Two patterns are equal where their texts are.
+/// Compares the texts.
 impl PartialEq for PatternRegex {
     ghost use Rattle.std.proofs.Common.{rules};
     ghost use Rattle.std.specs.Cmp.Rules.{comparing};
@@ -337,22 +334,21 @@ impl Eq for PatternRegex {
     ghost laws = { Prim.search (comparing, rules) };
 }
 
-/// What searches for a pattern, for whoever asks more than once. Unless the pattern is a choice of few texts, making it
-/// costs as much as ten to a hundred searches, and it keeps its room from one search to the next. Contracts see the
-/// pattern's text.
+/// A matcher for a pattern. Unless the pattern is a choice of few texts, making it costs as much as ten to a hundred
+/// searches. It reuses its memory from search to search. Contracts see the pattern's text.
 pub struct PatternMatcher<'p> {
     pattern: &'p PatternRegex,
     search: Search<'p>,
 }
 
-/// What searches for a pattern.
+/// The search of a matcher.
 #[derive(Drop)]
 enum Search<'p> {
-    /// A search for one of these texts, of which the pattern is a choice.
+    /// The pattern is a choice of these texts.
     Texts(&'p [String]),
-    /// A walk by what was compiled of the pattern.
+    /// The matcher of the compiled pattern.
     Compiled(Box<CompiledMatcher<'p>>),
-    /// The matcher of the regex that was built of the pattern.
+    /// The matcher of the regex.
     Regex(Box<Matcher<'p>>),
 }
 
@@ -367,7 +363,7 @@ impl<'p> Model for PatternMatcher<'p> {
     ghost invariant = { λ m. SearchesFor m.pattern.now m.search };
 }
 
-// Written out, as for `PatternRegex`.
+// Implemented by hand, as for `PatternRegex`.
 impl Drop for PatternMatcher<'_> {
     fn drop(self) {
         let PatternMatcher {
@@ -378,14 +374,14 @@ impl Drop for PatternMatcher<'_> {
 }
 
 impl<'p> PatternMatcher<'p> {
-    /// Whether this searches for that pattern.
+    /// Returns whether this matcher is of that pattern, by its text.
     pub fn is_of(&self, pattern: &PatternRegex) -> bool
         ensures { IsTrue result ↔ self.now ≡ pattern.now }
     {
         self.pattern.as_str() == pattern.as_str()
     }
 
-    /// Whether the pattern matches anywhere in the input.
+    /// Returns whether the pattern has a match in the input.
     pub fn is_match(&mut self, input: &str) -> bool
         ensures found { IsTrue result ↔ HasMatch self.old input.now }
         ensures same { self.new ≡ self.old }
@@ -398,7 +394,7 @@ impl<'p> PatternMatcher<'p> {
     }
 }
 
-/// Whether one of the texts stands somewhere in the input.
+/// Returns whether the input contains one of the texts.
 fn contains_any(input: &str, texts: &[String]) -> bool
     ensures { IsTrue result ↔ HasOneOf (map string_bytes texts.now) input.now }
 {

@@ -1,4 +1,4 @@
-//! Searching a text for another. A text of up to 60 bytes is searched faster than by `str::contains`.
+//! A search for a substring. For texts of up to 60 bytes it is faster than `str::contains`.
 ghost use Rattle.std.specs.Prelude.{◌≡◌, ◌↔◌, ◌+◌, ◌-◌, ◌<◌, ◌≤◌, ℕ, IsTrue, length, slice_index};
 ghost use Rattle.std.specs.Int.{bit_at};
 ghost use Rattle.std.specs.Str.Iter.{HasSubslice};
@@ -6,7 +6,7 @@ ghost use Rattle.filterset_matchers.specs.Substring.{StandsAt};
 
 use std::simd::prelude::*;
 
-/// Whether the second text stands somewhere in the first.
+/// Returns whether the text contains the needle.
 pub(super) fn contains(text: &str, needle: &str) -> bool
     ensures { IsTrue result ↔ HasSubslice text.now needle.now }
 {
@@ -23,8 +23,8 @@ pub(super) fn contains(text: &str, needle: &str) -> bool
     let mut from = 0;
     while from < positions {
         let to = positions.min(from + 16);
-        let (first, end) = narrowed(text, needle, ends, from, to);
-        if first < end && stands_between(text, needle, first, end) {
+        let (first, end) = narrow(text, needle, ends, from, to);
+        if first < end && occurs_between(text, needle, first, end) {
             return true;
         }
         from = to;
@@ -32,24 +32,24 @@ pub(super) fn contains(text: &str, needle: &str) -> bool
     false
 }
 
-/// Whether the needle stands at one of these positions, the last of which is not among them.
+/// Returns whether the needle occurs at a position from `from` on and before `to`.
 #[inline(never)]
-fn stands_between(text: &[u8], needle: &[u8], from: usize, to: usize) -> bool
+fn occurs_between(text: &[u8], needle: &[u8], from: usize, to: usize) -> bool
     requires some { 0 < length needle.now }
     requires within { to + length needle.now ≤ length text.now + 1 }
     ensures { IsTrue result ↔ ((k : ℕ) × (from ≤ k) × (k < to) × StandsAt text.now needle.now k) }
 {
     for position in from..to {
-        if stands_at(text, needle, position) {
+        if occurs_at(text, needle, position) {
             return true;
         }
     }
     false
 }
 
-/// Whether the needle stands at this position.
+/// Returns whether the needle occurs at this position.
 #[inline(always)]
-fn stands_at(text: &[u8], needle: &[u8], position: usize) -> bool
+fn occurs_at(text: &[u8], needle: &[u8], position: usize) -> bool
     requires some { 0 < length needle.now }
     requires within { position + length needle.now ≤ length text.now }
     ensures { IsTrue result ↔ StandsAt text.now needle.now position }
@@ -57,12 +57,12 @@ fn stands_at(text: &[u8], needle: &[u8], position: usize) -> bool
     text[position] == needle[0] && &text[position..position + needle.len()] == needle
 }
 
-/// The positions from `from` to `to`, of which there are at most 16, without those at either end where the needle, which
-/// begins and ends in these bytes, does not stand. Where there are no 16 positions before `to`, these are all of them.
+/// Narrows the up to 16 positions from `from` to `to` to those between the first and the last at which the needle may
+/// occur: the text there has the needle's first and last byte, `ends`. If `to` is below 16, it returns all of them.
 ///
-/// The bytes are read before the loop, since the compiler moves no read out of it that some turns may not make.
+/// The caller reads `ends` before its loop: the compiler does not move a read out of a loop if some iterations skip it.
 #[inline(always)]
-fn narrowed(text: &[u8], needle: &[u8], ends: (u8, u8), from: usize, to: usize) -> (usize, usize)
+fn narrow(text: &[u8], needle: &[u8], ends: (u8, u8), from: usize, to: usize) -> (usize, usize)
     requires some { 0 < length needle.now }
     requires within { to + length needle.now ≤ length text.now + 1 }
     requires ends { (ends.0 ≡ slice_index needle.now 0) × (ends.1 ≡ slice_index needle.now (length needle.now - 1)) }
@@ -74,8 +74,8 @@ fn narrowed(text: &[u8], needle: &[u8], ends: (u8, u8), from: usize, to: usize) 
         return (from, to);
     }
     let start = to - 16;
-    let begun = equal_to(&text[start..], ends.0);
-    let ended = equal_to(&text[start + (needle.len() - 1)..], ends.1);
+    let begun = find_equal(&text[start..], ends.0);
+    let ended = find_equal(&text[start + (needle.len() - 1)..], ends.1);
     let both = begun & ended;
     if both == 0 {
         return (to, to);
@@ -85,9 +85,9 @@ fn narrowed(text: &[u8], needle: &[u8], ends: (u8, u8), from: usize, to: usize) 
     (first, end.min(to))
 }
 
-/// Which of the first 16 bytes are this one.
+/// Finds the bytes among the first 16 that are equal to this one, the lowest bit for the first.
 #[inline(always)]
-fn equal_to(bytes: &[u8], byte: u8) -> u64
+fn find_equal(bytes: &[u8], byte: u8) -> u64
     requires { 16 ≤ length bytes.now }
     ensures { (k : ℕ) → k < 16 → (bit_at result k ≡ 1) ↔ (slice_index bytes.now k ≡ byte) }
 {

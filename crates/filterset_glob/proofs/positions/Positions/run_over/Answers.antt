@@ -40,10 +40,10 @@ returns-then-run-eq0-clause-moved c =
     let none : (i : ℕ) → ¬ Has ws i = rw c.deref.ensures.value at (c.are_none.ensures plain) in
     let o = opened n (f ∷ ws) c.args.self.now c.self.view_is in
     let only_p : (i : ℕ) → Holds c.args.self.now i → i ≡ at = λ i h.
-    ⊎_elim (λ p. c.only.ensures.alone i (ap (λ w. bit_at w i) (sym c.if-word-only.false) ∙ p.1)) (λ p. absurd (none p.0 p.2)) (Has-cases f ws i ((o i).0 h).1) in
+    ⊎_elim (λ p. c.mask_of.ensures.alone i (ap (λ w. bit_at w i) (sym c.if-word-mask_of.false) ∙ p.1)) (λ p. absurd (none p.0 p.2)) (Has-cases f ws i ((o i).0 h).1) in
     let (token, first) = first_of_some c.args.tokens.now c.requires.some in
     rw first
-    (moves_stopped (token_of token) c.args.text.now c.args.self.now _ at (c.requires.one token first) only_p (c.run-run.ensures.stopped token first c.if-run-eq0.true)
+    (moves_stopped (token_of token) c.args.text.now c.args.self.now _ at (c.requires.one token first) only_p (c.count_admitted-run.ensures.stopped token first c.if-run-eq0.true)
     (λ i h. ⊎_elim (λ p. omega (arith, p.1, bit_at-zero i)) (λ p. none p.0 p.2) (Has-cases 0 ws i (Has-from_Holds n (0 ∷ ws) i h).1)))
 
 pub hold-requires : goal.hold-requires
@@ -58,14 +58,14 @@ returns-clause-moved c =
     let f = c.self.inside.first in
     let ws = c.self.inside.later.items in
     let at = c.lowest-position.result in
-    let run = c.run-run.result in
+    let run = c.count_admitted-run.result in
     let plain : c.are_none.result ≡ true = search rules in
     let none : (i : ℕ) → ¬ Has ws i = rw c.deref.ensures.value at (c.are_none.ensures plain) in
     let o = opened n (f ∷ ws) c.args.self.now c.self.view_is in
     let only_p : (i : ℕ) → Holds c.args.self.now i → i ≡ at = λ i h.
-    ⊎_elim (λ p. c.only.ensures.alone i (ap (λ w. bit_at w i) (sym c.if-word-only.false) ∙ p.1)) (λ p. absurd (none p.0 p.2)) (Has-cases f ws i ((o i).0 h).1) in
+    ⊎_elim (λ p. c.mask_of.ensures.alone i (ap (λ w. bit_at w i) (sym c.if-word-mask_of.false) ∙ p.1)) (λ p. absurd (none p.0 p.2)) (Has-cases f ws i ((o i).0 h).1) in
     let held_p : Holds c.args.self.now at = (o at).1 (omega (arith, long _ _ c.args.self.now c.self.view_is)) (Has-low f ws at c.lowest-position.ensures.small c.lowest-position.ensures.set) in
     let only_q : (i : ℕ) → Holds c.hold.new.self i → i ≡ at + run = λ i h.
     ⊎_elim (λ e. e) (λ m. absurd (⊎_elim (λ p. omega (arith, p.1, bit_at-zero i)) (λ p. none p.0 p.2) (Has-cases 0 ws i (Has-from_Holds n (0 ∷ ws) i m).1))) ((c.hold.ensures.held i).0 h) in
     moves_alone (tokens_of (take run c.args.tokens.now)) c.args.text.now c.args.self.now c.hold.new.self at run
-    only_p held_p only_q ((c.hold.ensures.held (at + run)).1 (inl refl)) c.run-run.ensures.matched c.run-run.ensures.one_each
+    only_p held_p only_q ((c.hold.ensures.held (at + run)).1 (inl refl)) c.count_admitted-run.ensures.matched c.count_admitted-run.ensures.one_each

@@ -8,9 +8,9 @@ returns-then-is_empty c =
     let none = empty_of c.args.needle.now zero in
     (λ t. ([], c.args.text.now, rw none refl), λ has. refl)
 
-pub returns-then-stands_between : goal.returns-then-stands_between
-returns-then-stands_between c =
-    let found = c.stands_between.ensures.0 c.if-stands_between.true in
+pub returns-then-occurs_between : goal.returns-then-occurs_between
+returns-then-occurs_between c =
+    let found = c.occurs_between.ensures.0 c.if-occurs_between.true in
     let has = stands_somewhere c.as_bytes-text.result.now c.as_bytes-needle.result.now found.0 found.3 in
     (λ t. rw (← c.as_bytes-text.ensures.value, ← c.as_bytes-needle.ensures.value) has, λ h. refl)
 
