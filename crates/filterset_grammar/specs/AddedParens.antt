@@ -1,4 +1,4 @@
--- Trees with parentheses added where an operand could not be read again.
+-- Trees with parentheses added round operands that would not parse back.
 use Rattle.std.specs.Prelude.{All}
 use Rattle.filterset_grammar.specs.Tree.{Joiner, Tree, Not, Union, Join, Parens, Set, Leaf, tree_leaves}
 use Rattle.filterset_grammar.specs.Printing.{IsBasic, IsNoUnion, IsWellFormedLeaf}

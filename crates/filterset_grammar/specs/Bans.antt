@@ -1,4 +1,4 @@
--- Which predicates a filterset of each kind may not hold.
+-- The predicates that are banned from each kind of filterset.
 use Rattle.std.specs.Prelude.{Option, Some, None}
 use Rattle.filterset_faults.specs.declared.kind.BannedPredicateReason.{BannedPredicateReason}
 use Rattle.filterset_faults.specs.declared.kind.BannedPredicateReason.TheVariants.{DefaultInfiniteRecursion, GroupCircularDependency, GroupNotAvailableInDefaultFilter, GroupNotAvailableInArchive, TestNotAvailableInArchive}

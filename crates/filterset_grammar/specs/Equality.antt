@@ -1,5 +1,5 @@
--- When trees are equal: in all that they hold, their spans too. Matchers are equal as `same_compared` says, and so of
--- globs the tokens alone are compared.
+-- When trees are equal: all their parts are, spans included. Matchers are compared by `same_compared`, so globs only by
+-- their tokens.
 use Rattle.std.specs.Prelude.{◌==◌, ◌&&◌, Bool, true, false, []}
 use Rattle.filterset_faults.specs.Span.{offset_of, length_of}
 use Rattle.filterset_faults.specs.declared.span.SourceSpan.{SourceSpan}

@@ -1,5 +1,5 @@
--- The equality of trees is symmetric and transitive where that of their spans is, and an equivalence where that is one.
--- Where equal spans are the same, trees are equal exactly where the same is compared of them.
+-- The equality of trees is symmetric and transitive, or an equivalence, if the equality of their spans is. If equal spans
+-- are the same, trees are equal if and only if what is compared of them is the same.
 use Rattle.std.specs.Prelude.{◌≡◌, ◌==◌, ◌&&◌, Bool, true, false, [], refl}
 use Rattle.std.specs.Bool.{Decides}
 use Rattle.std.specs.Cmp.{IsPartialEquivalence, IsEquivalence, equiv, decided, partial_equiv_from_equiv, unsigned_Decides, on_equiv}

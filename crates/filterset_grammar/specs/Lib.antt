@@ -1,4 +1,4 @@
--- what the language is
+-- the definition of the language
 pub mod Text
 pub mod Tree
 pub mod Equality
@@ -8,5 +8,5 @@ pub mod Grammar
 pub mod Printing
 pub mod AddedParens
 pub mod Bans
--- tools of the proofs of equality
+-- for the proofs of equality
 pub mod EqualityLaws

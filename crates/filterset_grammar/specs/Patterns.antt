@@ -1,4 +1,4 @@
--- The patterns that a tree holds.
+-- The patterns of a tree.
 use Rattle.filterset_matchers.specs.Matcher.{Matcher, Equal, Contains, Glob, Regex}
 use Rattle.filterset_matchers.specs.Pattern.{IsPattern}
 use Rattle.filterset_grammar.specs.Tree as tree

@@ -1,4 +1,4 @@
--- A platform's name with white space round it.
+-- Names of platforms, with white space round them.
 use Rattle.std.specs.Prelude.{◌≡◌, List, ℕ, ◌++◌}
 use Rattle.filterset_grammar.specs.Text.{WhiteSpace}
 use Rattle.filterset_graph.specs.Platforms.{platform_text}

@@ -1,4 +1,4 @@
--- How trees print, and which trees are printed so that they read back.
+-- How trees print, and which of them parse back.
 use Rattle.std.specs.Prelude.{◌≡◌, ◌≢◌, ℕ, List, [], ◌∷◌, ◌++◌, codes, true, false}
 use Rattle.filterset_glob.specs.Signs.{sign}
 use Rattle.filterset_grammar.specs.Text.{ends_in_backslash}

@@ -1,4 +1,4 @@
--- What stands in a text where a fault of it is reported.
+-- What is true of a text where a fault is reported.
 use Rattle.std.specs.Prelude.{◌≡◌, ◌≢◌, ℕ, ◌+◌, ◌≤◌, min, List, [], ◌∷◌, ◌++◌, take, drop, codes, chars, All, IfSome, Option, Some, None, IsCharBoundary, ◌⊎◌}
 use Rattle.std.specs.Prelude as std
 use Rattle.std.specs.List.{Contains}

@@ -1,5 +1,4 @@
--- Tools of the proof that parentheses are added right: the level that an operand has to be of, and what is written of it
--- there.
+-- For the proof that parentheses are added correctly: the level that an operand must have, and what it becomes there.
 use Rattle.filterset_grammar.specs.Tree.{Tree}
 use Rattle.filterset_grammar.specs.Printing.{IsBasic, IsNoUnion}
 use Rattle.filterset_grammar.specs.AddedParens.{IsEnclosedUnless, IsWithParens}

@@ -1,4 +1,4 @@
--- Reading from left to right, and what the parser's functions promise each other. No public contract cites any of this.
+-- Reading from left to right, and what the parser's functions promise each other. No public contract cites this.
 pub mod Front
 pub mod Escapes
 pub mod Seam

@@ -1,4 +1,4 @@
--- The trees that the values of this crate are, without where their parts lie in memory.
+-- Trees as contracts see them, without the places of their parts in memory.
 use Rattle.std.specs.Prelude.{◌≡◌, Bool}
 use Rattle.std.specs.Fn.{Shared, FnReturnsAt}
 use denote.Ref.{Bor}

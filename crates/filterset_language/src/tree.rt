@@ -15,6 +15,7 @@ mod equality;
 mod leaves;
 pub(crate) mod nodes;
 mod parens;
+mod well_formed;
 
 use nodes::{copy_set, enclose, join, negate, unite};
 

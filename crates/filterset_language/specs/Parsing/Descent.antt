@@ -1,4 +1,4 @@
--- Reading whole expressions. What is promised is said by the grammar.
+-- How expressions are read. Public contracts cite the grammar instead.
 use Rattle.std.specs.Prelude.{ℕ, zero, suc, ◌-◌, List, length, take, codes, Bool, true, false, ◌==◌, Option, Some, None, Box, if◌then◌else◌}
 use Rattle.filterset_language.specs.Parsing.Front.{close_len, is_white}
 use Rattle.filterset_language.specs.Parsing.Position.{Position, position, advanced, skip, after}

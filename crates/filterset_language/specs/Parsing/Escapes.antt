@@ -1,4 +1,4 @@
--- Reading an escape. What is promised is said by `Escape`.
+-- How an escape is read. Public contracts cite `Escape` instead.
 use Rattle.std.specs.Prelude.{ℕ, ◌+◌, ◌*◌, List, [], ◌∷◌, nat_lt, ◌&&◌, ◌==◌, Option, Some, None, if◌then◌else◌}
 use Rattle.std.specs.Option.{option_map, option_and_then}
 use lib.Utf8.{scalar}

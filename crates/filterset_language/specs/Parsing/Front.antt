@@ -1,4 +1,4 @@
--- What stands at the front of a text.
+-- What a text begins with.
 use Rattle.std.specs.Prelude.{ℕ, suc, Bool, List, [], ◌∷◌, length, ◌==◌, ◌&&◌, if◌then◌else◌}
 use Rattle.std.specs.Str.{is_utf8, trim_start}
 use Rattle.filterset_glob.specs.Signs.{◌∈◌}

@@ -1,4 +1,4 @@
--- Reading the text of a glob. What is promised is said by `GlobText`.
+-- How the text of a glob is read. Public contracts cite `GlobText` instead.
 use Rattle.std.specs.Prelude.{ℕ, Bool, List, chars, Option, Some, None, Result, Ok, Err}
 use Rattle.filterset_glob.specs.Reading.{reading}
 use Rattle.filterset_glob.specs.Tokens.{Tokens}

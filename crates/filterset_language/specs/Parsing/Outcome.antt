@@ -1,5 +1,5 @@
--- What a reader says whose patterns may be refused: the reading takes each pattern as it is spelled, whatever `regex`
--- says of it, and the reader gives no value where one of them was refused.
+-- What a reader promises although `regex` may reject patterns: the definitions read each pattern as the text spells it,
+-- and the reader returns no value if one was rejected.
 use Rattle.std.specs.Prelude.{◌≡◌, ℕ, suc, ◌+◌, ◌<◌, ◌≤◌, List, ◌++◌, length, All, Option, None, Some, Box, Result, IfOk, codes}
 use Rattle.std.specs.Option.{option_map}
 use Rattle.filterset_grammar.specs.Text.{Body}

@@ -1,4 +1,4 @@
--- Reading the name of a platform. What is promised is said by `Names`.
+-- How the name of a platform is read. Public contracts cite `Names` instead.
 use Rattle.std.specs.Prelude.{List, ℕ, codes, Option, Some, None, if◌then◌else◌}
 use Rattle.std.specs.Str.{is_utf8, trim, bytes_eq}
 use Rattle.filterset_graph.specs.declared.package.BuildPlatform.{BuildPlatform}

@@ -1,4 +1,4 @@
--- Reading from left to right: a position of a text, and what stands there.
+-- Positions in a text, and what follows them.
 use Rattle.std.specs.Prelude.{◌≡◌, ℕ, ◌+◌, List, [], ◌∷◌, length, drop, ◌<◌, ◌≤◌, ◌==◌, Option, Some, None, if◌then◌else◌}
 use Rattle.std.specs.Option.{option_map, option_and_then}
 use Rattle.filterset_grammar.specs.Text.{ends_word}

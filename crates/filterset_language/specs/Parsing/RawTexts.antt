@@ -1,4 +1,4 @@
--- Reading raw texts and bodies of regular expressions. What is promised is said by `Spelled` and `Body`.
+-- How raw texts and bodies of regular expressions are read. Public contracts cite `Spelled` and `Body` instead.
 use Rattle.std.specs.Prelude.{◌≡◌, ℕ, zero, suc, ◌+◌, ◌-◌, ◌<◌, List, [], ◌∷◌, ◌++◌, length, take, not, ◌&&◌, ◌==◌, Option, Some, None, if◌then◌else◌, encode_utf8, codes}
 use Rattle.std.specs.Option.{option_map, option_and_then}
 use Rattle.filterset_glob.specs.Signs.{sign, ◌∈◌}

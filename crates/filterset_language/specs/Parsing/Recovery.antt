@@ -1,4 +1,4 @@
--- What a reader says that goes on after a fault.
+-- What a reader promises that goes on after a fault.
 use Rattle.std.specs.Prelude.{◌≡◌, ℕ, ◌<◌, ◌≤◌, List, length, take, codes, Option, None, Some, IsSome, MatchOption, All, Bool, true, false, Result, IfOk, Vec}
 use Rattle.std.specs.Option.{option_map}
 use Rattle.std.specs.declared.alloc.Global.{Global}

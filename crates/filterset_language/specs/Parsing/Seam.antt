@@ -1,4 +1,4 @@
--- A text, what is left of it, and the position after its blanks.
+-- A text, the rest of it, and the position after its blanks.
 use Rattle.std.specs.Prelude.{◌≡◌, ℕ, ◌+◌, ◌≤◌, List, [], ◌∷◌, length, drop, Bool, true, ◌&&◌, if◌then◌else◌, IsCharBoundary}
 use Rattle.std.specs.Str.{is_utf8}
 use Rattle.filterset_glob.specs.Signs.{◌∈◌}

@@ -1,4 +1,4 @@
--- What reading a whole text gives.
+-- What reading a whole text returns.
 use Rattle.std.specs.Prelude.{◌≡◌, ◌≢◌, ℕ, suc, List, [], ◌∷◌, ◌++◌, ◌⊎◌, length, All, Option, None, Some}
 use Rattle.filterset_language.specs.Parsing.Position.{position}
 use Rattle.filterset_language.specs.Faults.{FaultStands}

@@ -1,4 +1,4 @@
--- Reading words from left to right. What is promised is said by the grammar.
+-- How names and operators are read. Public contracts cite the grammar instead.
 use Rattle.std.specs.Prelude.{ℕ, List, [], ◌∷◌, codes, Option, Some, None, if◌then◌else◌}
 use Rattle.filterset_glob.specs.Signs.{◌∈◌}
 use Rattle.filterset_language.specs.Parsing.Position.{Position, position_of, after, after_word}

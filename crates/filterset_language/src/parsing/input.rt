@@ -67,8 +67,7 @@ impl<'a> Input<'a> {
         SourceSpan::new(self.offset, end.offset - self.offset)
     }
 
-    /// Returns the span of a backslash that begins no escape: two bytes, or one if only one byte follows, or none at the
-    /// end of the text.
+    /// Returns the span of a backslash that begins no escape: as many bytes as follow it, but at most two.
     pub fn backslash(self) -> SourceSpan
         requires { 0 < length self.rest.now }
         ensures { result ≡ span self.entry.offset (min 2 (length self.entry.rest.now - 1)) }
@@ -114,7 +113,7 @@ impl<'a> Input<'a> {
         }
     }
 
-    /// Returns the same position, which knows of the blanks up to `start`, so that they are not skipped one by one again.
+    /// Returns the same position with the blanks up to `start` known, so that they are not skipped one by one again.
     pub fn remember_blanks(self, start: Input<'a>) -> Input<'a>
         requires skipped { position_of start ≡ skip (position_of self) }
         ensures value { position_of result ≡ position_of self.entry }

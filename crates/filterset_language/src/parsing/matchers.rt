@@ -20,7 +20,7 @@ use filterset_matchers::{NameMatcher, PatternRefusal, PatternRegex};
 use std::alloc::{AllocError, Global};
 use std::rc::Rc;
 
-/// The way of matching that a matcher's sign says, or the predicate's own if there is no sign.
+/// How a matcher with this sign matches, or, without a sign, how the predicate does.
 #[derive(Clone, Copy)]
 struct Sign {
     matching: TextMatching,

@@ -51,7 +51,7 @@ pub fn read_joiner(input: Input<'_>) -> Option<(Option<Joiner>, Input<'_>)>
     ))
 }
 
-/// Returns whether an operator of the level of `and` may begin with the first byte. At the end of most levels it may not.
+/// Returns whether an operator of the level of `and` may begin with the first byte. Most levels end where it may not.
 fn may_begin_joiner(text: &[u8]) -> bool
     ensures { result ≡ false → (at : ℕ) → joiner_at (position at text.now) ≡ None }
 {

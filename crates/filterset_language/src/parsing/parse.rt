@@ -66,8 +66,8 @@ impl ParsedExpr {
 
     /// Parses a text, and goes on after each fault.
     ///
-    /// Returns the tree that the text spells, and no fault. If `regex` rejects some of its patterns, returns no tree and
-    /// a fault on each of them. The only error is out of memory.
+    /// Returns the tree that the text spells, and no fault. If `regex` rejects some of its patterns, returns no tree
+    /// and a fault on each of them. The only error is out of memory.
     pub fn parse_with_faults(alloc: Global, input: &str) -> Result<Parsed, AllocError>
         // Without a fault there is a tree, the text spells it, and its patterns are read.
         ensures clean { IfOk result (λ p. p.faults.items ≡ []

@@ -14,8 +14,8 @@ use std::alloc::{AllocError, Global};
 
 /// Reads a raw text, up to the next `,` or `)` that is not escaped, or to the end.
 ///
-/// Reports each backslash that begins no escape and reads on after it; the text then has no value. Reports an empty text,
-/// whose value is empty.
+/// Reports each backslash that begins no escape and reads on after it; the text then has no value. Reports an empty
+/// text, whose value is empty.
 pub fn read_raw_text<'a>(
     alloc: Global,
     faults: &mut Vec<ParseSingleError>,

@@ -14,22 +14,21 @@ use crate::tree::nodes::{copy_set, enclose, join, negate, unite};
 use filterset_grammar::Joiner;
 use std::alloc::{AllocError, Global};
 
-/// The level of the grammar that an operand has to have.
+/// The level of the grammar that an operand must have, by its position.
 #[derive(Clone, Copy)]
-enum Level {
-    /// That of the operand of a negation, and of the right operand at the level of `and`.
+pub enum Level {
+    /// The operand of a negation, or the right operand at the level of `and`.
     Basic,
-    /// That of the left operand at the level of `and`, and of the right operand of a union.
+    /// The left operand at the level of `and`, or the right operand of a union.
     And,
-    /// That of the left operand of a union, and of an expression in parentheses.
+    /// The left operand of a union, or an expression in parentheses.
     Or,
 }
 
 impl<S: Copy> ParsedExpr<S> {
-    /// Copies the tree, spans included, and encloses each operand that would not parse back where it is. These are a
-    /// union or an expression of the level of `and` as the operand of a negation or as the right operand at the level of
-    /// `and`, and a union as the left operand at that level or as the right operand of a union. Nothing else changes. The
-    /// only error is out of memory.
+    /// Copies the tree, spans included, and encloses each operand that would not parse back where it is: a union or an
+    /// expression of the level of `and` as the operand of a negation or as the right operand at the level of `and`, and
+    /// a union as the left operand at that level or as the right operand of a union. The only error is out of memory.
     pub fn with_parens(&self, alloc: Global) -> Result<ParsedExpr<S>, AllocError>
         ensures tree { IfOk result (λ new. IsWithParens (tree_of self.now) (tree_of new)) }
         ensures well_formed { HasWellFormedLeaves (tree_of self.now) → IfOk result (λ new. WellFormed (tree_of new)) }
@@ -106,7 +105,7 @@ fn fit_to_level<S: Drop>(
 }
 
 /// Returns whether the operand is of the level as it is.
-fn is_of_level<S>(operand: &ParsedExpr<S>, level: Level) -> bool
+pub fn is_of_level<S>(operand: &ParsedExpr<S>, level: Level) -> bool
     ensures { IsTrue result ↔ IsOfLevel level (tree_of operand.now) }
 {
     match level {
