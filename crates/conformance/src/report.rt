@@ -2,12 +2,13 @@
 ghost use Rattle.std.specs.Prelude.{◌≡◌, IfOk, string_bytes};
 ghost use Rattle.conformance.specs.Report.{Report};
 
+use filterset_json::EntryRefusal;
 use serde_json::Value;
 use std::alloc::{AllocError, Global};
 use suite_judges::{
     judge_filtersets, judge_globs, judge_graphs, judge_matchers, judge_texts, judge_workspaces,
 };
-use suite_rows::{Entry, Lines, RowRefusal, Suite, Verdict};
+use suite_rows::{Lines, Row, Suite, Verdict};
 
 /// Returns the report of a suite, which is given as JSON, and its verdict.
 ///
@@ -20,10 +21,10 @@ pub fn report(alloc: Global, input: &[u8]) -> Result<(String, Verdict), AllocErr
         Err(error) if error.is_memory() => return Err(AllocError),
         Err(_) => return refuse(alloc, "rows refused: not JSON\n"),
     };
-    match Suite::read(alloc, &value) {
+    match Suite::read_row(alloc, &value) {
         Ok(suite) => report_suite(alloc, &suite),
-        Err(RowRefusal::NotARow) => refuse(alloc, "rows refused: not a suite\n"),
-        Err(RowRefusal::OutOfMemory(refused)) => Err(refused),
+        Err(EntryRefusal::Wrong(_)) => refuse(alloc, "rows refused: not a suite\n"),
+        Err(EntryRefusal::OutOfMemory(refused)) => Err(refused),
     }
 }
 

@@ -1,8 +1,9 @@
 //! Binaries and tests about which filtersets are asked.
-use crate::entry::{Entry, RowRefusal, object_with, optional};
+use crate::row::{Row, given};
 use filterset_graph::{
     BuildPlatform, GLOBAL_TEST_GROUP, PackageId, RustBinaryId, RustTestBinaryKind, TestCaseName,
 };
+use filterset_json::{Entry, EntryRefusal, check_keys, optional_text};
 use serde_json::Value;
 use std::alloc::Global;
 
@@ -24,63 +25,56 @@ pub struct TestRow {
     pub group: String,
 }
 
-impl Entry for BuildPlatform {
-    fn read(_alloc: Global, value: &Value) -> Result<BuildPlatform, RowRefusal> {
-        match value.as_str() {
-            Some("host") => Ok(BuildPlatform::Host),
-            Some("target") => Ok(BuildPlatform::Target),
-            _ => Err(RowRefusal::NotARow),
-        }
-    }
-}
-
-/// Reads the text under a key; `text` if there is none.
-fn text_or(alloc: Global, value: &Value, key: &str, text: &str) -> Result<String, RowRefusal> {
-    match optional(alloc, value, key)? {
-        Some(given) => Ok(given),
-        None => Ok(String::from_str(alloc, text)?),
+impl Row for BuildPlatform {
+    fn read_row(alloc: Global, value: &Value) -> Result<BuildPlatform, EntryRefusal> {
+        BuildPlatform::read(alloc, value)
     }
 }
 
 /// Reads a binary from an object or from the object of a test. A missing key is that of the binary `cli` of the package
 /// `p`, built for the host; a value that is no object has no keys.
-fn read_binary(alloc: Global, value: &Value) -> Result<BinaryRow, RowRefusal> {
-    let id = text_or(alloc, value, "id", "p::bin/cli")?;
+fn read_binary(alloc: Global, value: &Value) -> Result<BinaryRow, EntryRefusal> {
+    let id = optional_text(alloc, value, "id", "p::bin/cli")?;
     Ok(BinaryRow {
-        package_id: PackageId::new(text_or(alloc, value, "package", "p")?),
+        package_id: PackageId::new(optional_text(alloc, value, "package", "p")?),
         binary_id: RustBinaryId::new(alloc, id.as_str())?,
-        binary_name: text_or(alloc, value, "binary", "cli")?,
-        kind: RustTestBinaryKind::new(text_or(alloc, value, "kind", "bin")?),
-        platform: optional(alloc, value, "platform")?.unwrap_or(BuildPlatform::Host),
+        binary_name: optional_text(alloc, value, "binary", "cli")?,
+        kind: RustTestBinaryKind::new(optional_text(alloc, value, "kind", "bin")?),
+        platform: given(alloc, value, "platform")?.unwrap_or(BuildPlatform::Host),
     })
 }
 
-impl Entry for BinaryRow {
-    fn read(alloc: Global, value: &Value) -> Result<BinaryRow, RowRefusal> {
-        object_with(value, &["package", "id", "binary", "kind", "platform"])?;
+impl Row for BinaryRow {
+    fn read_row(alloc: Global, value: &Value) -> Result<BinaryRow, EntryRefusal> {
+        check_keys(
+            alloc,
+            value,
+            &["package", "id", "binary", "kind", "platform"],
+        )?;
         read_binary(alloc, value)
     }
 }
 
 /// Reads a name alone, or an object in which a missing key is that of the test `t`.
-impl Entry for TestRow {
-    fn read(alloc: Global, value: &Value) -> Result<TestRow, RowRefusal> {
+impl Row for TestRow {
+    fn read_row(alloc: Global, value: &Value) -> Result<TestRow, EntryRefusal> {
         let name = match value.as_str() {
             Some(name) => String::from_str(alloc, name)?,
             None => {
-                object_with(
+                check_keys(
+                    alloc,
                     value,
                     &[
                         "package", "id", "binary", "kind", "platform", "name", "group",
                     ],
                 )?;
-                text_or(alloc, value, "name", "t")?
+                optional_text(alloc, value, "name", "t")?
             }
         };
         Ok(TestRow {
             binary: read_binary(alloc, value)?,
             name: TestCaseName::new(alloc, name.as_str())?,
-            group: text_or(alloc, value, "group", GLOBAL_TEST_GROUP)?,
+            group: optional_text(alloc, value, "group", GLOBAL_TEST_GROUP)?,
         })
     }
 }

@@ -1,23 +1,22 @@
 //! Rows of filtersets.
 use crate::asked::{BinaryRow, TestRow};
-use crate::entry::{
-    Entry, RowRefusal, list_if_given, object_with, optional, optional_list, required, required_list,
-};
 use crate::graphs::PackageRow;
 use crate::pieces::Written;
+use crate::row::{Row, given, required, rows_or_none};
 use crate::texts::{FaultRow, ToldRow};
 use filterset_faults::FiltersetKind;
+use filterset_json::{EntryRefusal, check_keys};
 use serde_json::Value;
 use std::alloc::Global;
 
-impl Entry for FiltersetKind {
-    fn read(_alloc: Global, value: &Value) -> Result<FiltersetKind, RowRefusal> {
+impl Row for FiltersetKind {
+    fn read_row(alloc: Global, value: &Value) -> Result<FiltersetKind, EntryRefusal> {
         match value.as_str() {
             Some("test") => Ok(FiltersetKind::Test),
             Some("archive-filter") => Ok(FiltersetKind::TestArchive),
             Some("override-filter") => Ok(FiltersetKind::OverrideFilter),
             Some("default-filter") => Ok(FiltersetKind::DefaultFilter),
-            _ => Err(RowRefusal::NotARow),
+            _ => Err(EntryRefusal::wrong(alloc, "a kind of filtersets")),
         }
     }
 }
@@ -30,13 +29,13 @@ pub struct BinariesRow {
     pub unknown: Vec<BinaryRow>,
 }
 
-impl Entry for BinariesRow {
-    fn read(alloc: Global, value: &Value) -> Result<BinariesRow, RowRefusal> {
-        object_with(value, &["yes", "no", "unknown"])?;
+impl Row for BinariesRow {
+    fn read_row(alloc: Global, value: &Value) -> Result<BinariesRow, EntryRefusal> {
+        check_keys(alloc, value, &["yes", "no", "unknown"])?;
         Ok(BinariesRow {
-            yes: optional_list(alloc, value, "yes")?,
-            no: optional_list(alloc, value, "no")?,
-            unknown: optional_list(alloc, value, "unknown")?,
+            yes: rows_or_none(alloc, value, "yes")?,
+            no: rows_or_none(alloc, value, "no")?,
+            unknown: rows_or_none(alloc, value, "unknown")?,
         })
     }
 }
@@ -56,8 +55,8 @@ pub struct FiltersetRow {
     pub misses: Vec<TestRow>,
 }
 
-impl Entry for FiltersetRow {
-    fn read(alloc: Global, value: &Value) -> Result<FiltersetRow, RowRefusal> {
+impl Row for FiltersetRow {
+    fn read_row(alloc: Global, value: &Value) -> Result<FiltersetRow, EntryRefusal> {
         let names = [
             "filterset",
             "kind",
@@ -69,17 +68,17 @@ impl Entry for FiltersetRow {
             "matches",
             "misses",
         ];
-        object_with(value, &names)?;
+        check_keys(alloc, value, &names)?;
         Ok(FiltersetRow {
             filterset: required(alloc, value, "filterset")?,
-            kind: optional(alloc, value, "kind")?.unwrap_or(FiltersetKind::Test),
-            faults: list_if_given(alloc, value, "faults")?,
-            told: list_if_given(alloc, value, "told")?,
-            default: optional(alloc, value, "default")?,
-            steps: list_if_given(alloc, value, "steps")?,
-            binaries: optional(alloc, value, "binaries")?,
-            matches: optional_list(alloc, value, "matches")?,
-            misses: optional_list(alloc, value, "misses")?,
+            kind: given(alloc, value, "kind")?.unwrap_or(FiltersetKind::Test),
+            faults: given(alloc, value, "faults")?,
+            told: given(alloc, value, "told")?,
+            default: given(alloc, value, "default")?,
+            steps: given(alloc, value, "steps")?,
+            binaries: given(alloc, value, "binaries")?,
+            matches: rows_or_none(alloc, value, "matches")?,
+            misses: rows_or_none(alloc, value, "misses")?,
         })
     }
 }
@@ -92,13 +91,13 @@ pub struct WorkspaceRow {
     pub filtersets: Vec<FiltersetRow>,
 }
 
-impl Entry for WorkspaceRow {
-    fn read(alloc: Global, value: &Value) -> Result<WorkspaceRow, RowRefusal> {
-        object_with(value, &["packages", "groups", "filtersets"])?;
+impl Row for WorkspaceRow {
+    fn read_row(alloc: Global, value: &Value) -> Result<WorkspaceRow, EntryRefusal> {
+        check_keys(alloc, value, &["packages", "groups", "filtersets"])?;
         Ok(WorkspaceRow {
-            packages: required_list(alloc, value, "packages")?,
-            groups: optional_list(alloc, value, "groups")?,
-            filtersets: required_list(alloc, value, "filtersets")?,
+            packages: required(alloc, value, "packages")?,
+            groups: rows_or_none(alloc, value, "groups")?,
+            filtersets: required(alloc, value, "filtersets")?,
         })
     }
 }

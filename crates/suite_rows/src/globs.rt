@@ -1,6 +1,7 @@
 //! Rows of globs.
-use crate::entry::{Entry, RowRefusal, list_of, object_with, optional, optional_list, required};
 use crate::pieces::Written;
+use crate::row::{Row, given, required, rows_or_none};
+use filterset_json::{EntryRefusal, check_keys};
 use serde_json::Value;
 use std::alloc::Global;
 
@@ -19,30 +20,30 @@ pub struct GlobRow {
     pub unequal: Vec<Written>,
 }
 
-impl Entry for GlobRow {
-    fn read(alloc: Global, value: &Value) -> Result<GlobRow, RowRefusal> {
+impl Row for GlobRow {
+    fn read_row(alloc: Global, value: &Value) -> Result<GlobRow, EntryRefusal> {
         let names = [
             "glob", "n", "tokens", "fault", "message", "matches", "misses", "equal", "unequal",
         ];
-        object_with(value, &names)?;
+        check_keys(alloc, value, &names)?;
         Ok(GlobRow {
             glob: required(alloc, value, "glob")?,
             lengths: read_lengths(alloc, value)?,
-            tokens: optional(alloc, value, "tokens")?,
-            fault: optional(alloc, value, "fault")?,
-            message: optional(alloc, value, "message")?,
-            matches: optional_list(alloc, value, "matches")?,
-            misses: optional_list(alloc, value, "misses")?,
-            equal: optional_list(alloc, value, "equal")?,
-            unequal: optional_list(alloc, value, "unequal")?,
+            tokens: given(alloc, value, "tokens")?,
+            fault: given(alloc, value, "fault")?,
+            message: given(alloc, value, "message")?,
+            matches: rows_or_none(alloc, value, "matches")?,
+            misses: rows_or_none(alloc, value, "misses")?,
+            equal: rows_or_none(alloc, value, "equal")?,
+            unequal: rows_or_none(alloc, value, "unequal")?,
         })
     }
 }
 
 /// Reads the numbers under `n`: zero alone if there is no such key.
-fn read_lengths(alloc: Global, value: &Value) -> Result<Vec<usize>, RowRefusal> {
-    match value.get("n") {
-        Some(found) => list_of(alloc, found),
+fn read_lengths(alloc: Global, value: &Value) -> Result<Vec<usize>, EntryRefusal> {
+    match given(alloc, value, "n")? {
+        Some(lengths) => Ok(lengths),
         None => Ok(vec![in alloc; 0usize]?),
     }
 }

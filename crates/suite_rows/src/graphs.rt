@@ -1,11 +1,9 @@
 //! Rows of graphs of packages.
 ghost use Rattle.std.specs.Prelude.{◌≡◌, IfOk, map, string_bytes};
 
-use crate::entry::{
-    Entry, RowRefusal, object_with, optional, optional_list, part, parts_of, required,
-    required_list,
-};
+use crate::row::{Row, given, required, rows_or_none};
 use filterset_graph::{BuildTarget, BuildTargetId, PackageId, PackageMetadata};
+use filterset_json::{Entry, EntryRefusal, check_keys};
 use serde_json::Value;
 use std::alloc::{AllocError, Global};
 
@@ -16,8 +14,8 @@ pub struct TargetRow {
     pub name: String,
 }
 
-impl Entry for BuildTargetId {
-    fn read(_alloc: Global, value: &Value) -> Result<BuildTargetId, RowRefusal> {
+impl Row for BuildTargetId {
+    fn read_row(alloc: Global, value: &Value) -> Result<BuildTargetId, EntryRefusal> {
         match value.as_str() {
             Some("lib") => Ok(BuildTargetId::Library),
             Some("bin") => Ok(BuildTargetId::Binary),
@@ -25,18 +23,20 @@ impl Entry for BuildTargetId {
             Some("test") => Ok(BuildTargetId::Test),
             Some("bench") => Ok(BuildTargetId::Benchmark),
             Some("build") => Ok(BuildTargetId::BuildScript),
-            _ => Err(RowRefusal::NotARow),
+            _ => Err(EntryRefusal::wrong(alloc, "a kind of targets")),
         }
     }
 }
 
-impl Entry for TargetRow {
-    fn read(alloc: Global, value: &Value) -> Result<TargetRow, RowRefusal> {
-        let parts = parts_of(value, 2)?;
-        Ok(TargetRow {
-            id: part(alloc, parts, 0)?,
-            name: part(alloc, parts, 1)?,
-        })
+impl Row for TargetRow {
+    fn read_row(alloc: Global, value: &Value) -> Result<TargetRow, EntryRefusal> {
+        match value.as_array().map(|items| items.as_slice()) {
+            Some([id, name]) => Ok(TargetRow {
+                id: BuildTargetId::read_row(alloc, id)?,
+                name: String::read_row(alloc, name)?,
+            }),
+            _ => Err(EntryRefusal::wrong(alloc, "a list of a kind and a name")),
+        }
     }
 }
 
@@ -49,14 +49,14 @@ pub struct PackageRow {
     pub links: Vec<String>,
 }
 
-impl Entry for PackageRow {
-    fn read(alloc: Global, value: &Value) -> Result<PackageRow, RowRefusal> {
-        object_with(value, &["name", "in_workspace", "targets", "links"])?;
+impl Row for PackageRow {
+    fn read_row(alloc: Global, value: &Value) -> Result<PackageRow, EntryRefusal> {
+        check_keys(alloc, value, &["name", "in_workspace", "targets", "links"])?;
         Ok(PackageRow {
             name: required(alloc, value, "name")?,
             in_workspace: required(alloc, value, "in_workspace")?,
-            targets: optional_list(alloc, value, "targets")?,
-            links: required_list(alloc, value, "links")?,
+            targets: rows_or_none(alloc, value, "targets")?,
+            links: required(alloc, value, "links")?,
         })
     }
 }
@@ -68,15 +68,15 @@ pub enum RefusedRow {
     Unknown { package: usize, link: usize },
 }
 
-impl Entry for RefusedRow {
-    fn read(alloc: Global, value: &Value) -> Result<RefusedRow, RowRefusal> {
+impl Row for RefusedRow {
+    fn read_row(alloc: Global, value: &Value) -> Result<RefusedRow, EntryRefusal> {
         if value.get("repeated").is_some() {
-            object_with(value, &["repeated"])?;
+            check_keys(alloc, value, &["repeated"])?;
             return Ok(RefusedRow::Repeated {
                 at: required(alloc, value, "repeated")?,
             });
         }
-        object_with(value, &["package", "link"])?;
+        check_keys(alloc, value, &["package", "link"])?;
         Ok(RefusedRow::Unknown {
             package: required(alloc, value, "package")?,
             link: required(alloc, value, "link")?,
@@ -92,19 +92,10 @@ pub struct DependsRow {
     pub answer: Option<bool>,
 }
 
-impl Entry for DependsRow {
-    fn read(alloc: Global, value: &Value) -> Result<DependsRow, RowRefusal> {
-        let parts = parts_of(value, 3)?;
-        let answer = match parts.get(2) {
-            Some(answer) if answer.is_null() => None,
-            Some(answer) => Some(bool::read(alloc, answer)?),
-            None => return Err(RowRefusal::NotARow),
-        };
-        Ok(DependsRow {
-            from: part(alloc, parts, 0)?,
-            to: part(alloc, parts, 1)?,
-            answer,
-        })
+impl Row for DependsRow {
+    fn read_row(alloc: Global, value: &Value) -> Result<DependsRow, EntryRefusal> {
+        let (from, to, answer) = <(String, String, Option<bool>) as Entry>::read(alloc, value)?;
+        Ok(DependsRow { from, to, answer })
     }
 }
 
@@ -116,13 +107,13 @@ pub struct SearchRow {
     pub reaching: Vec<String>,
 }
 
-impl Entry for SearchRow {
-    fn read(alloc: Global, value: &Value) -> Result<SearchRow, RowRefusal> {
-        object_with(value, &["starts", "reached", "reaching"])?;
+impl Row for SearchRow {
+    fn read_row(alloc: Global, value: &Value) -> Result<SearchRow, EntryRefusal> {
+        check_keys(alloc, value, &["starts", "reached", "reaching"])?;
         Ok(SearchRow {
-            starts: required_list(alloc, value, "starts")?,
-            reached: required_list(alloc, value, "reached")?,
-            reaching: required_list(alloc, value, "reaching")?,
+            starts: required(alloc, value, "starts")?,
+            reached: required(alloc, value, "reached")?,
+            reaching: required(alloc, value, "reaching")?,
         })
     }
 }
@@ -136,14 +127,18 @@ pub struct GraphRow {
     pub searches: Vec<SearchRow>,
 }
 
-impl Entry for GraphRow {
-    fn read(alloc: Global, value: &Value) -> Result<GraphRow, RowRefusal> {
-        object_with(value, &["packages", "refused", "depends", "searches"])?;
+impl Row for GraphRow {
+    fn read_row(alloc: Global, value: &Value) -> Result<GraphRow, EntryRefusal> {
+        check_keys(
+            alloc,
+            value,
+            &["packages", "refused", "depends", "searches"],
+        )?;
         Ok(GraphRow {
-            packages: required_list(alloc, value, "packages")?,
-            refused: optional(alloc, value, "refused")?,
-            depends: optional_list(alloc, value, "depends")?,
-            searches: optional_list(alloc, value, "searches")?,
+            packages: required(alloc, value, "packages")?,
+            refused: given(alloc, value, "refused")?,
+            depends: rows_or_none(alloc, value, "depends")?,
+            searches: rows_or_none(alloc, value, "searches")?,
         })
     }
 }

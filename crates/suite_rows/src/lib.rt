@@ -2,7 +2,6 @@
 #![tactic(auto)]
 
 mod asked;
-mod entry;
 mod filtersets;
 mod globs;
 mod graphs;
@@ -10,13 +9,13 @@ mod judging;
 mod lines;
 mod matchers;
 mod pieces;
+mod row;
 mod showing;
 mod suite;
 mod texts;
 mod written;
 
 pub use asked::{BinaryRow, TestRow};
-pub use entry::{Entry, RowRefusal};
 pub use filtersets::{BinariesRow, FiltersetRow, WorkspaceRow};
 pub use globs::GlobRow;
 pub use graphs::{
@@ -26,6 +25,7 @@ pub use judging::{are_faults, is_answer, is_fault, is_match_wanted};
 pub use lines::{Lines, Verdict};
 pub use matchers::{MatcherRow, MatcherWay};
 pub use pieces::{Count, Piece, Written};
+pub use row::Row;
 pub use showing::{show_fault, show_faults};
 pub use suite::Suite;
 pub use texts::{FaultRow, TextRow, ToldRow, TreeRow};

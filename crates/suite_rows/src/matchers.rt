@@ -1,5 +1,6 @@
 //! Rows of matchers.
-use crate::entry::{Entry, RowRefusal, object_with, optional, optional_list, required, text_of};
+use crate::row::{Row, given, required, rows_or_none};
+use filterset_json::{EntryRefusal, check_keys};
 use serde_json::Value;
 use std::alloc::Global;
 
@@ -12,14 +13,14 @@ pub enum MatcherWay {
     Regex,
 }
 
-impl Entry for MatcherWay {
-    fn read(_alloc: Global, value: &Value) -> Result<MatcherWay, RowRefusal> {
-        match text_of(value)? {
-            "equal" => Ok(MatcherWay::Equal),
-            "contains" => Ok(MatcherWay::Contains),
-            "glob" => Ok(MatcherWay::Glob),
-            "regex" => Ok(MatcherWay::Regex),
-            _ => Err(RowRefusal::NotARow),
+impl Row for MatcherWay {
+    fn read_row(alloc: Global, value: &Value) -> Result<MatcherWay, EntryRefusal> {
+        match value.as_str() {
+            Some("equal") => Ok(MatcherWay::Equal),
+            Some("contains") => Ok(MatcherWay::Contains),
+            Some("glob") => Ok(MatcherWay::Glob),
+            Some("regex") => Ok(MatcherWay::Regex),
+            _ => Err(EntryRefusal::wrong(alloc, "a kind of matchers")),
         }
     }
 }
@@ -36,20 +37,20 @@ pub struct MatcherRow {
     pub misses: Vec<String>,
 }
 
-impl Entry for MatcherRow {
-    fn read(alloc: Global, value: &Value) -> Result<MatcherRow, RowRefusal> {
+impl Row for MatcherRow {
+    fn read_row(alloc: Global, value: &Value) -> Result<MatcherRow, EntryRefusal> {
         let names = [
             "matcher", "value", "implicit", "refused", "print", "matches", "misses",
         ];
-        object_with(value, &names)?;
+        check_keys(alloc, value, &names)?;
         Ok(MatcherRow {
             matcher: required(alloc, value, "matcher")?,
             value: required(alloc, value, "value")?,
-            implicit: optional::<bool>(alloc, value, "implicit")?.unwrap_or(false),
-            refused: optional::<bool>(alloc, value, "refused")?.unwrap_or(false),
-            print: optional(alloc, value, "print")?,
-            matches: optional_list(alloc, value, "matches")?,
-            misses: optional_list(alloc, value, "misses")?,
+            implicit: given::<bool>(alloc, value, "implicit")?.unwrap_or(false),
+            refused: given::<bool>(alloc, value, "refused")?.unwrap_or(false),
+            print: given(alloc, value, "print")?,
+            matches: rows_or_none(alloc, value, "matches")?,
+            misses: rows_or_none(alloc, value, "misses")?,
         })
     }
 }

@@ -1,5 +1,6 @@
 //! Texts as rows write them: a string, or a list of pieces.
-use crate::entry::{Entry, RowRefusal, list_of, part, parts_of, text_of};
+use crate::row::Row;
+use filterset_json::EntryRefusal;
 use serde_json::Value;
 use std::alloc::Global;
 
@@ -11,12 +12,12 @@ pub enum Count {
     Length,
 }
 
-impl Entry for Count {
-    fn read(alloc: Global, value: &Value) -> Result<Count, RowRefusal> {
+impl Row for Count {
+    fn read_row(alloc: Global, value: &Value) -> Result<Count, EntryRefusal> {
         match value.as_str() {
             Some("n") => Ok(Count::Length),
-            Some(_) => Err(RowRefusal::NotARow),
-            None => Ok(Count::Number(usize::read(alloc, value)?)),
+            Some(_) => Err(EntryRefusal::wrong(alloc, "a number or `n`")),
+            None => Ok(Count::Number(usize::read_row(alloc, value)?)),
         }
     }
 }
@@ -28,19 +29,21 @@ pub struct Piece {
     pub count: Count,
 }
 
-impl Entry for Piece {
-    fn read(alloc: Global, value: &Value) -> Result<Piece, RowRefusal> {
+impl Row for Piece {
+    fn read_row(alloc: Global, value: &Value) -> Result<Piece, EntryRefusal> {
         if let Some(text) = value.as_str() {
             return Ok(Piece {
                 text: String::from_str(alloc, text)?,
                 count: Count::Number(1),
             });
         }
-        let pair = parts_of(value, 2)?;
-        Ok(Piece {
-            text: part(alloc, pair, 0)?,
-            count: part(alloc, pair, 1)?,
-        })
+        match value.as_array().map(|items| items.as_slice()) {
+            Some([text, count]) => Ok(Piece {
+                text: String::read_row(alloc, text)?,
+                count: Count::read_row(alloc, count)?,
+            }),
+            _ => Err(EntryRefusal::wrong(alloc, "a text, or a list of a text and a count")),
+        }
     }
 }
 
@@ -50,16 +53,16 @@ pub struct Written {
     pub pieces: Vec<Piece>,
 }
 
-impl Entry for Written {
-    fn read(alloc: Global, value: &Value) -> Result<Written, RowRefusal> {
+impl Row for Written {
+    fn read_row(alloc: Global, value: &Value) -> Result<Written, EntryRefusal> {
         if value.is_array() {
             return Ok(Written {
-                pieces: list_of(alloc, value)?,
+                pieces: Vec::read_row(alloc, value)?,
             });
         }
         let mut pieces = Vec::new(alloc);
         pieces.push(Piece {
-            text: String::from_str(alloc, text_of(value)?)?,
+            text: String::read_row(alloc, value)?,
             count: Count::Number(1),
         })?;
         Ok(Written { pieces })

@@ -1,10 +1,11 @@
 //! The whole suite.
-use crate::entry::{Entry, RowRefusal, object_with, required_list};
 use crate::filtersets::{FiltersetRow, WorkspaceRow};
 use crate::globs::GlobRow;
 use crate::graphs::GraphRow;
 use crate::matchers::MatcherRow;
+use crate::row::{Row, required};
 use crate::texts::TextRow;
+use filterset_json::{EntryRefusal, check_keys};
 use serde_json::Value;
 use std::alloc::Global;
 
@@ -19,8 +20,8 @@ pub struct Suite {
     pub workspaces: Vec<WorkspaceRow>,
 }
 
-impl Entry for Suite {
-    fn read(alloc: Global, value: &Value) -> Result<Suite, RowRefusal> {
+impl Row for Suite {
+    fn read_row(alloc: Global, value: &Value) -> Result<Suite, EntryRefusal> {
         let names = [
             "texts",
             "globs",
@@ -29,14 +30,14 @@ impl Entry for Suite {
             "graphs",
             "workspaces",
         ];
-        object_with(value, &names)?;
+        check_keys(alloc, value, &names)?;
         Ok(Suite {
-            texts: required_list(alloc, value, "texts")?,
-            globs: required_list(alloc, value, "globs")?,
-            matchers: required_list(alloc, value, "matchers")?,
-            filtersets: required_list(alloc, value, "filtersets")?,
-            graphs: required_list(alloc, value, "graphs")?,
-            workspaces: required_list(alloc, value, "workspaces")?,
+            texts: required(alloc, value, "texts")?,
+            globs: required(alloc, value, "globs")?,
+            matchers: required(alloc, value, "matchers")?,
+            filtersets: required(alloc, value, "filtersets")?,
+            graphs: required(alloc, value, "graphs")?,
+            workspaces: required(alloc, value, "workspaces")?,
         })
     }
 }

@@ -1,8 +1,7 @@
 //! Rows of texts.
-use crate::entry::{
-    Entry, RowRefusal, list_if_given, list_of, object_with, optional, part, parts_of, required,
-};
 use crate::pieces::Written;
+use crate::row::{Row, given, required};
+use filterset_json::{Entry, EntryRefusal, check_keys};
 use serde_json::Value;
 use std::alloc::Global;
 
@@ -14,13 +13,13 @@ pub struct FaultRow {
     pub length: usize,
 }
 
-impl Entry for FaultRow {
-    fn read(alloc: Global, value: &Value) -> Result<FaultRow, RowRefusal> {
-        let parts = parts_of(value, 3)?;
+impl Row for FaultRow {
+    fn read_row(alloc: Global, value: &Value) -> Result<FaultRow, EntryRefusal> {
+        let (code, offset, length) = <(String, usize, usize) as Entry>::read(alloc, value)?;
         Ok(FaultRow {
-            code: part(alloc, parts, 0)?,
-            offset: part(alloc, parts, 1)?,
-            length: part(alloc, parts, 2)?,
+            code,
+            offset,
+            length,
         })
     }
 }
@@ -31,11 +30,11 @@ pub struct ToldRow {
     pub text: String,
 }
 
-impl Entry for ToldRow {
-    fn read(alloc: Global, value: &Value) -> Result<ToldRow, RowRefusal> {
-        let parts: Vec<String> = list_of(alloc, value)?;
+impl Row for ToldRow {
+    fn read_row(alloc: Global, value: &Value) -> Result<ToldRow, EntryRefusal> {
+        let items: Vec<String> = Row::read_row(alloc, value)?;
         Ok(ToldRow {
-            text: parts.join(alloc, "\n")?,
+            text: items.join(alloc, "\n")?,
         })
     }
 }
@@ -47,12 +46,12 @@ pub enum TreeRow {
     Tree(Written),
 }
 
-impl Entry for TreeRow {
-    fn read(alloc: Global, value: &Value) -> Result<TreeRow, RowRefusal> {
+impl Row for TreeRow {
+    fn read_row(alloc: Global, value: &Value) -> Result<TreeRow, EntryRefusal> {
         if value.is_null() {
             return Ok(TreeRow::NoTree);
         }
-        Ok(TreeRow::Tree(Written::read(alloc, value)?))
+        Ok(TreeRow::Tree(Written::read_row(alloc, value)?))
     }
 }
 
@@ -67,19 +66,20 @@ pub struct TextRow {
     pub test_alone: Option<Vec<String>>,
 }
 
-impl Entry for TextRow {
-    fn read(alloc: Global, value: &Value) -> Result<TextRow, RowRefusal> {
-        object_with(
+impl Row for TextRow {
+    fn read_row(alloc: Global, value: &Value) -> Result<TextRow, EntryRefusal> {
+        check_keys(
+            alloc,
             value,
             &["text", "faults", "tree", "print", "told", "test_alone"],
         )?;
         Ok(TextRow {
             text: required(alloc, value, "text")?,
-            faults: list_if_given(alloc, value, "faults")?,
-            tree: optional(alloc, value, "tree")?,
-            print: optional(alloc, value, "print")?,
-            told: list_if_given(alloc, value, "told")?,
-            test_alone: list_if_given(alloc, value, "test_alone")?,
+            faults: given(alloc, value, "faults")?,
+            tree: given(alloc, value, "tree")?,
+            print: given(alloc, value, "print")?,
+            told: given(alloc, value, "told")?,
+            test_alone: given(alloc, value, "test_alone")?,
         })
     }
 }
