@@ -1,8 +1,7 @@
 -- What refusals refuse.
 use Rattle.std.proofs.Common.{◌≡◌, Result, Ok, Err, subst, sym}
 use Rattle.std.specs.Prelude.{IfErr, IsErrAnd}
-use Rattle.filterset_json.specs.Refusals.{Refuses, IsAfter, IsWrong}
-use Rattle.filterset_json.specs.Shape.{Text}
+use Rattle.filterset_json.specs.Refusals.{Refuses, IsAfter}
 use Rattle.filterset_json.specs.declared.path.Step.{Step}
 use Rattle.filterset_json.specs.declared.refusal.EntryRefusal.{EntryRefusal}
 use Rattle.filterset_json.specs.declared.refusal.EntryRefusal.TheVariants.{Wrong, OutOfMemory}
@@ -17,10 +16,10 @@ pub handed_on : {T A B : Type 0} (r : Result T EntryRefusal) (e : EntryRefusal) 
 handed_on (Ok v) e same f h = absurd same
 handed_on {B} (Err y) e same f h = subst (Refuses B) (sym same) (Refuses-if e f h)
 
--- what is wrong is refused where the fact does not hold
-pub Refuses-wrong : {A : Type 0} (r : EntryRefusal) (path : Text) (expected : Text) → IsWrong r path expected → (A → ⊥) → Refuses A r
-Refuses-wrong (Wrong w) path expected is refuted = refuted
-Refuses-wrong (OutOfMemory e) path expected is refuted = absurd is
+-- what does not hold is refused by each refusal
+pub Refuses-not : {A : Type 0} (r : EntryRefusal) → (A → ⊥) → Refuses A r
+Refuses-not (Wrong w) refuted = refuted
+Refuses-not (OutOfMemory e) refuted = tt
 
 -- a refusal by a longer path refuses what the first one refused
 pub Refuses-after : {A B : Type 0} (step : Step) (inner outer : EntryRefusal) → IsAfter step inner outer → (B → A) → Refuses A inner → Refuses B outer

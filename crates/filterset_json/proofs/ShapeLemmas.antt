@@ -9,6 +9,7 @@ use Rattle.serde_json.specs.Data.{Data, null, boolean, number, string, array, ob
 use Rattle.serde_json.specs.Find.{as_object}
 use Rattle.serde_json.specs.View.{view, items_view, members_view}
 use Rattle.serde_json.specs.declared.value.Value.{Value}
+use Rattle.std.specs.Prelude.{IsSomeAnd}
 use Rattle.filterset_json.specs.Shape.{Each, IsListOf, KeysAmong, is_named}
 
 -- one more item, and one more entry
@@ -78,3 +79,7 @@ as_object-Some (object ns) ms h = cc
 pub optional_items : {A : Type 0} (P : Data → A → Type 0) (o : Option Data) (xs : List A) → MatchOption o (map (λ x. x) xs ≡ []) (λ d. IsListOf P d (map (λ x. x) xs)) →
     MatchOption o (xs ≡ []) (λ d. IsListOf P d xs)
 optional_items P o xs h = rw (← map-id xs) h
+
+pub required_items : {A : Type 0} (P : Data → A → Type 0) (o : Option Data) (xs : List A) → IsSomeAnd o (λ d. IsListOf P d (map (λ x. x) xs)) →
+    IsSomeAnd o (λ d. IsListOf P d xs)
+required_items P o xs h = rw (← map-id xs) h

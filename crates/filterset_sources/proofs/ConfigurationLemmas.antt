@@ -11,12 +11,12 @@ use Rattle.toml.specs.declared.value.Value.{Value}
 use Rattle.toml.proofs.Views.{Entry}
 use Rattle.filterset_faults.specs.declared.kind.FiltersetKind.{FiltersetKind}
 use Rattle.filterset_sources.specs.Configurations.{Adds, FilterUnder, IsConfigured, ItemRows, MemberRows, ProfileRows, RefusesConfiguration, Rows, SectionRows, below, configured_row, configured_rows, item_path, keys_of}
-use Rattle.filterset_sources.specs.Paths.{key_text}
+use Rattle.filterset_json.specs.Paths.{key_text}
 use Rattle.filterset_sources.specs.Refusals.{Refuses}
-use Rattle.filterset_sources.specs.Shape.{Text}
+use Rattle.filterset_json.specs.Shape.{Text}
 use Rattle.filterset_sources.specs.declared.configuration.Configuration.{Configuration}
 use Rattle.filterset_sources.specs.declared.configuration.ConfiguredFilterset.{ConfiguredFilterset}
-use Rattle.filterset_sources.specs.declared.configuration.Section.{Section}
+use Rattle.filterset_sources.specs.declared.configuration.ProfileSection.{ProfileSection}
 use Rattle.filterset_sources.specs.declared.refusal.SourceRefusal.{SourceRefusal}
 use Rattle.filterset_sources.specs.declared.refusal.SourceRefusal.TheVariants.{NotJson, NotToml, WrongValue, OutOfMemory}
 
@@ -54,7 +54,7 @@ Adds-then first second third (front, one, p) (rest, two, q) f =
     (front ++ rest, two ∙ ap (λ rows. rows ++ rest) one ∙ append_assoc first front rest, f front rest p q)
 
 -- one more section
-pub ItemRows-push : (section : Section) (path : Text) (at : ℕ) (vs : List Value) (v : Value) (rows more : Rows) → ItemRows section path at (items_view vs) rows →
+pub ItemRows-push : (section : ProfileSection) (path : Text) (at : ℕ) (vs : List Value) (v : Value) (rows more : Rows) → ItemRows section path at (items_view vs) rows →
     SectionRows section (item_path path (at + length vs)) (view v) more → ItemRows section path at (items_view (vs ++ v ∷ [])) (rows ++ more)
 ItemRows-push section path at [] v rows more h s =
     let here : at + 0 ≡ at = omega arith in
@@ -69,7 +69,7 @@ ItemRows-push section path at (w ∷ vs) v rows more h s =
     )
 
 -- the rows of the section at a position
-pub ItemRows-at : (section : Section) (path : Text) (at : ℕ) (vs : List Value) (i : ℕ) (v : Value) (rows : Rows) → i < length vs → ItemRows section path at (items_view vs) rows →
+pub ItemRows-at : (section : ProfileSection) (path : Text) (at : ℕ) (vs : List Value) (i : ℕ) (v : Value) (rows : Rows) → i < length vs → ItemRows section path at (items_view vs) rows →
     (found : Rows) × SectionRows section (item_path path (at + i)) (view (get_or vs i v)) found
 ItemRows-at section path at [] i v rows lt h = absurd (omega arith)
 ItemRows-at section path at (w ∷ vs) zero v rows lt h =

@@ -4,12 +4,12 @@ use Rattle.toml.specs.Data.{Data, string, array, table, Items, no_items, item, M
 use Rattle.toml.specs.Parse.{parse_document}
 use Rattle.filterset_faults.specs.declared.kind.FiltersetKind.{FiltersetKind}
 use Rattle.filterset_faults.specs.declared.kind.FiltersetKind.TheVariants.{DefaultFilter, OverrideFilter}
-use Rattle.filterset_sources.specs.Paths.{key_text}
-use Rattle.filterset_sources.specs.Shape.{Text}
+use Rattle.filterset_json.specs.Paths.{key_text}
+use Rattle.filterset_json.specs.Shape.{Text}
 use Rattle.filterset_sources.specs.declared.configuration.Configuration.{Configuration}
 use Rattle.filterset_sources.specs.declared.configuration.ConfiguredFilterset.{ConfiguredFilterset}
-use Rattle.filterset_sources.specs.declared.configuration.Section.{Section}
-use Rattle.filterset_sources.specs.declared.configuration.Section.TheVariants.{Override, Script}
+use Rattle.filterset_sources.specs.declared.configuration.ProfileSection.{ProfileSection}
+use Rattle.filterset_sources.specs.declared.configuration.ProfileSection.TheVariants.{Override, Script}
 use Rattle.filterset_sources.specs.declared.refusal.SourceRefusal.{SourceRefusal}
 use Rattle.filterset_sources.specs.declared.refusal.SourceRefusal.TheVariants.{NotJson, NotToml, WrongValue, OutOfMemory}
 
@@ -61,22 +61,22 @@ OverrideRows path d rows =
     × FilterUnder path (codes "filter") OverrideFilter d rest
 
 -- the filtersets of an override or of what says when scripts run
-abbrev pub SectionRows : Section → Text → Data → Rows → Type 0
+abbrev pub SectionRows : ProfileSection → Text → Data → Rows → Type 0
 SectionRows Override path d rows = IsTable d × OverrideRows path d rows
 SectionRows Script path d rows = IsTable d × FilterUnder path (codes "filter") OverrideFilter d rows
 
 -- the filtersets of sections, of which the first has this position
-abbrev pub ItemRows : Section → Text → ℕ → Items → Rows → Type 0
+abbrev pub ItemRows : ProfileSection → Text → ℕ → Items → Rows → Type 0
 ItemRows section path at no_items rows = rows ≡ []
 ItemRows section path at (item d ds) rows =
     (front : Rows) × (rest : Rows) × (rows ≡ front ++ rest)
     × SectionRows section (item_path path at) d front × ItemRows section path (suc at) ds rest
 
 -- the value is a list of sections
-abbrev pub ListRows : Section → Text → Data → Rows → Type 0
+abbrev pub ListRows : ProfileSection → Text → Data → Rows → Type 0
 ListRows section path d rows = (ds : Items) × (d ≡ array ds) × ItemRows section path 0 ds rows
 
-abbrev pub SectionsUnder : Text → Text → Section → Data → Rows → Type 0
+abbrev pub SectionsUnder : Text → Text → ProfileSection → Data → Rows → Type 0
 SectionsUnder path key section d rows = Under key d (ListRows section (below path key)) rows
 
 -- the filtersets of a profile

@@ -10,7 +10,7 @@ use Rattle.filterset_graph.specs.declared.package.BuildTargetId.{BuildTargetId}
 use Rattle.filterset_graph.specs.declared.package.BuildTargetId.TheVariants.{Library, Binary, Example, Test, Benchmark, BuildScript}
 use Rattle.filterset_graph.specs.declared.package.PackageMetadata.{PackageMetadata}
 use Rattle.filterset_sources.specs.Refusals.{Refuses}
-use Rattle.filterset_sources.specs.Shape.{Text, IsText, Each, IsListOf, Required}
+use Rattle.filterset_json.specs.Shape.{Text, IsText, Each, IsListOf, Required}
 use Rattle.filterset_sources.specs.declared.refusal.SourceRefusal.{SourceRefusal}
 use Rattle.filterset_sources.specs.declared.metadata.parts.Dependency.{Dependency}
 use Rattle.filterset_sources.specs.declared.metadata.parts.Node.{Node}

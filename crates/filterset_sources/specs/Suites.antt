@@ -1,16 +1,11 @@
 -- What nextest writes of test binaries.
 use Rattle.std.specs.Prelude.{◌⊎◌, Contains, List, codes, string_bytes}
 use Rattle.serde_json.specs.Data.{Data}
-use Rattle.filterset_graph.specs.Platforms.{platform_text}
-use Rattle.filterset_graph.specs.declared.package.BuildPlatform.{BuildPlatform}
-use Rattle.filterset_sources.specs.Shape.{Text, IsText, HasKeys, IsObjectOf, Required, Optional}
+use Rattle.filterset_json.specs.Shape.{Text, IsPlatform, IsText, Required, Optional}
+use Rattle.filterset_sources.specs.Shape.{HasKeys, IsObjectOf}
 use Rattle.filterset_sources.specs.declared.list.Suite.{Suite}
 use Rattle.filterset_sources.specs.declared.list.SuiteStatus.{SuiteStatus}
 use Rattle.filterset_sources.specs.declared.list.SuiteStatus.TheVariants.{Listed, Skipped}
-
--- the value is the platform's name
-abbrev pub IsPlatform : Data → BuildPlatform → Type 0
-IsPlatform d platform = IsText d (platform_text platform)
 
 -- the value is a name of the status
 abbrev pub IsStatus : Data → SuiteStatus → Type 0

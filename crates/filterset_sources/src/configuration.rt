@@ -1,4 +1,4 @@
-//! The filtersets and the groups of nextest's configuration.
+//! Reads the filtersets and test groups of nextest's configuration.
 ghost use Rattle.std.specs.Prelude.{◌≡◌, IfErr, IfOk, List, OnOk, codes, map, string_bytes};
 ghost use Rattle.toml.specs.Data.{table};
 ghost use Rattle.toml.specs.Parse.{parse_document};
@@ -6,42 +6,47 @@ ghost use Rattle.toml.specs.View.{items_view, table_view, view};
 ghost use Rattle.filterset_faults.specs.declared.kind.FiltersetKind.TheVariants as kinds;
 ghost use Rattle.filterset_sources.specs.Configurations.{Adds, FilterUnder, GroupsUnder, HasKeys, IsConfiguration, IsConfigured, IsTable, ItemRows, MemberRows, OverrideRows, ProfileRows, RefusesConfiguration, Rows, SectionRows, SectionsUnder, Under, TableRows, configured_rows};
 ghost use Rattle.filterset_sources.specs.Refusals.{Refuses};
-ghost use Rattle.filterset_sources.specs.Shape.{Text};
+ghost use Rattle.filterset_json.specs.Shape.{Text};
 ghost use Rattle.filterset_sources.specs.declared.configuration.Configuration as configurations;
 
-use crate::refusal::{Expected, SourceRefusal, Step, step_text};
+use crate::refusal::SourceRefusal;
 use filterset_faults::FiltersetKind;
+use filterset_json::{Step, step_text};
 use std::alloc::{AllocError, Global};
 use toml::{Table, Value};
 
 /// A filterset of a configuration.
 #[derive(Debug, Drop)]
 pub struct ConfiguredFilterset {
-    /// Where it stands, as `profile.ci.overrides[2].filter`.
+    /// The path to it, as `profile.ci.overrides[2].filter`.
     pub path: String,
     pub kind: FiltersetKind,
     pub text: String,
 }
 
-/// What nextest's configuration says of filtersets and groups.
+/// The filtersets and test groups of a configuration.
 #[derive(Debug, Drop)]
 pub struct Configuration {
-    /// Those of each profile, by its name: its default filter, those of its overrides, and those of its scripts.
+    /// The filtersets of each profile, in the order of the profiles' names: its default filter, then those of its overrides
+    /// and scripts.
     pub filtersets: Vec<ConfiguredFilterset>,
-    /// The names of the groups of tests.
+    /// The names of the test groups.
     pub groups: Vec<String>,
 }
 
-/// A part of a profile that is for some tests.
+/// What an item of a list in a profile sets, for the tests that its filter picks.
 #[derive(Clone, Copy)]
-enum Section {
-    /// Settings of these tests, which may have a default filter of their own.
+enum ProfileSection {
+    /// Settings, which may include a default filter.
     Override,
-    /// Scripts that run before these tests.
+    /// Scripts that run before the tests.
     Script,
 }
 
-/// Refuses a value at a path that is no table.
+/// What goes after "must be" where a table is wanted.
+const TABLE: &str = "a table";
+
+/// Refuses the value at `path` unless it is a table.
 fn check_table(alloc: Global, path: &str, value: &Value) -> Result<(), SourceRefusal>
     ensures ok { OnOk result (IsTable (view value.now)) }
     ensures refused { IfErr result (Refuses (IsTable (view value.now))) }
@@ -49,10 +54,10 @@ fn check_table(alloc: Global, path: &str, value: &Value) -> Result<(), SourceRef
     if value.is_table() {
         return Ok(());
     }
-    Err(SourceRefusal::at(String::from_str(alloc, path)?, Expected::Table))
+    Err(SourceRefusal::at(String::from_str(alloc, path)?, TABLE))
 }
 
-/// Adds the filterset under a key of what stands at a path, if there is one.
+/// Adds the filterset under a key of the value at `path`, if there is one.
 fn push_filter(
     output: &mut Vec<ConfiguredFilterset>,
     alloc: Global,
@@ -70,7 +75,7 @@ fn push_filter(
     };
     let path = format!(in alloc; "{path}.{key}")?;
     let Some(text) = found.as_str() else {
-        return Err(SourceRefusal::at(path, Expected::Text));
+        return Err(SourceRefusal::at(path, "a text"));
     };
     let text = String::from_str(alloc, text)?;
     output.push(ConfiguredFilterset { path, kind, text })?;
@@ -110,7 +115,7 @@ fn push_override(
 fn push_section(
     output: &mut Vec<ConfiguredFilterset>,
     alloc: Global,
-    section: Section,
+    section: ProfileSection,
     path: &str,
     value: &Value,
 ) -> Result<(), SourceRefusal>
@@ -120,8 +125,8 @@ fn push_section(
 {
     check_table(alloc, path, value)?;
     match section {
-        Section::Override => push_override(output, alloc, path, value),
-        Section::Script => {
+        ProfileSection::Override => push_override(output, alloc, path, value),
+        ProfileSection::Script => {
             push_filter(
                 output,
                 alloc,
@@ -134,11 +139,11 @@ fn push_section(
     }
 }
 
-/// Adds the filtersets of the sections of a list.
+/// Adds the filtersets of each section of a list.
 fn push_items(
     output: &mut Vec<ConfiguredFilterset>,
     alloc: Global,
-    section: Section,
+    section: ProfileSection,
     path: &str,
     values: &[Value],
 ) -> Result<(), SourceRefusal>
@@ -153,11 +158,11 @@ fn push_items(
     Ok(())
 }
 
-/// Adds the filtersets of the list of sections under a key of what stands at a path, if there is one.
+/// Adds the filtersets of the list of sections under a key of the value at `path`, if there is one.
 fn push_sections(
     output: &mut Vec<ConfiguredFilterset>,
     alloc: Global,
-    section: Section,
+    section: ProfileSection,
     path: &str,
     value: &Value,
     key: &str,
@@ -172,7 +177,7 @@ fn push_sections(
     };
     let path = format!(in alloc; "{path}.{key}")?;
     let Some(values) = found.as_array() else {
-        return Err(SourceRefusal::at(path, Expected::List));
+        return Err(SourceRefusal::at(path, "a list"));
     };
     push_items(output, alloc, section, path.as_str(), values.as_slice())
 }
@@ -197,11 +202,25 @@ fn push_profile(
         "default-filter",
         FiltersetKind::DefaultFilter,
     )?;
-    push_sections(output, alloc, Section::Override, path, value, "overrides")?;
-    push_sections(output, alloc, Section::Script, path, value, "scripts")
+    push_sections(
+        output,
+        alloc,
+        ProfileSection::Override,
+        path,
+        value,
+        "overrides",
+    )?;
+    push_sections(
+        output,
+        alloc,
+        ProfileSection::Script,
+        path,
+        value,
+        "scripts",
+    )
 }
 
-/// Adds the filtersets of profiles.
+/// Adds the filtersets of each profile.
 fn push_profiles(
     output: &mut Vec<ConfiguredFilterset>,
     alloc: Global,
@@ -219,7 +238,7 @@ fn push_profiles(
     Ok(())
 }
 
-/// The filtersets of a file.
+/// Reads the filtersets of a file.
 fn filtersets_of(alloc: Global, file: &Value) -> Result<Vec<ConfiguredFilterset>, SourceRefusal>
     ensures read { IfOk result (λ filtersets.
         Under (codes "profile") (view file.now) TableRows (configured_rows filtersets.items)) }
@@ -230,13 +249,13 @@ fn filtersets_of(alloc: Global, file: &Value) -> Result<Vec<ConfiguredFilterset>
         return Ok(filtersets);
     };
     let Some(profiles) = found.as_table() else {
-        return Err(SourceRefusal::at(String::from_str(alloc, "profile")?, Expected::Table));
+        return Err(SourceRefusal::at(String::from_str(alloc, "profile")?, TABLE));
     };
     push_profiles(&mut filtersets, alloc, profiles)?;
     Ok(filtersets)
 }
 
-/// The keys of a table.
+/// Copies the keys of a table.
 fn keys_of(alloc: Global, entries: &Table) -> Result<Vec<String>, AllocError>
     ensures { IfOk result (λ keys. HasKeys (table (table_view entries.now)) (map (λ s. string_bytes s) keys.items)) }
 {
@@ -247,7 +266,7 @@ fn keys_of(alloc: Global, entries: &Table) -> Result<Vec<String>, AllocError>
     Ok(keys)
 }
 
-/// The names of the groups of a file.
+/// Reads the names of the test groups of a file.
 fn groups_of(alloc: Global, file: &Value) -> Result<Vec<String>, SourceRefusal>
     ensures read { IfOk result (λ names. GroupsUnder (view file.now) (map (λ s. string_bytes s) names.items)) }
     ensures refused { IfErr result (Refuses ((names : List Text) × GroupsUnder (view file.now) names)) }
@@ -257,12 +276,12 @@ fn groups_of(alloc: Global, file: &Value) -> Result<Vec<String>, SourceRefusal>
     };
     match found.as_table() {
         Some(groups) => Ok(keys_of(alloc, groups)?),
-        None => Err(SourceRefusal::at(String::from_str(alloc, "test-groups")?, Expected::Table)),
+        None => Err(SourceRefusal::at(String::from_str(alloc, "test-groups")?, TABLE)),
     }
 }
 
-/// What a file says.
-fn configured(alloc: Global, file: &Value) -> Result<Configuration, SourceRefusal>
+/// Reads the filtersets and test groups of a file.
+fn read_tables(alloc: Global, file: &Value) -> Result<Configuration, SourceRefusal>
     ensures read { IfOk result (IsConfigured (view file.now)) }
     ensures refused { IfErr result (Refuses ((all : configurations.Configuration) × IsConfigured (view file.now) all)) }
 {
@@ -272,13 +291,13 @@ fn configured(alloc: Global, file: &Value) -> Result<Configuration, SourceRefusa
     })
 }
 
-/// The line of a text in which this position is, from 1 on.
+/// Returns the line of `text` that has the byte offset `at`, counted from 1.
 fn line_of(text: &str, at: usize) -> usize {
     let before = text.bytes().take(at);
     before.filter(|b| *b == b'\n').count().saturating_add(1)
 }
 
-/// The table that a text is.
+/// Parses a text as TOML.
 fn read_toml(alloc: Global, text: &str) -> Result<Table, SourceRefusal>
     ensures read { IfOk result (λ file. parse_document text.now ≡ Some (table_view file)) }
     ensures refused { IfErr result (RefusesConfiguration text.now) }
@@ -295,12 +314,11 @@ fn read_toml(alloc: Global, text: &str) -> Result<Table, SourceRefusal>
     }
 }
 
-/// The filtersets and the groups of nextest's configuration, as it stands in `.config/nextest.toml`. Keys that are not
-/// looked at are passed over.
+/// Reads the filtersets and test groups of a configuration, as `.config/nextest.toml` has them. Ignores all other keys.
 pub fn read_configuration(alloc: Global, text: &str) -> Result<Configuration, SourceRefusal>
     ensures read { IfOk result (IsConfiguration text.now) }
     ensures refused { IfErr result (RefusesConfiguration text.now) }
 {
     let file = Value::Table(read_toml(alloc, text)?);
-    configured(alloc, &file)
+    read_tables(alloc, &file)
 }

@@ -1,14 +1,15 @@
-//! Reading what people have: what `cargo metadata` and `cargo nextest list` write, and nextest's configuration.
+//! Reads what `cargo metadata` and `cargo nextest list` write, and nextest's configuration.
 #![tactic(auto)]
 
 mod configuration;
-mod entry;
+mod json;
 mod list;
 mod metadata;
 mod refusal;
 
 pub use configuration::{Configuration, ConfiguredFilterset, read_configuration};
-pub use entry::read_json;
+pub use filterset_json::WrongValue;
+pub use json::read_json;
 pub use list::{Suite, SuiteStatus, TestList, check_packages, read_test_list};
 pub use metadata::read_metadata;
-pub use refusal::{Expected, SourceRefusal, WrongValue};
+pub use refusal::SourceRefusal;

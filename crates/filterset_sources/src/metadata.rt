@@ -1,4 +1,4 @@
-//! What `cargo metadata --format-version 1` writes.
+//! Reads what `cargo metadata --format-version 1` writes.
 ghost use Rattle.std.specs.Prelude.{◌≡◌, All, IfErr, IfOk, OnOk, is_some};
 ghost use Rattle.serde_json.specs.View.{view};
 ghost use Rattle.filterset_graph.specs.Index.{PositionsAre, index_of};
@@ -6,9 +6,9 @@ ghost use Rattle.filterset_graph.specs.Packages.{AllDiffer, LinksKnown, ids};
 ghost use Rattle.filterset_sources.specs.Metadata.{AreLinked, HasLinksOf, IsGraphOf, IsKnown, IsMetadata, IsWhole, NamesKnown, RefusesMetadata, links_of, node_ids};
 ghost use Rattle.filterset_sources.specs.Refusals.{Refuses};
 
-use crate::entry::Entry;
-use crate::refusal::{Expected, SourceRefusal, WrongValue};
+use crate::refusal::SourceRefusal;
 use filterset_graph::{GraphRefusal, PackageGraph, PackageId, PackageMetadata};
+use filterset_json::{Entry, WrongValue};
 use serde_json::Value;
 use std::alloc::{AllocError, Global};
 use std::collections::BTreeMap;
@@ -17,8 +17,14 @@ mod parts;
 
 use parts::{Dependency, Node, Parts};
 
-/// The refusal of a value at a path.
-fn wrong(path: Result<String, AllocError>, expected: Expected) -> SourceRefusal
+/// What goes after "must be" at an id that is there twice.
+const OWN_ID: &str = "an id that no package before it has";
+
+/// What goes after "must be" at an id of no package.
+const PACKAGE_ID: &str = "the id of one of the packages";
+
+/// Refuses the value at a path.
+fn wrong(path: Result<String, AllocError>, expected: &'static str) -> SourceRefusal
     ensures { Refuses ⊥ result }
 {
     match path {
@@ -27,22 +33,28 @@ fn wrong(path: Result<String, AllocError>, expected: Expected) -> SourceRefusal
     }
 }
 
-/// The refusal of what stands at a position of a list, below it at `key`.
-fn wrong_item(alloc: Global, list: &str, at: usize, key: &str, expected: Expected) -> SourceRefusal
+/// Refuses an item of a list, or the value under `key` of the item.
+fn wrong_item(
+    alloc: Global,
+    list: &str,
+    at: usize,
+    key: &str,
+    expected: &'static str,
+) -> SourceRefusal
     ensures { Refuses ⊥ result }
 {
     wrong(format!(in alloc; "{list}[{at}]{key}"), expected)
 }
 
-/// The refusal of a dependency of a node.
+/// Refuses a dependency of a node.
 fn wrong_link(alloc: Global, node: usize, link: usize) -> SourceRefusal
     ensures { Refuses ⊥ result }
 {
     let path = format!(in alloc; "resolve.nodes[{node}].deps[{link}].pkg");
-    wrong(path, Expected::PackageId)
+    wrong(path, PACKAGE_ID)
 }
 
-/// Where each id stands. The id at a position stands in the file at that position of the list, below it at `key`.
+/// Returns the position of each id. Refuses an id that is there twice, as the value under `key` of an item of `list`.
 fn positions_of(
     alloc: Global,
     ids: &[PackageId],
@@ -56,13 +68,13 @@ fn positions_of(
     for (at, id) in ids.iter().enumerate() {
         let earlier = positions.insert(id.try_clone(alloc)?, at)?;
         if earlier.is_some() {
-            return Err(wrong_item(alloc, list, at, key, Expected::OwnId));
+            return Err(wrong_item(alloc, list, at, key, OWN_ID));
         }
     }
     Ok(positions)
 }
 
-/// The packages that a node depends on.
+/// Copies the ids of the packages that a node depends on.
 fn node_links(alloc: Global, node: &Node) -> Result<Vec<PackageId>, AllocError>
     ensures { IfOk result (λ links. links.items ≡ links_of node.now) }
 {
@@ -73,7 +85,7 @@ fn node_links(alloc: Global, node: &Node) -> Result<Vec<PackageId>, AllocError>
     Ok(links)
 }
 
-/// The ids of packages.
+/// Copies the ids of packages.
 fn package_ids(alloc: Global, packages: &[PackageMetadata]) -> Result<Vec<PackageId>, AllocError>
     ensures { IfOk result (λ all. all.items ≡ ids packages.now) }
 {
@@ -84,7 +96,7 @@ fn package_ids(alloc: Global, packages: &[PackageMetadata]) -> Result<Vec<Packag
     Ok(all)
 }
 
-/// The ids of nodes.
+/// Copies the ids of nodes.
 fn node_ids(alloc: Global, nodes: &[Node]) -> Result<Vec<PackageId>, AllocError>
     ensures { IfOk result (λ all. all.items ≡ node_ids nodes.now) }
 {
@@ -95,21 +107,21 @@ fn node_ids(alloc: Global, nodes: &[Node]) -> Result<Vec<PackageId>, AllocError>
     Ok(all)
 }
 
-/// Where an id stands.
+/// Looks up the position of an id.
 fn position_of(positions: &BTreeMap<PackageId, usize>, id: &PackageId) -> Option<usize>
     ensures { result ≡ index_of positions.now id.now }
 {
     positions.get(id).copied()
 }
 
-/// Whether an id stands somewhere.
+/// Returns whether an id has a position.
 fn is_known(known: &BTreeMap<PackageId, usize>, id: &PackageId) -> bool
     ensures { result ≡ is_some (index_of known.now id.now) }
 {
     position_of(known, id).is_some()
 }
 
-/// Refuses a member of the workspace that is no package.
+/// Refuses a member of the workspace that is not a package.
 fn check_members(
     alloc: Global,
     known: &BTreeMap<PackageId, usize>,
@@ -120,13 +132,13 @@ fn check_members(
 {
     for (at, member) in members.iter().enumerate() {
         if !is_known(known, member) {
-            return Err(wrong_item(alloc, "workspace_members", at, "", Expected::PackageId));
+            return Err(wrong_item(alloc, "workspace_members", at, "", PACKAGE_ID));
         }
     }
     Ok(())
 }
 
-/// Refuses a dependency of the node at a position that is no package.
+/// Refuses a dependency of the node at `at` that is not a package.
 fn check_dependencies(
     alloc: Global,
     known: &BTreeMap<PackageId, usize>,
@@ -144,7 +156,7 @@ fn check_dependencies(
     Ok(())
 }
 
-/// Refuses a node that is no package, or depends on what is none.
+/// Refuses the node at `at` if it is not a package, or depends on one that is not there.
 fn check_node(
     alloc: Global,
     known: &BTreeMap<PackageId, usize>,
@@ -155,12 +167,12 @@ fn check_node(
     ensures refused { IfErr result (Refuses (NamesKnown known.now node.now)) }
 {
     if !is_known(known, &node.id) {
-        return Err(wrong_item(alloc, "resolve.nodes", at, ".id", Expected::PackageId));
+        return Err(wrong_item(alloc, "resolve.nodes", at, ".id", PACKAGE_ID));
     }
     check_dependencies(alloc, known, at, node.dependencies.as_slice())
 }
 
-/// Refuses nodes of which one is no package, or depends on what is none.
+/// Refuses the first node that is not a package, or depends on one that is not there.
 fn check_nodes(
     alloc: Global,
     known: &BTreeMap<PackageId, usize>,
@@ -175,7 +187,7 @@ fn check_nodes(
     Ok(())
 }
 
-/// The links of the package with this id: those of its node, none where it has no node.
+/// Copies the links of a package from its node. A package without a node has none.
 fn links_from(
     alloc: Global,
     positions: &BTreeMap<PackageId, usize>,
@@ -191,8 +203,8 @@ fn links_from(
     }
 }
 
-/// The packages, each with its links, and told whether it is in the workspace.
-fn linked(
+/// Gives each package its links, and says whether it is in the workspace.
+fn link(
     alloc: Global,
     packages: Vec<PackageMetadata>,
     members: &BTreeMap<PackageId, usize>,
@@ -213,7 +225,7 @@ fn linked(
     Ok(all)
 }
 
-/// The graph of the packages.
+/// Makes the graph of packages.
 fn graph_of(alloc: Global, packages: Vec<PackageMetadata>) -> Result<PackageGraph, SourceRefusal>
     ensures ok { IfOk result (λ graph. graph ≡ packages.items) }
     ensures refused { IfErr result (Refuses (AllDiffer (ids packages.items) × LinksKnown packages.items)) }
@@ -222,7 +234,7 @@ fn graph_of(alloc: Global, packages: Vec<PackageMetadata>) -> Result<PackageGrap
         Ok(graph) => Ok(graph),
         Err(GraphRefusal::OutOfMemory(refused)) => Err(SourceRefusal::OutOfMemory(refused)),
         Err(GraphRefusal::RepeatedId { at }) => {
-            Err(wrong_item(alloc, "packages", at, ".id", Expected::OwnId))
+            Err(wrong_item(alloc, "packages", at, ".id", OWN_ID))
         }
         Err(GraphRefusal::UnknownLink { package, link }) => {
             Err(wrong_link(alloc, package, link))
@@ -230,8 +242,8 @@ fn graph_of(alloc: Global, packages: Vec<PackageMetadata>) -> Result<PackageGrap
     }
 }
 
-/// The graph of the packages of the file.
-fn joined(alloc: Global, parts: Parts) -> Result<PackageGraph, SourceRefusal>
+/// Makes the graph of the packages of a file.
+fn join(alloc: Global, parts: Parts) -> Result<PackageGraph, SourceRefusal>
     ensures ok { IfOk result (λ graph. IsWhole parts × IsGraphOf parts graph) }
     ensures refused { IfErr result (Refuses (IsWhole parts)) }
 {
@@ -248,19 +260,18 @@ fn joined(alloc: Global, parts: Parts) -> Result<PackageGraph, SourceRefusal>
     let members = positions_of(alloc, members.as_slice(), "workspace_members", "")?;
     let ids = node_ids(alloc, nodes)?;
     let positions = positions_of(alloc, ids.as_slice(), "resolve.nodes", ".id")?;
-    let packages = linked(alloc, packages, &members, &positions, nodes)?;
+    let packages = link(alloc, packages, &members, &positions, nodes)?;
     graph_of(alloc, packages)
 }
 
-/// The packages of what `cargo metadata --format-version 1` writes, in its order. All kinds of dependencies count. Keys
-/// that are not looked at are passed over.
+/// Reads the packages of what `cargo metadata --format-version 1` writes, in its order, with dependencies of all kinds.
+/// Ignores all other keys.
 ///
-/// Cargo leaves the dependencies out where it is called with `--no-deps`. That is refused, since answers on them would
-/// be wrong.
+/// Refuses what cargo writes with `--no-deps`: without the dependencies, `deps` and `rdeps` would give wrong answers.
 pub fn read_metadata(alloc: Global, value: &Value) -> Result<PackageGraph, SourceRefusal>
     ensures read { IfOk result (IsMetadata (view value.now)) }
     ensures refused { IfErr result (RefusesMetadata (view value.now)) }
 {
     let parts = Parts::read(alloc, value)?;
-    joined(alloc, parts)
+    join(alloc, parts)
 }

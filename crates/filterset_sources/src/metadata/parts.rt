@@ -1,18 +1,17 @@
 //! The parts of what `cargo metadata` writes.
-ghost use Rattle.std.specs.Prelude.{◌∷◌, [], All, IfErr, IfOk, OnOk};
-ghost use Rattle.serde_json.specs.View.{items_view, view};
-ghost use Rattle.filterset_graph.specs.declared.package.BuildTargetId as targets;
-ghost use Rattle.filterset_sources.specs.Metadata.{AreKinds, IsOfKinds};
-ghost use Rattle.filterset_sources.specs.Refusals.{Refuses};
-ghost use Rattle.filterset_sources.specs.Shape.{IsAnyText};
+ghost use Rattle.std.specs.Prelude.{◌≡◌, ◌∷◌, [], IfOk, map};
+ghost use Rattle.filterset_sources.specs.Metadata.{IsOfKinds};
 
-use crate::entry::{Entry, required, text_of};
-use crate::refusal::{Expected, SourceRefusal, Step};
 use filterset_graph::{BuildTarget, BuildTargetId, PackageId, PackageMetadata};
+use filterset_json::{Entry, EntryRefusal, required};
 use serde_json::Value;
-use std::alloc::Global;
+use std::alloc::{AllocError, Global};
 
-/// What a target of this one kind is. Each kind of libraries has a name of its own.
+/// What a build target is, by its kinds.
+#[derive(Drop)]
+struct TargetKind(BuildTargetId);
+
+/// Returns what a target of this one kind is. Libraries have many kinds, so each unknown kind is one of theirs.
 fn target_of(kind: &str) -> BuildTargetId
     ensures { IsOfKinds (kind.now ∷ []) result }
 {
@@ -26,92 +25,95 @@ fn target_of(kind: &str) -> BuildTargetId
     }
 }
 
-/// Refuses a list of which an item is no text.
-fn check_texts(alloc: Global, values: &[Value]) -> Result<(), SourceRefusal>
-    ensures ok { OnOk result (All (λ v. IsAnyText (view v)) values.now) }
-    ensures refused { IfErr result (Refuses (All (λ v. IsAnyText (view v)) values.now)) }
-{
-    for (at, value) in values.iter().enumerate() {
-        match text_of(alloc, value) {
-            Ok(_) => {}
-            Err(refusal) => return Err(refusal.after(alloc, Step::Item(at))),
-        }
-    }
-    Ok(())
-}
-
-/// What a target of these kinds is. Only libraries may have several.
-fn kind_of(alloc: Global, kinds: &[Value]) -> Result<BuildTargetId, SourceRefusal>
-    ensures read { IfOk result (λ id. AreKinds (items_view kinds.now) id) }
-    ensures refused { IfErr result (Refuses ((id : targets.BuildTargetId)
-        × AreKinds (items_view kinds.now) id)) }
-{
-    match kinds {
-        [] => Err(SourceRefusal::wrong(alloc, Expected::Texts)),
-        [kind] => match text_of(alloc, kind) {
-            Ok(text) => Ok(target_of(text)),
-            Err(refusal) => Err(refusal.after(alloc, Step::Item(0))),
-        },
-        _ => {
-            check_texts(alloc, kinds)?;
-            Ok(BuildTargetId::Library)
-        }
-    }
-}
-
-impl Entry for BuildTargetId {
+/// Only libraries have several kinds.
+impl Entry for TargetKind {
+    ghost use Rattle.filterset_graph.specs.declared.package.BuildTargetId.{BuildTargetId};
     ghost use Rattle.filterset_sources.specs.Metadata.{IsTargetKind};
+
+    ghost Row = { BuildTargetId };
+
+    ghost row_of = { λ kind. kind.0 };
 
     ghost stands_for = { IsTargetKind };
 
-    fn expected() -> Expected {
-        Expected::Texts
-    }
+    const EXPECTED: &'static str = "a list of at least one text";
 
-    fn read(alloc: Global, value: &Value) -> Result<BuildTargetId, SourceRefusal> {
-        match value.as_array() {
-            Some(kinds) => kind_of(alloc, kinds.as_slice()),
-            None => Err(SourceRefusal::wrong(alloc, Expected::List)),
+    fn read(alloc: Global, value: &Value) -> Result<TargetKind, EntryRefusal> {
+        let kinds: Vec<String> = Entry::read(alloc, value)?;
+        match kinds.as_slice() {
+            [] => Err(EntryRefusal::wrong(alloc, Self::EXPECTED)),
+            [kind] => Ok(TargetKind(target_of(kind.as_str()))),
+            _ => Ok(TargetKind(BuildTargetId::Library)),
         }
     }
 }
 
-impl Entry for BuildTarget {
+/// A build target.
+#[derive(Drop)]
+struct TargetEntry(BuildTarget);
+
+impl Entry for TargetEntry {
+    ghost use Rattle.filterset_graph.specs.declared.package.BuildTarget.{BuildTarget};
     ghost use Rattle.filterset_sources.specs.Metadata.{IsTarget};
+
+    ghost Row = { BuildTarget };
+
+    ghost row_of = { λ target. target.0 };
 
     ghost stands_for = { IsTarget };
 
-    fn expected() -> Expected {
-        Expected::Object
-    }
+    const EXPECTED: &'static str = "an object";
 
-    fn read(alloc: Global, value: &Value) -> Result<BuildTarget, SourceRefusal> {
-        Ok(BuildTarget {
-            id: required(alloc, value, "kind")?,
+    fn read(alloc: Global, value: &Value) -> Result<TargetEntry, EntryRefusal> {
+        Ok(TargetEntry(BuildTarget {
+            id: required::<TargetKind>(alloc, value, "kind")?.0,
             name: required(alloc, value, "name")?,
-        })
+        }))
     }
 }
 
-/// A package by itself: neither links nor the workspace are known.
-impl Entry for PackageMetadata {
+/// Returns the build targets that were read.
+fn targets_of(alloc: Global, entries: Vec<TargetEntry>) -> Result<Vec<BuildTarget>, AllocError>
+    ensures { IfOk result (λ targets. targets.items ≡ map (λ entry. entry.0) entries.items) }
+{
+    entries.into_iter().map(|entry| entry.0).collect(alloc)
+}
+
+/// A package by itself: without links, and outside the workspace.
+#[derive(Drop)]
+struct PackageEntry(PackageMetadata);
+
+impl Entry for PackageEntry {
+    ghost use Rattle.filterset_graph.specs.declared.package.PackageMetadata.{PackageMetadata};
     ghost use Rattle.filterset_sources.specs.Metadata.{IsPackage};
+
+    ghost Row = { PackageMetadata };
+
+    ghost row_of = { λ p. p.0 };
 
     ghost stands_for = { IsPackage };
 
-    fn expected() -> Expected {
-        Expected::Object
-    }
+    const EXPECTED: &'static str = "an object";
 
-    fn read(alloc: Global, value: &Value) -> Result<PackageMetadata, SourceRefusal> {
-        Ok(PackageMetadata {
+    fn read(alloc: Global, value: &Value) -> Result<PackageEntry, EntryRefusal> {
+        Ok(PackageEntry(PackageMetadata {
             id: required(alloc, value, "id")?,
             name: required(alloc, value, "name")?,
             in_workspace: false,
-            build_targets: required(alloc, value, "targets")?,
+            build_targets: targets_of(alloc, required(alloc, value, "targets")?)?,
             links: Vec::new(alloc),
-        })
+        }))
     }
+}
+
+/// Returns the packages that were read.
+fn packages_of(
+    alloc: Global,
+    entries: Vec<PackageEntry>,
+) -> Result<Vec<PackageMetadata>, AllocError>
+    ensures { IfOk result (λ packages. packages.items ≡ map (λ entry. entry.0) entries.items) }
+{
+    entries.into_iter().map(|entry| entry.0).collect(alloc)
 }
 
 /// A dependency of a node.
@@ -122,21 +124,24 @@ pub struct Dependency {
 
 impl Entry for Dependency {
     ghost use Rattle.filterset_sources.specs.Metadata.{IsDependency};
+    ghost use Rattle.filterset_sources.specs.declared.metadata.parts.Dependency as dependencies;
+
+    ghost Row = { dependencies.Dependency };
+
+    ghost row_of = { λ dependency. dependency };
 
     ghost stands_for = { IsDependency };
 
-    fn expected() -> Expected {
-        Expected::Object
-    }
+    const EXPECTED: &'static str = "an object";
 
-    fn read(alloc: Global, value: &Value) -> Result<Dependency, SourceRefusal> {
+    fn read(alloc: Global, value: &Value) -> Result<Dependency, EntryRefusal> {
         Ok(Dependency {
             package: required(alloc, value, "pkg")?,
         })
     }
 }
 
-/// A package of the graph of dependencies.
+/// A package in the graph of dependencies.
 #[derive(Drop)]
 pub struct Node {
     pub id: PackageId,
@@ -145,14 +150,18 @@ pub struct Node {
 
 impl Entry for Node {
     ghost use Rattle.filterset_sources.specs.Metadata.{IsNode};
+    ghost use Rattle.filterset_sources.specs.declared.metadata.parts.Node as nodes;
+
+    ghost Row = { nodes.Node };
+
+    ghost row_of = { λ node. node };
 
     ghost stands_for = { IsNode };
 
-    fn expected() -> Expected {
-        Expected::Object
-    }
+    const EXPECTED: &'static str = "an object";
 
-    fn read(alloc: Global, value: &Value) -> Result<Node, SourceRefusal> {
+    #[tactic(auto, using(filterset_json::proofs::ShapeLemmas::required_items))]
+    fn read(alloc: Global, value: &Value) -> Result<Node, EntryRefusal> {
         Ok(Node {
             id: required(alloc, value, "id")?,
             dependencies: required(alloc, value, "deps")?,
@@ -160,7 +169,7 @@ impl Entry for Node {
     }
 }
 
-/// The graph of dependencies.
+/// The graph of dependencies. It is null if cargo was called with `--no-deps`.
 #[derive(Drop)]
 pub struct Resolve {
     pub nodes: Vec<Node>,
@@ -168,16 +177,20 @@ pub struct Resolve {
 
 impl Entry for Resolve {
     ghost use Rattle.filterset_sources.specs.Metadata.{IsResolve};
+    ghost use Rattle.filterset_sources.specs.declared.metadata.parts.Resolve as resolves;
+
+    ghost Row = { resolves.Resolve };
+
+    ghost row_of = { λ resolve. resolve };
 
     ghost stands_for = { IsResolve };
 
-    fn expected() -> Expected {
-        Expected::Graph
-    }
+    const EXPECTED: &'static str = "an object: `cargo metadata` writes it without `--no-deps`";
 
-    fn read(alloc: Global, value: &Value) -> Result<Resolve, SourceRefusal> {
+    #[tactic(auto, using(filterset_json::proofs::ShapeLemmas::required_items))]
+    fn read(alloc: Global, value: &Value) -> Result<Resolve, EntryRefusal> {
         if value.is_null() {
-            return Err(SourceRefusal::wrong(alloc, Expected::Graph));
+            return Err(EntryRefusal::wrong(alloc, Self::EXPECTED));
         }
         Ok(Resolve {
             nodes: required(alloc, value, "nodes")?,
@@ -196,16 +209,20 @@ pub struct Parts {
 
 impl Entry for Parts {
     ghost use Rattle.filterset_sources.specs.Metadata.{IsParts};
+    ghost use Rattle.filterset_sources.specs.declared.metadata.parts.Parts as parts;
+
+    ghost Row = { parts.Parts };
+
+    ghost row_of = { λ parts. parts };
 
     ghost stands_for = { IsParts };
 
-    fn expected() -> Expected {
-        Expected::Object
-    }
+    const EXPECTED: &'static str = "an object";
 
-    fn read(alloc: Global, value: &Value) -> Result<Parts, SourceRefusal> {
+    #[tactic(auto, using(filterset_json::proofs::ShapeLemmas::required_items))]
+    fn read(alloc: Global, value: &Value) -> Result<Parts, EntryRefusal> {
         Ok(Parts {
-            packages: required(alloc, value, "packages")?,
+            packages: packages_of(alloc, required(alloc, value, "packages")?)?,
             members: required(alloc, value, "workspace_members")?,
             resolve: required(alloc, value, "resolve")?,
         })

@@ -11,5 +11,5 @@ use Rattle.filterset_sources.proofs.configuration.read_configuration.Goals as go
 pub returns-clause-refused : goal.returns-clause-refused
 returns-clause-refused c =
     let file = c.in_ok-read_toml.field-0 in
-    refuses_configuration c.args.text.now (table_view file) c.configured.result c.in_ok-read_toml.ensures.read
-    (subst (λ d. IfErr c.configured.result (Refuses ((all : Configuration) × IsConfigured d all))) (view-Table file) c.configured.ensures.refused)
+    refuses_configuration c.args.text.now (table_view file) c.read_tables.result c.in_ok-read_toml.ensures.read
+    (subst (λ d. IfErr c.read_tables.result (Refuses ((all : Configuration) × IsConfigured d all))) (view-Table file) c.read_tables.ensures.refused)

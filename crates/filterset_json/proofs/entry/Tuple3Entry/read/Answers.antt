@@ -1,8 +1,8 @@
-use Rattle.std.proofs.Common.{rules, ◌≡◌, []}
+use Rattle.std.proofs.Common.{rules, ◌≡◌}
 use Rattle.serde_json.specs.Data.{item, no_items}
 use Rattle.serde_json.specs.View.{items_view, view}
 use Rattle.filterset_json.specs.Shape.{IsTriple}
-use Rattle.filterset_json.proofs.RefusalLemmas.{Refuses-wrong}
+use Rattle.filterset_json.proofs.RefusalLemmas.{Refuses-not}
 use Rattle.filterset_json.proofs.ShapeLemmas.{three_items}
 use Rattle.filterset_json.proofs.entry.Tuple3Entry.read.Goals as goal
 use Rattle.filterset_json.proofs.entry.Tuple3Entry.read.Goals.{in_default-via-then-branch-lt3, in_default-via-else-branch-lt3+else-this-lt4}
@@ -10,7 +10,7 @@ use Rattle.filterset_json.proofs.entry.Tuple3Entry.read.Goals.{in_default-via-th
 -- a list of another length is none of 3 items
 pub returns-in_default-clause-refused : goal.returns-in_default-clause-refused
 returns-in_default-clause-refused g c =
-    Refuses-wrong c.wrong.result [] c.EXPECTED.result.now c.wrong.ensures
+    Refuses-not c.wrong.result
     (λ fact.
     let values = c.in_ok-items_of.field-0.now in
     let is : IsTriple g.A.Entry.stands_for g.B.Entry.stands_for g.C.Entry.stands_for (view c.args.value.now) fact.0 = fact.1 in

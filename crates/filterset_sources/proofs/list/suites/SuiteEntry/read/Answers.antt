@@ -1,0 +1,35 @@
+use Rattle.std.proofs.Common.{string_bytes}
+use Rattle.serde_json.specs.View.{view}
+use Rattle.filterset_json.proofs.RefusalLemmas.{handed_on}
+use Rattle.filterset_sources.specs.Suites.{IsSuite}
+use Rattle.filterset_sources.proofs.list.suites.SuiteEntry.read.Goals as goal
+
+pub returns-in_err-required-clause-refused : goal.returns-in_err-required-clause-refused
+returns-in_err-required-clause-refused c =
+    handed_on c.from_residual.result c.in_err-required.field-0.0 c.from_residual.ensures.1
+    (λ fact. let is : IsSuite (view c.args.value.now) fact.0 = fact.1 in (fact.0.package_id, is.0))
+    c.in_err-required.ensures.refused
+
+pub returns-in_err-required-2-clause-refused : goal.returns-in_err-required-2-clause-refused
+returns-in_err-required-2-clause-refused c =
+    handed_on c.from_residual-in_err-required-2.result c.in_err-required-2.field-0.0 c.from_residual-in_err-required-2.ensures.1
+    (λ fact. let is : IsSuite (view c.args.value.now) fact.0 = fact.1 in (fact.0.binary_id, is.1))
+    c.in_err-required-2.ensures.refused
+
+pub returns-in_err-required-3-clause-refused : goal.returns-in_err-required-3-clause-refused
+returns-in_err-required-3-clause-refused c =
+    handed_on c.from_residual-in_err-required-3.result c.in_err-required-3.field-0.0 c.from_residual-in_err-required-3.ensures.1
+    (λ fact. let is : IsSuite (view c.args.value.now) fact.0 = fact.1 in (string_bytes fact.0.binary_name, is.2))
+    c.in_err-required-3.ensures.refused
+
+pub returns-in_err-required-5-clause-refused : goal.returns-in_err-required-5-clause-refused
+returns-in_err-required-5-clause-refused c =
+    handed_on c.from_residual-in_err-required-5.result c.in_err-required-5.field-0.0 c.from_residual-in_err-required-5.ensures.1
+    (λ fact. let is : IsSuite (view c.args.value.now) fact.0 = fact.1 in (fact.0.platform, is.4))
+    c.in_err-required-5.ensures.refused
+
+pub returns-in_err-required-6-clause-refused : goal.returns-in_err-required-6-clause-refused
+returns-in_err-required-6-clause-refused c =
+    handed_on c.from_residual-in_err-required-6.result c.in_err-required-6.field-0.0 c.from_residual-in_err-required-6.ensures.1
+    (λ fact. let is : IsSuite (view c.args.value.now) fact.0 = fact.1 in (fact.0.tests.items, is.6))
+    c.in_err-required-6.ensures.refused
