@@ -1,4 +1,4 @@
-//! Reads a record of filtersets on standard input, and writes a report of it on standard output.
+//! Reads a record of filtersets from standard input, and writes its report to standard output.
 #![tactic(auto)]
 
 mod program;

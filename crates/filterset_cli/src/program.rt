@@ -1,30 +1,30 @@
-//! The program: the report of a record of filtersets, and the exit status of each outcome.
+//! The program that reports on a record of filtersets.
 use filterset_io::Program;
-use filterset_report::{Outcome, report_of};
+use filterset_report::{ReportOutcome, report_of};
 use std::alloc::{AllocError, Global};
 
-/// The program that reports what the library says of a record of filtersets.
+/// Reports what the library says about each filterset of a record.
 pub struct Filtersets;
 
 impl Program for Filtersets {
     ghost use Rattle.filterset_report.specs.Report.{Report};
     ghost use Rattle.filterset_cli.specs.Ending.{status_of};
 
-    type Outcome = Outcome;
+    type Outcome = ReportOutcome;
 
     ghost reports = { Report };
 
     ghost status_of = { status_of };
 
-    fn report(alloc: Global, bytes: &[u8]) -> Result<(String, Outcome), AllocError> {
+    fn report(alloc: Global, bytes: &[u8]) -> Result<(String, ReportOutcome), AllocError> {
         report_of(alloc, bytes)
     }
 
-    fn status(outcome: Outcome) -> u8 {
+    fn status(outcome: ReportOutcome) -> u8 {
         match outcome {
-            Outcome::AllAccepted => 0,
-            Outcome::SomeRefused => 1,
-            Outcome::RecordRefused => 2,
+            ReportOutcome::AllAccepted => 0,
+            ReportOutcome::SomeRefused => 1,
+            ReportOutcome::RecordRefused => 2,
         }
     }
 }

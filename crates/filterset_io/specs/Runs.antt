@@ -3,11 +3,11 @@ use Rattle.std.specs.Prelude.{◌≡◌, ◌++◌, ℕ, List, Option, IfSome, Re
 use Rattle.std.specs.Io.KnownBytes.{Appends}
 use Rattle.filterset_io.specs.declared.fault.RunFault.{RunFault}
 
--- the bytes are what a reader had left, where it tells that
+-- the bytes are what a reader had left, if that is known
 abbrev pub AreLeft : Option (List ℕ) → List ℕ → Type 0
 AreLeft left bytes = IfSome left (λ known. bytes ≡ known)
 
--- a report of the bytes that were left says this of them, and a writer took the report and nothing else
+-- a report of the bytes that were left has this outcome, and a writer took the report and nothing else
 abbrev pub IsWritten : {O : Type 0} → (List ℕ → List ℕ → O → Type 0) → Option (List ℕ) → Option (List ℕ)
     → Option (List ℕ) → O → Type 0
 IsWritten reports left old new outcome =
@@ -20,7 +20,7 @@ IsBegun {O} reports left old new =
     (bytes : List ℕ) × (front : List ℕ) × (rest : List ℕ) × (outcome : O) × AreLeft left bytes
     × reports bytes (front ++ rest) outcome × Appends old new front
 
--- the exit status of a run, where it gives an outcome and where it gives none
+-- the exit status of a run: the status of its outcome, or 3
 abbrev pub ending_status : {O : Type 0} → (O → ℕ) → Result O RunFault → ℕ
 ending_status status_of (Ok outcome) = status_of outcome
 ending_status status_of (Err fault) = 3

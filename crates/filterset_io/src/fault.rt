@@ -1,8 +1,8 @@
-//! Why a run gives nothing, and the line that is told of that.
+//! Why a run fails.
 use std::alloc::AllocError;
 use std::fmt;
 
-/// Why a run gave no outcome.
+/// Why a run fails. Displays as the line for standard error, without a line feed.
 #[derive(Clone, Copy, Debug, PartialEq, Eq)]
 pub enum RunFault {
     Memory(AllocError),

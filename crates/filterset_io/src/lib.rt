@@ -1,5 +1,5 @@
-//! What programs that read a record and write a report have in common: reading a reader to its end, writing a whole
-//! text, a run from one to the other, why a run gives nothing, and how it ends.
+//! Runs programs that read standard input to its end and write one text: their readers and writers, their faults and their
+//! exit statuses.
 #![tactic(auto)]
 
 mod fault;

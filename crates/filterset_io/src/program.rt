@@ -1,4 +1,4 @@
-//! Programs that read a record and write a report of it: a run of one, and how it ends.
+//! Runs programs that read a record and write a report.
 ghost use Rattle.std.specs.Prelude.{◌≡◌, ◌≢◌, Err, IfErr, IfOk, IsTrue, List, OnOk, string_bytes, ℕ};
 ghost use Rattle.filterset_io.specs.Runs.{IsBegun, IsWritten, ending_status};
 
@@ -8,30 +8,27 @@ use crate::source::{FromReader, Source, read_all};
 use std::alloc::{AllocError, Global};
 use std::process::ExitCode;
 
-/// A program, by the report that it writes of a record and by its exit statuses.
+/// A program that reads a record and writes a report.
 pub trait Program {
-    /// What a report says of its record.
+    /// What a report says about its record as a whole.
     type Outcome: Copy;
 
-    /// The text is a report of a record of these bytes, and says this of it.
+    /// The text is a report of a record with these bytes, and this is its outcome.
     ghost reports: { List ℕ → List ℕ → Self.Outcome → Type 0 };
-    /// The exit status after a report that says this of its record.
+    /// The exit status for an outcome.
     ghost status_of: { Self.Outcome → ℕ };
 
-    /// The report of a record's bytes, and what it says of the record.
-    ///
-    /// Errors: out of memory alone.
+    /// Makes the report of a record, and returns its outcome. The only error is out of memory.
     fn report(alloc: Global, bytes: &[u8]) -> Result<(String, Self::Outcome), AllocError>
         ensures { IfOk result (λ made. reports bytes.now (string_bytes made.0) made.1) };
 
-    /// The exit status after a report that says this of its record.
+    /// Returns the exit status for an outcome.
     fn status(outcome: Self::Outcome) -> u8
         ensures { result ≡ status_of outcome };
 }
 
-/// Reads a record to its end, and then writes its report. The report is made before the first byte of it is written.
-///
-/// Returns what the report says of the record, or that the run is out of memory, or that a read or a write failed.
+/// Reads a record to its end, makes its report, and then writes the report. Fails if a read or a write fails, or out of
+/// memory.
 pub fn run<P: Program, R: Source, W: Sink>(
     alloc: Global,
     input: &mut R,
@@ -40,10 +37,10 @@ pub fn run<P: Program, R: Source, W: Sink>(
     // The report of what was read is written, and nothing else.
     ensures report { IfOk result
         (IsWritten P.reports (R.left input.old) (W.taken output.old) (W.taken output.new)) }
-    // After a failed write a beginning of such a report is.
+    // After a failed write, a beginning of such a report is written.
     ensures beginning { result ≡ Err RunFault.Write
         → IsBegun P.reports (R.left input.old) (W.taken output.old) (W.taken output.new) }
-    // After every other fault the writer is what it was.
+    // After every other fault, nothing is written.
     ensures silent { IfErr result (λ fault. fault ≢ RunFault.Write → output.new ≡ output.old) }
 
     ensures ended { OnOk result (IsTrue (R.ended input.new)) }
@@ -58,7 +55,7 @@ pub fn run<P: Program, R: Source, W: Sink>(
     Ok(outcome)
 }
 
-/// The exit status that a run ends with: that of its outcome, or 3 where it has none.
+/// Returns the exit status of a run: the status of its outcome, or 3 if it failed.
 pub fn status<P: Program>(ended: Result<P::Outcome, RunFault>) -> u8
     ensures { result ≡ ending_status P.status_of ended }
 {
@@ -68,7 +65,7 @@ pub fn status<P: Program>(ended: Result<P::Outcome, RunFault>) -> u8
     }
 }
 
-/// Runs the program from standard input to standard output, and says on standard error why there is no outcome.
+/// Runs the program from standard input to standard output. Writes a fault to standard error.
 pub fn execute<P: Program>(rt: HostRuntime) -> ExitCode {
     let mut input = FromReader::new(rt.stdin());
     let mut output = ToWriter::new(rt.stdout());

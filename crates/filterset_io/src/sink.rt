@@ -1,4 +1,4 @@
-//! Writers, and writing a whole text to one.
+//! Writes whole texts to writers.
 ghost use Rattle.std.specs.Prelude.{◌≡◌, ◌||◌, ◌++◌, Bool, Err, IsTrue, List, OnErr, OnOk, Option, false, ℕ};
 ghost use Rattle.std.specs.Io.KnownBytes.{Appends, WriteAppends};
 ghost use Rattle.std.specs.Io.{WritesAtMost};
@@ -8,21 +8,21 @@ use crate::fault::RunFault;
 use std::io;
 use std::io::Write;
 
-/// A writer that tells which bytes it took, and keeps a mark. Nothing clears the mark.
+/// A writer that counts as failed after the first write that fails.
 pub trait Sink {
-    /// The bytes that were taken, where they are known.
+    /// The bytes that the writer has taken, if they are known.
     ghost taken: { Self → Option (List ℕ) };
-    /// A write answered an error, or took no byte of a piece that is not empty.
+    /// A write returned an error, or took no byte of a piece that is not empty.
     ghost failed: { Self → Bool };
 
-    /// Takes bytes from the front of the piece, and answers how many.
+    /// Takes bytes from the front of the piece, and returns how many.
     fn write_some(&mut self, piece: &[u8]) -> io::Result<usize>
         ensures bound { WritesAtMost result piece.now }
         ensures bytes { WriteAppends (taken self.old) (taken self.new) result piece.now }
         ensures failed { failed self.new ≡ (failed self.old || write_fails result piece.now) };
 }
 
-/// Any writer of std as a `Sink`.
+/// A writer of std as a `Sink`.
 #[derive(Debug, Drop)]
 pub struct ToWriter<W: Write> {
     inner: W,
@@ -30,7 +30,7 @@ pub struct ToWriter<W: Write> {
 }
 
 impl<W: Write> ToWriter<W> {
-    /// The writer with its mark not set.
+    /// Returns the writer as one that has not failed.
     pub fn new(inner: W) -> ToWriter<W>
         ensures { result ≡ record { inner = inner; failed = false } }
     {
@@ -62,7 +62,7 @@ impl<W: Write> Sink for ToWriter<W> {
     }
 }
 
-/// Writes the whole text, or the front of it that was taken before a write failed.
+/// Writes the whole text, or the part of it that comes before a failed write.
 pub fn write_all<W: Sink>(output: &mut W, text: &[u8]) -> Result<(), RunFault>
     ensures whole { OnOk result (Appends (W.taken output.old) (W.taken output.new) text.now) }
     ensures kept { OnOk result (W.failed output.new ≡ W.failed output.old) }

@@ -1,4 +1,4 @@
-//! Readers, and reading one to its end.
+//! Reads readers to their end.
 ghost use Rattle.std.specs.Prelude.{◌≡◌, ◌≢◌, ◌||◌, Bool, Err, IfOk, IfSome, IsTrue, List, OnOk, Option, false, ℕ};
 ghost use Rattle.std.specs.Io.KnownBytes.{ReadConsumes};
 ghost use Rattle.std.specs.Io.{ReadsAtMost};
@@ -9,17 +9,17 @@ use std::alloc::Global;
 use std::io;
 use std::io::Read;
 
-/// A reader that tells which bytes are left, and keeps two marks. Nothing clears a mark.
+/// A reader that counts as failed after the first read that fails, and as ended after the first that finds the end.
 pub trait Source {
-    /// The bytes that are left, where they are known.
+    /// The bytes that are left, if they are known.
     ghost left: { Self → Option (List ℕ) };
-    /// A read answered an error.
+    /// A read returned an error.
     ghost failed: { Self → Bool };
-    /// A read answered no byte for a buffer that is not empty.
+    /// A read returned no byte for a buffer that is not empty.
     ghost ended: { Self → Bool };
 
-    /// Reads at most as many bytes as the buffer has room for, and answers how many: none at the
-    /// end, or where there is no room.
+    /// Reads at most as many bytes as the buffer has room for, and returns how many: none at the end, or if there is no
+    /// room.
     fn read_some(&mut self, buf: &mut [u8]) -> io::Result<usize>
         ensures bound { ReadsAtMost result buf.new }
         ensures bytes { ReadConsumes (left self.old) (left self.new) result buf.new }
@@ -27,7 +27,7 @@ pub trait Source {
         ensures ended { ended self.new ≡ (ended self.old || read_ends result buf.new) };
 }
 
-/// Any reader of std as a `Source`.
+/// A reader of std as a `Source`.
 #[derive(Debug, Drop)]
 pub struct FromReader<R: Read> {
     inner: R,
@@ -36,7 +36,7 @@ pub struct FromReader<R: Read> {
 }
 
 impl<R: Read> FromReader<R> {
-    /// The reader with neither mark set.
+    /// Returns the reader as one that has neither failed nor ended.
     pub fn new(inner: R) -> FromReader<R>
         ensures { result ≡ record { inner = inner; failed = false; ended = false } }
     {
@@ -72,11 +72,10 @@ impl<R: Read> Source for FromReader<R> {
     }
 }
 
-/// How many bytes are asked for at a time.
+/// How many bytes to ask for at a time.
 const PIECE: usize = 16 * 1024;
 
-/// All bytes up to the reader's end. Each turn adds a byte or is the last one, so a reader without
-/// end is refused for memory at last.
+/// Reads all bytes up to the reader's end. On a reader without end, it runs out of memory.
 pub fn read_all<R: Source>(alloc: Global, input: &mut R) -> Result<Vec<u8>, RunFault>
     ensures whole { IfOk result
         (λ bytes. IfSome (R.left input.old) (λ left. bytes.items ≡ left)) }

@@ -8,12 +8,12 @@ use Rattle.std.proofs.lemmas.Option.{same_Some}
 use Rattle.std.proofs.lemmas.Slice.Eq.{bytes_eq-Decides}
 use Rattle.filterset_matchers.specs.Matcher.{Matcher, MatchesName}
 use Rattle.filterset_expression.specs.declared.query.TestQuery.{TestQuery}
-use Rattle.filterset_record.specs.Shape.{Text}
-use Rattle.filterset_record.specs.Record.{BinaryRow, TestRow}
+use Rattle.filterset_json.specs.Shape.{Text}
+use Rattle.filterset_report.specs.Record.{BinaryRow, TestRow}
 use Rattle.filterset_report.specs.Lookup.{IsFirst, IsInGroup, matches_recorded_group}
-use Rattle.filterset_record.specs.Rows.{binary_row, test_row}
-use Rattle.filterset_record.specs.declared.record.binaries.BinaryEntry.{BinaryEntry}
-use Rattle.filterset_record.specs.declared.record.binaries.TestEntry.{TestEntry}
+use Rattle.filterset_report.specs.Rows.{binary_row, test_row}
+use Rattle.filterset_report.specs.declared.record.binaries.BinaryEntry.{BinaryEntry}
+use Rattle.filterset_report.specs.declared.record.binaries.TestEntry.{TestEntry}
 
 -- one element of a list is the first
 same_position : {A : Type 0} (P : A → Type 0) (xs ys us vs : List A) (x y : A) → xs ++ x ∷ us ≡ ys ++ y ∷ vs → P x → P y →

@@ -3,12 +3,16 @@ use Rattle.std.proofs.Common.{Result, Ok, Err, IfOk, ◌≡◌, ℕ, suc, Bool, 
 use Rattle.std.specs.List.{enumerate_from}
 use Rattle.std.proofs.lemmas.List.{append-nil}
 use Rattle.std.proofs.lemmas.List.FromFn.{get_or-enumerate_from, length-enumerate_from}
-use Rattle.filterset_record.specs.Shape.{Text}
+use Rattle.filterset_json.specs.Refusals.{Refuses}
+use Rattle.filterset_json.specs.Shape.{Text}
+use Rattle.filterset_json.specs.declared.refusal.EntryRefusal.{EntryRefusal}
+use Rattle.filterset_json.specs.declared.refusal.EntryRefusal.TheVariants.{Wrong, OutOfMemory}
+use Rattle.filterset_json.specs.declared.refusal.WrongValue.{WrongValue}
 use Rattle.filterset_report.specs.Library.{Background}
 use Rattle.filterset_report.specs.Report.{IsBackgroundOf, MakeGraph, RecordReport, Section, Sections, no_sections, next_section, outcome_of}
-use Rattle.filterset_record.specs.Record.{FiltersetRow, RecordRow}
-use Rattle.filterset_record.specs.declared.record.commands.Command.{Command}
-use Rattle.filterset_report.specs.declared.outcome.Outcome.{Outcome}
+use Rattle.filterset_report.specs.Record.{FiltersetRow, RecordRow}
+use Rattle.filterset_report.specs.declared.record.commands.Command.{Command}
+use Rattle.filterset_report.specs.declared.outcome.ReportOutcome.{ReportOutcome}
 use Rattle.std.proofs.Math.Bool.{and_assoc, and-true}
 use Rattle.std.proofs.Math.Seq.{take-length}
 
@@ -58,7 +62,12 @@ number_is_position xs n p lt at =
     ap (λ q. q.0) (at ∙ get_or-enumerate_from 0 xs n p below) ∙ zero-add n
 
 -- a report of filtersets, with the outcome that says whether all of them are accepted
-pub reported : (row : RecordRow) (background : Background) (text : Text) (outcome : Outcome) (all : Bool) → MakeGraph row.packages → IsBackgroundOf row background →
+pub reported : (row : RecordRow) (background : Background) (text : Text) (outcome : ReportOutcome) (all : Bool) → MakeGraph row.packages → IsBackgroundOf row background →
     Sections row.command background 0 row.filtersets all text → outcome ≡ outcome_of all → RecordReport row text outcome
 reported row background text outcome true graph is sections says = subst (RecordReport row text) (sym says) (background, graph, is, sections)
 reported row background text outcome false graph is sections says = subst (RecordReport row text) (sym says) (background, graph, is, sections)
+
+-- what a value is refused for as wrong does not hold
+pub no_entry : {A : Type 0} (r : EntryRefusal) (w : WrongValue) → r ≡ Wrong w → Refuses A r → A → ⊥
+no_entry (Wrong v) w same refuted = refuted
+no_entry (OutOfMemory e) w same h = λ a. cc

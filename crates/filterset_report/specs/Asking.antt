@@ -6,8 +6,8 @@ use Rattle.filterset_grammar.specs.Tree.{Tree}
 use Rattle.filterset_faults.specs.declared.span.SourceSpan.{SourceSpan}
 use Rattle.filterset_report.specs.declared.lookup.RecordLookup.{RecordLookup}
 use Rattle.filterset_report.specs.Library.{Background}
-use Rattle.filterset_record.specs.Record.{BinaryRow}
-use Rattle.filterset_record.specs.Rows.{binary_row}
+use Rattle.filterset_report.specs.Record.{BinaryRow}
+use Rattle.filterset_report.specs.Rows.{binary_row}
 
 -- P holds of each tree that the expression may be asked for, and of the background that it is asked against
 abbrev pub ForItsTree : FlatExpr → (Background → Tree SourceSpan → Type 0) → Type 0

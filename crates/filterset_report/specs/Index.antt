@@ -6,8 +6,8 @@ use Rattle.std.specs.Cmp.Lexicographic.{slice_cmp}
 use Rattle.std.specs.List.{find}
 use Rattle.std.specs.Ordering.{nat_cmp}
 use Rattle.std.specs.Str.{bytes_eq}
-use Rattle.filterset_record.specs.Shape.{Text}
-use Rattle.filterset_record.specs.declared.record.binaries.TestEntry.{TestEntry}
+use Rattle.filterset_json.specs.Shape.{Text}
+use Rattle.filterset_report.specs.declared.record.binaries.TestEntry.{TestEntry}
 
 -- what the index has under this text
 abbrev pub entry_at : {V : Type 0} → BTreeMap (Bor Text) V → Text → Option V

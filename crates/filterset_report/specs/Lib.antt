@@ -3,3 +3,5 @@ pub mod Lookup
 pub mod Library
 pub mod Asking
 pub mod Report
+pub mod Record
+pub mod Rows

@@ -1,6 +1,5 @@
 -- What the library says of the program's filtersets, binaries and tests.
-use Rattle.std.specs.Prelude.{◌≡◌, ◌↔◌, Bool, IsTrue, Option, Some, None, List, Contains, map, string_bytes}
-use Rattle.std.specs.HashSet.{keys}
+use Rattle.std.specs.Prelude.{◌≡◌, ◌↔◌, Bool, IsTrue, Option, Some, None, List, map}
 use Rattle.filterset_expression.specs.BinaryMeaning.{IsDefiniteTree, IsUndecidedTree}
 use Rattle.nextest_filtering.specs.Compiling.{packages_of, IsFiltersetOf}
 use Rattle.filterset_expression.specs.Contexts.{default_of}
@@ -10,15 +9,14 @@ use Rattle.filterset_faults.specs.declared.kind.FiltersetKind.TheVariants as kin
 use Rattle.filterset_faults.specs.declared.span.SourceSpan.{SourceSpan}
 use Rattle.filterset_graph.specs.declared.package.PackageMetadata.{PackageMetadata}
 use Rattle.nextest_filtering.specs.declared.compile.context.KnownGroups.{KnownGroups}
-use Rattle.nextest_filtering.specs.declared.compile.context.KnownGroups.TheVariants.{Known, Unavailable}
 use Rattle.filterset_expression.specs.declared.expression.CompiledExpr.{CompiledExpr}
 use Rattle.filterset_expression.specs.declared.query.BinaryQuery.{BinaryQuery}
 use Rattle.filterset_expression.specs.declared.query.TestQuery.{TestQuery}
 use Rattle.filterset_report.specs.declared.report.setting.Setting.{Setting}
 use Rattle.filterset_report.specs.Lookup.{matches_recorded_group}
-use Rattle.filterset_record.specs.Rows.{binary_row}
-use Rattle.filterset_record.specs.Shape.{Text}
-use Rattle.filterset_record.specs.Record.{BinaryRow, TestRow}
+use Rattle.filterset_report.specs.Rows.{binary_row}
+use Rattle.filterset_json.specs.Shape.{Text}
+use Rattle.filterset_report.specs.Record.{BinaryRow, TestRow}
 
 -- ---- what filtersets are read against and asked with
 
@@ -36,12 +34,6 @@ background_of setting = record {
   default = default_of setting.eval_context;
   binaries = map binary_row setting.lookup.binaries.now;
 }
-
--- the groups are known, and the custom ones have these names and no others
-abbrev pub AreGroups : List Text → KnownGroups → Type 0
-AreGroups names (Known custom_groups) =
-    (name : Text) → Contains (map (λ s. string_bytes s) (keys custom_groups)) name ↔ Contains names name
-AreGroups names Unavailable = ⊥
 
 -- the text is a default filter, and the expression is what its tree is compiled to
 abbrev pub IsDefaultFilter : List PackageMetadata → KnownGroups → Text → CompiledExpr → Type 0

@@ -3,8 +3,8 @@ use Rattle.std.specs.Prelude.{◌≡◌, ◌++◌, List, ◌∷◌, All}
 use Rattle.filterset_matchers.specs.Matcher.{MatchesName}
 use Rattle.filterset_expression.specs.Expression.{Lookup}
 use Rattle.filterset_expression.specs.declared.query.TestQuery.{TestQuery}
-use Rattle.filterset_record.specs.Shape.{Text}
-use Rattle.filterset_record.specs.Record.{BinaryRow, TestRow}
+use Rattle.filterset_json.specs.Shape.{Text}
+use Rattle.filterset_report.specs.Record.{BinaryRow, TestRow}
 
 -- P holds of the element, and of none before it
 pub record IsFirst {A : Type 0} (P : A → Type 0) (xs : List A) (x : A) : Type 0 where

@@ -13,17 +13,18 @@ use Rattle.filterset_faults.specs.Span.{offset_of, length_of}
 use Rattle.filterset_faults.specs.declared.span.SourceSpan.{SourceSpan}
 use Rattle.filterset_faults.specs.declared.error.ParseSingleError.{ParseSingleError}
 use Rattle.filterset_faults.specs.declared.kind.FiltersetKind.TheVariants as kinds
-use Rattle.filterset_record.specs.Shape.{Text}
+use Rattle.filterset_json.specs.Shape.{Text}
 use Rattle.filterset_io.specs.Pieces.{Pieces}
-use Rattle.filterset_record.specs.Record.{BinaryRow, FiltersetRow, TestRow, RecordRow, IsRecord}
+use Rattle.filterset_report.specs.Record.{BinaryRow, FiltersetRow, TestRow, RecordRow, IsRecord}
 use Rattle.nextest_filtering.specs.Compiling.{IsFiltersetOf, IsRefusedWith}
 use Rattle.nextest_filtering.specs.Formatting.{PrintsFilterset}
 use Rattle.nextest_filtering.specs.declared.compile.context.KnownGroups.{KnownGroups}
-use Rattle.filterset_report.specs.Library.{AreGroups, Background, IsDefaultFilter, Tells, TellsOfBinary}
-use Rattle.filterset_record.specs.declared.record.commands.Command.{Command}
-use Rattle.filterset_record.specs.declared.record.commands.Command.TheVariants as commands
-use Rattle.filterset_report.specs.declared.outcome.Outcome.{Outcome}
-use Rattle.filterset_report.specs.declared.outcome.Outcome.TheVariants.{AllAccepted, SomeRefused, RecordRefused}
+use Rattle.nextest_filtering.specs.Groups.{AreGroups}
+use Rattle.filterset_report.specs.Library.{Background, IsDefaultFilter, Tells, TellsOfBinary}
+use Rattle.filterset_report.specs.declared.record.commands.Command.{Command}
+use Rattle.filterset_report.specs.declared.record.commands.Command.TheVariants as commands
+use Rattle.filterset_report.specs.declared.outcome.ReportOutcome.{ReportOutcome}
+use Rattle.filterset_report.specs.declared.outcome.ReportOutcome.TheVariants.{AllAccepted, SomeRefused, RecordRefused}
 
 -- ---- an accepted filterset
 
@@ -56,14 +57,16 @@ pub data BinaryLines (background : Background) (tree : Tree SourceSpan) (binary 
 abbrev pub AnswerLines : Background → Tree SourceSpan → Text → Type 0
 AnswerLines background tree = Pieces (BinaryLines background tree) background.binaries
 
-abbrev pub accepted_line : ℕ → Tree SourceSpan → Text
-accepted_line index tree =
-    codes "filterset " ++ (decimal index ++ (codes " accepted: " ++ (printed tree ++ codes "\n")))
+-- the line of one with which this was done
+abbrev pub printed_line : Text → ℕ → Tree SourceSpan → Text
+printed_line done index tree =
+    codes "filterset " ++ (decimal index ++ (codes " " ++ (done ++ (codes ": " ++ (printed tree ++ codes "\n")))))
 
--- the line of one that is formatted
+abbrev pub accepted_line : ℕ → Tree SourceSpan → Text
+accepted_line = printed_line (codes "accepted")
+
 abbrev pub formatted_line : ℕ → Tree SourceSpan → Text
-formatted_line index tree =
-    codes "filterset " ++ (decimal index ++ (codes " formatted: " ++ (printed tree ++ codes "\n")))
+formatted_line = printed_line (codes "formatted")
 
 -- What is written of an accepted filterset with this tree. For a report it is that it is accepted, and what it says of
 -- the binaries and their tests. To format it, it is its text as the tree prints alone; and that text is a filterset of
@@ -174,19 +177,19 @@ Account row output all =
     × Sections row.command background 0 row.filtersets all output
 
 -- how a run ends whose filtersets were read
-abbrev pub outcome_of : Bool → Outcome
+abbrev pub outcome_of : Bool → ReportOutcome
 outcome_of true = AllAccepted
 outcome_of false = SomeRefused
 
 -- which reports, and which outcomes, a record with these parts may have
-abbrev pub RecordReport : RecordRow → Text → Outcome → Type 0
+abbrev pub RecordReport : RecordRow → Text → ReportOutcome → Type 0
 RecordReport row output AllAccepted = Account row output true
 RecordReport row output SomeRefused = Account row output false
 RecordReport row output RecordRefused = PackagesLine row.packages output ⊎ DefaultLines row output
 
 -- which reports, and which outcomes, an input may have: the line of one that is no JSON, the line of one that is no
 -- record, and else what its record may have
-pub data Report (input output : Text) (outcome : Outcome) : Type 0 where
+pub data Report (input output : Text) (outcome : ReportOutcome) : Type 0 where
   no_json : ((d : Data) → ¬ (IsJson input d)) → output ≡ codes "record refused: not JSON\n" → outcome ≡ RecordRefused
       → Report input output outcome
   no_record : (d : Data) → IsJson input d → ((row : RecordRow) → ¬ (IsRecord d row))

@@ -1,11 +1,12 @@
-//! The report that the program writes of a record: what the library says of its filtersets, and what these say of its
-//! binaries and tests.
+//! Reads a record of filtersets, packages, binaries and tests from JSON, and writes what the library says about them.
 #![tactic(auto)]
 
 mod lookup;
 mod outcome;
+mod record;
 mod report;
 
 pub use lookup::RecordLookup;
-pub use outcome::Outcome;
+pub use outcome::ReportOutcome;
+pub use record::{BinaryEntry, Command, FiltersetEntry, Record, TestEntry};
 pub use report::report_of;

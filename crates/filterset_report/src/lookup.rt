@@ -1,30 +1,30 @@
-//! The groups of a record's tests.
+//! Looks up the groups of a record's tests.
 ghost use Rattle.std.specs.Prelude.{◌≡◌, IfOk, MatchOption, map, option_map};
 ghost use Rattle.std.specs.List.{find};
 ghost use Rattle.std.specs.Str.{bytes_eq};
 ghost use Rattle.filterset_report.specs.Index.{HasFirsts, IsIndexOf};
 ghost use Rattle.filterset_report.specs.Lookup.{IsInGroup, matches_recorded_group};
-ghost use Rattle.filterset_record.specs.Rows.{binary_row};
-ghost use Rattle.filterset_record.specs.Shape.{Text};
+ghost use Rattle.filterset_report.specs.Rows.{binary_row};
+ghost use Rattle.filterset_json.specs.Shape.{Text};
 
-use filterset_record::{BinaryEntry, TestEntry};
+use crate::record::{BinaryEntry, TestEntry};
 use nextest_filtering::{GroupLookup, NameMatcher, RustBinaryId, TestCaseName, TestQuery};
 use std::alloc::{AllocError, Global};
 use std::collections::BTreeMap;
 
-/// A binary has an index of its tests only if it has more of them than this: fewer are as soon looked through.
+/// Binaries with no more tests than this get no index: a scan is as fast.
 const FEW_TESTS: usize = 8;
 
-/// A binary, and its tests by their names.
+/// A binary with an index of its tests.
 #[derive(Debug, Drop)]
 struct IndexedBinary<'a> {
     binary: &'a BinaryEntry,
-    /// The first test with each name, or nothing where no index is made.
+    /// The first test with each name; empty if there is no index.
     by_name: BTreeMap<&'a str, &'a TestEntry>,
     ghost firsts: { HasFirsts binary.now.tests.items by_name },
 }
 
-/// The first test with each name.
+/// Indexes tests by their names: the first test with each name.
 fn tests_by_name<'a>(
     alloc: Global,
     tests: &'a [TestEntry],
@@ -41,8 +41,8 @@ fn tests_by_name<'a>(
     Ok(index)
 }
 
-/// The first test with each name where an index is wanted and the tests are not few, and else nothing.
-fn wanted_tests<'a>(
+/// Indexes tests by their names if an index is wanted and they are not few. Returns an empty index otherwise.
+fn index_if_wanted<'a>(
     alloc: Global,
     tests: &'a [TestEntry],
     is_wanted: bool,
@@ -57,7 +57,7 @@ fn wanted_tests<'a>(
 }
 
 impl IndexedBinary<'_> {
-    /// The first test with this name.
+    /// Looks up the first test with a name.
     fn test_with(&self, name: &TestCaseName) -> Option<&TestEntry>
         ensures { option_map (λ t. t.now) result ≡ find (λ t. bytes_eq t.name name.now) self.now.binary.now.tests.items }
     {
@@ -68,8 +68,8 @@ impl IndexedBinary<'_> {
     }
 }
 
-/// Tells the groups of a record's tests: a test is in the group of the first test with its name in the first binary
-/// with its binary's id.
+/// The groups of a record's tests: a test is in the group of the first test with its name in the first binary with its
+/// binary's id.
 #[derive(Debug, Drop)]
 pub struct RecordLookup<'a> {
     pub binaries: &'a [BinaryEntry],
@@ -78,7 +78,7 @@ pub struct RecordLookup<'a> {
     ghost indexed: { IsIndexOf (λ b. b.id) (λ b. b.binary.now) binaries.now by_id },
 }
 
-/// The first binary with each id, and their tests by their names where that is wanted.
+/// Indexes binaries by their ids: the first binary with each id, with an index of its tests if that is wanted.
 fn binaries_by_id<'a>(
     alloc: Global,
     binaries: &'a [BinaryEntry],
@@ -90,7 +90,7 @@ fn binaries_by_id<'a>(
     for binary in binaries {
         let id = binary.id.as_str();
         if !index.contains_key(id) {
-            let by_name = wanted_tests(alloc, &binary.tests, is_wanted)?;
+            let by_name = index_if_wanted(alloc, &binary.tests, is_wanted)?;
             index.insert(id, IndexedBinary { binary, by_name })?;
         }
     }
@@ -98,8 +98,8 @@ fn binaries_by_id<'a>(
 }
 
 impl<'a> RecordLookup<'a> {
-    /// The lookup among these binaries. Groups are found faster, and it takes longer to make, where an index of the tests
-    /// is wanted. The only error is out of memory.
+    /// Indexes these binaries, and their tests too if that is wanted: it takes longer, and groups are found faster. The
+    /// only error is out of memory.
     pub fn new(
         alloc: Global,
         binaries: &'a [BinaryEntry],
@@ -111,7 +111,7 @@ impl<'a> RecordLookup<'a> {
         Ok(RecordLookup { binaries, by_id })
     }
 
-    /// The first binary with this id.
+    /// Looks up the first binary with an id.
     fn binary_with(&self, id: &RustBinaryId) -> Option<&IndexedBinary<'a>>
         ensures { option_map (λ b. b.now.binary.now) result
             ≡ find (λ b. bytes_eq b.id id.now) self.now.binaries.now }
@@ -119,7 +119,7 @@ impl<'a> RecordLookup<'a> {
         self.by_id.get(id.as_str())
     }
 
-    /// The group of the test, where the record has the test.
+    /// Looks up the group of a test. Returns `None` if the record does not have the test.
     fn group_of(&self, test: &TestQuery<'_>) -> Option<&str>
         ensures { MatchOption result
             ((group : Text) → ¬ IsInGroup (map binary_row self.now.binaries.now) test.now group)

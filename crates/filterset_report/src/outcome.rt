@@ -1,8 +1,8 @@
 //! How a record fared.
 
-/// What a report says of its record.
+/// What a report says about its record as a whole.
 #[derive(Clone, Copy, Debug, PartialEq, Eq)]
-pub enum Outcome {
+pub enum ReportOutcome {
     AllAccepted,
     SomeRefused,
     RecordRefused,

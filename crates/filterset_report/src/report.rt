@@ -1,20 +1,21 @@
-//! The report of a record.
+//! Writes the report of a record.
 ghost use Rattle.std.specs.Prelude.{◌≡◌, ◌++◌, Bool, IfOk, List, codes, map, string_bytes};
 ghost use Rattle.filterset_graph.specs.Refusals.{IsRefusalOf};
 ghost use Rattle.filterset_graph.specs.declared.package.PackageMetadata.{PackageMetadata};
-ghost use Rattle.nextest_filtering.specs.Groups.{IsKnown};
-ghost use Rattle.filterset_report.specs.Library.{AreGroups, background_of};
-ghost use Rattle.filterset_record.specs.Shape.{Text};
+ghost use Rattle.nextest_filtering.specs.Groups.{AreGroups, IsKnown};
+ghost use Rattle.filterset_report.specs.Library.{background_of};
+ghost use Rattle.filterset_json.specs.Shape.{Text};
 ghost use Rattle.filterset_report.specs.Report.{MakeGraph, PackagesLine, RecordReport, Report, Sections, faults_text, outcome_of};
-ghost use Rattle.filterset_record.specs.Rows.{binary_row, filterset_row, record_row};
+ghost use Rattle.filterset_report.specs.Rows.{binary_row, filterset_row, record_row};
 
 use crate::lookup::RecordLookup;
-use crate::outcome::Outcome;
+use crate::outcome::ReportOutcome;
+use crate::record::{BinaryEntry, Command, FiltersetEntry, Record};
 use faults::push_faults;
-use filterset_record::{BinaryEntry, Command, Entry, FiltersetEntry, Record, RecordRefusal};
+use filterset_json::{Entry, EntryRefusal};
 use nextest_filtering::{
     EvalContext, Filterset, FiltersetKind, GraphRefusal, KnownGroups, PackageGraph, ParseContext,
-    ParseRefusal, ParseSingleError,
+    ParseSingleError,
 };
 use sections::push_sections;
 use serde_json::Value;
@@ -26,8 +27,8 @@ mod lines;
 mod sections;
 mod setting;
 
-/// The report of a record's bytes, and what it says of the record.
-pub fn report_of(alloc: Global, input: &[u8]) -> Result<(String, Outcome), AllocError>
+/// Writes the report of a record's bytes, and returns how the record fared. The only error is out of memory.
+pub fn report_of(alloc: Global, input: &[u8]) -> Result<(String, ReportOutcome), AllocError>
     ensures { IfOk result (λ made. Report input.now (string_bytes made.0) made.1) }
 {
     let value = match Value::from_slice(alloc, input) {
@@ -37,20 +38,20 @@ pub fn report_of(alloc: Global, input: &[u8]) -> Result<(String, Outcome), Alloc
     };
     match Record::read(alloc, &value) {
         Ok(record) => report_record(alloc, record),
-        Err(RecordRefusal::NotARecord) => refusal(alloc, "record refused: not a record\n"),
-        Err(RecordRefusal::OutOfMemory(refused)) => Err(refused),
+        Err(EntryRefusal::Wrong(_)) => refusal(alloc, "record refused: not a record\n"),
+        Err(EntryRefusal::OutOfMemory(refused)) => Err(refused),
     }
 }
 
-/// The report that has one line alone.
-fn refusal(alloc: Global, line: &str) -> Result<(String, Outcome), AllocError>
-    ensures { IfOk result (λ made. (string_bytes made.0 ≡ line.now) × (made.1 ≡ Outcome.RecordRefused)) }
+/// Refuses the record by a report of one line.
+fn refusal(alloc: Global, line: &str) -> Result<(String, ReportOutcome), AllocError>
+    ensures { IfOk result (λ made. (string_bytes made.0 ≡ line.now) × (made.1 ≡ ReportOutcome.RecordRefused)) }
 {
-    Ok((String::from_str(alloc, line)?, Outcome::RecordRefused))
+    Ok((String::from_str(alloc, line)?, ReportOutcome::RecordRefused))
 }
 
-/// The report of a record.
-fn report_record(alloc: Global, entries: Record) -> Result<(String, Outcome), AllocError>
+/// Writes the report of a record.
+fn report_record(alloc: Global, entries: Record) -> Result<(String, ReportOutcome), AllocError>
     ensures { IfOk result (λ made. RecordReport (record_row entries) (string_bytes made.0) made.1) }
 {
     let Record {
@@ -63,9 +64,9 @@ fn report_record(alloc: Global, entries: Record) -> Result<(String, Outcome), Al
     } = entries;
     let graph = match PackageGraph::new(alloc, packages) {
         Ok(graph) => graph,
-        Err(refusal) => return Ok((packages_line(alloc, refusal)?, Outcome::RecordRefused)),
+        Err(refusal) => return Ok((packages_line(alloc, refusal)?, ReportOutcome::RecordRefused)),
     };
-    let known_groups = known_groups(alloc, groups)?;
+    let known_groups = KnownGroups::of(alloc, groups)?;
     report_filtersets(
         alloc,
         &graph,
@@ -77,7 +78,7 @@ fn report_record(alloc: Global, entries: Record) -> Result<(String, Outcome), Al
     )
 }
 
-/// The line that says why packages make no graph.
+/// Writes the line that says why packages make no graph.
 fn packages_line(alloc: Global, refusal: GraphRefusal) -> Result<String, AllocError>
     ensures { IfOk result (λ line. (packages : List PackageMetadata) → IsRefusalOf packages refusal
         → PackagesLine packages (string_bytes line)) }
@@ -93,7 +94,7 @@ fn packages_line(alloc: Global, refusal: GraphRefusal) -> Result<String, AllocEr
     }
 }
 
-/// The default filter's refusal: how many faults it has, and their lines.
+/// Writes the refusal of the default filter: how many faults it has, and their lines.
 fn default_refusal(alloc: Global, faults: &[ParseSingleError]) -> Result<String, AllocError>
     ensures { IfOk result (λ lines. string_bytes lines ≡ codes "default refused: " ++ faults_text faults.now) }
 {
@@ -102,25 +103,14 @@ fn default_refusal(alloc: Global, faults: &[ParseSingleError]) -> Result<String,
     Ok(lines)
 }
 
-/// These custom groups, as what is known of groups.
-fn known_groups(alloc: Global, names: Vec<String>) -> Result<KnownGroups, AllocError>
-    ensures groups { IfOk result (AreGroups (map (λ s. string_bytes s) names.items)) }
-    ensures known { IfOk result IsKnown }
-{
-    Ok(KnownGroups::Known {
-        custom_groups: names.into_iter().collect(alloc)?,
-    })
-}
-
-/// Whether one of the filtersets may ask for the groups of tests, since its text has the word.
-fn speak_of_groups(filtersets: &[FiltersetEntry]) -> bool {
+/// Returns whether a filterset may ask for the groups of tests: each that does has the word in its text.
+fn may_ask_for_groups(filtersets: &[FiltersetEntry]) -> bool {
     filtersets
         .iter()
         .any(|filterset| filterset.text.contains("group"))
 }
 
-/// The report of filtersets, over these packages and groups, and about these binaries. It is the refusal of the default
-/// filter where the text is none.
+/// Writes the report of filtersets, or the refusal of the default filter if it has faults.
 fn report_filtersets(
     alloc: Global,
     graph: &PackageGraph,
@@ -129,7 +119,7 @@ fn report_filtersets(
     filtersets: Vec<FiltersetEntry>,
     binaries: &[BinaryEntry],
     command: Command,
-) -> Result<(String, Outcome), AllocError>
+) -> Result<(String, ReportOutcome), AllocError>
     requires graph { MakeGraph graph.now }
     requires known { IsKnown known_groups }
     ensures { IfOk result (λ made. (names : List Text) → AreGroups names known_groups → RecordReport (record {
@@ -145,7 +135,7 @@ fn report_filtersets(
     let kind = FiltersetKind::DefaultFilter;
     match Filterset::parse(alloc, default_filter, &parse_context, kind, &known_groups) {
         Ok(default_filter) => {
-            let lookup = RecordLookup::new(alloc, binaries, speak_of_groups(&filtersets))?;
+            let lookup = RecordLookup::new(alloc, binaries, may_ask_for_groups(&filtersets))?;
             let setting = Setting {
                 command,
                 parse_context,
@@ -155,20 +145,20 @@ fn report_filtersets(
             };
             report_sections(alloc, &setting, filtersets)
         }
-        Err(ParseRefusal::Faults(refused)) => {
+        Err(refusal) => {
+            let refused = refusal.into_faults()?;
             let lines = default_refusal(alloc, refused.errors.as_slice())?;
-            Ok((lines, Outcome::RecordRefused))
+            Ok((lines, ReportOutcome::RecordRefused))
         }
-        Err(ParseRefusal::OutOfMemory { .. }) => Err(AllocError),
     }
 }
 
-/// The report of filtersets.
+/// Writes the section of each filterset.
 fn report_sections(
     alloc: Global,
     setting: &Setting<'_, '_>,
     filtersets: Vec<FiltersetEntry>,
-) -> Result<(String, Outcome), AllocError>
+) -> Result<(String, ReportOutcome), AllocError>
     requires { IsKnown setting.now.known_groups }
     ensures { IfOk result (λ made. (all : Bool)
         × Sections setting.now.command (background_of setting.now) 0 (map filterset_row filtersets.items) all
@@ -178,9 +168,9 @@ fn report_sections(
     let mut lines = String::new(alloc);
     let all_accepted = push_sections(&mut lines, alloc, setting, filtersets)?;
     let outcome = if all_accepted {
-        Outcome::AllAccepted
+        ReportOutcome::AllAccepted
     } else {
-        Outcome::SomeRefused
+        ReportOutcome::SomeRefused
     };
     Ok((lines, outcome))
 }

@@ -1,4 +1,4 @@
-//! The lines of the faults of a filterset.
+//! Writes the lines of the faults of a filterset.
 ghost use Rattle.std.specs.Prelude.{◌≡◌, ◌++◌, OnOk, string_bytes};
 ghost use Rattle.filterset_report.specs.Report.{fault_lines, faults_text};
 

@@ -1,19 +1,19 @@
-//! The lines of a binary and of a test.
+//! Writes the lines of a binary and of a test.
 ghost use Rattle.std.specs.Prelude.{◌≡◌, ◌++◌, IfOk, OnOk, codes, string_bytes};
 ghost use Rattle.filterset_expression.specs.FlatExpressions.{IsTold};
-ghost use Rattle.filterset_record.specs.Record.{BinaryRow, TestRow};
-ghost use Rattle.filterset_record.specs.Shape.{Text};
+ghost use Rattle.filterset_report.specs.Record.{BinaryRow, TestRow};
+ghost use Rattle.filterset_json.specs.Shape.{Text};
 ghost use Rattle.filterset_report.specs.Asking.{ForItsTree, IsLookupOf};
 ghost use Rattle.filterset_report.specs.Library.{IsAbout, Tells};
 ghost use Rattle.filterset_report.specs.Report.{TestLine, answer_text, binary_answer_text};
 
 use crate::lookup::RecordLookup;
-use filterset_record::BinaryEntry;
+use crate::record::BinaryEntry;
 use nextest_filtering::{FlatExpr, TestQuery};
 use std::alloc::{AllocError, Global};
 use std::fmt::Write;
 
-/// Adds the line of a binary: what is told of it.
+/// Adds the line of a binary, which has the answer `told`.
 pub fn push_binary_line(
     lines: &mut String,
     binary: &BinaryEntry,
@@ -31,7 +31,7 @@ pub fn push_binary_line(
     writeln!(lines, "  binary {id}: {answer}")
 }
 
-/// Whether the expression holds of the test that the question is about, of whose binary this is told.
+/// Returns whether the expression matches the test of the query, whose binary has the answer `told`.
 fn holds_of_test(
     alloc: Global,
     flat: &FlatExpr<'_>,
@@ -47,15 +47,14 @@ fn holds_of_test(
     flat.matches_test_of_told(alloc, told, query, lookup)
 }
 
-/// How the line of a test ends, by whether the expression holds of the test.
+/// Returns the end of a test's line.
 fn line_end(holds: bool) -> &'static str
     ensures { result.now ≡ codes ": " ++ (answer_text holds ++ codes "\n") }
 {
     if holds { ": yes\n" } else { ": no\n" }
 }
 
-/// Adds the line of the test that the question is about, of whose binary this is told: whether the expression holds of
-/// the test.
+/// Adds the line of the test of the query, whose binary has the answer `told`.
 pub fn push_test_line(
     lines: &mut String,
     alloc: Global,

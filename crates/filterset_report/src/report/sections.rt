@@ -1,4 +1,4 @@
-//! What a report says of each filterset.
+//! Writes what a report says about each filterset.
 ghost use Rattle.std.specs.Prelude.{◌≡◌, ◌++◌, IfOk, List, OnOk, map, string_bytes};
 ghost use Rattle.filterset_language.specs.Views.{tree_of};
 ghost use Rattle.filterset_faults.specs.declared.kind.FiltersetKind.{FiltersetKind};
@@ -10,21 +10,21 @@ ghost use Rattle.nextest_filtering.specs.declared.compile.context.KnownGroups.{K
 ghost use Rattle.filterset_expression.specs.Meaning.{IsCompiled};
 ghost use Rattle.filterset_report.specs.Asking.{ForItsTree, IsLookupOf};
 ghost use Rattle.filterset_report.specs.Library.{background_of};
-ghost use Rattle.filterset_record.specs.Record.{FiltersetRow};
-ghost use Rattle.filterset_report.specs.Report.{Accepted, AnswerLines, BinaryLines, Section, Sections, accepted_line, formatted_line, refused_text};
-ghost use Rattle.filterset_record.specs.Rows.{binary_row, filterset_row};
-ghost use Rattle.filterset_record.specs.Shape.{Text};
+ghost use Rattle.filterset_report.specs.Record.{FiltersetRow};
+ghost use Rattle.filterset_report.specs.Report.{Accepted, AnswerLines, BinaryLines, Section, Sections, accepted_line, formatted_line, printed_line, refused_text};
+ghost use Rattle.filterset_report.specs.Rows.{binary_row, filterset_row};
+ghost use Rattle.filterset_json.specs.Shape.{Text};
 
 use crate::lookup::RecordLookup;
+use crate::record::{BinaryEntry, Command, FiltersetEntry};
 use crate::report::faults::push_faults;
 use crate::report::lines::{push_binary_line, push_test_line};
 use crate::report::setting::{Setting, query_of, test_query_of};
-use filterset_record::{BinaryEntry, Command, FiltersetEntry};
-use nextest_filtering::{Filterset, FlatExpr, ParseRefusal, ParseSingleError, laws};
+use nextest_filtering::{Filterset, FlatExpr, ParseSingleError, laws};
 use std::alloc::{AllocError, Global};
 use std::fmt::Write;
 
-/// Adds the lines of a binary: its own, and one for each of its tests. It is asked about once.
+/// Adds the lines of a binary: its own, and one for each of its tests. Asks about the binary once.
 fn push_binary(
     lines: &mut String,
     alloc: Global,
@@ -42,7 +42,7 @@ fn push_binary(
     let Some(first) = binary.tests.first() else {
         return Ok(());
     };
-    // One question serves all tests: what it says of the binary is not copied for each.
+    // One query serves all tests, since its part about the binary stays the same.
     let mut query = test_query_of(&asked, first);
     for test in &binary.tests {
         query.test_name = &test.name;
@@ -68,8 +68,7 @@ fn push_answers(
     Ok(())
 }
 
-/// Adds what an accepted filterset says of the binaries. It is made ready once for all questions, and not at all where
-/// there are no binaries.
+/// Adds what an accepted filterset says about the binaries. Compiles it to steps once, and only if there are binaries.
 fn push_asked(
     lines: &mut String,
     alloc: Global,
@@ -90,7 +89,21 @@ fn push_asked(
     push_answers(lines, alloc, &flat, &setting.lookup)
 }
 
-/// Adds what is said of an accepted filterset.
+/// Adds the line of an accepted filterset: `done` says what was done with it, before its text as it prints.
+fn push_printed(
+    lines: &mut String,
+    index: usize,
+    done: &str,
+    filterset: &Filterset,
+) -> Result<(), AllocError>
+    ensures { OnOk result (string_bytes lines.new
+        ≡ string_bytes lines.old ++ printed_line done.now index (tree_of filterset.now.parsed)) }
+{
+    let printed = &filterset.parsed;
+    writeln!(lines, "filterset {index} {done}: {printed}")
+}
+
+/// Adds the line of an accepted filterset, and what it says about the binaries.
 fn push_accepted(
     lines: &mut String,
     alloc: Global,
@@ -104,12 +117,11 @@ fn push_accepted(
         OnOk result ((text : Text) × AnswerLines (background_of setting.now) tree text
         × (string_bytes lines.new ≡ string_bytes lines.old ++ (accepted_line index tree ++ text))) }
 {
-    let printed = &filterset.parsed;
-    writeln!(lines, "filterset {index} accepted: {printed}")?;
+    push_printed(lines, index, "accepted", filterset)?;
     push_asked(lines, alloc, setting, filterset)
 }
 
-/// Adds an accepted filterset as it prints. What it prints is a filterset of the same kind, by the same tree.
+/// Adds an accepted filterset as it prints. The printed text is a filterset of the same kind, with the same tree.
 fn push_formatted(lines: &mut String, index: usize, filterset: &Filterset) -> Result<(), AllocError>
     ensures line { OnOk result (string_bytes lines.new
         ≡ string_bytes lines.old ++ formatted_line index (tree_of filterset.now.parsed)) }
@@ -118,12 +130,10 @@ fn push_formatted(lines: &mut String, index: usize, filterset: &Filterset) -> Re
         → PrintsFilterset kind packages groups (tree_of filterset.now.parsed) }
 {
     laws::printed_is_a_filterset(&filterset.parsed);
-    // `index` has a type of its own here: so this is another call than that of a report, which the compiler then inlines.
-    let (index, formatted) = (index as u64, &filterset.parsed);
-    writeln!(lines, "filterset {index} formatted: {formatted}")
+    push_printed(lines, index, "formatted", filterset)
 }
 
-/// Adds what is asked for of an accepted filterset.
+/// Adds what the command asks for about an accepted filterset.
 fn push_by_command(
     lines: &mut String,
     alloc: Global,
@@ -145,7 +155,7 @@ fn push_by_command(
     }
 }
 
-/// Adds what is said of a refused filterset.
+/// Adds the faults of a refused filterset.
 fn push_refused(
     lines: &mut String,
     index: usize,
@@ -157,7 +167,7 @@ fn push_refused(
     push_faults(lines, faults)
 }
 
-/// Adds what is said of a filterset, and tells whether it is accepted.
+/// Adds the section of a filterset, and returns whether the filterset is accepted.
 fn push_section(
     lines: &mut String,
     alloc: Global,
@@ -177,15 +187,15 @@ fn push_section(
             push_by_command(lines, alloc, setting, index, &filterset)?;
             Ok(true)
         }
-        Err(ParseRefusal::Faults(refused)) => {
+        Err(refusal) => {
+            let refused = refusal.into_faults()?;
             push_refused(lines, index, refused.errors.as_slice())?;
             Ok(false)
         }
-        Err(ParseRefusal::OutOfMemory { .. }) => Err(AllocError),
     }
 }
 
-/// Adds what is said of the filtersets, and tells whether all of them are accepted.
+/// Adds the section of each filterset, and returns whether all are accepted.
 pub fn push_sections(
     lines: &mut String,
     alloc: Global,

@@ -1,14 +1,14 @@
-//! What the filtersets of a record are read and asked with.
+//! What the filtersets of a record are parsed and evaluated with.
 ghost use Rattle.std.specs.Prelude.{◌≡◌};
-ghost use Rattle.filterset_record.specs.Record.{BinaryRow};
-ghost use Rattle.filterset_record.specs.Rows.{binary_row, test_row};
+ghost use Rattle.filterset_report.specs.Record.{BinaryRow};
+ghost use Rattle.filterset_report.specs.Rows.{binary_row, test_row};
 ghost use Rattle.filterset_report.specs.Library.{IsAbout, IsAboutBinary};
 
 use crate::lookup::RecordLookup;
-use filterset_record::{BinaryEntry, Command, TestEntry};
+use crate::record::{BinaryEntry, Command, TestEntry};
 use nextest_filtering::{BinaryQuery, EvalContext, KnownGroups, ParseContext, TestQuery};
 
-/// What the filtersets of a record are read and asked with, and what is written of those that are accepted.
+/// What the filtersets of a record are parsed and evaluated with, and what to write about the accepted ones.
 #[derive(Debug, Drop)]
 pub struct Setting<'a, 'r> {
     pub command: Command,
@@ -18,7 +18,7 @@ pub struct Setting<'a, 'r> {
     pub lookup: RecordLookup<'r>,
 }
 
-/// The question about a binary.
+/// Returns the query about a binary.
 pub fn query_of(binary: &BinaryEntry) -> BinaryQuery<'_>
     ensures { IsAboutBinary result (binary_row binary.now) }
 {
@@ -31,7 +31,7 @@ pub fn query_of(binary: &BinaryEntry) -> BinaryQuery<'_>
     }
 }
 
-/// The question about a test of the binary that this is a question about.
+/// Returns the query about a test of the binary that `binary` is about.
 pub fn test_query_of<'a>(binary: &BinaryQuery<'a>, test: &'a TestEntry) -> TestQuery<'a>
     ensures binary { result.binary_query ≡ binary.now }
     ensures about { (row : BinaryRow) → IsAboutBinary binary.now row → IsAbout result row (test_row test.now) }

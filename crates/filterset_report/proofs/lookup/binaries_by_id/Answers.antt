@@ -1,6 +1,6 @@
 use Rattle.std.proofs.Common.{rules, arith, ◌≡◌, ◌<◌, true, false, is_some, length, get_or, refl}
 use Rattle.std.proofs.lemmas.Map.Text.{btree_map_updates_str}
-use Rattle.filterset_record.specs.declared.record.binaries.BinaryEntry.{BinaryEntry}
+use Rattle.filterset_report.specs.declared.record.binaries.BinaryEntry.{BinaryEntry}
 use Rattle.filterset_report.specs.declared.lookup.IndexedBinary.{IndexedBinary}
 use Rattle.filterset_report.specs.Index.{entry_at}
 use Rattle.filterset_report.proofs.IndexLemmas.{index_added, index_kept}

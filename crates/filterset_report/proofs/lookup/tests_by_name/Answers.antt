@@ -1,7 +1,7 @@
 use Rattle.std.proofs.Common.{rules, arith, ◌≡◌, ◌<◌, true, false, is_some, length, get_or, refl}
 use Rattle.std.proofs.lemmas.Map.Text.{btree_map_updates_str}
 use Rattle.std.specs.Borrow.{Bor}
-use Rattle.filterset_record.specs.declared.record.binaries.TestEntry.{TestEntry}
+use Rattle.filterset_report.specs.declared.record.binaries.TestEntry.{TestEntry}
 use Rattle.filterset_report.specs.Index.{entry_at}
 use Rattle.filterset_report.proofs.IndexLemmas.{index_added, index_kept}
 use Rattle.filterset_report.proofs.lookup.tests_by_name.Goals as goal

@@ -6,13 +6,13 @@ use Rattle.filterset_expression.specs.Contexts.{default_of}
 use Rattle.filterset_expression.specs.Meaning.{IsCompiled}
 use Rattle.filterset_expression.specs.declared.expression.CompiledExpr.{CompiledExpr}
 use Rattle.filterset_report.specs.Library.{Background}
-use Rattle.filterset_record.specs.Record.{RecordRow}
-use Rattle.filterset_record.specs.Rows.{binary_row, filterset_row}
+use Rattle.filterset_report.specs.Record.{RecordRow}
+use Rattle.filterset_report.specs.Rows.{binary_row, filterset_row}
 use Rattle.filterset_report.proofs.ReportLemmas.{reported}
 use Rattle.filterset_report.proofs.report.report_filtersets.Goals as goal
 
-pub returns-in-Ok : goal.returns-in-Ok
-returns-in-Ok c =
+pub returns-in_ok-lookup-in-Ok : goal.returns-in_ok-lookup-in-Ok
+returns-in_ok-lookup-in-Ok c =
     let packages = packages_of c.in_ok-parse_context.parse_context in
     let binaries = map binary_row c.args.binaries.now in
     let tree = tree_of c.in-Ok.default_filter.parsed in

@@ -1,10 +1,10 @@
 use Rattle.std.proofs.Common.{List, inl, map, string_bytes, subst, sym}
 use Rattle.std.proofs.lemmas.Result.{IfOk-weaker}
 use Rattle.filterset_graph.specs.declared.package.PackageMetadata.{PackageMetadata}
-use Rattle.filterset_record.specs.Record.{RecordRow}
+use Rattle.filterset_report.specs.Record.{RecordRow}
 use Rattle.filterset_report.specs.Report.{MakeGraph, RecordReport}
-use Rattle.filterset_record.specs.Rows.{binary_row, filterset_row}
-use Rattle.filterset_record.specs.declared.record.binaries.BinaryEntry.{BinaryEntry}
+use Rattle.filterset_report.specs.Rows.{binary_row, filterset_row}
+use Rattle.filterset_report.specs.declared.record.binaries.BinaryEntry.{BinaryEntry}
 use Rattle.filterset_report.proofs.report.report_record.Goals as goal
 
 pub returns-in-Err : goal.returns-in-Err

@@ -1,8 +1,8 @@
 use Rattle.std.proofs.Common.{◌≡◌, None, Some, map, sym}
 use Rattle.std.specs.List.{find}
 use Rattle.std.specs.Str.{bytes_eq}
-use Rattle.filterset_record.specs.Rows.{binary_row, test_row}
-use Rattle.filterset_record.specs.declared.record.binaries.TestEntry.{TestEntry}
+use Rattle.filterset_report.specs.Rows.{binary_row, test_row}
+use Rattle.filterset_report.specs.declared.record.binaries.TestEntry.{TestEntry}
 use Rattle.filterset_report.proofs.LookupLemmas.{first_binary, first_test, none_of_id, none_of_name, no_binary, no_test}
 use Rattle.filterset_report.proofs.lookup.RecordLookup.group_of.Goals as goal
 

@@ -1,7 +1,7 @@
 use Rattle.std.proofs.Common.{map}
 use Rattle.std.proofs.lemmas.Result.{IfOk-weaker}
 use Rattle.filterset_matchers.specs.Matchers.{matcher_of}
-use Rattle.filterset_record.specs.Rows.{binary_row}
+use Rattle.filterset_report.specs.Rows.{binary_row}
 use Rattle.filterset_report.proofs.LookupLemmas.{matches_none, matches_one}
 use Rattle.filterset_report.proofs.lookup.RecordLookupGroupLookup.is_member_test.Goals as goal
 

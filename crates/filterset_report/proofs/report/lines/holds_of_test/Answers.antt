@@ -8,7 +8,7 @@ use Rattle.filterset_expression.specs.FlatExpressions.{IsFlatOfTree}
 use Rattle.filterset_expression.specs.Meaning.{Meaning}
 use Rattle.filterset_expression.specs.declared.expression.CompiledExpr.{CompiledExpr}
 use Rattle.filterset_report.specs.Lookup.{matches_recorded_group}
-use Rattle.filterset_record.specs.Record.{BinaryRow}
+use Rattle.filterset_report.specs.Record.{BinaryRow}
 use Rattle.filterset_report.proofs.report.lines.holds_of_test.OwnLists.{reads-GroupLookup-matches_group-1-1}
 use Rattle.filterset_report.proofs.report.lines.holds_of_test.Goals as goal
 

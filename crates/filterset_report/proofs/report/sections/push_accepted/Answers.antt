@@ -8,5 +8,5 @@ use Rattle.filterset_report.proofs.report.sections.push_accepted.Goals as goal
 pub returns : goal.returns
 returns c =
     let tree = tree_of c.args.filterset.now.parsed in
-    let line : string_bytes c.writeln.new.self ≡ string_bytes c.args.lines.now ++ accepted_line c.args.index tree = search rules in
+    let line : string_bytes c.push_printed.new.lines ≡ string_bytes c.args.lines.now ++ accepted_line c.args.index tree = search rules in
     on_ok_weaker c.push_asked.result (λ (text, answers, more). (text, answers, added_twice _ _ _ _ text line more)) c.push_asked.ensures

@@ -1,9 +1,9 @@
 use Rattle.std.proofs.Common.{rules, arith, ◌≡◌, ◌<◌, ◌++◌, ◌∙◌, List, [], length, get_or, subst, sym}
 use Rattle.std.proofs.lemmas.List.{append-nil}
-use Rattle.filterset_record.specs.Record.{BinaryRow}
+use Rattle.filterset_report.specs.Record.{BinaryRow}
 use Rattle.filterset_io.specs.Pieces.{Pieces, no_pieces}
 use Rattle.filterset_report.specs.Report.{BinaryLines}
-use Rattle.filterset_record.specs.Rows.{binary_row}
+use Rattle.filterset_report.specs.Rows.{binary_row}
 use Rattle.filterset_io.proofs.PieceLemmas.{Pieces-more, added_twice}
 use Rattle.filterset_report.proofs.ReportLemmas.{taken_all}
 use Rattle.filterset_report.proofs.report.sections.push_answers.Goals as goal

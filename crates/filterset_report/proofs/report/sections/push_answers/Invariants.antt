@@ -1,9 +1,9 @@
 use Rattle.std.proofs.Common.{◌≡◌, ◌++◌, map, string_bytes, take}
 use Rattle.filterset_report.specs.Asking.{ForItsTree, IsLookupOf}
-use Rattle.filterset_record.specs.Shape.{Text}
+use Rattle.filterset_json.specs.Shape.{Text}
 use Rattle.filterset_io.specs.Pieces.{Pieces}
 use Rattle.filterset_report.specs.Report.{BinaryLines}
-use Rattle.filterset_record.specs.Rows.{binary_row}
+use Rattle.filterset_report.specs.Rows.{binary_row}
 use Rattle.filterset_report.proofs.report.sections.push_answers.Given as goal
 
 -- the lines of the binaries so far were added

@@ -3,8 +3,8 @@ use Rattle.std.proofs.lemmas.Bool.{eqb-true}
 use Rattle.std.proofs.lemmas.Result.{on_ok_weaker}
 use Rattle.std.proofs.lemmas.List.{append-nil, nil_from_length}
 use Rattle.filterset_language.specs.Views.{tree_of}
-use Rattle.filterset_record.specs.Record.{BinaryRow}
-use Rattle.filterset_record.specs.Rows.{binary_row}
+use Rattle.filterset_report.specs.Record.{BinaryRow}
+use Rattle.filterset_report.specs.Rows.{binary_row}
 use Rattle.filterset_report.specs.Library.{background_of}
 use Rattle.filterset_io.specs.Pieces.{Pieces, no_pieces}
 use Rattle.filterset_report.specs.Report.{BinaryLines}

@@ -5,12 +5,12 @@ use Rattle.filterset_expression.specs.BinaryMeaning.{IsDefiniteTree, IsUndecided
 use Rattle.filterset_expression.specs.declared.query.BinaryQuery.{BinaryQuery}
 use Rattle.filterset_faults.specs.declared.span.SourceSpan.{SourceSpan}
 use Rattle.filterset_grammar.specs.Tree.{Tree}
-use Rattle.filterset_record.specs.Record.{BinaryRow, TestRow}
-use Rattle.filterset_record.specs.declared.record.binaries.TestEntry.{TestEntry}
+use Rattle.filterset_report.specs.Record.{BinaryRow, TestRow}
+use Rattle.filterset_report.specs.declared.record.binaries.TestEntry.{TestEntry}
 use Rattle.filterset_report.specs.Library.{Background, IsAboutBinary, TellsOfBinary}
 use Rattle.filterset_io.specs.Pieces.{Pieces, no_pieces}
 use Rattle.filterset_report.specs.Report.{TestLine, binary_answer_text, lines_of_binary}
-use Rattle.filterset_record.specs.Rows.{binary_row, test_row}
+use Rattle.filterset_report.specs.Rows.{binary_row, test_row}
 use Rattle.filterset_io.proofs.PieceLemmas.{Pieces-more, added_twice}
 use Rattle.filterset_report.proofs.ReportLemmas.{taken_all}
 use Rattle.filterset_report.proofs.report.sections.push_binary.Goals as goal

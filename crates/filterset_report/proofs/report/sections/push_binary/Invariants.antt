@@ -1,9 +1,9 @@
 use Rattle.std.proofs.Common.{◌≡◌, ◌++◌, map, string_bytes, take}
 use Rattle.filterset_report.specs.Asking.{ForItsTree, IsLookupOf}
-use Rattle.filterset_record.specs.Shape.{Text}
+use Rattle.filterset_json.specs.Shape.{Text}
 use Rattle.filterset_io.specs.Pieces.{Pieces}
 use Rattle.filterset_report.specs.Report.{TestLine}
-use Rattle.filterset_record.specs.Rows.{binary_row, test_row}
+use Rattle.filterset_report.specs.Rows.{binary_row, test_row}
 use Rattle.filterset_report.proofs.report.sections.push_binary.Given as goal
 
 -- the lines of the tests so far were added, and the question is about the binary

@@ -3,8 +3,8 @@ use Rattle.std.proofs.lemmas.Result.{on_ok_weaker}
 use Rattle.filterset_language.specs.Views.{tree_of}
 use Rattle.filterset_report.specs.Library.{background_of}
 use Rattle.filterset_report.specs.Report.{Accepted, accepted_line, formatted_line}
-use Rattle.filterset_record.specs.declared.record.commands.Command.{Command}
-use Rattle.filterset_record.specs.declared.record.commands.Command.TheVariants as commands
+use Rattle.filterset_report.specs.declared.record.commands.Command.{Command}
+use Rattle.filterset_report.specs.declared.record.commands.Command.TheVariants as commands
 use Rattle.filterset_report.proofs.report.sections.push_by_command.Goals as goal
 
 pub returns-in-Report : goal.returns-in-Report

@@ -1,8 +1,8 @@
 use Rattle.std.proofs.Common.{◌≡◌, ◌++◌, map, string_bytes}
 use Rattle.filterset_report.specs.Library.{background_of}
-use Rattle.filterset_record.specs.Shape.{Text}
+use Rattle.filterset_json.specs.Shape.{Text}
 use Rattle.filterset_report.specs.Report.{Sections}
-use Rattle.filterset_record.specs.Rows.{filterset_row}
+use Rattle.filterset_report.specs.Rows.{filterset_row}
 use Rattle.filterset_report.proofs.report.sections.push_sections.Given as goal
 
 -- the sections of the filtersets so far were added

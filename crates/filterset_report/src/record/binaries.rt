@@ -1,9 +1,9 @@
-//! The test binaries of a record, and their tests.
+//! Reads the test binaries of a record, and their tests.
 
-use crate::entry::{Entry, RecordRefusal, object_with, optional, optional_text, required};
 use filterset_graph::{
     BuildPlatform, GLOBAL_TEST_GROUP, PackageId, RustBinaryId, RustTestBinaryKind, TestCaseName,
 };
+use filterset_json::{Entry, EntryRefusal, check_keys, optional, optional_text, required};
 use serde_json::Value;
 use std::alloc::Global;
 
@@ -15,8 +15,8 @@ pub struct TestEntry {
 }
 
 impl Entry for TestEntry {
-    ghost use Rattle.filterset_record.specs.Record.{IsTest, TestRow};
-    ghost use Rattle.filterset_record.specs.Rows.{test_row};
+    ghost use Rattle.filterset_report.specs.Record.{IsTest, TestRow};
+    ghost use Rattle.filterset_report.specs.Rows.{test_row};
 
     ghost Row = { TestRow };
 
@@ -24,8 +24,10 @@ impl Entry for TestEntry {
 
     ghost stands_for = { IsTest };
 
-    fn read(alloc: Global, value: &Value) -> Result<TestEntry, RecordRefusal> {
-        object_with(value, &["name", "group"])?;
+    const EXPECTED: &'static str = "an object";
+
+    fn read(alloc: Global, value: &Value) -> Result<TestEntry, EntryRefusal> {
+        check_keys(alloc, value, &["name", "group"])?;
         Ok(TestEntry {
             name: required(alloc, value, "name")?,
             group: optional_text(alloc, value, "group", GLOBAL_TEST_GROUP)?,
@@ -45,8 +47,8 @@ pub struct BinaryEntry {
 }
 
 impl Entry for BinaryEntry {
-    ghost use Rattle.filterset_record.specs.Record.{IsBinary, BinaryRow};
-    ghost use Rattle.filterset_record.specs.Rows.{binary_row};
+    ghost use Rattle.filterset_report.specs.Record.{IsBinary, BinaryRow};
+    ghost use Rattle.filterset_report.specs.Rows.{binary_row};
 
     ghost Row = { BinaryRow };
 
@@ -54,9 +56,11 @@ impl Entry for BinaryEntry {
 
     ghost stands_for = { IsBinary };
 
-    fn read(alloc: Global, value: &Value) -> Result<BinaryEntry, RecordRefusal> {
+    const EXPECTED: &'static str = "an object";
+
+    fn read(alloc: Global, value: &Value) -> Result<BinaryEntry, EntryRefusal> {
         let names = ["package", "id", "name", "kind", "platform", "tests"];
-        object_with(value, &names)?;
+        check_keys(alloc, value, &names)?;
         Ok(BinaryEntry {
             package_id: required(alloc, value, "package")?,
             id: required(alloc, value, "id")?,

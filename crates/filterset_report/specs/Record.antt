@@ -4,15 +4,14 @@ use Rattle.serde_json.specs.Data.{Data}
 use Rattle.filterset_faults.specs.Texts.{kind_text}
 use Rattle.filterset_faults.specs.declared.kind.FiltersetKind.{FiltersetKind}
 use Rattle.filterset_faults.specs.declared.kind.FiltersetKind.TheVariants as kinds
-use Rattle.filterset_graph.specs.Platforms.{platform_text}
 use Rattle.filterset_graph.specs.declared.package.BuildPlatform.{BuildPlatform}
 use Rattle.filterset_graph.specs.declared.package.BuildTarget.{BuildTarget}
 use Rattle.filterset_graph.specs.declared.package.BuildTargetId.{BuildTargetId}
 use Rattle.filterset_graph.specs.declared.package.BuildTargetId.TheVariants.{Library, Binary, Example, Test, Benchmark, BuildScript}
 use Rattle.filterset_graph.specs.declared.package.PackageMetadata.{PackageMetadata}
-use Rattle.filterset_record.specs.Shape.{Text, IsText, IsBoolean, IsListOf, IsObjectWith, Required, Optional}
-use Rattle.filterset_record.specs.declared.record.commands.Command.{Command}
-use Rattle.filterset_record.specs.declared.record.commands.Command.TheVariants.{Report, Format}
+use Rattle.filterset_json.specs.Shape.{Text, IsPlatform, IsText, IsBoolean, IsListOf, IsObjectWith, Required, Optional}
+use Rattle.filterset_report.specs.declared.record.commands.Command.{Command}
+use Rattle.filterset_report.specs.declared.record.commands.Command.TheVariants.{Report, Format}
 
 pub record TestRow : Type 0 where
   pub name : Text
@@ -37,10 +36,6 @@ pub record RecordRow : Type 0 where
   pub default_filter : Text
   pub binaries : List BinaryRow
   pub command : Command
-
--- the value is the platform's name
-abbrev pub IsPlatform : Data → BuildPlatform → Type 0
-IsPlatform d platform = IsText d (platform_text platform)
 
 -- what each kind of build targets is called
 abbrev pub target_kind : BuildTargetId → Text

@@ -1,10 +1,10 @@
 -- The rows that the program's entries are.
 use Rattle.std.specs.Prelude.{map, string_bytes}
-use Rattle.filterset_record.specs.Record.{TestRow, BinaryRow, FiltersetRow, RecordRow}
-use Rattle.filterset_record.specs.declared.record.binaries.TestEntry.{TestEntry}
-use Rattle.filterset_record.specs.declared.record.binaries.BinaryEntry.{BinaryEntry}
-use Rattle.filterset_record.specs.declared.record.filtersets.FiltersetEntry.{FiltersetEntry}
-use Rattle.filterset_record.specs.declared.record.Record.{Record}
+use Rattle.filterset_report.specs.Record.{TestRow, BinaryRow, FiltersetRow, RecordRow}
+use Rattle.filterset_report.specs.declared.record.binaries.TestEntry.{TestEntry}
+use Rattle.filterset_report.specs.declared.record.binaries.BinaryEntry.{BinaryEntry}
+use Rattle.filterset_report.specs.declared.record.filtersets.FiltersetEntry.{FiltersetEntry}
+use Rattle.filterset_report.specs.declared.record.Record.{Record}
 
 abbrev pub test_row : TestEntry → TestRow
 test_row test = record { name = test.name; group = string_bytes test.group }

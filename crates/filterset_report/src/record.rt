@@ -1,21 +1,21 @@
-//! The record and its parts.
+//! Reads a record and its parts.
 
-use crate::entry::{Entry, RecordRefusal, object_with, optional, optional_text, required};
 use filterset_graph::PackageMetadata;
+use filterset_json::{Entry, EntryRefusal, check_keys, optional, optional_text, required};
+use packages::packages_of;
 use serde_json::Value;
 use std::alloc::Global;
 
 mod binaries;
 mod commands;
 mod filtersets;
-mod names;
 mod packages;
 
 pub use binaries::{BinaryEntry, TestEntry};
 pub use commands::Command;
 pub use filtersets::FiltersetEntry;
 
-/// The whole record.
+/// A record: filtersets, and what they are parsed against and asked about.
 #[derive(Debug, Drop)]
 pub struct Record {
     pub filtersets: Vec<FiltersetEntry>,
@@ -29,8 +29,8 @@ pub struct Record {
 }
 
 impl Entry for Record {
-    ghost use Rattle.filterset_record.specs.Record.{IsRecord, RecordRow};
-    ghost use Rattle.filterset_record.specs.Rows.{record_row};
+    ghost use Rattle.filterset_report.specs.Record.{IsRecord, RecordRow};
+    ghost use Rattle.filterset_report.specs.Rows.{record_row};
 
     ghost Row = { RecordRow };
 
@@ -38,8 +38,9 @@ impl Entry for Record {
 
     ghost stands_for = { IsRecord };
 
-    #[tactic(auto, using(crate::proofs::ShapeLemmas::optional_items))]
-    fn read(alloc: Global, value: &Value) -> Result<Record, RecordRefusal> {
+    const EXPECTED: &'static str = "an object";
+
+    fn read(alloc: Global, value: &Value) -> Result<Record, EntryRefusal> {
         let names = [
             "filtersets",
             "packages",
@@ -48,10 +49,11 @@ impl Entry for Record {
             "binaries",
             "command",
         ];
-        object_with(value, &names)?;
+        check_keys(alloc, value, &names)?;
+        let packages = optional(alloc, value, "packages", Vec::new(alloc))?;
         Ok(Record {
             filtersets: required(alloc, value, "filtersets")?,
-            packages: optional(alloc, value, "packages", Vec::new(alloc))?,
+            packages: packages_of(alloc, packages)?,
             groups: optional(alloc, value, "groups", Vec::new(alloc))?,
             default_filter: optional_text(alloc, value, "default", "all()")?,
             binaries: optional(alloc, value, "binaries", Vec::new(alloc))?,
