@@ -1,18 +1,18 @@
-//! Colours, as terminals take them.
+//! The colours of drawings.
 ghost use Rattle.std.specs.Prelude.{◌≡◌};
 ghost use Rattle.filterset_drawing.specs.Color.{red_of, blue_of, plain_of};
 
-/// Whether what is written has colours.
+/// Whether drawings have colours.
 #[derive(Clone, Copy, Debug, PartialEq, Eq)]
 pub enum Color {
-    /// It has none.
+    /// No colours.
     Never,
-    /// It has the sequences that make a terminal show colours.
+    /// Colours, by the escape sequences of terminals.
     Always,
 }
 
 impl Color {
-    /// What begins red, as an error is shown.
+    /// Returns the sequence that begins red, the colour of errors.
     pub fn red(self) -> &'static str
         ensures { result.now ≡ red_of self }
     {
@@ -22,7 +22,7 @@ impl Color {
         }
     }
 
-    /// What begins blue, as what stands round a text is shown.
+    /// Returns the sequence that begins blue, the colour of the margin.
     pub fn blue(self) -> &'static str
         ensures { result.now ≡ blue_of self }
     {
@@ -32,7 +32,7 @@ impl Color {
         }
     }
 
-    /// What ends a colour.
+    /// Returns the sequence that ends a colour.
     pub fn plain(self) -> &'static str
         ensures { result.now ≡ plain_of self }
     {

@@ -1,11 +1,11 @@
-//! How characters are drawn, and which columns of a terminal they take.
+//! How characters are drawn, and how many columns of a terminal they take.
 ghost use Rattle.std.specs.Prelude.{◌≡◌, ◌++◌, ◌*◌, ◌<◌, ◌≤◌, OnOk, encode_utf8, length, replicate, string_bytes};
 ghost use Rattle.filterset_drawing.specs.Columns.{columns_between, columns_of, drawn, drawn_char};
 
 use std::alloc::AllocError;
 use unicode_width::UnicodeWidthChar;
 
-/// The columns that a character takes where it is drawn.
+/// Returns the number of columns that a drawn character takes.
 fn columns_of(c: char) -> usize
     ensures value { result ≡ columns_of c }
     ensures bound { result ≤ 2 * length (encode_utf8 c) }
@@ -17,7 +17,8 @@ fn columns_of(c: char) -> usize
     }
 }
 
-/// The columns of the characters of a text that begin at the byte `from` or after it, and before the byte `to`.
+/// Returns the number of columns of the characters of a text that begin at the byte `from` or later and before the byte
+/// `to`.
 pub fn columns_between(text: &str, from: usize, to: usize) -> usize
     ensures value { result ≡ columns_between text.now from to }
     ensures bound { result ≤ 2 * length text.now }
@@ -55,7 +56,7 @@ pub fn push_drawn(drawing: &mut String, text: &str) -> Result<(), AllocError>
     Ok(())
 }
 
-/// Writes an ASCII character so many times.
+/// Writes an ASCII character `count` times.
 pub fn push_repeated(drawing: &mut String, c: char, count: usize) -> Result<(), AllocError>
     requires { c < 128 }
     ensures { OnOk result (string_bytes drawing.new ≡ string_bytes drawing.old ++ replicate count c) }

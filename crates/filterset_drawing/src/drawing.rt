@@ -14,15 +14,17 @@ use filterset_faults::{Help, Label, ParseSingleError, SourceSpan};
 use std::alloc::{AllocError, Global};
 use std::fmt::Write;
 
-/// What stands left of a text: how many columns its line numbers take, and whether it has colours.
+/// The margin left of a text: the columns of its line numbers, and its colour.
 #[derive(Clone, Copy, Debug)]
 struct Margin {
     width: usize,
     color: Color,
 }
 
-/// Draws a fault under its text: its code and message, where it stands, each line of the text that it concerns with
-/// carets under the characters of its span, its label after the last of them, and its help. The drawing ends in a line feed.
+/// Draws a fault under its text: its code and message, its location, each line of its span with carets under the
+/// characters of the span, its label after the last carets, and its help. The drawing ends in a line feed.
+///
+/// Returns an error only if out of memory.
 pub fn draw(
     drawing: &mut String,
     alloc: Global,
@@ -41,7 +43,7 @@ pub fn draw(
     drawing.push_str("\n")
 }
 
-/// What stands left of a text: its last line has the longest number.
+/// Returns the margin of a text. Its last line has the longest number.
 fn margin_of(alloc: Global, source: &Source<'_>) -> Result<Margin, AllocError>
     ensures { IfOk result (λ margin. margin ≡ margin_of source.now.color source.now.text.now) }
 {
@@ -52,7 +54,7 @@ fn margin_of(alloc: Global, source: &Source<'_>) -> Result<Margin, AllocError>
     })
 }
 
-/// Writes the code of a fault, and its message.
+/// Writes the code and the message of a fault.
 fn push_header(
     drawing: &mut String,
     alloc: Global,
@@ -68,7 +70,7 @@ fn push_header(
     write!(drawing, "{red}error{plain}: {code}: {message}")
 }
 
-/// Begins a line, with blanks where the number of a line of the text would stand.
+/// Begins a line, with blanks in place of a line number.
 fn push_margin(drawing: &mut String, margin: Margin) -> Result<(), AllocError>
     ensures { OnOk result (string_bytes drawing.new ≡ string_bytes drawing.old ++ margin_line margin) }
 {
@@ -77,7 +79,7 @@ fn push_margin(drawing: &mut String, margin: Margin) -> Result<(), AllocError>
     drawing.push_str(margin.color.blue())
 }
 
-/// Writes where a span begins.
+/// Writes the location where a span begins.
 fn push_location(
     drawing: &mut String,
     margin: Margin,
@@ -94,7 +96,7 @@ fn push_location(
     write!(drawing, ":{line}:{column}")
 }
 
-/// Begins a line with a bar, where no line of the text stands.
+/// Begins a line without text, with a bar.
 fn push_bar(drawing: &mut String, margin: Margin) -> Result<(), AllocError>
     ensures { OnOk result (string_bytes drawing.new ≡ string_bytes drawing.old ++ bar margin) }
 {
@@ -103,7 +105,7 @@ fn push_bar(drawing: &mut String, margin: Margin) -> Result<(), AllocError>
     write!(drawing, " |{plain}")
 }
 
-/// Writes where a span begins, and the lines of the text that it concerns.
+/// Writes the location where a span begins, and its lines.
 fn push_span(
     drawing: &mut String,
     alloc: Global,
@@ -129,7 +131,7 @@ fn push_span(
     )
 }
 
-/// Writes the lines that a stretch of the text concerns, each with its carets.
+/// Writes the lines of a stretch of the text, each with its carets.
 fn push_lines(
     drawing: &mut String,
     alloc: Global,

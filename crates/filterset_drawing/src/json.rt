@@ -9,8 +9,10 @@ use filterset_faults::{ParseSingleError, SourceSpan};
 use serde_json::{Value, json};
 use std::alloc::{AllocError, Global};
 
-/// A fault of the text with this number, as a JSON object. Offset and length count bytes of the text, line and column
-/// are those of the drawing; what the fault lacks is `null`.
+/// Returns a fault of the text with this number as a JSON object. Offset and length are in bytes of the text, line and
+/// column are those of the drawing, and what the fault lacks is `null`.
+///
+/// Returns an error only if out of memory.
 pub fn fault_json(
     alloc: Global,
     source: &Source<'_>,
@@ -39,7 +41,7 @@ pub fn fault_json(
     })
 }
 
-/// A number, or `null` where there is none.
+/// Returns a number, or `null` if there is none.
 fn number_value(number: Option<usize>) -> Value
     ensures { view result ≡ number_data number }
 {
@@ -49,7 +51,7 @@ fn number_value(number: Option<usize>) -> Value
     }
 }
 
-/// Where a fault stands, if it has a span.
+/// The position of a fault, if it has a span.
 #[derive(Clone, Copy)]
 struct Spot {
     offset: Option<usize>,
@@ -58,7 +60,7 @@ struct Spot {
     column: Option<usize>,
 }
 
-/// Where a span of the text stands.
+/// Returns the position of a span.
 fn spot_of(source: &Source<'_>, span: Option<SourceSpan>) -> Spot
     ensures { IsSpotOf source.now.text.now span result }
 {
@@ -81,7 +83,7 @@ fn spot_of(source: &Source<'_>, span: Option<SourceSpan>) -> Spot
     }
 }
 
-/// The label of a fault.
+/// Returns the label of a fault.
 fn label_value(alloc: Global, fault: &ParseSingleError) -> Result<Value, AllocError>
     ensures { IfOk result (λ value. view value ≡ text_data (label_of fault.now)) }
 {
@@ -91,7 +93,7 @@ fn label_value(alloc: Global, fault: &ParseSingleError) -> Result<Value, AllocEr
     }
 }
 
-/// The help of a fault.
+/// Returns the help of a fault.
 fn help_value(alloc: Global, fault: &ParseSingleError) -> Result<Value, AllocError>
     ensures { IfOk result (λ value. view value ≡ text_data (help_of fault.now)) }
 {

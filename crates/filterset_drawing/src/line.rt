@@ -8,15 +8,15 @@ use std::alloc::{AllocError, Global};
 /// A line of a text.
 #[derive(Clone, Copy, Debug)]
 pub struct Line<'t> {
-    /// Its number, from 1 on.
+    /// Its number, from 1.
     pub number: usize,
-    /// How many bytes of the text stand before it.
+    /// The offset of its first byte in the text.
     pub start: usize,
     /// The line, without the line feed that ends it.
     pub text: &'t str,
 }
 
-/// A stretch of a text: the bytes from one position to another.
+/// A stretch of a text, by the offsets of its first byte and of the byte after it.
 #[derive(Clone, Copy, Debug)]
 pub struct Stretch {
     pub from: usize,
@@ -24,21 +24,21 @@ pub struct Stretch {
 }
 
 impl Line<'_> {
-    /// Whether the line ends at this position of the text or after it.
+    /// Returns whether the line ends at this offset of the text or later.
     pub fn reaches(&self, position: usize) -> bool
         ensures { result ≡ reaches position (line_row self.now) }
     {
         position.saturating_sub(self.start) <= self.text.len()
     }
 
-    /// Whether a stretch of the text has a position in the line.
+    /// Returns whether a stretch of the text has an offset in the line.
     pub fn is_touched(&self, stretch: Stretch) -> bool
         ensures { result ≡ is_touched stretch.from stretch.to (line_row self.now) }
     {
         self.reaches(stretch.from) && (self.start <= stretch.from || self.start < stretch.to)
     }
 
-    /// The columns of the line before a position of the text.
+    /// Returns the number of the line's columns before an offset of the text.
     pub fn column(&self, position: usize) -> usize
         ensures value { result ≡ column_of (line_row self.now) position }
         ensures bound { result ≤ 2 * length self.now.text.now }
@@ -46,7 +46,7 @@ impl Line<'_> {
         columns_between(self.text, 0, position.saturating_sub(self.start))
     }
 
-    /// How many carets mark a stretch of the text in the line.
+    /// Returns the number of carets that mark a stretch of the text in the line.
     pub fn caret_count(&self, stretch: Stretch) -> usize
         ensures { result ≡ caret_count (line_row self.now) stretch.from stretch.to }
     {
@@ -56,7 +56,7 @@ impl Line<'_> {
     }
 }
 
-/// Cuts a text into its lines, of which it has at least one.
+/// Splits a text into its lines. There is at least one.
 pub fn lines_of<'t>(alloc: Global, text: &'t str) -> Result<Vec<Line<'t>>, AllocError>
     ensures { IfOk result (λ lines. map line_row lines.items ≡ lines_of text.now) }
 {

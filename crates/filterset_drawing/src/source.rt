@@ -1,4 +1,4 @@
-//! Texts with the names of where they stand.
+//! Texts under which faults are drawn.
 ghost use Rattle.std.specs.Prelude.{◌≡◌, IfOk, map};
 ghost use Rattle.std.proofs.Props.{props};
 ghost use Rattle.filterset_drawing.specs.Lines.{line_row, lines_of};
@@ -8,7 +8,7 @@ use crate::line::{Line, Stretch, lines_of};
 use filterset_faults::SourceSpan;
 use std::alloc::{AllocError, Global};
 
-/// A location in a text: its line, and its column as a terminal shows it. Both count from 1 on.
+/// A location in a text: its line, and its column as a terminal shows it, both from 1.
 #[derive(Clone, Copy, Debug, PartialEq, Eq)]
 pub struct Location {
     pub line: usize,
@@ -18,7 +18,7 @@ pub struct Location {
 /// A text under which faults are drawn, cut into its lines.
 #[derive(Debug, Drop)]
 pub struct Source<'t> {
-    /// Where the text stands, for people.
+    /// Where the text comes from, for people.
     pub origin: &'t str,
     pub text: &'t str,
     /// Whether drawings have colours.
@@ -31,7 +31,7 @@ impl<'t> Source<'t> {
     ghost use Rattle.filterset_drawing.specs.Lines.{from_of, to_of};
     ghost use Rattle.filterset_drawing.specs.Locations.{StandsAt};
 
-    /// A text that stands where `origin` says.
+    /// Splits a text into lines to draw faults under. Returns an error only if out of memory.
     pub fn new(
         alloc: Global,
         origin: &'t str,
@@ -51,7 +51,7 @@ impl<'t> Source<'t> {
         })
     }
 
-    /// The stretch of the text that a span covers. It ends where the text ends, where the span does not end before.
+    /// Returns the stretch of the text that a span covers. It ends at the end of the text if the span ends later.
     pub(crate) fn stretch(&self, span: SourceSpan) -> Stretch
         ensures from { result.from ≡ from_of self.now.text.now span }
         ensures to { result.to ≡ to_of self.now.text.now span }
@@ -63,7 +63,7 @@ impl<'t> Source<'t> {
         }
     }
 
-    /// Where a span begins; at the end of the text, where it begins after that.
+    /// Returns the location where a span begins, or the end of the text if it begins later.
     pub fn location(&self, span: SourceSpan) -> Location
         ensures { StandsAt self.now.text.now (from_of self.now.text.now span) result }
     {
