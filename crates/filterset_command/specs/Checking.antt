@@ -1,12 +1,10 @@
 -- What texts, and the filtersets of a configuration, are checked against.
-use Rattle.std.specs.Prelude.{◌≡◌, ◌++◌, ◌↔◌, ℕ, List, [], Contains, Option, Some, None, IfSome, String, is_some, map, string_bytes}
+use Rattle.std.specs.Prelude.{◌≡◌, ◌++◌, ℕ, List, [], Option, Some, None, IfSome, String, is_some, map, string_bytes}
 use Rattle.std.specs.Global.{Global}
-use Rattle.std.specs.HashSet.{keys}
 use Rattle.filterset_drawing.specs.Columns.{Text}
 use Rattle.filterset_graph.specs.declared.package.PackageMetadata.{PackageMetadata}
 use Rattle.nextest_filtering.specs.Compiling.{packages_of}
-use Rattle.nextest_filtering.specs.declared.compile.context.KnownGroups.{KnownGroups}
-use Rattle.nextest_filtering.specs.declared.compile.context.KnownGroups.TheVariants.{Known, Unavailable}
+use Rattle.nextest_filtering.specs.Groups.{AreGroups}
 use Rattle.filterset_answers.specs.Answers.{ChecksTexts}
 use Rattle.filterset_answers.specs.Checked.{TextRow}
 use Rattle.filterset_answers.specs.declared.form.Form.{Form}
@@ -36,12 +34,6 @@ file_row filterset =
 
 abbrev pub file_rows : List ConfiguredFilterset → List TextRow
 file_rows filtersets = map file_row filtersets
-
--- the custom groups have these names and no others
-abbrev pub AreGroups : List Text → KnownGroups → Type 0
-AreGroups names (Known custom_groups) =
-    (name : Text) → Contains (map (λ s. string_bytes s) (keys custom_groups)) name ↔ Contains names name
-AreGroups names Unavailable = ⊥
 
 -- the names are those of these packages and groups, and are known where there are files of them
 abbrev pub KnowsNames : CheckPaths → List PackageMetadata → List Text → Names → Type 0

@@ -20,12 +20,12 @@ use Rattle.filterset_graph.specs.declared.package.PackageMetadata.{PackageMetada
 use Rattle.filterset_language.specs.Views.{tree_of}
 use Rattle.filterset_listing.specs.declared.binary.AskedBinary.{AskedBinary}
 use Rattle.nextest_filtering.specs.Compiling.{IsFiltersetOf, IsRefusedWith}
+use Rattle.nextest_filtering.specs.Groups.{IsGlobalOnly}
 use Rattle.nextest_filtering.specs.declared.compile.context.KnownGroups.{KnownGroups}
 use Rattle.nextest_filtering.specs.declared.filterset.Filterset.{Filterset}
 use Rattle.nextest_filtering.specs.declared.filterset.ParseRefusal.{ParseRefusal}
 use Rattle.nextest_filtering.specs.declared.filterset.ParseRefusal.TheVariants.{Faults, OutOfMemory}
 use Rattle.filterset_io.specs.declared.fault.RunFault.TheVariants.{Memory}
-use Rattle.filterset_command.specs.Picking.{IsGlobalOnly}
 use Rattle.filterset_command.specs.Workspaces.{IsAsked, IsWorkspaceIn}
 use Rattle.filterset_command.specs.declared.ending.Ending.{Ending}
 use Rattle.filterset_command.specs.declared.ending.Ending.TheVariants.{Fine, Faulty}

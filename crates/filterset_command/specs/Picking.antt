@@ -1,6 +1,5 @@
 -- What filtersets pick of a workspace.
 use Rattle.std.specs.Prelude.{◌≡◌, ◌≢◌, ◌⊎◌, ℕ, List, [], ◌∷◌, Bool, false, Option, Some, None, length, string_bytes}
-use Rattle.std.specs.HashSet.{keys}
 use Rattle.std.specs.List.{AllZip, list_any}
 use Rattle.serde_json.specs.Data.{Data}
 use Rattle.serde_json.specs.View.{view}
@@ -8,7 +7,7 @@ use Rattle.filterset_expression.specs.Expression.{has_leaf, is_default, is_group
 use Rattle.filterset_expression.specs.declared.expression.CompiledExpr.{CompiledExpr}
 use Rattle.filterset_graph.specs.declared.package.PackageMetadata.{PackageMetadata}
 use Rattle.nextest_filtering.specs.declared.compile.context.KnownGroups.{KnownGroups}
-use Rattle.nextest_filtering.specs.declared.compile.context.KnownGroups.TheVariants.{Known, Unavailable}
+use Rattle.nextest_filtering.specs.Groups.{IsGlobalOnly}
 use Rattle.filterset_drawing.specs.Columns.{Text}
 use Rattle.filterset_answers.specs.Answers.{FaultsOf}
 use Rattle.filterset_answers.specs.Checked.{TextRow}
@@ -33,11 +32,6 @@ use Rattle.filterset_command.specs.declared.request.Asked.{Asked}
 use Rattle.filterset_command.specs.declared.request.Question.{Question}
 use Rattle.filterset_command.specs.declared.request.Question.TheVariants as questions
 use Rattle.filterset_command.specs.declared.workspace.Workspace.{Workspace}
-
--- no group but `@global` is known
-abbrev pub IsGlobalOnly : KnownGroups → Type 0
-IsGlobalOnly (Known custom_groups) = keys custom_groups ≡ []
-IsGlobalOnly Unavailable = ⊥
 
 -- the first of the sets may stand for `default`
 abbrev pub MayBeDefault : List CompiledExpr → Type 0

@@ -1,6 +1,9 @@
-//! The command line, as `clap` reads it.
+//! The commands and their arguments, as `clap` takes them.
 use clap::{Arg, ArgAction, Command};
 use std::alloc::{AllocError, Global};
+
+/// The version of the program, which `--version` prints.
+const VERSION: &str = "0.1.0";
 
 /// The values of `--kind`.
 const KINDS: [&str; 4] = ["test", "default", "override", "archive"];
@@ -11,26 +14,26 @@ const FORMATS: [&str; 2] = ["human", "json"];
 /// The values of `--color`.
 const COLORS: [&str; 2] = ["never", "always"];
 
-/// The texts that a command takes.
+/// Makes the argument of the filtersets.
 fn texts<'a>(alloc: Global) -> Arg<'a> {
     Arg::new(alloc, "text")
         .value_name("TEXT")
         .num_args(1..)
         .action(ArgAction::Append)
-        .help("filtersets, or `-` for one in each line of standard input")
+        .help("filtersets, or `-` for the lines of standard input")
 }
 
-/// Whether what is written has colours.
+/// Makes the option of the colours.
 fn color<'a>(alloc: Global) -> Arg<'a> {
     Arg::new(alloc, "color")
         .long("color")
         .value_name("WHEN")
         .value_parser(COLORS.as_slice())
         .default_value("never")
-        .help("whether what is written has colours")
+        .help("whether the output has colours")
 }
 
-/// Whether what is written is for people.
+/// Makes the option of the output's form.
 fn message_format<'a>(alloc: Global) -> Arg<'a> {
     Arg::new(alloc, "format")
         .long("message-format")
@@ -39,15 +42,15 @@ fn message_format<'a>(alloc: Global) -> Arg<'a> {
         .default_value("human")
 }
 
-/// The file of the packages.
+/// Makes the option of the file with the packages.
 fn metadata<'a>(alloc: Global) -> Arg<'a> {
     Arg::new(alloc, "metadata")
         .long("cargo-metadata")
         .value_name("FILE")
-        .help("what `cargo metadata --format-version 1` wrote")
+        .help("the output of `cargo metadata --format-version 1`")
 }
 
-/// What the filtersets are for.
+/// Makes the option of the filtersets' kind.
 fn kind<'a>(alloc: Global) -> Arg<'a> {
     Arg::new(alloc, "kind")
         .long("kind")
@@ -57,62 +60,63 @@ fn kind<'a>(alloc: Global) -> Arg<'a> {
         .help("what the filtersets are for")
 }
 
-/// The file of the configuration.
+/// Makes the option of the file with the configuration.
 fn config<'a>(alloc: Global) -> Arg<'a> {
     Arg::new(alloc, "config")
         .long("config")
         .value_name("FILE")
-        .help("nextest's configuration, whose filtersets are checked first")
+        .help("nextest's configuration: its filtersets are checked too, and its groups are known")
 }
 
-/// The command `check`.
+/// Makes the command `check`.
 fn check<'a>(alloc: Global) -> Result<Command<'a>, AllocError> {
     let command = Command::new(alloc, "check")
-        .about("Draws the faults of filtersets")
+        .about("Shows the faults of filtersets")
+        .after_help("Example: filterset check 'package(parser) and not test(~slow)'")
         .arg(kind(alloc))?
-        .arg(message_format(alloc).help("how faults are written"))?
-        .arg(metadata(alloc))?
         .arg(config(alloc))?
+        .arg(metadata(alloc))?
+        .arg(message_format(alloc).help("how the faults are written"))?
         .arg(color(alloc))?;
     with_argument(command, texts(alloc).required_unless_present("config"))
 }
 
-/// The command `format`.
+/// Makes the command `format`.
 fn format<'a>(alloc: Global) -> Result<Command<'a>, AllocError> {
     Command::new(alloc, "format")
-        .about("Writes filtersets as they print")
+        .about("Prints filtersets evenly spaced")
+        .after_help("Example: filterset format 'not!all()'")
         .arg(color(alloc))?
         .arg(texts(alloc).required(true))
 }
 
-/// The file of the tests.
+/// Makes the option of the file with the tests.
 fn nextest_list<'a>(alloc: Global) -> Arg<'a> {
     Arg::new(alloc, "list")
         .long("nextest-list")
         .value_name("FILE")
         .required(true)
-        .help("what `cargo nextest list --message-format json` wrote")
+        .help("the output of `cargo nextest list --message-format json`")
 }
 
-/// The default filter.
+/// Makes the option of the default filter.
 fn default_filter<'a>(alloc: Global) -> Arg<'a> {
     Arg::new(alloc, "default")
         .long("default-filter")
         .value_name("TEXT")
         .default_value("all()")
-        .help("the default filter, which stands for `default()`")
+        .help("the default filter, the value of `default()`")
 }
 
-/// The options that tell what the workspace is, and what its default filter is.
+/// Adds the options of the workspace and its default filter.
 fn with_workspace<'a>(alloc: Global, command: Command<'a>) -> Result<Command<'a>, AllocError> {
     command
         .arg(metadata(alloc).required(true))?
         .arg(nextest_list(alloc))?
-        .arg(default_filter(alloc))?
-        .arg(color(alloc))
+        .arg(default_filter(alloc))
 }
 
-/// A filterset that is asked.
+/// Makes the option of a filterset.
 fn filterset<'a>(alloc: Global) -> Arg<'a> {
     Arg::new(alloc, "filterset")
         .short('E')
@@ -120,30 +124,35 @@ fn filterset<'a>(alloc: Global) -> Arg<'a> {
         .value_name("TEXT")
 }
 
-/// Whether tests are listed that the default filter does not pick.
+/// Makes the option that ignores the default filter.
 fn ignore_default_filter<'a>(alloc: Global) -> Arg<'a> {
     Arg::new(alloc, "ignore")
         .long("ignore-default-filter")
         .action(ArgAction::SetTrue)
-        .help("lists also what the default filter does not pick")
+        .help("lists also tests that the default filter does not pick")
 }
 
-/// The command `list`.
+/// Makes the command `list`.
 fn list<'a>(alloc: Global) -> Result<Command<'a>, AllocError> {
-    let command = Command::new(alloc, "list").about("Lists the tests that filtersets pick");
+    let command = Command::new(alloc, "list")
+        .about("Lists the tests of a workspace that filtersets pick")
+        .after_help(
+            "Example: filterset list --cargo-metadata metadata.json --nextest-list list.json -E 'test(~slow)'",
+        )
+        .arg(
+            filterset(alloc).action(ArgAction::Append).help(
+                "a filterset; of several the union, and without any the default filter",
+            ),
+        )?;
     with_workspace(alloc, command)?
         .arg(ignore_default_filter(alloc))?
         .arg(message_format(alloc).help(
             "how the tests are written; `json` is nextest's own shape",
         ))?
-        .arg(
-            filterset(alloc).action(ArgAction::Append).help(
-                "a filterset; of several the union is taken, and without any the default filter",
-            ),
-        )
+        .arg(color(alloc))
 }
 
-/// Whether the tests are written by name.
+/// Makes the option that writes the tests by name.
 fn tests<'a>(alloc: Global) -> Arg<'a> {
     Arg::new(alloc, "tests")
         .long("tests")
@@ -151,7 +160,7 @@ fn tests<'a>(alloc: Global) -> Arg<'a> {
         .help("writes the tests by name")
 }
 
-/// A text that must be given, by its place.
+/// Makes a required argument, given by its place.
 fn required_text<'a>(alloc: Global, id: &'a str, name: &'a str, help: &'a str) -> Arg<'a> {
     Arg::new(alloc, id)
         .value_name(name)
@@ -159,34 +168,44 @@ fn required_text<'a>(alloc: Global, id: &'a str, name: &'a str, help: &'a str) -
         .help(help)
 }
 
-/// The command `compare`.
+/// Makes the command `compare`.
 fn compare<'a>(alloc: Global) -> Result<Command<'a>, AllocError> {
-    let command = Command::new(alloc, "compare").about("Tells how two filtersets differ");
+    let command = Command::new(alloc, "compare")
+        .about("Counts the tests that only one of two filtersets picks, and those that both pick")
+        .after_help(
+            "Example: filterset compare --cargo-metadata metadata.json --nextest-list list.json --tests 'all()' 'not test(~slow)'",
+        )
+        .arg(tests(alloc))?;
     with_workspace(alloc, command)?
-        .arg(tests(alloc))?
+        .arg(color(alloc))?
         .arg(required_text(alloc, "first", "A", "a filterset"))?
         .arg(required_text(alloc, "second", "B", "another filterset"))
 }
 
-/// The test that is explained.
+/// Makes the argument of the test that is explained.
 fn test<'a>(alloc: Global) -> Arg<'a> {
     Arg::new(alloc, "test")
         .value_name("TEST")
         .help("the name of a test of the binary")
 }
 
-/// The command `explain`.
+/// Makes the command `explain`.
 fn explain<'a>(alloc: Global) -> Result<Command<'a>, AllocError> {
-    let command = Command::new(alloc, "explain").about(
-        "Tells why a filterset picks a test or not, or what hangs on a binary's tests",
-    );
+    let command = Command::new(alloc, "explain")
+        .about(
+            "Shows why a filterset picks a test or not: the value of each predicate and operator",
+        )
+        .after_help(
+            "Example: filterset explain --cargo-metadata metadata.json --nextest-list list.json -E 'test(~slow)' parser tests::deep",
+        )
+        .arg(filterset(alloc).required(true).help("a filterset"))?;
     with_workspace(alloc, command)?
-        .arg(filterset(alloc).required(true).help("a filterset"))?
+        .arg(color(alloc))?
         .arg(required_text(alloc, "binary", "BINARY_ID", "the id of a test binary"))?
         .arg(test(alloc))
 }
 
-/// The command with one more argument, if that could be made.
+/// Adds an argument, if it could be made.
 fn with_argument<'a>(
     command: Command<'a>,
     argument: Result<Arg<'a>, AllocError>,
@@ -194,7 +213,7 @@ fn with_argument<'a>(
     command.arg(argument?)
 }
 
-/// The command with one more below it, if that could be made.
+/// Adds a command below a command, if it could be made.
 fn with_command<'a>(
     command: Command<'a>,
     below: Result<Command<'a>, AllocError>,
@@ -202,16 +221,14 @@ fn with_command<'a>(
     command.subcommand(below?)
 }
 
-/// The command line.
+/// Makes the program's command.
 ///
-/// Only `with_argument` and `with_command` hold a command at a `?` that is about something else, once each: each such exit
-/// has to be proved to drop it, and commands and arguments have many parts.
+/// Only `with_argument` and `with_command` hold a command across a `?` on another value, once each: the proof of each such
+/// exit drops the command, and commands have many parts.
 pub fn arguments<'a>(alloc: Global) -> Result<Command<'a>, AllocError> {
     let command = Command::new(alloc, "filterset")
-        .version("0.1.0")
-        .about(
-            "Checks and formats the filtersets of cargo-nextest, and tells which tests they pick",
-        )
+        .version(VERSION)
+        .about("Checks the filtersets of cargo-nextest, and shows which tests they pick and why")
         .subcommand_required(true);
     let command = with_command(command, check(alloc))?;
     let command = with_command(command, format(alloc))?;

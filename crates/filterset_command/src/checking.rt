@@ -1,9 +1,9 @@
 //! Checking texts, and the filtersets of a configuration, against what files say.
-ghost use Rattle.std.specs.Prelude.{◌≡◌, ◌++◌, IfErr, IfOk, [], map, string_bytes};
+ghost use Rattle.std.specs.Prelude.{◌≡◌, ◌++◌, IfErr, IfOk, map, string_bytes};
 ghost use Rattle.nextest_filtering.specs.Compiling.{packages_of};
 ghost use Rattle.nextest_filtering.specs.Groups.{IsKnown};
 ghost use Rattle.filterset_answers.specs.Checked.{text_row};
-ghost use Rattle.filterset_command.specs.Checking.{AnswersCheck, AreGroups, ChecksKnown, KnownConfiguration, KnownPackages, KnowsNames, file_row, file_rows};
+ghost use Rattle.filterset_command.specs.Checking.{AnswersCheck, ChecksKnown, KnownConfiguration, KnownPackages, KnowsNames, file_row, file_rows};
 ghost use Rattle.filterset_command.specs.Files.{NotWrite};
 
 use crate::fault::CommandFault;
@@ -11,7 +11,7 @@ use crate::files::{FileSource, read_text};
 use crate::workspace::read_graph;
 use filterset_answers::{Answer, Form, Names, TextEntry, check};
 use filterset_sources::{Configuration, ConfiguredFilterset, read_configuration};
-use nextest_filtering::{GraphRefusal, KnownGroups, PackageGraph, ParseContext};
+use nextest_filtering::{KnownGroups, PackageGraph, ParseContext};
 use std::alloc::{AllocError, Global};
 
 /// Where the files are that say which names there are.
@@ -32,17 +32,6 @@ impl Drop for CheckPaths {
     }
 }
 
-/// The workspace without packages.
-fn no_packages(alloc: Global) -> Result<PackageGraph, AllocError>
-    ensures { IfOk result (λ graph. graph ≡ []) }
-{
-    match PackageGraph::new(alloc, Vec::new(alloc)) {
-        Ok(graph) => Ok(graph),
-        Err(GraphRefusal::OutOfMemory(refused)) => Err(refused),
-        Err(_) => unreachable!(),
-    }
-}
-
 /// The packages that are known: none where there is no file of them.
 fn known_packages<F: FileSource>(
     alloc: Global,
@@ -54,7 +43,7 @@ fn known_packages<F: FileSource>(
 {
     match path {
         Some(path) => read_graph(alloc, files, path.as_str()),
-        None => Ok(no_packages(alloc)?),
+        None => Ok(PackageGraph::empty(alloc)),
     }
 }
 
@@ -119,16 +108,6 @@ fn all_entries(
     Ok(all)
 }
 
-/// These custom groups, as what is known of groups.
-fn known_groups(alloc: Global, names: Vec<String>) -> Result<KnownGroups, AllocError>
-    ensures groups { IfOk result (AreGroups (map (λ s. string_bytes s) names.items)) }
-    ensures known { IfOk result IsKnown }
-{
-    Ok(KnownGroups::Known {
-        custom_groups: names.into_iter().collect(alloc)?,
-    })
-}
-
 /// The names of these packages and groups, which are known where there are files of them.
 fn names_of<'g>(
     alloc: Global,
@@ -141,7 +120,7 @@ fn names_of<'g>(
 {
     Ok(Names {
         parse_context: ParseContext::new(alloc, graph)?,
-        known_groups: known_groups(alloc, groups)?,
+        known_groups: KnownGroups::of(alloc, groups)?,
         has_packages: paths.metadata.is_some(),
         has_groups: paths.configuration.is_some(),
     })

@@ -14,11 +14,9 @@ use crate::ending::Ending;
 use crate::fault::CommandFault;
 use crate::files::FileSource;
 use crate::outcome::Outcome;
-use crate::picking::global_group;
 use crate::workspace::{Workspace, WorkspacePaths, asked_binaries, read_workspace};
 use filterset_answers::{Form, push_faults};
-use filterset_listing::{Candidate, explain, explain_text};
-use filterset_listing::AskedBinary;
+use filterset_listing::{AskedBinary, Candidate, explain, explain_text};
 use nextest_filtering::{
     EvalContext, Filterset, FiltersetKind, KnownGroups, PackageGraph, ParseContext, ParseRefusal,
     TestCaseName, TestQuery,
@@ -188,7 +186,7 @@ fn read_texts(
         text: asked.filter.as_str(),
     };
     let context = ParseContext::new(alloc, graph)?;
-    let groups = global_group(alloc);
+    let groups = KnownGroups::global_only(alloc);
     Ok(ReadTexts {
         default: read_filterset(output, alloc, &context, &groups, asked.form, default)?,
         filter: read_filterset(output, alloc, &context, &groups, asked.form, filter)?,

@@ -3,7 +3,7 @@ ghost use Rattle.std.specs.Prelude.{◌≡◌, IfErr, IfOk, length, option_map, 
 ghost use Rattle.serde_json.specs.View.{view};
 ghost use Rattle.filterset_expression.specs.Contexts.{default_of};
 ghost use Rattle.filterset_command.specs.Files.{NotWrite};
-ghost use Rattle.filterset_command.specs.Picking.{AnswersAsked, AnswersQuestion, AreSections, Compares, IsGlobalOnly, IsPairFor, Lists, MayBeDefault, TellsOf, WritesList, kept_of};
+ghost use Rattle.filterset_command.specs.Picking.{AnswersAsked, AnswersQuestion, AreSections, Compares, IsPairFor, Lists, MayBeDefault, TellsOf, WritesList, kept_of};
 
 use crate::ending::{Ending, differing_ending};
 use crate::entries::asked_entries;
@@ -20,16 +20,6 @@ use filterset_listing::{
 use nextest_filtering::{CompiledExpr, EvalContext, KnownGroups, PackageGraph, ParseContext};
 use serde_json::Value;
 use std::alloc::{AllocError, Global};
-use std::collections::HashSet;
-
-/// The only group that filtersets can name is `@global`, in which every test is.
-pub fn global_group(alloc: Global) -> KnownGroups
-    ensures { IsGlobalOnly result }
-{
-    KnownGroups::Known {
-        custom_groups: HashSet::new(alloc),
-    }
-}
 
 /// What nextest wrote of the list, where the answer is to be in its shape.
 fn kept_of(form: Form, value: Value) -> Option<Value>
@@ -149,7 +139,7 @@ fn outcome_of(
     let (question, form) = (&asked.question, asked.form);
     let entries = asked_entries(alloc, asked.default_filter.as_str(), question)?;
     let context = ParseContext::new(alloc, graph)?;
-    let groups = global_group(alloc);
+    let groups = KnownGroups::global_only(alloc);
     match compile_texts(alloc, &context, &groups, form, entries.as_slice())? {
         Compiled::Expressions(exprs) => answered(alloc, question, exprs, kept, binaries),
         Compiled::Faults(answer) => Ok(Outcome {

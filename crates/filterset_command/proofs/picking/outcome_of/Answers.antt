@@ -8,7 +8,7 @@ use Rattle.filterset_command.proofs.picking.outcome_of.Goals as goal
 pub answered-requires-clause-default : goal.answered-requires-clause-default
 answered-requires-clause-default c =
     let packages = packages_of c.in_ok-context.context in
-    let groups = c.global_group-groups.result in
+    let groups = c.global_only-groups.result in
     let asked = c.args.asked.now in
     let rows = map text_row c.in_ok-entries.entries.items in
     let made = rw c.as_slice.ensures.value at c.in_ok-exprs.ensures in
@@ -19,7 +19,7 @@ answered-requires-clause-default c =
 pub answered-requires-clause-pair : goal.answered-requires-clause-pair
 answered-requires-clause-pair c =
     let packages = packages_of c.in_ok-context.context in
-    let groups = c.global_group-groups.result in
+    let groups = c.global_only-groups.result in
     let asked = c.args.asked.now in
     let rows = map text_row c.in_ok-entries.entries.items in
     let made = rw c.as_slice.ensures.value at c.in_ok-exprs.ensures in

@@ -1,6 +1,0 @@
-use Rattle.std.proofs.Common.{rules}
-use Rattle.nextest_filtering.proofs.GroupNames.{collected_names}
-use Rattle.filterset_command.proofs.checking.known_groups.Goals as goal
-
-pub returns-clause-groups : goal.returns-clause-groups
-returns-clause-groups c = collected_names c.args.names.items c.in_ok-collect.field-0 (search rules)
