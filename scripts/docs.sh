@@ -19,9 +19,6 @@ for check in clauses code crates calls links paths tables stored; do
 done
 [ "${1:-}" != --pages ] || finish
 
-need "$program"
-need "$people"
-holds "reports that pages show" scripts/pages.py shown "$program"
-holds "answers that pages show" scripts/pages.py answers "$people"
+holds "commands that pages show" scripts/transcripts.py README.md docs/*.md
 
 finish

@@ -1,32 +1,27 @@
-"""Reads the repository's sources as far as its scripts need them: the definitions of specs/ and proofs/ (.antt) and the
-items and clauses of src/ (.rt), each with the lines that it takes.
+"""Reads the definitions of specs/ and proofs/ (.antt), and the items and clauses of src/ (.rt), each with its lines.
 
-Nothing is checked here: the sources are taken to be what the prover accepted, in the layout of `rt fmt`.
+The layout is that of `rt fmt`: what belongs to an item or a definition is indented, or begins with a closing bracket.
 """
 
 import re
 import subprocess
+from collections import namedtuple
 from dataclasses import dataclass, field
 from pathlib import Path
+from types import SimpleNamespace
 
 TOP = Path(__file__).resolve().parent.parent
 
-# ---- crates and files
-
 
 def crates():
-    """The crates of the repository, in the order of crates.txt, each with those that its line names."""
-    found = {}
-    for line in (TOP / "crates.txt").read_text(encoding="utf-8").splitlines():
-        line = line.partition("#")[0].strip()
-        if line:
-            name, _, below = line.partition(":")
-            found[name.split()[0]] = below.split()
-    return found
+    """Returns the crates of the repository, in the order of crates.txt, each with those that its line names."""
+    lines = (line.partition("#")[0].strip() for line in text_of("crates.txt").splitlines())
+    named = (line.partition(":") for line in lines if line)
+    return {name.split()[0]: below.split() for name, _, below in named}
 
 
 def tracked(*patterns):
-    """The files that git knows or would add, as paths from the top, sorted."""
+    """Returns the files that git knows or would add, as paths from the top, sorted."""
     listed = ["git", "ls-files", "--cached", "--others", "--exclude-standard", "--", *patterns]
     out = subprocess.run(listed, cwd=TOP, capture_output=True, text=True, check=True).stdout
     return sorted({path for path in out.splitlines() if (TOP / path).is_file()})
@@ -36,14 +31,11 @@ def text_of(path):
     return (TOP / path).read_text(encoding="utf-8")
 
 
-# ---- characters
+def crate_of(path):
+    return path.split("/")[1]
 
 
-def blanked(text, start, end):
-    """The text with blanks in the place of these characters, line feeds aside."""
-    gone = "".join("\n" if c == "\n" else " " for c in text[start:end])
-    return text[:start] + gone + text[end:]
-
+# ---- characters and names
 
 STRINGS = r'"(?:\\.|[^"\\])*"'
 # A quote begins a character unless it ends a name, as in `Alternates'`, or begins a lifetime.
@@ -52,476 +44,206 @@ ANTT_HIDDEN = re.compile(r"(?m)(?:^|(?<=\s))--[^\n]*|" + STRINGS)
 
 
 def masked(text, hidden):
-    """The text with its comments and string literals blanked, character for character."""
-    for found in list(hidden.finditer(text)):
-        text = blanked(text, found.start(), found.end())
-    return text
+    """Returns the text with blanks for its comments and string literals, line by line."""
+    return hidden.sub(lambda found: re.sub(r"[^\n]", " ", found[0]), text)
 
 
 def closing(text, at):
-    """The place of the bracket that closes the one at this place of a masked text."""
-    pairs, depth = {"(": ")", "[": "]", "{": "}"}, 0
-    opened, closed = text[at], pairs[text[at]]
+    """Returns the place of the bracket that closes the one at this place of a masked text."""
+    depth = 0
     for place in range(at, len(text)):
-        if text[place] == opened:
-            depth += 1
-        elif text[place] == closed:
-            depth -= 1
-            if depth == 0:
-                return place
+        depth += (text[place] in "([{") - (text[place] in ")]}")
+        if depth == 0:
+            return place
     raise ValueError(f"no bracket closes {text[at:at + 40]!r}")
 
 
-def line_at(text, place):
-    return text.count("\n", 0, place) + 1
+def operator_parts(name):
+    """Returns the words by which a name with holes is used, as `≡` of `◌≡◌`."""
+    return [part for part in name.split("◌") if part]
 
 
-def lines_above(lines, first, is_said):
-    """The first line of those that stand directly above a line, counted from 1, and of which this holds."""
-    while first > 1 and is_said(lines[first - 2].strip()):
-        first -= 1
-    return first
-
-
-# ---- names that are brought in
-
-@dataclass(frozen=True)
-class Target:
-    """What a `use` line of antt brings in: an item of a module, or, where `item` is empty, the module."""
-
-    module: str
-    item: str = ""
+def words_of(text):
+    """Returns the names of a term, each as the list of its parts between dots."""
+    words = ([part for part in word.split(".") if part] for word in re.findall(r"[^\s(){},;\[\]]+|\[\]", text))
+    return [parts for parts in words if parts]
 
 
 def ghost_names(used):
-    """The names that one antt `use` brings in, each with its target. `used` is what stands after the word `use`."""
-    listed = re.match(r"([^\s{]+)\.\{(.*)\}\s*$", used.strip(), re.S)
-    if listed:
-        named = {}
-        for part in listed[2].split(","):
-            item, _, alias = (word.strip() for word in part.partition(" as "))
-            if item:
-                named[alias or item] = Target(listed[1], item)
-        return named
-    module, _, alias = (word.strip() for word in used.partition(" as "))
-    return {alias or module.split(".")[-1]: Target(module)}
+    """Returns the names that an antt `use` brings in, each with its module and its name there, "" for the module."""
+    listed = re.match(r"([^\s{]+)\.\{(.*)\}\s*;?\s*$", used.strip(), re.S)
+    if not listed:
+        module, _, alias = (word.strip(" ;") for word in used.partition(" as "))
+        return {alias or module.split(".")[-1]: (module, "")}
+    named = ([word.strip() for word in part.partition(" as ")] for part in listed[2].split(","))
+    return {alias or item: (listed[1], item) for item, _, alias in named if item}
 
 
-def operator_parts(name):
-    """The words that stand for a name with holes where it is used, as `≡` for `◌≡◌`."""
-    return [part for part in name.split("◌") if part] if "◌" in name else [name]
+def rust_names(used):
+    """Returns the names that a Rust `use` brings in, each with its path as a list."""
+    used = re.sub(r"\s", "", re.sub(r"\s+as\s+", "@", used))
+    while "{" in used:
+        used = re.sub(r"([\w:]*)::\{([^{}]*)\}", lambda found: ",".join(
+            f"{found[1]}::{part}" for part in found[2].split(",") if part), used)
+    named = (path.partition("@") for path in used.split(","))
+    paths = [([part for part in path.split("::") if part and part != "self"], alias) for path, _, alias in named]
+    return {alias or path[-1]: path for path, alias in paths if path}
 
 
 # ---- antt
 
 
-@dataclass
-class Definition:
-    """A definition of a file, with the comment directly above it. `names` has its constructors beside its own name."""
-
-    path: str
-    name: str
-    kind: str
-    first: int
-    last: int
-    text: str
-    names: set = field(default_factory=set)
-
-    @property
-    def lines(self):
-        return self.last - self.first + 1
+# A definition with the comment above it. `names` has its constructors, or those that a module declares, too.
+Definition = namedtuple("Definition", "name first last text names")
+DECLARED = re.compile(r"(?:abbrev |unfoldable |pub )*(?:(data|record) (?:pub )?([^\s({]+)|(module) |([^\s:]+) :(?!\S))")
+MEMBERS = {"data": r"(?m)^  ([^:(){}→\n]+?)(?: :|$)", "module": r"(?m)^  (?:pub )?([^\s:]+) :"}
 
 
-@dataclass
-class AnttFile:
-    path: str
-    lines: int
-    head: str
-    uses: dict
-    shared: set
-    definitions: list
-
-    def named(self, name):
-        return next((d for d in self.definitions if name in d.names), None)
-
-
-def is_comment(line):
-    return line.startswith("--")
-
-
-def head_comment(text):
-    """The comment that a file begins with, as one line; "" where there is none."""
-    said = []
-    for line in text.splitlines():
-        if not line.startswith("--"):
-            break
-        said.append(line[2:].strip())
-    return " ".join(said)
-
-
-def declared_name(statement):
-    """The name that a statement declares and its kind, or None where it is an equation of the definition above it."""
-    words = statement.split()
-    while words and words[0] in {"abbrev", "unfoldable", "pub"}:
-        words = words[1:]
-    if not words:
-        return None
-    if words[0] in {"data", "record"}:
-        rest = words[2:] if words[1] == "pub" else words[1:]
-        return re.split(r"[({]", rest[0])[0], words[0]
-    if len(words) > 1 and words[1] == ":":
-        return words[0], "abbrev" if statement.startswith("abbrev") else "definition"
-    return None
-
-
-def constructors(statement_lines, kind):
-    """The constructors that the lines of a `data` declare."""
-    if kind != "data":
-        return set()
-    found = (re.match(r"\s+([^:(){}→]+?)(?: :|$)", line) for line in statement_lines[1:])
-    return {name for named in found if named for name in named[1].split()}
-
-
-class AnttReader:
-    """Cuts a file into its definitions."""
-
-    def __init__(self, path):
-        self.path = path
-        self.text = text_of(path)
-        self.raw = self.text.splitlines()
-        self.plain = masked(self.text, ANTT_HIDDEN).splitlines()
-        self.found = []
-
-    def read(self):
-        uses, shared = {}, set()
-        for line in self.plain:
-            used = re.match(r"(pub )?use (.*)", line)
-            if used:
-                brought = ghost_names(used[2])
-                uses.update(brought)
-                shared.update(brought if used[1] else ())
-        self.cut(0, len(self.plain), 0)
-        for one in self.found:
-            one.names.add(one.name)
-        return AnttFile(self.path, len(self.raw), head_comment(self.text), uses, shared, self.found)
-
-    def statements(self, start, end, indent):
-        """The first and last line, from 0, of each statement at this indent; what is indented further belongs to it."""
-        begun = [at for at in range(start, end) if self.is_start(at, indent)]
-        for at, following in zip(begun, begun[1:] + [end]):
-            last = following - 1
-            while last > at and not self.plain[last].strip():
-                last -= 1
-            yield at, last
-
-    def is_start(self, at, indent):
-        line = self.plain[at]
-        return line.strip() != "" and len(line) - len(line.lstrip()) == indent
-
-    def cut(self, start, end, indent):
-        fixity = None
-        for first, last in self.statements(start, end, indent):
-            line = self.plain[first].strip()
-            if re.match(r"(pub )?(use|mod)\b|pub mod\b", line):
-                continue
-            if re.match(r"infix[lr]?\b", line):
-                fixity = first
-                continue
-            if re.fullmatch(r"(abbrev )?mutual", line):
-                self.cut(first + 1, last + 1, indent + 2)
-                continue
-            self.add(first if fixity is None else fixity, first, last)
-            fixity = None
-
-    def add(self, shown, first, last):
-        """Adds what a statement declares, or the statement to the definition above it."""
-        declared = declared_name(self.plain[first].strip())
-        body = self.plain[first:last + 1]
-        if declared is None and not self.plain[first].strip().startswith("module"):
-            self.found[-1].last = last + 1
-            self.found[-1].text += "\n" + "\n".join(body)
-            return
-        name, kind = declared or ("module _", "module")
-        above = lines_above(self.raw, shown + 1, is_comment)
-        # (a comment that begins a file speaks of the file)
-        above = max(above, self.head_lines() + 1)
-        made = Definition(self.path, name, kind, above, last + 1, "\n".join(body), constructors(body, kind))
-        if kind == "module":
-            made.names.update(re.findall(r"(?m)^  (?:pub )?([^\s:]+) :", made.text))
-        self.found.append(made)
-
-    def head_lines(self):
-        count = 0
-        while count < len(self.raw) and is_comment(self.raw[count]):
-            count += 1
-        return count
-
-
-def antt_files(*patterns):
-    """All .antt files of the repository below crates/ that match, by their paths."""
-    return {path: AnttReader(path).read() for path in tracked(*patterns)}
+def read_antt(path):
+    raw, shown = text_of(path).splitlines(), None
+    head = next((at for at, line in enumerate(raw) if not line.startswith("--")), len(raw))
+    said = " ".join(line[2:].strip() for line in raw[:head])
+    file = SimpleNamespace(path=path, head=said, uses={}, shared=set(), definitions=[])
+    # a block `mutual` is read as if its definitions were not indented
+    text = re.sub(r"(?m)^(?:abbrev )?mutual *\n((?:(?:  .*)?\n)*)", lambda block: "\n" + re.sub("(?m)^  ", "", block[1]),
+                  masked(text_of(path), ANTT_HIDDEN) + "\n")
+    for one in re.finditer(r"(?m)^\S.*(?:\n(?: .*)?$)*", text):
+        statement, first = one[0].rstrip(), text.count("\n", 0, one.start()) + 1
+        last, used, declared = first + statement.count("\n"), re.match(r"(pub )?use (.*)", statement), DECLARED.match(statement)
+        if used:
+            brought = ghost_names(used[2])
+            file.uses.update(brought)
+            file.shared.update(brought if used[1] else ())
+        elif re.match(r"infix[lr]? ", statement):
+            shown = first
+        elif declared:
+            kind, name = declared[1] or declared[3], declared[2] or declared[4] or "module _"
+            names = {word for words in re.findall(MEMBERS.get(kind, "$^"), statement) for word in words.split()}
+            first, shown = shown or first, None
+            while first > head + 1 and raw[first - 2].strip().startswith("--"):
+                first -= 1
+            file.definitions.append(Definition(name, first, last, statement, names | {name}))
+        elif file.definitions and not re.match(r"(pub )?mod ", statement):
+            above = file.definitions.pop()
+            file.definitions.append(above._replace(last=last, text=above.text + "\n" + statement))
+    return file
 
 
 # ---- Rust with contracts
 
 
-@dataclass
-class Clause:
-    """A clause of a function, or a ghost member: its kind, its name ("" where it has none), its term and its lines."""
-
-    kind: str
-    name: str
-    text: str
-    first: int
-    last: int
+# A clause of a function, or the term of a ghost member: its kind, its name or "", its term and its lines.
+Clause = namedtuple("Clause", "kind name text first last")
 
 
 @dataclass
 class Item:
-    """A function, type, trait or impl. `text` is its header, masked, and `trait` the trait of an impl, with its types."""
+    """A function, type, trait, impl or ghost member. `text` is its header; `trait` the trait of an impl, with its types."""
 
-    path: str
     kind: str
     name: str
     first: int
     last: int
     is_pub: bool
     text: str
+    body: str = ""
+    trait: str = ""
     clauses: list = field(default_factory=list)
     items: list = field(default_factory=list)
     uses: dict = field(default_factory=dict)
-    trait: str = ""
 
 
-@dataclass
-class RustFile:
-    path: str
-    uses: dict
-    ghost_uses: dict
-    exports: list
-    modules: dict
-    items: list
+ITEM = re.compile(r"(pub(?:\([^)]*\))? )?(?:(?:const|async|unsafe)(?= fn| unsafe) )*"
+                  r"(ghost use|ghost|use|mod|fn|struct|enum|trait|impl)\b\s*(\w*)")
+CLAUSE = re.compile(r"(?m)^\s*(requires|ensures|decreases)\*?(?:\s+(\w+))?\s*(\{)")
 
 
-ITEM = re.compile(
-    r"(?P<pub>pub(?:\([^)]*\))?\s+)?(?:default |async |unsafe |const (?=fn))*"
-    r"(?P<kind>ghost use|ghost|use|mod|fn|struct|enum|trait|impl|const|static|type)\b"
-)
-CLAUSE = re.compile(r"\b(requires|ensures|decreases)\*?(?:\s+(\w+))?\s*$")
+def read_rust(path):
+    file = SimpleNamespace(path=path, uses={}, ghost_uses={}, exports=[], modules={})
+    lines = [text.splitlines() for text in (text_of(path), masked(text_of(path), RUST_HIDDEN))]
+    file.items = items_of(file, *lines, 0, file.ghost_uses)
+    return file
 
 
-def rust_names(used):
-    """The names that a Rust `use` brings in, each with its path as a list. `used` is what stands after `use`."""
-    used = re.sub(r"\s+", " ", used.strip())
-    listed = re.match(r"(.*?)(?:::)?\{(.*)\}$", used)
-    if listed:
-        named = {}
-        for part in split_list(listed[2]):
-            for name, path in rust_names(part).items():
-                named[name] = [p for p in listed[1].split("::") if p] + path
-        return named
-    path, _, alias = (word.strip() for word in used.partition(" as "))
-    parts = path.split("::")
-    if parts[-1] == "self":
-        parts = parts[:-1]
-    return {alias or (parts[-1] if parts else ""): parts}
-
-
-def split_list(text):
-    """The parts of a list that commas separate, braces aside."""
-    parts, depth, begun = [], 0, 0
-    for place, c in enumerate(text):
-        depth += (c == "{") - (c == "}")
-        if c == "," and depth == 0:
-            parts.append(text[begun:place])
-            begun = place + 1
-    return [part for part in (*parts, text[begun:]) if part.strip()]
-
-
-class RustReader:
-    """Finds the items of a file, outside of bodies."""
-
-    def __init__(self, path):
-        self.path = path
-        self.raw = text_of(path)
-        self.lines = self.raw.splitlines()
-        self.text = masked(self.raw, RUST_HIDDEN)
-        self.file = RustFile(path, {}, {}, [], {}, [])
-
-    def read(self):
-        self.file.items = self.items(0, len(self.text), self.file.ghost_uses)
-        return self.file
-
-    def items(self, start, end, ghost_uses):
-        found, at = [], start
-        while at < end:
-            at = self.after_attributes(at, end)
-            matched = ITEM.match(self.text, at, end)
-            if not matched:
-                at += 1
-                continue
-            stop = self.end_of(matched.end(), end)
-            if self.is_for_tests(at):
-                at = stop
-                continue
-            item = self.item(matched, at, stop, ghost_uses)
+def items_of(file, raw, lines, before, ghost_uses):
+    """Returns the items of these lines, which begin after the line `before`; those for tests are left out."""
+    found, at = [], 0
+    while at < len(lines):
+        begun, kind = at, ITEM.match(lines[at])
+        at = end_of(lines, at) + 1
+        first = begun
+        while first > 0 and re.match(r"\s*(///|#\[)", raw[first - 1]):
+            first -= 1
+        if kind and not any("cfg(test)" in line or "#[test]" in line for line in raw[first:begun]):
+            item = item_of(file, kind, raw[begun:at], lines[begun:at], before + begun, ghost_uses)
             if item:
+                item.first = before + first + 1
                 found.append(item)
-            at = stop
-        return found
+    return found
 
-    def after_attributes(self, at, end):
-        while at < end:
-            if self.text[at].isspace():
-                at += 1
-            elif re.match(r"#!?\[", self.text[at:at + 3]):
-                at = closing(self.text, self.text.index("[", at)) + 1
-            else:
-                break
+
+def end_of(lines, at):
+    """Returns the line in which what begins at this line ends: by a `;`, or by a closing brace that is not indented."""
+    if not lines[at].strip() or lines[at].startswith("#"):
         return at
-
-    def is_for_tests(self, at):
-        line = line_at(self.text, at)
-        above = self.lines[lines_above(self.lines, line, lambda said: said.startswith("#[")) - 1:line - 1]
-        return any("cfg(test)" in said or said.strip() == "#[test]" for said in above)
-
-    def end_of(self, at, end):
-        """The place after the item: after its `;`, or after the braces of its body."""
-        place = at
-        while place < end:
-            c = self.text[place]
-            if c == ";":
-                return place + 1
-            if c in "([":
-                place = closing(self.text, place)
-            elif c == "{":
-                close = closing(self.text, place)
-                if not self.goes_on(at, place, close):
-                    return close + 1
-                place = close
-            place += 1
-        return end
-
-    def goes_on(self, at, opened, close):
-        """Whether the braces are a clause, a ghost member's term or a list of `use`, and so not the item's end."""
-        before = self.text[at:opened]
-        if CLAUSE.search(before):
-            return True
-        after = self.text[close + 1:close + 2]
-        return after == ";" or before.rstrip().endswith(("::", "."))
-
-    def item(self, matched, at, stop, ghost_uses):
-        kind = matched["kind"]
-        body = self.text[matched.end():stop]
-        if kind == "ghost use":
-            ghost_uses.update(ghost_names(body.rstrip().rstrip(";")))
-        elif kind == "use":
-            self.bring(rust_names(body.rstrip().rstrip(";")), matched["pub"])
-        elif kind == "mod":
-            self.file.modules[body.strip().rstrip(";").strip()] = bool(matched["pub"])
-        elif kind in {"fn", "struct", "enum", "trait", "impl", "ghost"}:
-            return getattr(self, "read_" + kind)(matched, at, stop)
-        return None
-
-    def bring(self, named, is_pub):
-        self.file.uses.update(named)
-        if is_pub and is_pub.strip() == "pub":
-            self.file.exports.append(named)
-
-    def made(self, matched, at, stop, kind, name, text):
-        line = line_at(self.text, at)
-        first = lines_above(self.lines, line, lambda said: said.startswith(("///", "#[")))
-        is_pub = (matched["pub"] or "").strip() == "pub"
-        return Item(self.path, kind, name, first, line_at(self.text, stop - 1), is_pub, text)
-
-    def read_fn(self, matched, at, stop):
-        """A function with its clauses; its text is its signature."""
-        name = re.match(r"\s*(\w+)", self.text[matched.end():stop])[1]
-        clauses, place, signature = [], matched.end(), None
-        while place < stop:
-            c = self.text[place]
-            if c in "([":
-                place = closing(self.text, place)
-            elif c == "{":
-                said = CLAUSE.search(self.text, matched.end(), place)
-                signature = signature or (said.start() if said else place)
-                if not said:
-                    break
-                close = closing(self.text, place)
-                clauses.append(self.clause(said[1], said[2] or "", said.start(), place, close))
-                place = close
-            place += 1
-        item = self.made(matched, at, stop, "fn", name, self.text[matched.end():signature or stop])
-        item.clauses = clauses
-        return item
-
-    def clause(self, kind, name, at, opened, close):
-        first, last = line_at(self.text, at), line_at(self.text, close)
-        return Clause(kind, name, self.text[opened + 1:close], first, last)
-
-    def read_ghost(self, matched, at, stop):
-        """A ghost member of an impl or a trait, as an item with one clause."""
-        body = self.text[matched.end():stop]
-        name = re.match(r"\s*(\w+)", body)[1]
-        item = self.made(matched, at, stop, "ghost", name, "")
-        opened = self.text.index("{", matched.end())
-        item.clauses = [self.clause("ghost", name, at, opened, closing(self.text, opened))]
-        return item
-
-    def read_block(self, matched, at, stop, kind, name):
-        opened = self.body_of(matched.end(), stop)
-        item = self.made(matched, at, stop, kind, name, self.text[matched.end():opened])
-        item.items = self.items(opened + 1, stop - 1, item.uses)
-        return item
-
-    def body_of(self, at, stop):
-        while self.text[at] != "{":
-            at = closing(self.text, at) + 1 if self.text[at] in "([" else at + 1
-        return at
-
-    def read_trait(self, matched, at, stop):
-        name = re.match(r"\s*(\w+)", self.text[matched.end():stop])[1]
-        return self.read_block(matched, at, stop, "trait", name)
-
-    def read_impl(self, matched, at, stop):
-        """An impl block: its name is that of its type, `Tuple2` for a pair, as folders of proofs have it, and its kind ends
-        in the name of its trait, if it has one."""
-        item = self.read_block(matched, at, stop, "impl", "")
-        header = without_generics(item.text)
-        trait, _, owner = header.rpartition(" for ")
-        tuple_of = re.match(r"\s*\(([^()]*)\)", owner or header)
-        path = re.match(r"\s*&?(?:\w+::)*(\w+)", owner or header)
-        item.name = f"Tuple{tuple_of[1].count(',') + 1}" if tuple_of else path[1]
-        item.trait = re.sub(r"^(?:\w+::)+", "", trait.strip())
-        item.kind = f"impl {item.trait.partition('<')[0]}" if trait else "impl"
-        return item
-
-    def read_struct(self, matched, at, stop):
-        return self.declared(matched, at, stop, "struct")
-
-    def read_enum(self, matched, at, stop):
-        return self.declared(matched, at, stop, "enum")
-
-    def declared(self, matched, at, stop, kind):
-        body = self.text[matched.end():stop]
-        item = self.made(matched, at, stop, kind, re.match(r"\s*(\w+)", body)[1], body)
-        item.is_pub = bool(matched["pub"])
-        return item
-
-
-def without_generics(header):
-    """An impl's header without the list of parameters that it begins with."""
-    header = header.strip()
-    if not header.startswith("<"):
-        return header
     depth = 0
-    for place, c in enumerate(header):
-        depth += (c == "<") - (c == ">" and header[place - 1] != "-")
-        if depth == 0:
-            return header[place + 1:].strip()
-    return header
+    for at in range(at, len(lines)):
+        line = lines[at].rstrip()
+        depth += len(re.findall(r"[(\[{]", line)) - len(re.findall(r"[)\]}]", line))
+        if depth == 0 and (line.endswith(";") or (line.endswith("}") and line[0] != " ")):
+            return at
+    return at
 
 
-def rust_files(*patterns):
-    """All .rt files of the repository that match, by their paths."""
-    return {path: RustReader(path).read() for path in tracked(*patterns)}
+def item_of(file, kind, raw, lines, before, ghost_uses):
+    """Returns the item of these lines, or nothing for one that brings names in."""
+    text = "\n".join(lines)
+    after = text[kind.start(3):].rstrip(";\n ")
+    item = Item(kind[2], kind[3], 0, before + len(lines), kind[1] == "pub ", after)
+    if item.kind == "ghost use":
+        return ghost_uses.update(ghost_names(after))
+    if item.kind == "use":
+        file.exports += [rust_names(after)] if item.is_pub else []
+        return file.uses.update(rust_names(after))
+    if item.kind == "mod":
+        return file.modules.update({item.name: item.is_pub})
+    if item.kind == "ghost":
+        item.text = ""
+        add_clause(item, text, before, "ghost", item.name, 0, text.index("{"))
+    elif item.kind == "fn":
+        # clauses end before a line with nothing but the body's bracket
+        end = next((at for at, line in enumerate(lines) if line.rstrip() in ("{", "{}")), len(lines))
+        head, item.body = "\n".join(lines[:end]), text
+        found = list(CLAUSE.finditer(head)) if end < len(lines) or head.endswith(";") else []
+        for clause in found:
+            add_clause(item, head, before, clause[1], clause[2] or "", clause.start(1), clause.start(3))
+        item.text = head[:found[0].start()] if found else head.partition(" {\n")[0]
+    elif item.kind in ("trait", "impl"):
+        opened = next((at for at, line in enumerate(lines) if line.rstrip().endswith("{")), len(lines) - 1)
+        item.text = " ".join("\n".join(lines[:opened + 1]).rsplit("{", 1)[0].split())
+        inner = ([line[4:] for line in part[opened + 1:-1]] for part in (raw, lines))
+        item.items = items_of(file, *inner, before + opened + 1, item.uses)
+        if item.kind == "impl":
+            name_impl(item)
+    return item
+
+
+def add_clause(item, text, before, kind, name, at, opened):
+    close = closing(text, opened)
+    first, last = (before + 1 + text.count("\n", 0, place) for place in (at, close))
+    item.clauses.append(Clause(kind, name, text[opened + 1:close], first, last))
+
+
+def name_impl(item):
+    """Names an impl after its type, and sets its trait."""
+    header = re.sub(r"^impl(<(?:[^<>]|->|<[^<>]*>)*>)?\s*", "", item.text).partition(" where ")[0]
+    trait, _, owner = header.rpartition(" for ")
+    item.name = re.search(r"\w+(?![\w:])", owner)[0]
+    item.trait = re.sub(r"^(?:\w+::)+", "", trait)
+    item.kind = f"impl {item.trait.partition('<')[0]}" if trait else "impl"
+
+
+def files(folder):
+    """Returns what is read of all files of src, specs or proofs, by their paths."""
+    read, ending = (read_rust, "rt") if folder == "src" else (read_antt, "antt")
+    return {path: read(path) for path in tracked(f"crates/*/{folder}/*.{ending}")}

@@ -7,9 +7,10 @@ A session is a block ```console of a page. `$ ` begins a command, which `> ` con
 lines that it writes on standard output, then those of standard error, each after `! `, then its status, if that is not
 0, as `[2]`. `(no line break)` follows a line without a line feed.
 
-bash runs the commands of a page in order, with `set -o pipefail`, in a new folder that has the files of examples/ and
-of crates/filterset_command/data. `filterset` is the program for people if it has arguments, and else the one that reads
-a record; `rt ci` builds both. With --programs FOLDER they are FOLDER/filterset_command and FOLDER/filterset_cli.
+bash runs the commands of a page in order, with `set -o pipefail`, in a new folder that has examples/ and
+crates/filterset_command/data, and the files of both. `filterset` and `./filterset`, with `--try` or without, are the
+program for people if they have arguments, and else the one that reads a record; `rt ci` builds both. With --programs
+FOLDER they are FOLDER/filterset_command and FOLDER/filterset_cli.
 
 The last line is 'N passed, M failed', by commands. The status is 1 if one failed.
 """
@@ -28,6 +29,7 @@ BUILT = {name: TOP / "crates" / name / "out" / name for name in ("filterset_comm
 
 FILTERSET = """\
 #!/bin/bash
+if [ "$1" = --try ]; then shift; fi
 if [ $# -gt 0 ]; then exec -a filterset '{filterset_command}' "$@"; else exec '{filterset_cli}'; fi
 """
 
@@ -93,6 +95,9 @@ def run(page, programs):
             folder.mkdir()
         for file in [*(TOP / "examples").glob("*.*"), *(TOP / DATA).iterdir()]:
             shutil.copy(file, where)
+        for folder in ("examples", DATA):
+            shutil.copytree(TOP / folder, where / folder)
+        (where / "filterset").symlink_to(tools / "filterset")
         (tools / "filterset").write_text(FILTERSET.format(**programs))
         (tools / "filterset").chmod(0o755)
         environment = {"PATH": f"{tools}:/usr/local/bin:/usr/bin:/bin", "LC_ALL": "C.UTF-8", "HOME": made}

@@ -3,207 +3,267 @@
 
     scripts/trusted.py              prints the list
     scripts/trusted.py --write      writes it into docs/TRUST.md
-    scripts/trusted.py --check      fails where docs/TRUST.md holds another list
+    scripts/trusted.py --check      fails if docs/TRUST.md has another list
+    scripts/trusted.py --unreached  prints the definitions of specs/ that no public clause reaches
     scripts/trusted.py --why NAME   prints how public clauses come to reach a definition or a type
-    scripts/trusted.py --alone      prints for each public function the lines that it alone reaches
 
-Names are followed from the public clauses: the contracts of the public functions of the library crates, the ghost
-members of their public traits and of the impls of their public types, the contracts of `run` and `status` of `records`,
-what the record's program's impl of `Program` says, and the contracts of `run` and `status` of the program for people. A
-name that a clause, a definition or a declared type uses is looked up through the `use` lines that bring it in, and what
-it stands for is followed in turn. What proves something where it stands (an invariant, the laws of an `==`, a private
-ghost field) is not followed: the prover checks it, and no clause says it.
+Names are followed from the public clauses: the contracts of public functions, the ghost members of public traits and of
+impls of public types, what the record's program's impl of `Program` says, and the contracts of the programs' `run` and
+`status`. What proves something where it is used (an invariant, the laws of an `==`) is not followed: the prover checks it.
 """
 
+import re
 import sys
-from collections import defaultdict
+from collections import defaultdict, namedtuple
 
-import blocks
-from reach import Sources, crate_of
-from sources import text_of
+from sources import TOP, crate_of, crates, files, operator_parts, text_of, words_of
 
-PAGE = "docs/TRUST.md"
+PAGE, BEGIN, END = "docs/TRUST.md", "<!-- trusted.py begins -->\n", "<!-- trusted.py ends -->\n"
+# The crate that other programs name; the program that reads a record, with the crate of its run; the program for people.
+LIBRARY, PROGRAM, PROGRAMS, COMMAND = "nextest_filtering", "filterset_cli", "filterset_io", "filterset_command"
+# Ghost members that prove something where they are used.
+PROVED_MEMBERS = {"laws", "xor_laws", "total", "matches_partial_cmp", "matches_eq", "respects_eq", "coded", "invariant"}
+# A public field of a struct, as far as its type.
+PUBLIC_FIELD = re.compile(r"pub(?:\([^)]*\))? (?!ghost)(?:\w+\s*:)?([^;{}]*?)(?:,\s*(?=\n)|\)|\})", re.S)
+# A public function or ghost member with clauses. `scope` has the names that its trait or impl brings in.
+Public = namedtuple("Public", "crate path name item scope")
 
 
-def says_something(line):
-    """Whether a line holds more than a comment or an attribute."""
-    line = line.strip()
-    return bool(line) and not line.startswith(("--", "//", "#["))
+# A definition, a type with its view, or a trait, with its lines, and a call that returns what it names.
+Node = namedtuple("Node", "path name spans refs")
 
 
 def counted(path, spans):
-    lines = text_of(path).splitlines()
-    return sum(says_something(line) for first, last in spans for line in lines[first - 1:last])
+    """Returns how many of these lines have more than a comment or an attribute."""
+    lines = (line.strip() for first, last in spans for line in text_of(path).splitlines()[first - 1:last])
+    return sum(bool(line) and not line.startswith(("--", "//", "#[")) for line in lines)
 
 
-def lines_of(node):
-    return counted(node.path, node.spans)
+def lines_of(nodes):
+    return sum(counted(node.path, node.spans) for node in nodes)
 
 
-def all_lines(source):
-    return counted(source.path, [(d.first, d.last) for d in source.definitions])
+def by_parts(uses):
+    return {part: target for name, target in uses.items() for part in operator_parts(name)}
 
 
-def short(path):
-    """A path from the folder crates/ on."""
-    return path.removeprefix("crates/")
+class Sources:
+    """All sources, the public clauses, and which name means what."""
 
+    def __init__(self):
+        self.crates, self.nodes, self.external = crates(), {}, defaultdict(set)
+        self.specs, self.rust = files("specs"), files("src")
+        self.types, self.views = {}, {}
+        for path, source in self.rust.items():
+            for item in source.items:
+                key = crate_of(path), item.name
+                if item.kind in ("struct", "enum", "trait"):
+                    if key in self.types:
+                        raise LookupError(f"{key[0]} has two types {key[1]}: their names do not tell them apart")
+                    self.types[key] = source, item
+                elif item.kind == "impl Model":
+                    members = [one.clauses[0] for one in item.items if one.name in ("Value", "view")]
+                    self.views[key] = [(source, item.uses, clause) for clause in members]
 
-def table(head, rows):
-    """A table of a page; the columns after the first hold numbers where the head ends in a `:`."""
-    rule = "|".join("---:" if name.endswith(":") else "---" for name in head)
-    titles = " | ".join(name.rstrip(":") for name in head)
-    return [f"| {titles} |", f"|{rule}|", *(f"| {' | '.join(str(cell) for cell in row)} |" for row in rows), ""]
+    def below(self, crate):
+        """Returns the crate and those of the repository that it uses, directly or not."""
+        return {crate}.union(*(self.below(name) for name in self.crates[crate] if name in self.crates))
+
+    def of_antt(self, target, after):
+        """Returns the node that a name of antt means, None if it is no name of this repository."""
+        module, item = target[0].split("."), target[1] or (after[0] if after else "")
+        if module[0] != "Rattle" or module[1] not in self.crates:
+            self.external[module[module[0] == "Rattle"]].add("" if "proofs" in module[2:3] else item)
+            return None
+        if module[3:4] in (["declared"], ["contracts"]):
+            names = (re.sub(r"(PartialEq|Eq|Model|Clone)$", "", part) for part in module[4:])
+            return next((self.of_type(module[1], name) for name in names if (module[1], name) in self.types), None)
+        path = f"crates/{module[1]}/" + "/".join(module[2:]) + ".antt"
+        found = self.of_definition(path, item) if item else None
+        if target[1] and not found and path in self.specs and item not in self.specs[path].shared:
+            raise LookupError(f"{path} has no {item}")
+        return found
+
+    def of_definition(self, path, name):
+        source = self.specs.get(path)
+        found = source and next((one for one in source.definitions if name in one.names), None)
+        if not found:
+            return self.of_antt(source.uses[name], []) if source and name in source.shared else None
+        if (path, found.first) not in self.nodes:
+            uses, own = by_parts(source.uses), by_parts({name: name for one in source.definitions for name in one.names})
+            self.nodes[path, found.first] = Node(path, found.name, ((found.first, found.last),), lambda: [
+                self.of_definition(path, own[word]) if word in own else self.of_antt(uses[word], after)
+                for word, *after in words_of(found.text) if word in own or word in uses])
+        return self.nodes[path, found.first]
+
+    def of_rust(self, crate, source, name):
+        """Returns the type or trait that a name of Rust means in a file."""
+        used = source.uses.get(name)
+        if used:
+            crate, name = used[0] if used[0] in self.crates else crate, used[-1]
+        owners = [key for key in self.types if key[1] == name]
+        if (crate, name) not in owners and not (used and used[0] in self.crates and len(owners) == 1):
+            return None
+        return self.of_type(crate if (crate, name) in owners else owners[0][0], name)
+
+    def of_header(self, crate, source, text):
+        return [self.of_rust(crate, source, name) for name in sorted(set(re.findall(r"\b[A-Z]\w*", text)))]
+
+    def of_term(self, crate, source, scope, text):
+        names = by_parts({**source.ghost_uses, **scope})
+        return [self.of_antt(names[word], after) if word in names else self.of_rust(crate, source, word)
+                for word, *after in words_of(text) if word in names or word[:1].isupper()]
+
+    def of_type(self, crate, name):
+        """Returns the node of a type, which is its declaration and its view, or of a trait."""
+        if (crate, name) not in self.nodes:
+            (source, item), views = self.types[crate, name], self.views.get((crate, name), [])
+            spans = (item.first, item.last), *((clause.first, clause.last) for _, _, clause in views)
+            self.nodes[crate, name] = Node(source.path, name, spans, lambda: [
+                node for place, scope, clause in views for node in self.of_term(crate, place, scope, clause.text)
+            ] if views else self.of_fields(crate, source, item))
+        return self.nodes[crate, name]
+
+    def of_fields(self, crate, source, item):
+        """Returns what a caller sees of a type: all of an enum, the public fields of a struct, the members of a trait."""
+        headers = PUBLIC_FIELD.findall(item.text) if item.kind == "struct" else [item.text] if item.kind == "enum" else []
+        terms = re.findall(r"pub ghost \w+: \{([^}]*)\}", item.text)
+        headers += [member.text for member in item.items]
+        terms += [clause.text for member in item.items for clause in member.clauses]
+        return [node for text in headers for node in self.of_header(crate, source, text)] + [
+            node for text in terms for node in self.of_term(crate, source, item.uses, text)]
+
+    def refs_of(self, public):
+        """Returns what a public function names: in its types, in its owner's name, and in its clauses."""
+        crate, source, owner = public.crate, self.rust[public.path], re.split("::| as ", public.name)[0]
+        owners = [self.of_rust(crate, source, owner)] if owner[:1].isupper() else []
+        return self.of_header(crate, source, public.item.text) + owners + [
+            node for clause in public.item.clauses for node in self.of_term(crate, source, public.scope, clause.text)]
+
+    def ways(self, publics):
+        """Returns the nodes that these reach, each with a node or a public function that names it."""
+        came, todo = {}, [(public, node) for public in publics for node in self.refs_of(public)]
+        for before, node in todo:
+            if node and node not in came:
+                came[node] = before
+                todo.extend((node, other) for other in node.refs())
+        return came
+
+    def items(self, crate):
+        return [(path, source, item) for path, source in self.rust.items() if crate_of(path) == crate for item in source.items]
+
+    def public(self, crate):
+        """Yields the public functions and members of a library crate that have clauses."""
+        root = self.rust.get(f"crates/{crate}/src/lib.rt")
+        names = {name for brought in root.exports for name in brought} if root else set()
+        modules = {f"crates/{crate}/src/{name}.rt" for name, is_pub in root.modules.items() if is_pub} if root else set()
+        for path, _, item in self.items(crate):
+            trait = item.kind.partition(" ")[2]
+            if item.name not in names and not (path in modules and item.is_pub):
+                if trait not in names or (crate, trait) not in self.types:
+                    continue
+            if item.kind == "fn" and item.is_pub and item.clauses:
+                yield Public(crate, path, item.name, item, {})
+            elif item.kind == "trait":
+                yield from (Public(crate, path, f"{item.name}::{one.name}", one, item.uses) for one in item.items)
+            elif item.kind.startswith("impl") and trait != "Model":
+                yield from self.members(crate, path, item)
+
+    def members(self, crate, path, block):
+        shown = f"{block.name} as {block.trait}" if block.trait else block.name
+        for one in block.items:
+            if one.clauses and one.name not in PROVED_MEMBERS and (block.trait or one.is_pub):
+                yield Public(crate, path, f"{shown}::{one.name}", one, block.uses)
+
+    def parts(self):
+        """Returns what is relied on: who relies on a part relies on those before it. Programs promise their run and status."""
+        library, record = self.below(LIBRARY), self.below(PROGRAM)
+        beside = [crate for crate in self.crates if crate in self.below(COMMAND) - record - library - {COMMAND}]
+        runs = {crate: [Public(crate, path, item.name, item, {}) for path, _, item in self.items(crate)
+                        if item.kind == "fn" and item.name in ("run", "status")] for crate in (PROGRAMS, COMMAND)}
+        own = [one for path, _, block in self.items(PROGRAM) if block.kind == "impl Program" for one in self.members(PROGRAM, path, block)]
+        if [len(found) for found in runs.values()] != [2, 2] or not own:
+            raise LookupError("a program has not one run and one status, or no impl of Program")
+        return [
+            (f"the library: `{LIBRARY}` and the crates below it",
+             [one for crate in self.crates if crate in library for one in self.public(crate)]),
+            (f"and the program that reads a record, `{PROGRAM}`", runs[PROGRAMS] + own),
+            (f"and the program for people, `{COMMAND}`, with {', '.join(f'`{crate}`' for crate in beside)}",
+             [one for crate in beside for one in self.public(crate)] + runs[COMMAND]),
+        ]
+
+    def roots(self):
+        return [public for _, publics in self.parts() for public in publics]
 
 
 class Trusted:
-    """What the public clauses reach."""
+    """What the public clauses reach, by files."""
 
     def __init__(self):
         self.sources = Sources()
-        self.roots = list(self.sources.roots())
-        self.reached = self.sources.reached(self.roots)
-        self.by_file = defaultdict(list)
-        for node in sorted(self.reached, key=lambda node: (node.path, node.spans)):
-            self.by_file[node.path].append(node)
+        self.roots = self.sources.roots()
+        self.ways = self.sources.ways(self.roots)
+        self.reached = sorted(self.ways, key=lambda node: (node.path, node.spans))
 
-    def files(self, crate, ending):
-        return [path for path in self.by_file if crate_of(path) == crate and path.endswith(ending)]
-
-    def lines(self, path):
-        return sum(lines_of(node) for node in self.by_file[path])
-
-    # ---- the parts of the list
-
-    def clauses(self):
-        rows = []
-        for crate in self.sources.trusted:
-            of_crate = [public for public in self.roots if public.crate == crate]
-            if of_crate:
-                rows.append((f"`{crate}`", len(of_crate), sum(public.lines for public in of_crate)))
-        rows.append(("together", len(self.roots), sum(public.lines for public in self.roots)))
-        said = ["### The clauses", "", "Of public functions, and of public traits and impls their ghost members.", ""]
-        return said + table(["crate", "public:", "lines of clauses:"], rows)
-
-    def definitions(self):
-        rows, lines, of = [], 0, 0
-        for crate in self.sources.trusted:
-            for path in self.files(crate, ".antt"):
-                here, whole = self.lines(path), all_lines(self.sources.specs[path])
-                rows.append((f"`{short(path)}`", here, whole))
-                lines, of = lines + here, of + whole
-        rows.append(("together", lines, of))
-        return ["### The definitions that they reach", ""] + table(["file of `specs/`", "lines reached:", "of:"], rows)
-
-    def types(self):
-        rows, lines = [], 0
-        for crate in self.sources.trusted:
-            for path in self.files(crate, ".rt"):
-                names = ", ".join(f"`{node.name}`" for node in self.by_file[path])
-                rows.append((f"`{short(path)}`", self.lines(path), names))
-                lines += self.lines(path)
-        rows.append(("together", lines, ""))
-        said = ["### The types, views and traits that they reach", ""]
-        return said + table(["file of `src/`", "lines:", "declared there"], rows)
-
-    def elsewhere(self):
-        cited = defaultdict(set)
-        for module, names in self.sources.external.items():
-            parts = module.split(".")
-            crate = parts[1] if parts[0] == "Rattle" else parts[0]
-            if parts[2:3] != ["proofs"]:
-                cited[crate].update(name for name in names if name and "◌" not in name and name != "[]")
-        rows = [(f"`{crate}`", ", ".join(f"`{name}`" for name in sorted(cited[crate]))) for crate in sorted(cited)]
-        said = ["### What they cite of the kit", "", "Operators, as `◌≡◌`, aside.", ""]
-        return said + table(["from", "names"], rows)
-
-    def unreached(self):
-        rows = []
-        for path, source in self.sources.specs.items():
-            held = {node.spans[0] for node in self.by_file.get(path, [])}
-            left = [d for d in source.definitions if (d.first, d.last) not in held]
-            if crate_of(path) in self.sources.trusted and left:
-                names = ", ".join(f"`{d.name}`" for d in left) if held else "all of it"
-                rows.append((f"`{short(path)}`", counted(path, [(d.first, d.last) for d in left]), names))
-        rows.append(("together", sum(row[1] for row in rows), ""))
-        said = ["### What stands in `specs/` and is reached by no public clause", ""]
-        said += ["Tools and lemmas, which no caller has to read: they are cited by contracts of private functions, or prove"]
-        said += ["ghost members.", ""]
-        return said + table(["file of `specs/`", "lines:", "definitions"], rows)
-
-    def total(self):
-        specs = [node for node in self.reached if node.path.endswith(".antt")]
-        types = [node for node in self.reached if node.path.endswith(".rt")]
-        files = {node.path for node in specs}
-        lines = sum(map(lines_of, specs)), sum(map(lines_of, types))
-        whole = sum(self.sources.specs[path].lines for path in files)
-        return [
-            f"**{sum(lines)} lines**: {lines[0]} of definitions in {len(files)} files of `specs/`, and {lines[1]} of",
-            "types, views and traits of `src/`. A line counts where it holds more than a comment. With their comments",
-            f"the definitions have {sum(node.lines for node in specs)} lines, and their files in whole {whole}.",
-            "",
-            *self.of_parts(),
-        ]
-
-    def of_parts(self):
-        rows, roots = [], []
-        for what, publics in self.sources.parts():
-            roots += publics
-            rows.append((what, sum(map(lines_of, self.sources.reached(roots)))))
-        return table(["who relies on", "reads lines:"], rows)
+    def of_crate(self, crate):
+        """Returns a row: the crate's clauses, its definitions by file with their lines, and its types."""
+        clauses = [clause for public in self.roots if public.crate == crate for clause in public.item.clauses]
+        files, types = defaultdict(int), []
+        for node in self.reached:
+            if crate_of(node.path) == crate and node.path.endswith(".antt"):
+                files[node.path] += lines_of([node])
+            elif crate_of(node.path) == crate:
+                types.append(f"`{node.name}`")
+        whole = {path: counted(path, [(one.first, one.last) for one in self.sources.specs[path].definitions]) for path in files}
+        shown = [f"`{path.split('/specs/')[1][:-5]}` {lines}" + f" of {whole[path]}" * (lines != whole[path]) for path, lines in files.items()]
+        lines = sum(clause.last - clause.first + 1 for clause in clauses)
+        return f"| `{crate}` | {lines} | {', '.join(shown)} | {', '.join(types)} |" if clauses or shown or types else ""
 
     def block(self):
-        parts = [self.total(), self.clauses(), self.definitions(), self.types(), self.elsewhere(), self.unreached()]
-        return "\n" + "\n".join(line for part in parts for line in part)
+        roots, parts, kit = [], [], []
+        for what, publics in self.sources.parts():
+            roots += publics
+            parts.append(f"| {what} | {lines_of(self.sources.ways(roots))} |")
+        for crate, names in sorted(self.sources.external.items()):
+            shown = sorted(name for name in names if name and "◌" not in name and name != "[]")
+            kit += [f"| `{crate}` | {', '.join(f'`{name}`' for name in shown)} |"] if shown else []
+        total, specs = (lines_of(node for node in self.reached if node.path.endswith(ending)) for ending in ("", ".antt"))
+        return "\n".join([
+            f"\n**{total} lines**: {specs} of definitions, and {total - specs} of types, views and traits, without comments.\n",
+            "| who relies on | reads lines |\n|---|---:|", *parts,
+            "\n| crate | lines of clauses | files of `specs/`, with the lines reached | types, views and traits |\n|---|---:|---|---|",
+            *filter(None, map(self.of_crate, self.sources.crates)),
+            "\nNames of the kit that they cite, operators aside:\n\n| from | names |\n|---|---|", *kit, ""])
 
-    # ---- questions
+    def unreached(self):
+        held = {(node.path, node.spans[0][0]) for node in self.reached}
+        for path, source in self.sources.specs.items():
+            left = [one.name for one in source.definitions if (path, one.first) not in held]
+            if left and crate_of(path) in self.sources.below(COMMAND) | self.sources.below(PROGRAM):
+                print(f"{path.removeprefix('crates/')}: {', '.join(left) if len(left) < len(source.definitions) else 'all of it'}")
 
     def why(self, name):
-        """Prints a shortest way from a public function to each thing of this name."""
-        came, todo = {}, []
-        for public in self.roots:
-            for node in self.sources.refs_of(public):
-                if node and node not in came:
-                    came[node] = public
-                    todo.append(node)
-        for node in todo:
-            for other in node.refs():
-                if other and other not in came:
-                    came[other] = node
-                    todo.append(other)
-        for node in [node for node in todo if node.name == name]:
+        for node in (node for node in self.reached if node.name == name):
             way = [node]
-            while way[-1] in came:
-                way.append(came[way[-1]])
-            print("\n  reached from ".join(f"{one.name} ({short(one.path)})" for one in way))
-
-    def alone(self):
-        """Prints for each public function the lines that no other one reaches, the most first."""
-        rows = []
-        for public in self.roots:
-            others = self.sources.reached(one for one in self.roots if one is not public)
-            own = self.reached - others
-            rows.append((sum(map(lines_of, own)), f"{public.crate} {public.name}"))
-        for lines, name in sorted(rows, reverse=True):
-            if lines:
-                print(f"{lines:5} {name}")
+            while isinstance(way[-1], Node):
+                way.append(self.ways[way[-1]])
+            print("\n  reached from ".join(f"{one.name} ({one.path.removeprefix('crates/')})" for one in way))
 
 
 def main(arguments):
-    trusted = Trusted()
+    trusted, text = Trusted(), text_of(PAGE)
+    current = text.partition(BEGIN)[0] + BEGIN + trusted.block() + END + text.partition(END)[2]
     if arguments == ["--check"]:
-        return 0 if blocks.is_current(PAGE, "trusted.py", trusted.block()) else 1
+        print(f"trusted.py: {PAGE} is {'' if text == current else 'not '}current (scripts/trusted.py --write writes it)")
+        return int(text != current)
     if arguments == ["--write"]:
-        blocks.write(PAGE, "trusted.py", trusted.block())
+        (TOP / PAGE).write_text(current, encoding="utf-8")
+    elif arguments == ["--unreached"]:
+        trusted.unreached()
     elif arguments[:1] == ["--why"] and len(arguments) == 2:
         trusted.why(arguments[1])
-    elif arguments == ["--alone"]:
-        trusted.alone()
-    elif arguments:
-        print(__doc__, file=sys.stderr)
-        return 2
     else:
-        print(trusted.block())
+        print(__doc__ if arguments else trusted.block())
     return 0
 
 

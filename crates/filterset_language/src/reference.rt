@@ -3,64 +3,70 @@
 /// The reference of the language for users, in Markdown.
 pub const FILTERSET_REFERENCE_MD: &str = r"# Filtersets
 
-A filterset is an expression that picks tests, as `package(core) and not test(~slow)`.
+A filterset is an expression that picks tests, for example `package(core) and not test(~slow)`.
 
 ## Predicates
 
-Here `m` is a matcher.
+Here `m` is a matcher (below).
 
-- `all()`: every test.
-- `none()`: no test.
-- `test(m)`: tests whose name matches.
-- `group(m)`: tests whose group matches.
-- `package(m)`: tests of workspace packages whose name matches.
-- `deps(m)`: tests of such packages, and of workspace packages that these depend on, directly or not.
-- `rdeps(m)`: tests of such packages, and of workspace packages that depend on these, directly or not.
-- `binary_id(m)`: tests of binaries whose id matches, as `core`, `core::parsing` or `core::bin/cli`.
-- `kind(m)`: tests of binaries whose kind matches: `lib`, `proc-macro`, `test`, `bench`, `bin` or `example`.
-- `binary(m)`: tests of binaries whose name matches.
-- `platform(host)`, `platform(target)`: tests of binaries that are built for the host, or for the target.
-- `default()`: tests that the default filter holds.
+| predicate | picks |
+|---|---|
+| `all()` | every test |
+| `none()` | no test |
+| `test(m)` | tests whose name matches |
+| `package(m)` | tests of workspace packages whose name matches |
+| `deps(m)` | tests of these packages, and of workspace packages that they depend on, directly or not |
+| `rdeps(m)` | tests of these packages, and of workspace packages that depend on them, directly or not |
+| `binary(m)` | tests of binaries whose name matches |
+| `binary_id(m)` | tests of binaries whose id matches, such as `core`, `core::parsing` or `core::bin/cli` |
+| `kind(m)` | tests of binaries whose kind matches: `lib`, `proc-macro`, `test`, `bench`, `bin` or `example` |
+| `platform(host)`, `platform(target)` | tests of binaries that are built for the host, or for the target |
+| `group(m)` | tests whose group matches |
+| `default()` | tests that the default filter picks |
 
 ## Operators
 
-From the one that binds tightest:
+From the one that binds most tightly:
 
-1. `not a`, `!a`: tests that `a` does not hold.
-2. `a and b`, `a & b`: tests that both hold. `a - b`: tests that `a` holds and `b` does not. `a ^ b`: tests that exactly
-   one of the two holds.
-3. `a or b`, `a | b`, `a + b`: tests that one of the two holds, or both.
+| operator | picks tests that |
+|---|---|
+| `not a`, `!a` | `a` does not pick |
+| `a and b`, `a & b` | both pick |
+| `a - b` | `a` picks and `b` does not |
+| `a ^ b` | exactly one of the two picks |
+| `a or b`, `a + b`, `a \| b` | at least one of the two picks |
 
-Operators of one level group to the left: `a - b & c` is `(a - b) & c`. Parentheses group otherwise.
+`and`, `&`, `-` and `^` bind equally tightly. Operators of one level group to the left: `a - b & c` is `(a - b) & c`.
+Parentheses group otherwise.
 
-What follows `not`, `and` and `or` directly is no ASCII letter, no ASCII digit and no `_`: `not(a)` is read, and
-`nota` is not. Blanks may stand round operators and parentheses. A blank is a space, a line feed, or a carriage return
-directly followed by a line feed; a tab is none. Between the parentheses of `all`, `none` and `default`, and round
-`host` and `target`, any white space may stand.
+`not`, `and` and `or` must not be followed directly by an ASCII letter, an ASCII digit or `_`: `not(a)` is valid, `nota`
+is not. Blanks are allowed around operators and parentheses. A blank is a space, a line feed, or a carriage return
+followed by a line feed; a tab is not. Between the parentheses of `all`, `none` and `default`, and around `host` and
+`target`, any white space is allowed.
 
 ## Matchers
 
-- `=text`: is the text.
-- `~text`: holds the text somewhere.
-- `#text`: is matched as a whole by this glob.
-- `/pattern/`: is matched somewhere by this regular expression, as the Rust crate regex reads it.
-- `text`: as `=text` in `kind`, as `~text` in `test`, and as `#text` in all other predicates.
+| matcher | matches a name that |
+|---|---|
+| `=text` | is the text |
+| `~text` | contains the text |
+| `#text` | the glob matches as a whole |
+| `/pattern/` | the regular expression matches somewhere, in the syntax of the Rust crate regex |
+| `text` | as `=text` in `kind`, as `~text` in `test`, as `#text` in all other predicates |
 
-Blanks before a matcher, and behind a regular expression, do not count. All others belong to the text, those behind a
-sign and at the end too. A text is not empty, and one without a sign begins with no blank and with none of `/`, `#`,
-`=` and `~`.
+Blanks before a matcher and after a regular expression do not count. All other blanks belong to the text, also at its
+end: `test(~slow )` looks for `slow` and a space. A text is not empty. Without a sign it must not begin with a blank,
+`/`, `#`, `=` or `~`.
 
-In a glob `?` is one character, `*` is any text, `[a-z]` is one character of these, `[!a-z]` and `[^a-z]` are one
-character that is none of these, and `{a\,b}` is `a` or `b`. `**` between slashes is any number of segments.
+In a glob, `?` is any one character, `*` any text, `[a-z]` one of these characters, `[!a-z]` or `[^a-z]` any other
+character, and `{a\,b}` is `a` or `b`. `**` between slashes is any number of segments.
 
 ## Escapes
 
-A text ends at the next comma or `)` that is not escaped. In it stand
+A text ends at the next comma or `)`. Write these, and the backslash, as `\,`, `\)` and `\\`. `\/`, `\n`, `\r`, `\t`,
+`\b` and `\f` are a slash, a line feed, a carriage return, a tab, a backspace and a form feed. `\u{20ac}` is the
+character with this number, in one to six hexadecimal digits. No other escape is valid.
 
-- `\\`, `\/`, `\)` and `\,` for the character behind the backslash,
-- `\n`, `\r`, `\t`, `\b` and `\f` for a line feed, a carriage return, a tab, a backspace and a form feed,
-- `\u{20ac}` for the character with this number, in one to six hexadecimal digits,
-
-and no other backslash. A regular expression ends at the first `/` that does not directly follow a backslash. In it
-`\/` stands for `/`, and all else for itself.
+A regular expression ends at the first `/` that does not directly follow a backslash. Write `/` in it as `\/`;
+everything else is left to the pattern.
 ";
