@@ -1,5 +1,5 @@
 -- Answers that are made piece by piece.
-use Rattle.std.proofs.Common.{◌≡◌, ◌≢◌, ℕ, suc, Bool, add-zero, arith, ◌+◌, ◌<◌, List, [], ◌∷◌, ◌++◌, length, map, take, get_or, ◌∙◌, sym, ap, subst, append_assoc, refl, true, false, inl, inr}
+use Rattle.std.proofs.Common.{◌≡◌, ◌≢◌, ℕ, suc, Bool, add-zero, arith, ◌+◌, ◌<◌, ◌≤◌, List, [], ◌∷◌, ◌++◌, length, map, take, get_or, ◌∙◌, sym, ap, subst, append_assoc, length-append, refl, true, false, inl, inr, String, Global, string_bytes}
 use Rattle.std.proofs.lemmas.List.{append-nil, map-append, take_more, length-map, length-take-le}
 use Rattle.filterset_io.specs.Pieces.{no_pieces}
 use Rattle.filterset_io.proofs.PieceLemmas.{Pieces-push}
@@ -9,15 +9,20 @@ use Rattle.filterset_drawing.specs.Columns.{Text}
 use Rattle.filterset_drawing.specs.Json.{number_data, text_data, FaultData}
 use Rattle.std.specs.Prelude.{Option, Some, None}
 use Rattle.std.specs.List.{AllZip}
-use Rattle.filterset_expression.specs.declared.expression.CompiledExpr.{CompiledExpr}
+use Rattle.filterset_language.specs.Views.{tree_of}
+use Rattle.nextest_filtering.specs.declared.filterset.Filterset.{Filterset}
 use Rattle.filterset_faults.specs.declared.kind.FiltersetKind.{FiltersetKind}
 use Rattle.filterset_graph.specs.declared.package.PackageMetadata.{PackageMetadata}
-use Rattle.nextest_filtering.specs.Compiling.{IsRefusedWith, found, rejected, banned, unmatched}
+use Rattle.nextest_filtering.specs.Compiling.{IsRefusalOf, IsRefusedWith, found, rejected, banned, unmatched}
+use Rattle.nextest_filtering.specs.declared.filterset.ParseRefusal.{ParseRefusal}
+use Rattle.nextest_filtering.specs.declared.filterset.ParseRefusal.TheVariants.{Faults}
+use Rattle.filterset_faults.specs.declared.parse_errors.FiltersetParseErrors.{FiltersetParseErrors}
 use Rattle.nextest_filtering.specs.declared.compile.context.KnownGroups.{KnownGroups}
 use Rattle.filterset_faults.specs.declared.error.ParseSingleError.{ParseSingleError}
 use Rattle.filterset_answers.specs.Answers.{FaultsOf, no_texts, next_text, FormatsTexts, FormattedLine, FormattedLines, FormattedPart, TextFaults, has_some}
 use Rattle.filterset_answers.specs.Checked.{HasReadingFaults, TextRow}
-use Rattle.filterset_answers.specs.Compiled.{AddsExpression, HasRefusal, IsExpressionOf}
+use Rattle.filterset_answers.specs.Compiled.{HasRefusal, IsFiltersetFor, IsParsedAs, those_of}
+use mir.Val.{bool_byte}
 use Rattle.filterset_answers.specs.Counts.{one_if}
 use Rattle.filterset_answers.specs.Forms.{FaultPiece, FaultPieces}
 use Rattle.filterset_answers.specs.declared.form.Form.{Form}
@@ -67,6 +72,10 @@ fault_has_no_float origin text number fault d (place, at, is) =
 pub next_number : {A B : Type 0} (f : A → B) (xs : List A) (i : ℕ) → i < length xs → 1 + length (map f (take i xs)) ≡ i + 1
 next_number f xs i lt = omega (arith, length-map (take i xs) f, length-take-le i xs (omega arith))
 
+-- the same, where the first text has another number
+pub next_number_of : {A B : Type 0} (first : ℕ) (f : A → B) (xs : List A) (i : ℕ) → i < length xs → first + length (map f (take i xs)) ≡ i + first
+next_number_of first f xs i lt = omega (arith, length-map (take i xs) f, length-take-le i xs (omega arith))
+
 -- the next fault
 pub FaultPieces-next : (form : Form) (origin text : Text) (number : ℕ) (faults : List ParseSingleError) (i : ℕ) (d : ParseSingleError) (pieces piece : Text)
     → i < length faults → FaultPieces form origin text number (take i faults) pieces → FaultPiece form origin text number (get_or faults i d) piece
@@ -109,14 +118,6 @@ AllZip-push R [] (b ∷ ys) x y all one = absurd all
 AllZip-push R (a ∷ xs) [] x y all one = absurd all
 AllZip-push R (a ∷ xs) (b ∷ ys) x y all one = (all.0, AllZip-push R xs ys x y all.1 one)
 
--- what one more text compiles to, as long as none has faults
-pub expressions_next : (packages : List PackageMetadata) (groups : KnownGroups) (rows : List TextRow) (row : TextRow) (old new : List CompiledExpr) (faulty : ℕ) (has : Bool)
-    → (faulty ≡ 0 → AllZip (IsExpressionOf packages groups) rows old) → AddsExpression packages groups row has old new
-    → (faulty + one_if has ≡ 0 → AllZip (IsExpressionOf packages groups) (rows ++ row ∷ []) new)
-expressions_next packages groups rows row old new faulty true are adds none = absurd (omega (arith, none))
-expressions_next packages groups rows row old new faulty false are (expression, added, is) none =
-    subst (AllZip (IsExpressionOf packages groups) (rows ++ row ∷ [])) (sym added) (AllZip-push (IsExpressionOf packages groups) rows old row expression (are (omega (arith, none))) is)
-
 -- the faults that refuse a text are some
 pub refusal_some : (text : Text) (kind : FiltersetKind) (packages : List PackageMetadata) (groups : KnownGroups) (faults : List ParseSingleError)
     → IsRefusedWith text kind packages groups faults → faults ≢ []
@@ -124,17 +125,62 @@ refusal_some text kind packages groups faults (found unread) = unread.some
 refusal_some text kind packages groups faults (rejected e reads (banned are some)) = some
 refusal_some text kind packages groups faults (rejected e reads (unmatched allowed are some)) = some
 
--- what becomes of a text that is a filterset
-pub filterset_outcome : (packages : List PackageMetadata) (groups : KnownGroups) (row : TextRow) (form : Form) (number : ℕ) (expression : CompiledExpr) (output old : Text) (before after : List CompiledExpr)
-    → IsExpressionOf packages groups row expression → output ≡ old → after ≡ before ++ expression ∷ []
-    → (piece : Text) × (output ≡ old ++ piece) × TextFaults (HasRefusal packages groups) form number row false piece × AddsExpression packages groups row false before after
-filterset_outcome packages groups row form number expression output old before after is same added =
-    ([], same ∙ sym (append-nil old), ([], inl (is.tree, is.accepted, refl), refl, no_pieces), (expression, added, is))
+-- a truth value as a number
+pub number_of : (b : Bool) → bool_byte b ≡ one_if b
+number_of true = refl
+number_of false = refl
 
--- what becomes of a text with faults
-pub fault_outcome : (packages : List PackageMetadata) (groups : KnownGroups) (row : TextRow) (form : Form) (number : ℕ) (faults : List ParseSingleError) (output old : Text) (before after : List CompiledExpr)
-    → IsRefusedWith row.text row.kind packages groups faults → after ≡ before
-    → ((piece : Text) × (output ≡ old ++ piece) × FaultPieces form row.origin row.text number faults piece)
-    → (piece : Text) × (output ≡ old ++ piece) × TextFaults (HasRefusal packages groups) form number row true piece × AddsExpression packages groups row true before after
-fault_outcome packages groups row form number faults output old before after refused same (piece, added, is) =
-    (piece, added, (faults, inr refused, some_is faults (refusal_some _ _ _ _ faults refused), is), same)
+-- a truth value is 0 or 1
+pub one_if-le : (b : Bool) → one_if b ≤ 1
+one_if-le true = omega arith
+one_if-le false = omega arith
+
+-- whether a text is no filterset
+abbrev pub is_refused : Option Filterset → Bool
+is_refused (Some made) = false
+is_refused None = true
+
+-- what is written of a text is what is written of its faults
+pub parsed_faults : (packages : List PackageMetadata) (groups : KnownGroups) (form : Form) (number : ℕ) (row : TextRow) (made : Option Filterset) (piece : Text)
+    → IsParsedAs packages groups form number row made piece → TextFaults (HasRefusal packages groups) form number row (is_refused made) piece
+parsed_faults packages groups form number row (Some made) piece (none, is) =
+    subst (TextFaults (HasRefusal packages groups) form number row false) (sym none) ([], inl (tree_of made.parsed, is.accepted, refl), refl, no_pieces)
+parsed_faults packages groups form number row None piece (faults, refused, is) =
+    (faults, inr refused, some_is faults (refusal_some _ _ _ _ faults refused), is)
+
+-- one more text is a filterset, or one more is refused
+pub filtersets_count : (made : Option Filterset) (old : List Filterset) (faulty i : ℕ) → length old + faulty ≡ i
+    → length (old ++ those_of made) + (faulty + one_if (is_refused made)) ≡ i + 1
+filtersets_count (Some made) old faulty i e = omega (arith, length-append old (made ∷ []), e)
+filtersets_count None old faulty i e = omega (arith, length-append {A = Filterset} old [], e)
+
+-- the filterset of one more text, as long as none is refused
+pub filtersets_next : (packages : List PackageMetadata) (groups : KnownGroups) (form : Form) (number : ℕ) (rows : List TextRow) (row : TextRow) (old : List Filterset) (made : Option Filterset) (faulty : ℕ) (piece : Text)
+    → (faulty ≡ 0 → AllZip (IsFiltersetFor packages groups) rows old) → IsParsedAs packages groups form number row made piece
+    → (faulty + one_if (is_refused made) ≡ 0 → AllZip (IsFiltersetFor packages groups) (rows ++ row ∷ []) (old ++ those_of made))
+filtersets_next packages groups form number rows row old None faulty piece are is none = absurd (omega (arith, none))
+filtersets_next packages groups form number rows row old (Some made) faulty piece are is none =
+    AllZip-push (IsFiltersetFor packages groups) rows old row made (are (omega (arith, none))) is.1
+
+-- the faults of the default filter, and those of the filtersets after it
+pub faults_first : (packages : List PackageMetadata) (groups : KnownGroups) (form : Form) (row : TextRow) (rows : List TextRow) (made : Option Filterset) (faulty : ℕ) (front rest : Text)
+    → IsParsedAs packages groups form 1 row made front → FaultsOf (HasRefusal packages groups) form 2 rows faulty rest
+    → FaultsOf (HasRefusal packages groups) form 1 (row ∷ rows) (one_if (is_refused made) + faulty) (front ++ rest)
+faults_first packages groups form row rows made faulty front rest is are =
+    next_text (parsed_faults packages groups form 1 row made front is) are
+
+-- some text is refused
+pub some_refused : (packages : List PackageMetadata) (groups : KnownGroups) (form : Form) (row : TextRow) (rows : List TextRow) (made : Option Filterset) (faulty : ℕ) (front rest text : Text)
+    → one_if (is_refused made) + faulty ≢ 0 → IsParsedAs packages groups form 1 row made front
+    → FaultsOf (HasRefusal packages groups) form 2 rows faulty rest → text ≡ front ++ rest
+    → (n : ℕ) × (n ≢ 0) × FaultsOf (HasRefusal packages groups) form 1 (row ∷ rows) n text
+some_refused packages groups form row rows made faulty front rest text some is are same =
+    (one_if (is_refused made) + faulty, some, subst (FaultsOf (HasRefusal packages groups) form 1 (row ∷ rows) (one_if (is_refused made) + faulty)) (sym same) (faults_first packages groups form row rows made faulty front rest is are))
+
+-- the faults of a refusal are ones that refuse the text
+pub refusal_faults : (input : String Global) (text : Text) (kind : FiltersetKind) (packages : List PackageMetadata) (groups : KnownGroups) (refusal : ParseRefusal) (refused : FiltersetParseErrors)
+    → string_bytes input ≡ text → IsRefusalOf input kind packages groups refusal → refusal ≡ Faults refused
+    → IsRefusedWith text kind packages groups refused.errors.items
+refusal_faults input text kind packages groups refusal refused same is e =
+    let both = subst (IsRefusalOf input kind packages groups) e is in
+    subst (λ t. IsRefusedWith t kind packages groups refused.errors.items) same both.1

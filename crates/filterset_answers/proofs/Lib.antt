@@ -1,1 +1,4 @@
 pub mod AnswersLemmas
+pub mod RowsLemmas
+pub mod PickingLemmas
+pub mod ExplainingLemmas

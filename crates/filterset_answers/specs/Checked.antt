@@ -18,7 +18,7 @@ pub record TextRow : Type 0 where
   pub text : Text
 
 abbrev pub text_row : TextEntry → TextRow
-text_row entry = record { origin = string_bytes entry.origin; kind = entry.kind; text = string_bytes entry.text }
+text_row entry = record { origin = string_bytes entry.origin; kind = entry.kind; text = entry.text.now }
 
 -- The faults of a text, as far as names are known: none where it is a filterset of its kind over the packages and
 -- groups, and else those that refuse it, without those that are about names of which not enough is known.

@@ -1,7 +1,7 @@
 -- Counting.
 use Rattle.std.specs.Prelude.{ℕ, Bool, true, false}
 
--- one, where it is so
+-- one if so, and else none
 abbrev pub one_if : Bool → ℕ
 one_if true = 1
 one_if false = 0

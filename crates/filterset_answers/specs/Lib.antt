@@ -1,7 +1,12 @@
 pub mod Counts
+pub mod Endings
 pub mod Names
 pub mod Checked
 pub mod Forms
 pub mod Answers
 pub mod Readings
+pub mod Entries
 pub mod Compiled
+pub mod Binaries
+pub mod Picking
+pub mod Explained

@@ -1,27 +1,31 @@
-//! Checking texts.
-ghost use Rattle.std.specs.Prelude.{◌≡◌, ◌++◌, IfOk, List, OnOk, length, map, string_bytes};
+//! The faults of texts.
+ghost use Rattle.std.specs.Prelude.{◌≡◌, ◌++◌, IfOk, List, OnOk, ℕ, length, map, string_bytes};
 ghost use Rattle.filterset_drawing.specs.Columns.{Text};
 ghost use Rattle.filterset_faults.specs.declared.error.ParseSingleError.{ParseSingleError};
 ghost use Rattle.nextest_filtering.specs.Groups.{IsKnown};
 ghost use Rattle.filterset_answers.specs.Answers.{ChecksTexts, FaultsOf, TextFaults};
 ghost use Rattle.filterset_answers.specs.Answers.{counts_text, summary, unchecked_groups, unchecked_packages};
 ghost use Rattle.filterset_answers.specs.Checked.{HasFaults, text_row};
+ghost use Rattle.filterset_answers.specs.Endings.{ending_of};
+ghost use Rattle.filterset_answers.specs.Entries.{file_rows};
 
+use crate::entries::configured_entries;
+use crate::faults::faults_of;
 use crate::form::{Form, has_some, push_faults};
 use crate::names::Names;
-use crate::reading::faults_of;
-use crate::text::{Answer, TextEntry, one_if};
+use crate::text::{Answer, TextEntry, ending_of};
+use filterset_sources::ConfiguredFilterset;
 use std::alloc::{AllocError, Global};
 use std::fmt::Write;
 
-/// Writes the faults of a text, and says whether it has any.
+/// Writes the faults of a text, and returns whether it has any.
 fn push_text(
     output: &mut String,
     alloc: Global,
     names: &Names<'_>,
     form: Form,
     number: usize,
-    entry: &TextEntry,
+    entry: &TextEntry<'_>,
 ) -> Result<bool, AllocError>
     requires { IsKnown names.now.known_groups }
     ensures { IfOk result (λ has. (piece : Text) × (string_bytes output.new ≡ string_bytes output.old ++ piece)
@@ -33,14 +37,14 @@ fn push_text(
         alloc,
         form,
         entry.origin.as_str(),
-        entry.text.as_str(),
+        entry.text,
         number,
         faults.as_slice(),
     )?;
     Ok(has_some(faults.as_slice()))
 }
 
-/// What is said of packages and test binaries, unless they are known.
+/// Returns the line that says that names of packages and test binaries are not checked, unless they are.
 fn unchecked_packages(are_known: bool) -> &'static str
     ensures { result.now ≡ unchecked_packages are_known }
 {
@@ -51,7 +55,7 @@ fn unchecked_packages(are_known: bool) -> &'static str
     }
 }
 
-/// What is said of groups, unless they are known.
+/// Returns the line that says that names of groups are not checked, unless they are.
 fn unchecked_groups(are_known: bool) -> &'static str
     ensures { result.now ≡ unchecked_groups are_known }
 {
@@ -62,7 +66,7 @@ fn unchecked_groups(are_known: bool) -> &'static str
     }
 }
 
-/// Writes for people how many texts there are, how many of them have faults, and which names were not checked.
+/// Writes for people how many texts there are, how many of them have faults, and which names are not checked.
 fn push_counts(
     output: &mut String,
     names: &Names<'_>,
@@ -79,7 +83,7 @@ fn push_counts(
     )
 }
 
-/// Writes what is said at the end, for people.
+/// Writes the last lines, for people.
 fn push_summary(
     output: &mut String,
     names: &Names<'_>,
@@ -96,20 +100,20 @@ fn push_summary(
     }
 }
 
-/// How many texts there are.
-fn count_of(texts: &[TextEntry]) -> usize
+/// Counts the texts.
+fn count_of(texts: &[TextEntry<'_>]) -> usize
     ensures { result ≡ length (map text_row texts.now) }
 {
     texts.len()
 }
 
-/// Writes the faults of texts, and counts those that have any.
+/// Writes the faults of texts, and counts the texts that have any.
 fn push_texts(
     output: &mut String,
     alloc: Global,
     names: &Names<'_>,
     form: Form,
-    texts: &[TextEntry],
+    texts: &[TextEntry<'_>],
 ) -> Result<usize, AllocError>
     requires { IsKnown names.now.known_groups }
     ensures { IfOk result (λ faulty. (piece : Text) × (string_bytes output.new ≡ string_bytes output.old ++ piece)
@@ -118,25 +122,63 @@ fn push_texts(
     let mut faulty = 0;
     for (i, entry) in texts.iter().enumerate() {
         let has = push_text(output, alloc, names, form, i + 1, entry)?;
-        faulty += one_if(has);
+        faulty += usize::from(has);
     }
     Ok(faulty)
 }
 
-/// Checks texts: writes the faults of each, as far as names are known. For people it says at the end how many texts
-/// have faults, and which names were not checked. Texts are numbered from 1 on.
+/// Checks texts: writes the faults of each, and for people at the end how many texts have faults and which names are not
+/// checked. Texts are numbered from 1.
+///
+/// Returns an error only if out of memory.
 pub fn check(
     alloc: Global,
     names: &Names<'_>,
     form: Form,
-    texts: &[TextEntry],
+    texts: &[TextEntry<'_>],
 ) -> Result<Answer, AllocError>
     requires { IsKnown names.now.known_groups }
-    ensures { IfOk result (λ answer. ChecksTexts names.now form (map text_row texts.now) answer.faulty
-        (string_bytes answer.text)) }
+    ensures { IfOk result (λ answer. (faulty : ℕ) × ChecksTexts names.now form (map text_row texts.now) faulty
+        (string_bytes answer.text) × (answer.ending ≡ ending_of faulty)) }
 {
     let mut text = String::new(alloc);
     let faulty = push_texts(&mut text, alloc, names, form, texts)?;
     push_summary(&mut text, names, form, count_of(texts), faulty)?;
-    Ok(Answer { text, faulty })
+    Ok(Answer {
+        text,
+        ending: ending_of(faulty),
+    })
+}
+
+/// Makes the entries of a configuration's filtersets, and after them those of other texts.
+fn all_entries<'t>(
+    alloc: Global,
+    filtersets: &'t [ConfiguredFilterset],
+    given: Vec<TextEntry<'t>>,
+) -> Result<Vec<TextEntry<'t>>, AllocError>
+    ensures { IfOk result (λ all. map text_row all.items ≡ file_rows filtersets.now ++ map text_row given.entry.items) }
+{
+    let mut given = given;
+    let mut all = configured_entries(alloc, filtersets)?;
+    all.append(&mut given)?;
+    Ok(all)
+}
+
+/// Checks the filtersets of a configuration, and after them other texts, as [`check`] does.
+///
+/// Returns an error only if out of memory.
+pub fn check_configured<'t>(
+    alloc: Global,
+    names: &Names<'_>,
+    form: Form,
+    filtersets: &'t [ConfiguredFilterset],
+    given: Vec<TextEntry<'t>>,
+) -> Result<Answer, AllocError>
+    requires { IsKnown names.now.known_groups }
+    ensures { IfOk result (λ answer. (faulty : ℕ) × ChecksTexts names.now form
+        (file_rows filtersets.now ++ map text_row given.entry.items) faulty (string_bytes answer.text)
+        × (answer.ending ≡ ending_of faulty)) }
+{
+    let entries = all_entries(alloc, filtersets, given)?;
+    check(alloc, names, form, entries.as_slice())
 }

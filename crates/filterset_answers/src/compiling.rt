@@ -1,138 +1,117 @@
-//! Texts as the sets of tests that they stand for.
-ghost use Rattle.std.specs.Prelude.{◌≡◌, ◌++◌, [], IfOk, List, map, string_bytes};
+//! Texts as the filtersets that they spell.
+ghost use Rattle.std.specs.Prelude.{◌≡◌, ◌+◌, ◌++◌, ℕ, IfOk, OnOk, length, map, string_bytes};
 ghost use Rattle.std.specs.List.{AllZip};
 ghost use Rattle.filterset_drawing.specs.Columns.{Text};
-ghost use Rattle.filterset_graph.specs.declared.package.PackageMetadata as declared;
 ghost use Rattle.nextest_filtering.specs.Compiling.{packages_of};
-ghost use Rattle.nextest_filtering.specs.declared.compile.context.KnownGroups as groups_declared;
 ghost use Rattle.nextest_filtering.specs.Groups.{IsKnown};
-ghost use Rattle.filterset_answers.specs.Answers.{FaultsOf, TextFaults};
+ghost use Rattle.filterset_answers.specs.Answers.{FaultsOf};
 ghost use Rattle.filterset_answers.specs.Checked.{text_row};
-ghost use Rattle.filterset_answers.specs.Compiled.{AddsExpression, AreCompiled, HasRefusal, IsExpressionOf, IsOutcomeOf};
+ghost use Rattle.filterset_answers.specs.Compiled.{AreCompiled, HasRefusal, IsFiltersetFor, IsParsedAs, those_of};
 
+use crate::entries::QuestionTexts;
 use crate::form::{Form, push_faults};
-use crate::text::{Answer, TextEntry, one_if};
-use nextest_filtering::{
-    CompiledExpr, Filterset, KnownGroups, ParseContext, ParseRefusal, ParseSingleError,
-};
+use crate::text::TextEntry;
+use nextest_filtering::{Filterset, KnownGroups, ParseContext};
 use std::alloc::{AllocError, Global};
 
-/// What becomes of a text.
-#[derive(Drop)]
-enum Outcome {
-    /// It is a filterset, which compiles to this.
-    Expression(CompiledExpr),
-    /// Its faults.
-    Faults(Vec<ParseSingleError>),
-}
-
-/// What becomes of texts.
+/// The filtersets of a question.
 #[derive(Debug, Drop)]
-pub enum Compiled {
-    /// All are filtersets, which compile to these, in their order.
-    Expressions(Vec<CompiledExpr>),
-    /// Some have faults, which are written here.
-    Faults(Answer),
+pub struct QuestionFiltersets {
+    pub default: Filterset,
+    pub filters: Vec<Filterset>,
 }
 
-/// Reads and compiles a text.
-fn outcome_of(
+/// The filtersets that texts spell, or the faults of the texts.
+#[derive(Debug, Drop)]
+pub enum CompiledTexts {
+    /// All texts are filtersets.
+    Filtersets(QuestionFiltersets),
+    /// Some texts have faults. This describes them.
+    Faults(String),
+}
+
+/// Parses the text with this number as a filterset, or writes its faults.
+pub fn parse_entry(
+    output: &mut String,
     alloc: Global,
     context: &ParseContext<'_>,
     groups: &KnownGroups,
-    entry: &TextEntry,
-) -> Result<Outcome, AllocError>
-    requires { IsKnown groups.now }
-    ensures { IfOk result (IsOutcomeOf (packages_of context.now) groups.now (text_row entry.now)) }
-{
-    let text = String::from_str(alloc, entry.text.as_str())?;
-    match Filterset::parse(alloc, text, context, entry.kind, groups) {
-        Ok(filterset) => Ok(Outcome::Expression(filterset.compiled)),
-        Err(ParseRefusal::Faults(refused)) => Ok(Outcome::Faults(refused.errors)),
-        Err(ParseRefusal::OutOfMemory { .. }) => Err(AllocError),
-    }
-}
-
-/// Adds what a text compiles to, or its faults, and says whether it has any.
-fn push_outcome(
-    expressions: &mut Vec<CompiledExpr>,
-    output: &mut String,
-    alloc: Global,
     form: Form,
     number: usize,
-    entry: &TextEntry,
-    outcome: Outcome,
-) -> Result<bool, AllocError>
-    ensures { IfOk result (λ has. (packages : List declared.PackageMetadata) (groups : groups_declared.KnownGroups)
-        → IsOutcomeOf packages groups (text_row entry.now) outcome
-        → (piece : Text) × (string_bytes output.new ≡ string_bytes output.old ++ piece)
-        × TextFaults (HasRefusal packages groups) form number (text_row entry.now) has piece
-        × AddsExpression packages groups (text_row entry.now) has expressions.old.items expressions.new.items) }
+    entry: &TextEntry<'_>,
+) -> Result<Option<Filterset>, AllocError>
+    requires { IsKnown groups.now }
+    ensures { IfOk result (λ made. (piece : Text) × (string_bytes output.new ≡ string_bytes output.old ++ piece)
+        × IsParsedAs (packages_of context.now) groups.now form number (text_row entry.now) made piece) }
 {
-    match outcome {
-        Outcome::Expression(expression) => {
-            expressions.push(expression)?;
-            Ok(false)
-        }
-        Outcome::Faults(faults) => {
-            let (origin, text) = (entry.origin.as_str(), entry.text.as_str());
-            push_faults(output, alloc, form, origin, text, number, faults.as_slice())?;
-            Ok(true)
+    let input = String::from_str(alloc, entry.text)?;
+    match Filterset::parse(alloc, input, context, entry.kind, groups) {
+        Ok(filterset) => Ok(Some(filterset)),
+        Err(refusal) => {
+            let refused = refusal.into_faults()?;
+            let (origin, faults) = (entry.origin.as_str(), refused.errors.as_slice());
+            push_faults(output, alloc, form, origin, entry.text, number, faults)?;
+            Ok(None)
         }
     }
 }
 
-/// Adds what texts compile to, and the faults of those that have any, and counts these.
-fn push_outcomes(
-    expressions: &mut Vec<CompiledExpr>,
+/// Adds a filterset if there is one.
+fn push_some(filtersets: &mut Vec<Filterset>, made: Option<Filterset>) -> Result<(), AllocError>
+    ensures { OnOk result (filtersets.new.items ≡ filtersets.old.items ++ those_of made) }
+{
+    if let Some(filterset) = made {
+        filtersets.push(filterset)?;
+    }
+    Ok(())
+}
+
+/// Parses texts as filtersets, and writes the faults of those that have any. The number of the first text is 2.
+fn parse_filters(
     output: &mut String,
     alloc: Global,
     context: &ParseContext<'_>,
     groups: &KnownGroups,
     form: Form,
-    texts: &[TextEntry],
-) -> Result<usize, AllocError>
-    requires known { IsKnown groups.now }
-    requires none { expressions.now.items ≡ [] }
-    ensures { IfOk result (λ faulty. (piece : Text)
+    entries: &[TextEntry<'_>],
+) -> Result<Vec<Filterset>, AllocError>
+    requires { IsKnown groups.now }
+    ensures { let packages = packages_of context.now in let rows = map text_row entries.now in
+        IfOk result (λ made. (piece : Text) × (faulty : ℕ)
         × (string_bytes output.new ≡ string_bytes output.old ++ piece)
-        × FaultsOf (HasRefusal (packages_of context.now) groups.now) form 1 (map text_row texts.now) faulty piece
-        × (faulty ≡ 0 → AllZip (IsExpressionOf (packages_of context.now) groups.now) (map text_row texts.now)
-        expressions.new.items)) }
+        × (length made.items + faulty ≡ length rows)
+        × (faulty ≡ 0 → AllZip (IsFiltersetFor packages groups.now) rows made.items)
+        × FaultsOf (HasRefusal packages groups.now) form 2 rows faulty piece) }
 {
-    let mut faulty = 0;
-    for (i, entry) in texts.iter().enumerate() {
-        let outcome = outcome_of(alloc, context, groups, entry)?;
-        let has = push_outcome(expressions, output, alloc, form, i + 1, entry, outcome)?;
-        faulty += one_if(has);
+    let mut filtersets = Vec::new(alloc);
+    for (i, entry) in entries.iter().enumerate() {
+        let made = parse_entry(output, alloc, context, groups, form, i + 2, entry)?;
+        push_some(&mut filtersets, made)?;
     }
-    Ok(faulty)
+    Ok(filtersets)
 }
 
-/// Reads and compiles texts, where names are those of these packages and groups. Texts are numbered from 1 on.
+/// Parses and compiles the texts of a question. The number of the default filter is 1.
 pub fn compile_texts(
     alloc: Global,
     context: &ParseContext<'_>,
     groups: &KnownGroups,
     form: Form,
-    texts: &[TextEntry],
-) -> Result<Compiled, AllocError>
+    texts: &QuestionTexts<'_>,
+) -> Result<CompiledTexts, AllocError>
     requires { IsKnown groups.now }
-    ensures { IfOk result (AreCompiled (packages_of context.now) groups.now form (map text_row texts.now)) }
+    ensures { IfOk result (AreCompiled (packages_of context.now) groups.now form
+        (text_row texts.now.default) (map text_row texts.now.filters.items)) }
 {
-    let mut expressions = Vec::new(alloc);
-    let mut text = String::new(alloc);
-    let faulty = push_outcomes(
-        &mut expressions,
-        &mut text,
-        alloc,
-        context,
-        groups,
-        form,
-        texts,
-    )?;
-    if faulty == 0 {
-        return Ok(Compiled::Expressions(expressions));
+    let mut faults = String::new(alloc);
+    let default = parse_entry(&mut faults, alloc, context, groups, form, 1, &texts.default)?;
+    let entries = texts.filters.as_slice();
+    let filters = parse_filters(&mut faults, alloc, context, groups, form, entries)?;
+    let Some(default) = default else {
+        return Ok(CompiledTexts::Faults(faults));
+    };
+    if filters.len() != entries.len() {
+        return Ok(CompiledTexts::Faults(faults));
     }
-    Ok(Compiled::Faults(Answer { text, faulty }))
+    Ok(CompiledTexts::Filtersets(QuestionFiltersets { default, filters }))
 }

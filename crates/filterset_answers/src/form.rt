@@ -22,7 +22,7 @@ pub enum Form {
 }
 
 impl Form {
-    /// Whether drawings have colours.
+    /// Returns whether drawings have colours.
     fn color(self) -> Color
         ensures { result ≡ color_of self }
     {
@@ -33,7 +33,7 @@ impl Form {
     }
 }
 
-/// Writes a drawing of a fault, and an empty line.
+/// Writes a drawing of a fault and an empty line.
 fn push_drawing(
     output: &mut String,
     alloc: Global,
@@ -49,7 +49,7 @@ fn push_drawing(
     Ok(())
 }
 
-/// Writes a fault as a JSON object, in a line.
+/// Writes a fault as a JSON object in a line.
 fn push_object(
     output: &mut String,
     alloc: Global,
@@ -67,7 +67,7 @@ fn push_object(
     Ok(())
 }
 
-/// A fault as the text of a JSON object.
+/// Returns a fault as the text of a JSON object.
 fn object_of(
     alloc: Global,
     source: &Source<'_>,
@@ -138,7 +138,7 @@ fn push_faults_of(
     Ok(())
 }
 
-/// Whether there are faults.
+/// Returns whether there are faults.
 pub fn has_some(faults: &[ParseSingleError]) -> bool
     ensures { result ≡ has_some faults.now }
 {

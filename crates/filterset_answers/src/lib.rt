@@ -1,17 +1,27 @@
-//! What the program for people answers: the faults of filterset texts, and texts as they print.
+//! What the commands answer: the faults of filtersets, filtersets as they print, the tests that filtersets pick, how two
+//! filtersets differ, and why a filterset picks a test or not.
 #![tactic(auto)]
 
+mod binaries;
 mod checking;
 mod compiling;
+mod entries;
+mod explaining;
+mod faults;
 mod form;
 mod formatting;
 mod names;
-mod reading;
+mod picking;
+mod question;
 mod text;
 
-pub use checking::check;
-pub use compiling::{Compiled, compile_texts};
-pub use form::{Form, push_faults};
+pub use binaries::asked_binaries;
+pub use checking::{check, check_configured};
+pub use entries::{given_entries, line_entries};
+pub use explaining::explain_filterset;
+pub use form::Form;
 pub use formatting::format_texts;
 pub use names::Names;
-pub use text::{Answer, TextEntry};
+pub use picking::ask_workspace;
+pub use question::Question;
+pub use text::{Answer, Ending, TextEntry};

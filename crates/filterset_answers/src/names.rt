@@ -1,23 +1,47 @@
 //! The names that filtersets are checked against.
-ghost use Rattle.std.specs.Prelude.{◌≡◌};
-ghost use Rattle.filterset_answers.specs.Names.{is_judged};
+ghost use Rattle.std.specs.Prelude.{◌≡◌, IfOk, map, string_bytes};
+ghost use Rattle.nextest_filtering.specs.Groups.{IsKnown};
+ghost use Rattle.filterset_answers.specs.Names.{KnowsNames, is_judged};
 
-use nextest_filtering::{KnownGroups, ParseContext, ParseSingleError};
+use nextest_filtering::{KnownGroups, PackageGraph, ParseContext, ParseSingleError};
+use std::alloc::{AllocError, Global};
 
-/// The packages and the groups that filtersets may name, and whether these are those of a workspace, or nothing is
-/// known of them.
+/// The packages and the groups that filtersets may name, and whether each are those of a workspace. If they are not, no
+/// name counts as unknown.
 #[derive(Debug, Drop)]
 pub struct Names<'g> {
     pub parse_context: ParseContext<'g>,
     pub known_groups: KnownGroups,
-    /// Whether the packages of the workspace are known. Else no name of a package or of a test binary is a fault.
+    /// Whether the packages are those of a workspace. If not, names of packages and test binaries are not checked.
     pub has_packages: bool,
-    /// Whether the groups of tests are known. Else no name of a group is a fault.
+    /// Whether the groups are those of a workspace. If not, names of groups are not checked.
     pub has_groups: bool,
 }
 
+impl<'g> Names<'g> {
+    /// Returns the names of these packages and custom groups.
+    pub fn new(
+        alloc: Global,
+        graph: &'g PackageGraph,
+        has_packages: bool,
+        groups: Vec<String>,
+        has_groups: bool,
+    ) -> Result<Names<'g>, AllocError>
+        ensures names { IfOk result
+            (KnowsNames has_packages graph.now has_groups (map (λ s. string_bytes s) groups.items)) }
+        ensures known { IfOk result (λ names. IsKnown names.known_groups) }
+    {
+        Ok(Names {
+            parse_context: ParseContext::new(alloc, graph)?,
+            known_groups: KnownGroups::of(alloc, groups)?,
+            has_packages,
+            has_groups,
+        })
+    }
+}
+
 impl Names<'_> {
-    /// Whether a fault counts: it is about no name, or about one of which enough is known.
+    /// Returns whether a fault counts: it is about no name, or the names that it is about are checked.
     pub fn judges(&self, fault: &ParseSingleError) -> bool
         ensures { result ≡ is_judged self.now fault.now }
     {

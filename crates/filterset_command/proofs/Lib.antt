@@ -1,3 +1,1 @@
-pub mod RowsLemmas
-pub mod PickingLemmas
-pub mod ExplainingLemmas
+pub mod InputLemmas

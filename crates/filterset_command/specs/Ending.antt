@@ -1,21 +1,11 @@
--- How the program ends.
-use Rattle.std.specs.Prelude.{ℕ, zero, suc, Bool, true, false, Result, Ok, Err}
+-- The exit status of the program.
+use Rattle.std.specs.Prelude.{ℕ, Result, Ok, Err}
+use Rattle.filterset_answers.specs.declared.text.Ending.{Ending}
+use Rattle.filterset_answers.specs.declared.text.Ending.TheVariants.{Fine, Faulty, Differing}
 use Rattle.filterset_command.specs.declared.fault.CommandFault.{CommandFault}
-use Rattle.filterset_command.specs.declared.fault.CommandFault.TheVariants.{Words, NoWords, NotText, File, NoBinary, NoTest, Run}
+use Rattle.filterset_command.specs.declared.fault.CommandFault.TheVariants.{Words, NoWords, NotText, Missing, File, NoBinary, NoTest, Run}
 use Rattle.filterset_command.specs.declared.fault.FileFault.{FileFault}
 use Rattle.filterset_command.specs.declared.fault.FileFault.TheVariants as files
-use Rattle.filterset_command.specs.declared.ending.Ending.{Ending}
-use Rattle.filterset_command.specs.declared.ending.Ending.TheVariants.{Fine, Faulty, Differing}
-
--- how a command fared, so many of whose filtersets have faults
-abbrev pub ending_of : ℕ → Ending
-ending_of zero = Fine
-ending_of (suc n) = Faulty
-
--- how a comparison fared, by whether the filtersets differ
-abbrev pub differing_ending : Bool → Ending
-differing_ending true = Differing
-differing_ending false = Fine
 
 -- whether a file of this fault is not what it must be, or could not be read
 abbrev pub file_status : FileFault → ℕ
@@ -31,6 +21,7 @@ status_of (Ok Differing) = 1
 status_of (Err (Words error)) = 2
 status_of (Err NoWords) = 2
 status_of (Err NotText) = 2
+status_of (Err (Missing argument)) = 2
 status_of (Err (File path fault)) = file_status fault
 status_of (Err (NoBinary id)) = 2
 status_of (Err (NoTest binary test)) = 2

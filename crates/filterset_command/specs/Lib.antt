@@ -1,8 +1,7 @@
 pub mod Ending
-pub mod Entries
 pub mod Files
 pub mod Workspaces
-pub mod Picking
+pub mod Asking
 pub mod Checking
-pub mod ExplainingAsked
+pub mod Explaining
 pub mod Requests

@@ -1,34 +1,29 @@
-//! Answering a request.
+//! The answers to requests.
 ghost use Rattle.std.specs.Prelude.{◌≡◌, IfErr, IfOk, IfSome, map, string_bytes};
 ghost use Rattle.filterset_answers.specs.Checked.{text_row};
-ghost use Rattle.filterset_command.specs.Ending.{ending_of};
 ghost use Rattle.filterset_command.specs.Files.{NotWrite};
-ghost use Rattle.filterset_command.specs.Requests.{AreRows, IsAnswered};
-ghost use Rattle.filterset_command.specs.declared.request.Texts.TheVariants.{StandardInput};
+ghost use Rattle.filterset_command.specs.Requests.{AreRowsOf, IsAnswered, IsInput};
 
+use crate::asking::ask;
 use crate::checking::check_texts;
-use crate::ending::{Ending, ending_of};
-use crate::entries::{given_entries, line_entries};
 use crate::explaining::explain_asked;
 use crate::fault::CommandFault;
 use crate::files::FileSource;
-use crate::outcome::Outcome;
-use crate::picking::ask;
 use crate::request::{Request, Texts};
-use filterset_answers::{Answer, TextEntry, format_texts};
+use filterset_answers::{Answer, Ending, TextEntry, format_texts, given_entries, line_entries};
 use filterset_io::{Source, read_all};
 use nextest_filtering::FiltersetKind;
-use std::alloc::Global;
+use std::alloc::{AllocError, Global};
 
-/// Answers a request, for which standard input and files may be read.
+/// Answers a request. It may read standard input and files.
 pub fn answer<F: FileSource, R: Source>(
     alloc: Global,
-    request: &Request,
+    request: &Request<'_>,
     files: &F,
     input: &mut R,
-) -> Result<Outcome, CommandFault>
-    ensures answered { IfOk result (λ outcome. IsAnswered (F.content files.now) request.now (R.left input.old)
-        outcome.ending (string_bytes outcome.text)) }
+) -> Result<Answer, CommandFault>
+    ensures answered { IfOk result (λ answer. IsAnswered (F.content files.now) request.now (R.left input.old)
+        answer.ending (string_bytes answer.text)) }
     ensures no_write { IfErr result NotWrite }
 {
     match request {
@@ -38,34 +33,25 @@ pub fn answer<F: FileSource, R: Source>(
             texts,
             paths,
         } => {
-            let given = entries_of(alloc, *kind, texts, input)?;
-            Ok(outcome(check_texts(alloc, files, *form, paths, given)?))
+            let lines = read_lines(alloc, texts, input)?;
+            let given = entries_of(alloc, *kind, texts, lines.as_str())?;
+            check_texts(alloc, files, *form, paths, given)
         }
         Request::Format { form, texts } => {
-            let entries = entries_of(alloc, FiltersetKind::Test, texts, input)?;
-            Ok(outcome(format_texts(alloc, *form, entries.as_slice())?))
+            let lines = read_lines(alloc, texts, input)?;
+            let entries = entries_of(alloc, FiltersetKind::Test, texts, lines.as_str())?;
+            Ok(format_texts(alloc, *form, entries.as_slice())?)
         }
         Request::Ask(asked) => ask(alloc, files, asked),
         Request::Explain(asked) => explain_asked(alloc, files, asked),
-        Request::Show(text) => Ok(Outcome {
-            text: String::from_str(alloc, text.as_str())?,
+        Request::Show(text) => Ok(Answer {
+            text: String::from_str(alloc, text)?,
             ending: Ending::Fine,
         }),
     }
 }
 
-/// What an answer about texts comes to.
-fn outcome(answer: Answer) -> Outcome
-    ensures text { result.text ≡ answer.text }
-    ensures ending { result.ending ≡ ending_of answer.faulty }
-{
-    Outcome {
-        text: answer.text,
-        ending: ending_of(answer.faulty),
-    }
-}
-
-/// The text that standard input has left.
+/// Reads what standard input has left as text.
 fn read_input<R: Source>(alloc: Global, input: &mut R) -> Result<String, CommandFault>
     ensures whole { IfOk result (λ text. IfSome (R.left input.old) (λ left. string_bytes text ≡ left)) }
     ensures no_write { IfErr result NotWrite }
@@ -77,31 +63,32 @@ fn read_input<R: Source>(alloc: Global, input: &mut R) -> Result<String, Command
     }
 }
 
-/// The lines that standard input has left.
-fn input_entries<R: Source>(
+/// Reads standard input if its lines are the filtersets.
+fn read_lines<R: Source>(
     alloc: Global,
-    kind: FiltersetKind,
+    texts: &Texts<'_>,
     input: &mut R,
-) -> Result<Vec<TextEntry>, CommandFault>
-    ensures rows { IfOk result (λ entries. AreRows kind StandardInput (R.left input.old) (map text_row entries.items)) }
-    ensures no_write { IfErr result NotWrite }
-{
-    let text = read_input(alloc, input)?;
-    Ok(line_entries(alloc, kind, text.as_str())?)
-}
-
-/// The texts that are asked about.
-fn entries_of<R: Source>(
-    alloc: Global,
-    kind: FiltersetKind,
-    texts: &Texts,
-    input: &mut R,
-) -> Result<Vec<TextEntry>, CommandFault>
-    ensures rows { IfOk result (λ entries. AreRows kind texts.now (R.left input.old) (map text_row entries.items)) }
+) -> Result<String, CommandFault>
+    ensures whole { IfOk result (λ lines. IsInput texts.now (R.left input.old) (string_bytes lines)) }
     ensures no_write { IfErr result NotWrite }
 {
     match texts {
-        Texts::Given(texts) => Ok(given_entries(alloc, "argument", kind, texts.as_slice())?),
-        Texts::StandardInput => input_entries(alloc, kind, input),
+        Texts::Given(_) => Ok(String::new(alloc)),
+        Texts::StandardInput => read_input(alloc, input),
+    }
+}
+
+/// Makes the entries of the filtersets: the arguments, or the lines of standard input.
+fn entries_of<'t>(
+    alloc: Global,
+    kind: FiltersetKind,
+    texts: &Texts<'t>,
+    lines: &'t str,
+) -> Result<Vec<TextEntry<'t>>, AllocError>
+    ensures { IfOk result (λ entries. AreRowsOf kind texts.now lines.now (map text_row entries.items)) }
+{
+    match texts {
+        Texts::Given(texts) => given_entries(alloc, "argument", kind, texts),
+        Texts::StandardInput => line_entries(alloc, kind, lines),
     }
 }

@@ -1,43 +1,11 @@
-//! How the program ends: its exit status.
+//! The exit status of the program.
 ghost use Rattle.std.specs.Prelude.{◌≡◌};
-ghost use Rattle.filterset_command.specs.Ending.{differing_ending, ending_of, file_status, status_of};
+ghost use Rattle.filterset_command.specs.Ending.{file_status, status_of};
 
 use crate::fault::{CommandFault, FileFault};
+use filterset_answers::Ending;
 
-/// How a command fared.
-#[derive(Clone, Copy, Debug, PartialEq, Eq)]
-pub enum Ending {
-    /// No filterset has faults.
-    Fine,
-    /// Some filtersets have faults.
-    Faulty,
-    /// Two filtersets that were compared differ.
-    Differing,
-}
-
-/// How a command fared, so many of whose filtersets have faults.
-pub fn ending_of(faulty: usize) -> Ending
-    ensures { result ≡ ending_of faulty }
-{
-    if faulty == 0 {
-        Ending::Fine
-    } else {
-        Ending::Faulty
-    }
-}
-
-/// How a comparison fared, by whether the filtersets differ.
-pub fn differing_ending(differ: bool) -> Ending
-    ensures { result ≡ differing_ending differ }
-{
-    if differ {
-        Ending::Differing
-    } else {
-        Ending::Fine
-    }
-}
-
-/// The exit status after a fault of a file: 3 where it could not be read, and 2 where it is not what it must be.
+/// Returns the exit status after a fault of a file: 3 if reading it failed, and 2 if its content is rejected.
 fn file_status(fault: &FileFault) -> u8
     ensures { result ≡ file_status fault.now }
 {
@@ -47,7 +15,7 @@ fn file_status(fault: &FileFault) -> u8
     }
 }
 
-/// The exit status that a command ends with.
+/// Returns the exit status of a command.
 pub fn status(ended: &Result<Ending, CommandFault>) -> u8
     ensures { result ≡ status_of ended.now }
 {
@@ -55,6 +23,7 @@ pub fn status(ended: &Result<Ending, CommandFault>) -> u8
         Ok(Ending::Fine) => 0,
         Ok(Ending::Faulty) | Ok(Ending::Differing) => 1,
         Err(CommandFault::Words(_)) | Err(CommandFault::NoWords) | Err(CommandFault::NotText) => 2,
+        Err(CommandFault::Missing(_)) => 2,
         Err(CommandFault::File { fault, .. }) => file_status(fault),
         Err(CommandFault::NoBinary(_)) | Err(CommandFault::NoTest { .. }) => 2,
         Err(CommandFault::Run(_)) => 3,

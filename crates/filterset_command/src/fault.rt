@@ -1,4 +1,4 @@
-//! Why a command gives no answer.
+//! The faults that end a command without an answer.
 ghost use Rattle.filterset_command.specs.Files.{NotWrite};
 
 use clap::Error;
@@ -7,17 +7,17 @@ use filterset_sources::SourceRefusal;
 use std::alloc::{AllocError, Global};
 use std::{fmt, io};
 
-/// What is wrong with a file.
+/// Why a file is not used.
 pub enum FileFault {
-    /// It could not be read.
+    /// Reading it failed.
     Unread(io::Error),
-    /// It is no text.
+    /// It is not UTF-8.
     NotText,
-    /// It is not what it must be.
+    /// Its content is not what it has to be.
     Refused(SourceRefusal),
 }
 
-// Written out, so that a proof of who lets a fault go has one call, and not a branch a variant.
+// By hand, so that a function that drops a fault proves one call.
 impl Drop for FileFault {
     fn drop(self) {
         match self {
@@ -38,30 +38,33 @@ impl fmt::Display for FileFault {
     }
 }
 
-/// Why a command gave no answer.
+/// Why a command gives no answer.
 pub enum CommandFault {
-    /// The words of the command line are none that the program takes.
+    /// `clap` rejects the words of the command line.
     Words(Error),
-    /// A word of the command line is no text.
+    /// A word of the command line is not UTF-8.
     NoWords,
-    /// Standard input is no text.
+    /// Standard input is not UTF-8.
     NotText,
-    /// A file of this path has a fault.
+    /// The command line lacks this argument.
+    Missing(&'static str),
+    /// The file at this path is not used.
     File { path: String, fault: FileFault },
-    /// The list has no test binary of this id.
+    /// The list has no test binary with this id.
     NoBinary(String),
-    /// The list has no such test of the binary of this id.
+    /// The binary with this id has no test with this name in the list.
     NoTest { binary: String, test: String },
-    /// There was not enough memory, or a read or a write failed.
+    /// Out of memory, or a read or a write failed.
     Run(RunFault),
 }
 
-// Written out, as for `FileFault`.
+// By hand, as for `FileFault`.
 impl Drop for CommandFault {
     fn drop(self) {
         match self {
             CommandFault::Words(_error) => {}
-            CommandFault::NoWords | CommandFault::NotText | CommandFault::Run(_) => {}
+            CommandFault::NoWords | CommandFault::NotText => {}
+            CommandFault::Missing(_) | CommandFault::Run(_) => {}
             CommandFault::File {
                 path: _path,
                 fault: _fault,
@@ -76,7 +79,7 @@ impl Drop for CommandFault {
 }
 
 impl CommandFault {
-    /// The fault of the file at a path.
+    /// Makes the fault of the file at a path.
     pub fn in_file(alloc: Global, path: &str, fault: FileFault) -> CommandFault
         ensures { NotWrite result }
     {
@@ -86,8 +89,8 @@ impl CommandFault {
         }
     }
 
-    /// The file at a path is refused.
-    pub fn refused(alloc: Global, path: &str, refusal: SourceRefusal) -> CommandFault
+    /// Makes the fault of the file at a path whose content is rejected.
+    pub fn from_refusal(alloc: Global, path: &str, refusal: SourceRefusal) -> CommandFault
         ensures { NotWrite result }
     {
         match refusal {
@@ -103,6 +106,12 @@ impl fmt::Display for CommandFault {
             CommandFault::Words(error) => error.fmt(f),
             CommandFault::NoWords => f.write_str("error: the command line is not UTF-8"),
             CommandFault::NotText => f.write_str("error: standard input is not UTF-8"),
+            CommandFault::Missing(argument) => {
+                write!(
+                    f,
+                    "error: the command line has no {argument}; try `filterset --help`"
+                )
+            }
             CommandFault::File { path, fault } => write!(f, "error: {path}: {fault}"),
             CommandFault::NoBinary(id) => write!(f, "error: the list has no test binary `{id}`"),
             CommandFault::NoTest { binary, test } => {

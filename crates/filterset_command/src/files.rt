@@ -1,4 +1,4 @@
-//! Files, and reading one whole.
+//! Reading whole files.
 ghost use Rattle.std.specs.Prelude.{◌≡◌, ◌≢◌, IfErr, IfOk, IfSome, List, Option, ℕ, string_bytes};
 ghost use Rattle.filterset_io.specs.declared.fault.RunFault.TheVariants.{Write};
 ghost use Rattle.filterset_command.specs.Files.{NotWrite};
@@ -13,7 +13,7 @@ pub trait FileSource {
     /// The bytes of the file at a path, where they are known.
     ghost content: { Self → List ℕ → Option (List ℕ) };
 
-    /// All bytes of the file at a path.
+    /// Reads all bytes of the file at a path.
     fn read(&self, alloc: Global, path: &str) -> Result<Vec<u8>, CommandFault>
         ensures whole { IfOk result
             (λ bytes. IfSome (content self.now path.now) (λ known. bytes.items ≡ known)) }
@@ -42,7 +42,7 @@ impl FileSource for HostFiles<'_> {
     }
 }
 
-/// The text of the file at a path.
+/// Reads the file at a path as text.
 pub fn read_text<F: FileSource>(
     alloc: Global,
     files: &F,

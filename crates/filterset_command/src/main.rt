@@ -1,32 +1,32 @@
-//! The program for people: checks filtersets, and draws their faults; writes them as they print; and tells which tests
-//! of a workspace they pick.
+//! The program for people: checks filtersets and draws their faults, prints them, and shows which tests of a workspace they
+//! pick, how two differ, and why one picks a test or not.
 #![tactic(auto)]
 
 mod answering;
 mod arguments;
+mod asking;
 mod checking;
+mod command_line;
 mod ending;
-mod entries;
 mod explaining;
 mod fault;
 mod files;
-mod outcome;
-mod picking;
 mod request;
 mod run;
 mod workspace;
 
-use ending::{Ending, status};
+use command_line::CommandLine;
+use ending::status;
 use fault::CommandFault;
 use files::HostFiles;
+use filterset_answers::Ending;
 use filterset_io::{FromReader, RunFault, ToWriter};
-use request::request_of;
 use run::run;
 use std::alloc::AllocError;
 use std::process::ExitCode;
 use std::{env, io};
 
-/// The words of the command line.
+/// Returns the words of the command line.
 fn words_of(rt: &HostRuntime) -> Result<Vec<String>, CommandFault> {
     match env::args(rt) {
         Ok(words) => Ok(words.collect(rt.alloc())?),
@@ -37,11 +37,12 @@ fn words_of(rt: &HostRuntime) -> Result<Vec<String>, CommandFault> {
     }
 }
 
-/// Does what the words of the command line ask for.
-fn command(rt: &HostRuntime) -> Result<Ending, CommandFault> {
+/// Runs the command of the command line.
+fn run_command(rt: &HostRuntime) -> Result<Ending, CommandFault> {
     let alloc = rt.alloc();
     let words = words_of(rt)?;
-    let request = request_of(alloc, words.as_slice())?;
+    let line = CommandLine::read(alloc, words.as_slice())?;
+    let request = line.request()?;
     let mut input = FromReader::new(rt.stdin());
     let mut output = ToWriter::new(rt.stdout());
     run(
@@ -53,9 +54,8 @@ fn command(rt: &HostRuntime) -> Result<Ending, CommandFault> {
     )
 }
 
-/// Writes a fault on standard error.
-fn tell(rt: &HostRuntime, fault: &CommandFault) {
-    // A line that cannot be written changes nothing.
+/// Writes a fault on standard error. A failed write is ignored.
+fn report(rt: &HostRuntime, fault: &CommandFault) {
     let _ = match fault {
         CommandFault::Words(error) => error.print(rt),
         other => eprintln!(rt; "{other}"),
@@ -63,9 +63,9 @@ fn tell(rt: &HostRuntime, fault: &CommandFault) {
 }
 
 fn main(rt: HostRuntime) -> ExitCode {
-    let ended = command(&rt);
+    let ended = run_command(&rt);
     if let Err(fault) = &ended {
-        tell(&rt, fault);
+        report(&rt, fault);
     }
     ExitCode::from(status(&ended))
 }

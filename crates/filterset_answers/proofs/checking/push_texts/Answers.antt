@@ -2,7 +2,7 @@ use Rattle.std.proofs.Common.{rules, arith, ◌≡◌, ◌<◌, [], ◌++◌, le
 use Rattle.filterset_answers.specs.Answers.{TextFaults, no_texts}
 use Rattle.filterset_answers.specs.Checked.{HasFaults, text_row}
 use Rattle.filterset_io.proofs.PieceLemmas.{added_twice}
-use Rattle.filterset_answers.proofs.AnswersLemmas.{FaultsOf-push, next_number, rows_more}
+use Rattle.filterset_answers.proofs.AnswersLemmas.{FaultsOf-push, one_if-le, next_number, number_of, rows_more}
 use Rattle.std.proofs.lemmas.List.{append-nil}
 use Rattle.filterset_answers.proofs.checking.push_texts.Goals as goal
 
@@ -20,8 +20,8 @@ loop-i-preserved c =
     let at : get_or texts i entry ≡ entry = search (rules, c.index-texts-i.is) in
     let one = subst (λ n. TextFaults Has form n (text_row entry) has piece.0) (sym (next_number text_row texts i lt)) piece.2 in
     let more = FaultsOf-push Has form 1 (map text_row (take i texts)) (text_row entry) c.loop-i.faulty has before.1.0 piece.0 before.1.2 one in (
-      omega (arith, before.0, c.one_if-faulty.ensures.bound),
-      (before.1.0 ++ piece.0, added_twice _ _ _ _ _ before.1.1 piece.1, rw (c.one_if-faulty.ensures.value, rows_more text_row texts i entry lt at) more),
+      omega (arith, before.0, c.from-faulty.ensures, number_of has, one_if-le has),
+      (before.1.0 ++ piece.0, added_twice _ _ _ _ _ before.1.1 piece.1, rw (c.from-faulty.ensures, number_of has, rows_more text_row texts i entry lt at) more),
     )
 
 pub loop-i-init : goal.loop-i-init

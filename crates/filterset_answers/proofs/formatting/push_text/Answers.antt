@@ -10,6 +10,6 @@ pub returns-in_ok-writeln-in-Tree : goal.returns-in_ok-writeln-in-Tree
 returns-in_ok-writeln-in-Tree c =
     let e = tree_of c.in-Tree.tree in
     let line = printed e ++ codes "\n" in
-    let reads : Reads (string_bytes c.args.entry.now.text) e = search rules in
+    let reads : Reads c.args.entry.now.text.now e = search rules in
     let written : string_bytes c.writeln.new.self ≡ string_bytes c.args.formatted.now ++ line = search rules in
     (line, [], written, sym (append-nil _), (e, reads, refl), ([], inl (e, reads, refl), refl, no_pieces))

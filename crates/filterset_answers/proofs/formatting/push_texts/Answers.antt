@@ -2,7 +2,7 @@ use Rattle.std.proofs.Common.{rules, arith, ◌≡◌, ◌<◌, [], ◌++◌, le
 use Rattle.filterset_answers.specs.Answers.{TextFaults, no_texts}
 use Rattle.filterset_answers.specs.Checked.{HasReadingFaults, text_row}
 use Rattle.filterset_io.proofs.PieceLemmas.{added_twice}
-use Rattle.filterset_answers.proofs.AnswersLemmas.{FaultsOf-push, FormattedLines-next, next_number, rows_more}
+use Rattle.filterset_answers.proofs.AnswersLemmas.{FaultsOf-push, FormattedLines-next, one_if-le, next_number, number_of, rows_more}
 use Rattle.std.proofs.lemmas.List.{append-nil}
 use Rattle.filterset_io.specs.Pieces.{no_pieces}
 use Rattle.filterset_answers.proofs.formatting.push_texts.Goals as goal
@@ -21,14 +21,14 @@ loop-i-preserved c =
     let at : get_or texts i entry ≡ entry = search (rules, c.index-texts-i.is) in
     let one = subst (λ n. TextFaults HasReadingFaults form n (text_row entry) has piece) (sym (next_number text_row texts i lt)) is_piece in
     let more = FaultsOf-push HasReadingFaults form 1 (map text_row (take i texts)) (text_row entry) c.loop-i.faulty has pieces piece are_pieces one in (
-      omega (arith, before.0, c.one_if-faulty.ensures.bound),
+      omega (arith, before.0, c.from-faulty.ensures, number_of has, one_if-le has),
       (
         lines ++ line,
         pieces ++ piece,
         added_twice _ _ _ _ _ lines_added line_added,
         added_twice _ _ _ _ _ pieces_added piece_added,
-        rw (c.one_if-faulty.ensures.value, rows_more text_row texts i entry lt at) (FormattedLines-next (map text_row (take i texts)) (text_row entry) lines line c.loop-i.faulty has are_lines is_line),
-        rw (c.one_if-faulty.ensures.value, rows_more text_row texts i entry lt at) more,
+        rw (c.from-faulty.ensures, number_of has, rows_more text_row texts i entry lt at) (FormattedLines-next (map text_row (take i texts)) (text_row entry) lines line c.loop-i.faulty has are_lines is_line),
+        rw (c.from-faulty.ensures, number_of has, rows_more text_row texts i entry lt at) more,
       ),
     )
 

@@ -1,0 +1,163 @@
+//! The texts that commands are about, each with where it comes from.
+ghost use Rattle.std.specs.Prelude.{◌≡◌, ◌∷◌, [], IfOk, map};
+ghost use Rattle.std.specs.Str.Lines.{lines};
+ghost use Rattle.filterset_faults.specs.declared.kind.FiltersetKind.TheVariants as kinds;
+ghost use Rattle.filterset_answers.specs.Checked.{text_row};
+ghost use Rattle.filterset_answers.specs.Entries.{AreQuestionRows, HaveTexts, file_row, file_rows, filter_texts};
+
+use crate::question::Question;
+use crate::text::TextEntry;
+use filterset_sources::ConfiguredFilterset;
+use nextest_filtering::FiltersetKind;
+use std::alloc::{AllocError, Global};
+
+/// Makes an entry of each text of the command line, called `what` and its number.
+pub fn given_entries<'t>(
+    alloc: Global,
+    what: &str,
+    kind: FiltersetKind,
+    texts: &[&'t str],
+) -> Result<Vec<TextEntry<'t>>, AllocError>
+    ensures { IfOk result (λ entries.
+        HaveTexts kind (map (λ t. t.now) texts.now) (map text_row entries.items)) }
+{
+    let mut entries = Vec::new(alloc);
+    for text in texts {
+        let number = entries.len() + 1;
+        entries.push(TextEntry {
+            origin: format!(in alloc; "{what} {number}")?,
+            kind,
+            text: *text,
+        })?;
+    }
+    Ok(entries)
+}
+
+/// Makes an entry of each line, called `line` and its number.
+pub fn line_entries<'t>(
+    alloc: Global,
+    kind: FiltersetKind,
+    text: &'t str,
+) -> Result<Vec<TextEntry<'t>>, AllocError>
+    ensures { IfOk result (λ entries. HaveTexts kind (lines text.now) (map text_row entries.items)) }
+{
+    let mut entries = Vec::new(alloc);
+    for line in text.lines() {
+        let number = entries.len() + 1;
+        entries.push(TextEntry {
+            origin: format!(in alloc; "line {number}")?,
+            kind,
+            text: line,
+        })?;
+    }
+    Ok(entries)
+}
+
+/// Makes an entry of a text.
+pub fn entry_of<'t>(
+    alloc: Global,
+    origin: &str,
+    kind: FiltersetKind,
+    text: &'t str,
+) -> Result<TextEntry<'t>, AllocError>
+    ensures kind { IfOk result (λ entry. entry.kind ≡ kind) }
+    ensures text { IfOk result (λ entry. entry.text.now ≡ text.now) }
+{
+    Ok(TextEntry {
+        origin: String::from_str(alloc, origin)?,
+        kind,
+        text,
+    })
+}
+
+/// Makes an entry of a filterset of a configuration, called by its path.
+fn configured_entry(
+    alloc: Global,
+    filterset: &ConfiguredFilterset,
+) -> Result<TextEntry<'_>, AllocError>
+    ensures { IfOk result (λ entry. text_row entry ≡ file_row filterset.now) }
+{
+    Ok(TextEntry {
+        origin: String::from_str(alloc, filterset.path.as_str())?,
+        kind: filterset.kind,
+        text: filterset.text.as_str(),
+    })
+}
+
+/// Makes an entry of each filterset of a configuration.
+pub fn configured_entries(
+    alloc: Global,
+    filtersets: &[ConfiguredFilterset],
+) -> Result<Vec<TextEntry<'_>>, AllocError>
+    ensures { IfOk result (λ entries. map text_row entries.items ≡ file_rows filtersets.now) }
+{
+    let mut entries = Vec::with_capacity(alloc, filtersets.len())?;
+    for filterset in filtersets {
+        entries.push(configured_entry(alloc, filterset)?)?;
+    }
+    Ok(entries)
+}
+
+/// Makes the entries of two filtersets that are compared.
+fn pair_entries<'t>(
+    alloc: Global,
+    first: &'t str,
+    second: &'t str,
+) -> Result<Vec<TextEntry<'t>>, AllocError>
+    ensures { IfOk result (λ entries.
+        HaveTexts kinds.Test (first.now ∷ second.now ∷ []) (map text_row entries.items)) }
+{
+    let mut entries = Vec::with_capacity(alloc, 2)?;
+    entries.push(entry_of(alloc, "A", FiltersetKind::Test, first)?)?;
+    entries.push(entry_of(alloc, "B", FiltersetKind::Test, second)?)?;
+    Ok(entries)
+}
+
+/// Makes an entry of each filterset of a question.
+fn filter_entries<'t>(
+    alloc: Global,
+    question: &Question<'t>,
+) -> Result<Vec<TextEntry<'t>>, AllocError>
+    ensures { IfOk result (λ entries.
+        HaveTexts kinds.Test (filter_texts question.now) (map text_row entries.items)) }
+{
+    match question {
+        Question::List { filters, .. } => given_entries(alloc, "-E", FiltersetKind::Test, filters),
+        Question::Compare { first, second, .. } => pair_entries(alloc, first, second),
+    }
+}
+
+/// The texts that a question is about.
+#[derive(Debug, Drop)]
+pub struct QuestionTexts<'t> {
+    pub default: TextEntry<'t>,
+    pub filters: Vec<TextEntry<'t>>,
+}
+
+/// Makes the entries of a default filter and of a question's filtersets.
+pub fn question_texts<'t>(
+    alloc: Global,
+    default_filter: &'t str,
+    question: &Question<'t>,
+) -> Result<QuestionTexts<'t>, AllocError>
+    ensures { IfOk result (λ texts. AreQuestionRows default_filter.now question.now
+        (text_row texts.default) (map text_row texts.filters.items)) }
+{
+    Ok(QuestionTexts {
+        default: default_entry(alloc, default_filter)?,
+        filters: filter_entries(alloc, question)?,
+    })
+}
+
+/// Makes the entry of a default filter.
+pub fn default_entry(alloc: Global, text: &str) -> Result<TextEntry<'_>, AllocError>
+    ensures kind { IfOk result (λ entry. entry.kind ≡ kinds.DefaultFilter) }
+    ensures text { IfOk result (λ entry. entry.text.now ≡ text.now) }
+{
+    entry_of(
+        alloc,
+        "--default-filter",
+        FiltersetKind::DefaultFilter,
+        text,
+    )
+}

@@ -1,0 +1,17 @@
+//! Questions to filtersets about a workspace.
+
+/// What filtersets are asked about a workspace.
+#[derive(Clone, Copy, Debug)]
+pub enum Question<'t> {
+    /// Which tests a runner runs, given these filtersets, and the default filter unless that is ignored.
+    List {
+        filters: &'t [&'t str],
+        ignores_default: bool,
+    },
+    /// How two filtersets differ, with the names of the tests or without.
+    Compare {
+        first: &'t str,
+        second: &'t str,
+        has_names: bool,
+    },
+}

@@ -1,0 +1,56 @@
+-- What is explained, and how.
+use Rattle.std.specs.Prelude.{◌≡◌, List, Option, Some, None, string_bytes}
+use Rattle.std.specs.Borrow.{Bor}
+use Rattle.std.specs.List.{AllZip, find}
+use Rattle.std.specs.Str.{bytes_eq}
+use Rattle.filterset_answers.specs.Binaries.{IsAsked}
+use Rattle.filterset_answers.specs.Explained.{AnswersExplanation}
+use Rattle.filterset_answers.specs.declared.text.Ending.{Ending}
+use Rattle.filterset_drawing.specs.Columns.{Text}
+use Rattle.filterset_io.specs.declared.fault.RunFault.TheVariants.{Memory}
+use Rattle.filterset_listing.specs.declared.binary.AskedBinary.{AskedBinary}
+use Rattle.filterset_listing.specs.declared.explaining.candidate.Candidate.{Candidate}
+use Rattle.filterset_listing.specs.declared.explaining.candidate.Candidate.TheVariants.{Binary, Test}
+use Rattle.filterset_command.specs.Workspaces.{IsWorkspaceIn}
+use Rattle.filterset_command.specs.declared.explaining.ExplainRequest.{ExplainRequest}
+use Rattle.filterset_command.specs.declared.fault.CommandFault.{CommandFault}
+use Rattle.filterset_command.specs.declared.fault.CommandFault.TheVariants.{NoBinary, NoTest, Run}
+use Rattle.filterset_command.specs.declared.workspace.Workspace.{Workspace}
+
+-- the first of the binaries with this id
+abbrev pub binary_called : Text → List AskedBinary → Option AskedBinary
+binary_called id binaries = find (λ (b : AskedBinary). bytes_eq b.query.binary_id.now id) binaries
+
+-- the name, where a test has it
+abbrev pub name_called : Text → List Text → Option Text
+name_called name names = find (λ n. bytes_eq n name) names
+
+-- the candidate is the binary with this id, or its test with this name
+abbrev pub IsCandidate : List AskedBinary → Text → Option (Bor Text) → Candidate → Type 0
+IsCandidate binaries id None (Binary query) =
+    (binary : AskedBinary) × (binary_called id binaries ≡ Some binary) × (query ≡ binary.query)
+IsCandidate binaries id (Some test) (Test query) =
+    (binary : AskedBinary) × (binary_called id binaries ≡ Some binary) × (query.binary_query ≡ binary.query)
+    × (name_called test.now binary.tests.now ≡ Some query.test_name.now)
+IsCandidate binaries id _ _ = ⊥
+
+-- the fault names what there is not: a binary with this id, or a test of it with this name; or it is out of memory
+abbrev pub IsMissing : List AskedBinary → Text → Option (Bor Text) → CommandFault → Type 0
+IsMissing binaries id test (NoBinary own) = (string_bytes own ≡ id) × (binary_called id binaries ≡ None)
+IsMissing binaries id (Some test) (NoTest own name) =
+    (binary : AskedBinary) × (binary_called id binaries ≡ Some binary) × (string_bytes own ≡ id)
+    × (string_bytes name ≡ test.now) × (name_called test.now binary.tests.now ≡ None)
+IsMissing binaries id test (Run (Memory refused)) = Unit {0}
+IsMissing binaries id test _ = ⊥
+
+-- what is answered of the binary or the test in this workspace
+abbrev pub AnswersIn : ExplainRequest → Workspace → Ending → Text → Type 0
+AnswersIn asked workspace ending text =
+    (binaries : List AskedBinary) × (candidate : Candidate) × AllZip IsAsked workspace.list.suites.items binaries
+    × IsCandidate binaries asked.binary.now asked.test candidate
+    × AnswersExplanation asked.form asked.default_filter.now asked.filter.now workspace.graph candidate ending text
+
+-- what is answered of the binary or the test in the workspace that the files describe
+abbrev pub AnswersExplained : (Text → Option Text) → ExplainRequest → Ending → Text → Type 0
+AnswersExplained content asked ending text =
+    (workspace : Workspace) × IsWorkspaceIn content asked.paths workspace × AnswersIn asked workspace ending text
