@@ -103,11 +103,13 @@ fn default_refusal(alloc: Global, faults: &[ParseSingleError]) -> Result<String,
     Ok(lines)
 }
 
-/// Returns whether a filterset may ask for the groups of tests: each that does has the word in its text.
-fn may_ask_for_groups(filtersets: &[FiltersetEntry]) -> bool {
-    filtersets
-        .iter()
-        .any(|filterset| filterset.text.contains("group"))
+/// Returns whether a filterset may ask for the groups of tests: there are binaries to ask about, and its text has the
+/// word.
+fn may_ask_for_groups(binaries: &[BinaryEntry], filtersets: &[FiltersetEntry]) -> bool {
+    !binaries.is_empty()
+        && filtersets
+            .iter()
+            .any(|filterset| filterset.text.contains("group"))
 }
 
 /// Writes the report of filtersets, or the refusal of the default filter if it has faults.
@@ -135,7 +137,11 @@ fn report_filtersets(
     let kind = FiltersetKind::DefaultFilter;
     match Filterset::parse(alloc, default_filter, &parse_context, kind, &known_groups) {
         Ok(default_filter) => {
-            let lookup = RecordLookup::new(alloc, binaries, may_ask_for_groups(&filtersets))?;
+            let lookup = RecordLookup::new(
+                alloc,
+                binaries,
+                may_ask_for_groups(binaries, &filtersets),
+            )?;
             let setting = Setting {
                 command,
                 parse_context,
