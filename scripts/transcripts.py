@@ -12,7 +12,10 @@ crates/filterset_command/data, and the files of both. `filterset` and `./filters
 program for people if they have arguments, and else the one that reads a record; `rt ci` builds both. With --programs
 FOLDER they are FOLDER/filterset_command and FOLDER/filterset_cli.
 
-The last line is 'N passed, M failed', by commands. The status is 1 if one failed.
+If no page is named, it also reads what `--help` of the program for people and of each of its commands lists: options.md
+must have each option and each value of it in a command, and the example of each help as a command.
+
+The last line is 'N passed, M failed', by commands, and by what help lists. The status is 1 if one failed.
 """
 
 import re
@@ -25,7 +28,11 @@ from pathlib import Path
 
 TOP = Path(__file__).resolve().parent.parent
 DATA = "crates/filterset_command/data"
+OPTIONS = TOP / "examples/transcripts/options.md"
 BUILT = {name: TOP / "crates" / name / "out" / name for name in ("filterset_command", "filterset_cli")}
+
+# An option in a help text: its short name, its long name, and what is said of it up to the next.
+OPTION = re.compile(r"^ {2,6}(?:(-\w)(?:, |$))?(--[\w-]+)?(.*(?:\n(?! {2,6}-).*)*)", re.M)
 
 FILTERSET = """\
 #!/bin/bash
@@ -121,6 +128,54 @@ def compare(step, written, said):
     return False
 
 
+def help_of(programs, *command):
+    """What the program for people writes as the help of a command."""
+    words = [programs["filterset_command"], *command, "--help"]
+    return subprocess.run(words, capture_output=True, text=True, check=True).stdout
+
+
+def section_of(text, heading):
+    """The lines of a help text below a heading, up to an empty line."""
+    return text.partition(f"\n{heading}:\n")[2].partition("\n\n")[0]
+
+
+def options_of(text):
+    """The options that a help text lists, by their names, each with its values."""
+    for short, long, rest in OPTION.findall(section_of(text, "Options")):
+        values = re.search(r"\[possible values: ([^]]*)\]", rest)
+        for name in filter(None, (short, long)):
+            yield name, values[1].split(", ") if values and name == long else [""]
+
+
+def listed_in(programs):
+    """What the page of options must have a command for, each as a pattern with a text for people."""
+    commands = [line.split()[0] for line in section_of(help_of(programs), "Commands").splitlines()]
+    for command in [(), *((name,) for name in commands if name != "help")]:
+        text, words = help_of(programs, *command), " ".join(("filterset", *command))
+        for name, values in options_of(text):
+            if name in {"-h", "--help"}:
+                continue
+            for value in values:
+                yield f"{words} {name} {value}".rstrip(), rf"{words}\b.*\s{name}" + (rf" {value}\b" if value else r"(?=\s|$)")
+        example = re.search(r"^Example: (.*)$", text, re.M)
+        if example:
+            yield example[1], re.escape(example[1])
+        elif command:
+            yield f"the help of {words}, which has no example", r"(?!)"
+
+
+def check_options(programs):
+    """Compares the page of options with what help lists. Returns how many are there, and how many are not."""
+    shown, passed, failed = [step.command for step in steps_of(OPTIONS)], 0, 0
+    for what, pattern in listed_in(programs):
+        if any(re.search(pattern, command) for command in shown):
+            passed += 1
+        else:
+            print(f"transcripts: {OPTIONS.relative_to(TOP)}: FAILED: it has no command for {what}")
+            failed += 1
+    return passed, failed
+
+
 def main(arguments):
     programs = BUILT
     if arguments[:1] == ["--programs"] and len(arguments) > 1:
@@ -135,8 +190,8 @@ def main(arguments):
         failed += 1
     if not failed:
         pages = [Path(word).resolve() for word in arguments] or sorted((TOP / "examples/transcripts").glob("*.md"))
-        for counts in (run(page, programs) for page in pages):
-            passed, failed = passed + counts[0], failed + counts[1]
+        checks = [run(page, programs) for page in pages] + ([] if arguments else [check_options(programs)])
+        passed, failed = (sum(counts) for counts in zip(*checks))
     print(f"{passed} passed, {failed} failed")
     return 1 if failed or not passed else 0
 
