@@ -1,0 +1,4 @@
+mod PieceLemmas
+mod StringLemmas
+mod LineLemmas
+mod PlaceLemmas

@@ -1,0 +1,5 @@
+pub mod Pieces
+pub mod Strings
+pub mod Numbers
+pub mod Places
+pub mod Lines

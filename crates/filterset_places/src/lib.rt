@@ -1,0 +1,16 @@
+//! Finds where the filtersets of nextest's configuration are in its file.
+#![tactic(auto)]
+
+mod content;
+mod lines;
+mod numbering;
+mod place;
+mod places;
+mod scanning;
+mod stretch;
+mod string;
+
+pub use lines::{Lines, Position};
+pub use place::Place;
+pub use places::Places;
+pub use stretch::Stretch;
