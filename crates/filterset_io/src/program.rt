@@ -37,7 +37,7 @@ pub fn run<P: Program, R: Source, W: Sink>(
     // The report of what was read is written, and nothing else.
     ensures report { IfOk result
         (IsWritten P.reports (R.left input.old) (W.taken output.old) (W.taken output.new)) }
-    // After a failed write, a beginning of such a report is written.
+    // After a failed write, a beginning of such a report is written, and not the whole.
     ensures beginning { result ≡ Err RunFault.Write
         → IsBegun P.reports (R.left input.old) (W.taken output.old) (W.taken output.new) }
     // After every other fault, nothing is written.

@@ -1,5 +1,5 @@
 //! Writes whole texts to writers.
-ghost use Rattle.std.specs.Prelude.{◌≡◌, ◌||◌, ◌++◌, Bool, Err, IsTrue, List, OnErr, OnOk, Option, false, ℕ};
+ghost use Rattle.std.specs.Prelude.{◌≡◌, ◌||◌, ◌++◌, ◌<◌, Bool, Err, IsTrue, List, OnErr, OnOk, Option, false, length, ℕ};
 ghost use Rattle.std.specs.Io.KnownBytes.{Appends, WriteAppends};
 ghost use Rattle.std.specs.Io.{WritesAtMost};
 ghost use Rattle.filterset_io.specs.Marks.{write_fails};
@@ -68,7 +68,7 @@ pub fn write_all<W: Sink>(output: &mut W, text: &[u8]) -> Result<(), RunFault>
     ensures kept { OnOk result (W.failed output.new ≡ W.failed output.old) }
     ensures failed { OnErr result (IsTrue (W.failed output.new)) }
     ensures beginning { OnErr result ((front : List ℕ) × (rest : List ℕ) × (text.now ≡ front ++ rest)
-        × Appends (W.taken output.old) (W.taken output.new) front) }
+        × (0 < length rest) × Appends (W.taken output.old) (W.taken output.new) front) }
     ensures only { OnErr result (result ≡ Err RunFault.Write) }
 {
     let mut rest = text;
