@@ -21,3 +21,17 @@ alike one other (Compound c f g) none =
     let left = alike one other f both.0 in
     let right = alike one other g both.1 in
     cc
+
+-- where no leaf is `default`, there is no place to put a default filter in
+stays_at : (default : CompiledExpr) (leaf : CompiledLeaf) → is_default leaf ≡ false → leaf_with_default default leaf ≡ Leaf leaf
+stays_at default compiled.Default none = absurd (let clash : true ≡ false = none in cc)
+stays_at default _ none = refl
+
+pub put_in : (default : CompiledExpr) (f : Formula CompiledLeaf) → list_any is_default (leaves f) ≡ false → replaced (leaf_with_default default) f ≡ f
+put_in default (Leaf leaf) none = stays_at default leaf (or_parts (is_default leaf) false none).0
+put_in default (Negation f) none = ap Negation (put_in default f none)
+put_in default (Compound c f g) none =
+    let both = or_parts _ _ (sym (list_any-append is_default (leaves f) (leaves g)) ∙ none) in
+    let left = put_in default f both.0 in
+    let right = put_in default g both.1 in
+    cc

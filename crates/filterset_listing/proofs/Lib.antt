@@ -1,4 +1,6 @@
 pub mod ListingLemmas
+pub mod MeaningLemmas
+pub mod PicksLemmas
 pub mod UnionLemmas
 pub mod SelectionLemmas
 pub mod MarkingLemmas

@@ -4,11 +4,12 @@ use Rattle.std.specs.Prelude.{◌↔◌, ◌&&◌, not, Option, Some, None}
 use Rattle.std.specs.List.{AllZip}
 use Rattle.std.proofs.lemmas.Bool.{false≢true}
 use Rattle.std.proofs.lemmas.List.{append-nil, take_more}
-use Rattle.filterset_expression.specs.Expression.{Holds, IsDefinite}
+use Rattle.filterset_expression.specs.Expression.{Holds, IsDefinite, IsUndecided}
 use Rattle.filterset_expression.specs.declared.expression.CompiledExpr.{CompiledExpr}
+use Rattle.filterset_expression.specs.declared.query.BinaryQuery.{BinaryQuery}
 use Rattle.filterset_expression.specs.declared.query.TestQuery.{TestQuery}
 use Rattle.filterset_expression.proofs.LeafAnswers.{definite_of_test}
-use Rattle.filterset_listing.specs.Asking.{Text, in_global, is_no}
+use Rattle.filterset_listing.specs.Asking.{ExprCanPick, Text, in_global, is_no}
 use Rattle.filterset_listing.specs.Comparing.{Divides}
 use Rattle.filterset_listing.specs.Listing.{Picked, one_of}
 
@@ -16,6 +17,17 @@ use Rattle.filterset_listing.specs.Listing.{Picked, one_of}
 pub none_holds : (expr default : CompiledExpr) (query : TestQuery) → IsDefinite expr query.binary_query default false → ¬ Holds expr query default in_global
 none_holds expr default query definite holds =
     absurd (false≢true (sym (definite_of_test expr default query in_global true false (λ _. holds, λ _. refl) definite)))
+
+-- what is definitely false of a binary can pick no test of it
+pub cannot_pick : (expr default : CompiledExpr) (binary : BinaryQuery) → IsDefinite expr binary default false → ¬ ExprCanPick default expr binary
+cannot_pick expr default binary definite can = false≢true (sym ((definite true).0 can))
+
+-- what is true of a binary, or unknown, can pick a test of it
+pub can_pick : (expr default : CompiledExpr) (binary : BinaryQuery) (answer : Option Bool) → ((b : Bool) → (answer ≡ Some b) ↔ IsDefinite expr binary default b)
+    → ((answer ≡ None) ↔ IsUndecided expr binary default) → is_no answer ≡ false → ExprCanPick default expr binary
+can_pick expr default binary None definite undecided is = (undecided.0 refl).0
+can_pick expr default binary (Some true) definite undecided is = ((definite true).0 refl true).1 refl
+can_pick expr default binary (Some false) definite undecided is = absurd (false≢true (sym is))
 
 -- an answer is no where it is no
 pub is_no_alone : (answer : Option Bool) → (is_no answer ≡ true) ↔ (answer ≡ Some false)

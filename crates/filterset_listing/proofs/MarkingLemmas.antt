@@ -1,5 +1,5 @@
 -- The steps in which a map is made of the members of another one.
-use Rattle.std.proofs.Common.{◌≡◌, ℕ, ◌+◌, ◌<◌, Bool, true, false, IsTrue, cond, length, get_or, map, take, is_eq, inl, inr, List, None, BTreeMap, [], ◌∷◌, ◌++◌, String, Global, string_bytes, string_cmp, nat_cmp, Less, Greater, refl, sym, ap, ◌∙◌, subst}
+use Rattle.std.proofs.Common.{◌≡◌, ℕ, ◌+◌, ◌<◌, Bool, true, false, IsTrue, cond, length, get_or, map, take, drop, is_eq, inl, inr, List, None, Some, Result, Ok, Err, IfOk, ◌≤◌, BTreeMap, [], ◌∷◌, ◌++◌, String, Global, string_bytes, string_cmp, nat_cmp, Less, Greater, refl, sym, ap, ◌∙◌, subst}
 use Rattle.std.proofs.lemmas.List.{take_more, map-append}
 use Rattle.std.proofs.lemmas.List.Elements.{Contains-append_left, Contains-push, Contains-push_cases}
 use Rattle.std.proofs.lemmas.Map.Text.{is_eq-slice_cmp}
@@ -11,7 +11,8 @@ use Rattle.std.specs.BTreeSet.{BTreeSet, contains}
 use Rattle.std.specs.Str.{bytes_eq}
 use Rattle.filterset_graph.specs.declared.binary.TestCaseName.{TestCaseName}
 use Rattle.filterset_listing.specs.Asking.{Text}
-use Rattle.filterset_listing.specs.ListJson.{AreNames, MarksAt, at_key, at_other, MarksObject, an_object, no_object}
+use Rattle.filterset_listing.specs.ListJson.{AreNames, IsCompactJson, MarksAt, at_key, at_other, MarksObject, an_object, no_object, MarksSuite, MarksSuites, first_tests, further_suite, next_suite}
+use Rattle.filterset_listing.specs.declared.listing.BinaryPicks.{BinaryPicks}
 use Rattle.std.proofs.lemmas.Cmp.{nat_list_cmp_total}
 use Rattle.std.specs.BTreeMap.{insert_entry}
 use Rattle.std.specs.Cmp.Lexicographic.{slice_cmp}
@@ -19,9 +20,11 @@ use Rattle.std.specs.List.{AllByRecursion}
 use Rattle.std.specs.List.Sorted.{IsStrictlySortedBy}
 use Rattle.std.specs.Map.{keys_of}
 use Rattle.std.specs.Ordering.{ordering_reverse}
-use Rattle.serde_json.specs.Data.{Data, object, Members, no_members, member}
+use Rattle.serde_json.specs.Data.{Data, object, Members, no_members, member, depth}
 use Rattle.serde_json.specs.Find.{as_object}
+use Rattle.serde_json.specs.Read.{read, max_depth}
 use Rattle.serde_json.specs.View.{view, members_view}
+use Rattle.serde_json.specs.Written.{IsInOrder, compact_text, has_float}
 use Rattle.serde_json.specs.declared.value.Value.{Value, Object}
 use Rattle.serde_json.proofs.Views.{Entry, view-Object}
 
@@ -122,3 +125,20 @@ marked_object value before marked is marks = rw (is, view-Object marked) (an_obj
 -- what is no object stays as it is
 pub marked_other : {Marks : Members → Members → Type 0} (value other : Value) → other ≡ value → as_object (view other) ≡ None → MarksObject Marks (view value) (view other)
 marked_other {Marks} value other same none = subst (λ v. MarksObject Marks (view v) (view other)) same (no_object none)
+
+-- one more suite is marked, by the first picks that are left
+pub next_of : (all : List BinaryPicks) (id : Text) (before after : Data) (suites others : Members) → MarksSuite (first_tests all) before after → MarksSuites (drop 1 all) suites others
+    → MarksSuites all (member id before suites) (member id after others)
+next_of [] id before after suites others suite rest = further_suite suite rest
+next_of (picks ∷ all) id before after suites others suite rest = next_suite suite rest
+
+-- what is written is compact JSON
+pub compact_json : {E : Type 0} (value : Data) (written : Result (String Global) E) → IfOk written (λ s. has_float value ≡ false → string_bytes s ≡ compact_text value)
+    → IfOk written (λ s. IsInOrder (string_bytes s) value)
+    → IfOk written (λ s. depth value ≤ max_depth → read (string_bytes s) ≡ Some value) → IfOk written (λ s. IsCompactJson value (string_bytes s))
+compact_json value (Ok s) text order back = record {
+  bytes = text;
+  in_order = order;
+  reads_back = back;
+}
+compact_json value (Err e) text order back = tt

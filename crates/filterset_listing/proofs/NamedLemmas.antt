@@ -1,40 +1,56 @@
--- Names of packages, one after the other.
-use Rattle.std.proofs.Common.{◌≡◌, ◌≢◌, ◌≤◌, List, [], ◌∷◌, ◌++◌, length, take, arith, sym, ap, subst, ◌∙◌, append_assoc, length-append, length-take}
-use Rattle.std.specs.List.{AllZip}
-use Rattle.std.proofs.lemmas.List.{append-nil, take_all}
-use Rattle.std.proofs.lemmas.Slice.Zip.{AllZip-long}
-use Rattle.std.proofs.Math.Seq.{take-append_seam}
-use Rattle.filterset_listing.proofs.ListingLemmas.{AllZip-push}
+-- Packages that are named one after the other.
+use Rattle.std.proofs.Common.{◌≡◌, ◌+◌, ◌≤◌, List, [], ◌∷◌, ◌++◌, Bool, true, false, cond, ◌||◌, length, map, take, arith, refl, sym, ap, ◌∙◌, string_bytes, length-append, length-take}
+use Rattle.std.proofs.lemmas.List.{append-nil, length-map, take-append-le}
+use Rattle.std.proofs.lemmas.List.Elements.{filter-append}
+use Rattle.std.proofs.lemmas.Map.Text.{is_eq-slice_cmp}
+use Rattle.std.specs.Cmp.Lexicographic.{slice_cmp}
+use Rattle.std.specs.List.{list_any}
+use Rattle.std.specs.Ordering.{is_eq, nat_cmp}
+use Rattle.std.specs.Str.{bytes_eq}
 use Rattle.filterset_graph.specs.Packages.{Text}
+use Rattle.filterset_graph.specs.declared.package.PackageMetadata.{PackageMetadata}
+use Rattle.filterset_listing.specs.NamedPackages.{Names, members}
+use Rattle.filterset_listing.specs.declared.explaining.packages.NamedPackages.{NamedPackages}
 
--- some items are taken, and each has its name
-abbrev pub Taken : (Text → Text → Type 0) → List Text → List Text → List Text → Type 0
-Taken IsName all left names =
-    (done : List Text) × (done ++ left ≡ all) × (length names ≤ 10) × AllZip IsName done names
+abbrev name_of : PackageMetadata → Text
+name_of p = string_bytes p.name
 
--- one more
-pub Taken-push : (IsName : Text → Text → Type 0) (all left : List Text) (id name : Text) (names : List Text)
-    → Taken IsName all (id ∷ left) names → length names ≢ 10 → IsName id name → Taken IsName all left (names ++ name ∷ [])
-Taken-push IsName all left id name names (done, whole, few, are) apart is = (
-  done ++ id ∷ [],
-  append_assoc done (id ∷ []) left ∙ whole,
-  omega (arith, length-append names (name ∷ []), few, apart),
-  AllZip-push IsName done names id name are is,
-)
+-- as many are named as there are, up to ten
+named_long : (packages : List PackageMetadata) (named : NamedPackages) → Names packages named → length named.names.items ≡ length (take 10 packages)
+named_long packages named names =
+    sym (length-map named.names.items (λ n. n.now)) ∙ ap length names.0 ∙ length-map (take 10 packages) name_of
 
--- all
-pub Taken-all : (IsName : Text → Text → Type 0) (all names : List Text) → Taken IsName all [] names → AllZip IsName (take 10 all) names
-Taken-all IsName all names (done, whole, few, are) =
-    let same : done ≡ all = sym (append-nil done) ∙ whole in
-    let long : length all ≡ length names = ap length (sym same) ∙ sym (AllZip-long IsName done names are) in
-    subst (λ ids. AllZip IsName ids names) (same ∙ sym (take_all 10 all (omega (arith, long, few)))) are
+-- one more of ten or more
+pub one_other : (packages : List PackageMetadata) (p : PackageMetadata) (old new : NamedPackages) → Names packages old → 10 ≤ length old.names.items
+    → new.names.items ≡ old.names.items → new.others ≡ old.others + 1 → Names (packages ++ p ∷ []) new
+one_other packages p old new names many same more =
+    let long = named_long packages old names in
+    let above : 10 ≤ length packages = omega (arith, many, long, length-take 10 packages) in
+    let longer = length-append packages (p ∷ []) in (
+      ap (map (λ n. n.now)) same ∙ names.0 ∙ ap (map name_of) (sym (take-append-le 10 packages (p ∷ []) above)),
+      omega (arith, more, names.1, above, longer),
+    )
 
--- ten
-pub Taken-ten : (IsName : Text → Text → Type 0) (all left names : List Text) → Taken IsName all left names → length names ≡ 10 → AllZip IsName (take 10 all) names
-Taken-ten IsName all left names (done, whole, few, are) ten =
-    let long : length done ≡ 10 = sym (AllZip-long IsName done names are) ∙ ten in
-    subst (λ ids. AllZip IsName ids names) (sym (subst (λ n. take n (done ++ left) ≡ done) long (take-append_seam done left)) ∙ ap (take 10) whole) are
+-- a set is looked through for an id by its bytes
+found_by_bytes : (id : Text) (set : List Text) → list_any (λ one. is_eq (slice_cmp nat_cmp id one)) set ≡ list_any (bytes_eq id) set
+found_by_bytes id [] = refl
+found_by_bytes id (one ∷ set) =
+    ap (λ b. b || list_any (λ other. is_eq (slice_cmp nat_cmp id other)) set) (is_eq-slice_cmp id one) ∙ ap (λ b. bytes_eq id one || b) (found_by_bytes id set)
 
--- the first ten are no more than all
-pub few_of : (IsName : Text → Text → Type 0) (all names : List Text) → AllZip IsName (take 10 all) names → length names ≤ length all
-few_of IsName all names are = omega (arith, AllZip-long IsName (take 10 all) names are, length-take 10 all)
+module _ (set : List Text) (packages : List PackageMetadata) (p : PackageMetadata) (found : Bool) (is : found ≡ list_any (λ one. is_eq (slice_cmp nat_cmp p.id one)) set) where
+  more_members : members set (packages ++ p ∷ []) ≡ members set packages ++ members set (p ∷ [])
+  more_members = filter-append (λ (q : PackageMetadata). list_any (bytes_eq q.id) set) packages (p ∷ [])
+
+  -- one more member
+  pub one_member : found ≡ true → members set (packages ++ p ∷ []) ≡ members set packages ++ p ∷ []
+  one_member there =
+      let has : list_any (bytes_eq p.id) set ≡ true = sym (found_by_bytes p.id set) ∙ sym is ∙ there in
+      let own : members set (p ∷ []) ≡ p ∷ [] = ap (λ b. cond b (p ∷ []) []) has in
+      more_members ∙ ap (λ ps. members set packages ++ ps) own
+
+  -- one more package that is none
+  pub no_member : found ≡ false → members set (packages ++ p ∷ []) ≡ members set packages
+  no_member none =
+      let has : list_any (bytes_eq p.id) set ≡ false = sym (found_by_bytes p.id set) ∙ sym is ∙ none in
+      let own : members set (p ∷ []) ≡ [] = ap (λ b. cond b (p ∷ []) []) has in
+      more_members ∙ ap (λ ps. members set packages ++ ps) own ∙ append-nil (members set packages)

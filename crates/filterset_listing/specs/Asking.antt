@@ -1,6 +1,11 @@
--- What a filterset says of a test of a list.
+-- Which tests a filterset picks: by its compiled expression, and by its tree.
 use Rattle.std.specs.Prelude.{◌≡◌, ◌↔◌, ℕ, List, Bool, true, false, IsTrue, Option, Some, None, codes}
-use Rattle.filterset_expression.specs.Expression.{Holds, Lookup}
+use Rattle.filterset_faults.specs.declared.span.SourceSpan.{SourceSpan}
+use Rattle.filterset_graph.specs.declared.package.PackageMetadata.{PackageMetadata}
+use Rattle.filterset_grammar.specs.Tree.{Tree}
+use Rattle.filterset_expression.specs.BinaryMeaning.{PossibleOfTree}
+use Rattle.filterset_expression.specs.Expression.{Holds, Lookup, Possible}
+use Rattle.filterset_expression.specs.Meaning.{Meaning}
 use Rattle.filterset_expression.specs.declared.expression.CompiledExpr.{CompiledExpr}
 use Rattle.filterset_expression.specs.declared.query.BinaryQuery.{BinaryQuery}
 use Rattle.filterset_expression.specs.declared.query.TestQuery.{TestQuery}
@@ -20,9 +25,25 @@ is_no (Some true) = false
 is_no (Some false) = true
 is_no None = false
 
--- the answer tells whether the filterset holds of the test of the binary
-pub record Tells (expr default : CompiledExpr) (binary : BinaryQuery) (test : Text) (answer : Bool) : Type 0 where
+-- the compiled expression picks the test, where this is the default filter
+abbrev pub ExprPicks : CompiledExpr → CompiledExpr → TestQuery → Type 0
+ExprPicks default expr test = Holds expr test default in_global
+
+-- it can pick a test of the binary: it is true under some answers to its `test` and `group` leaves
+abbrev pub ExprCanPick : CompiledExpr → CompiledExpr → BinaryQuery → Type 0
+ExprCanPick default expr binary = Possible expr binary default true
+
+-- the tree picks the test, for these packages and this default filter
+abbrev pub TreePicks : List PackageMetadata → CompiledExpr → Tree SourceSpan → TestQuery → Type 0
+TreePicks packages default tree test = Meaning tree packages test default in_global
+
+-- it can pick a test of the binary: it is true under some answers to its `test` and `group` predicates
+abbrev pub TreeCanPick : List PackageMetadata → CompiledExpr → Tree SourceSpan → BinaryQuery → Type 0
+TreeCanPick packages default tree binary = PossibleOfTree tree packages binary default true
+
+-- the answer says whether the test of the binary is picked
+pub record Tells (Picks : TestQuery → Type 0) (binary : BinaryQuery) (test : Text) (answer : Bool) : Type 0 where
   pub query : TestQuery
   pub of_binary : query.binary_query ≡ binary
   pub of_test : query.test_name.now ≡ test
-  pub says : IsTrue answer ↔ Holds expr query default in_global
+  pub says : IsTrue answer ↔ Picks query

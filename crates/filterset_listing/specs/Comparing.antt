@@ -1,6 +1,6 @@
 -- How two filtersets differ on a list.
 use Rattle.std.specs.Prelude.{◌≡◌, ◌&&◌, ◌++◌, Bool, not, List, [], ◌∷◌, map}
-use Rattle.filterset_expression.specs.declared.expression.CompiledExpr.{CompiledExpr}
+use Rattle.filterset_expression.specs.declared.query.TestQuery.{TestQuery}
 use Rattle.filterset_listing.specs.Asking.{Tells, Text}
 use Rattle.filterset_listing.specs.Listing.{one_of}
 use Rattle.filterset_listing.specs.declared.binary.AskedBinary.{AskedBinary}
@@ -20,9 +20,9 @@ Divides One Other (test ∷ tests) first second both =
     × Divides One Other tests f s b
 
 -- how the two filtersets differ on the binary
-abbrev pub IsBinaryDifference : CompiledExpr → CompiledExpr → CompiledExpr → AskedBinary → BinaryDifference → Type 0
-IsBinaryDifference one other default binary difference =
+abbrev pub IsBinaryDifference : (TestQuery → Type 0) → (TestQuery → Type 0) → AskedBinary → BinaryDifference → Type 0
+IsBinaryDifference One Other binary difference =
     (difference.binary ≡ binary)
-    × Divides (Tells one default binary.query) (Tells other default binary.query) binary.tests.now
+    × Divides (Tells One binary.query) (Tells Other binary.query) binary.tests.now
     (map (λ t. t.now) difference.first.items) (map (λ t. t.now) difference.second.items)
     (map (λ t. t.now) difference.both.items)

@@ -1,5 +1,5 @@
--- What nextest wrote of a list, with what is picked of it.
-use Rattle.std.specs.Prelude.{◌≡◌, ◌≢◌, ◌≤◌, ◌↔◌, Bool, true, false, IsTrue, List, [], ◌∷◌, Some, None, Contains, codes, drop}
+-- nextest's list as JSON, with what is picked of it.
+use Rattle.std.specs.Prelude.{◌≡◌, ◌≢◌, ◌≤◌, ◌↔◌, Bool, true, false, IsTrue, List, [], ◌∷◌, Some, None, Contains, codes}
 use Rattle.std.specs.Borrow.{Bor}
 use Rattle.std.specs.BTreeSet.{BTreeSet, contains}
 use Rattle.std.specs.Cmp.Lexicographic.{slice_cmp}
@@ -7,6 +7,7 @@ use Rattle.std.specs.Ordering.{nat_cmp}
 use Rattle.serde_json.specs.Data.{Data, string, object, Members, no_members, member, put, depth}
 use Rattle.serde_json.specs.Find.{as_object}
 use Rattle.serde_json.specs.Read.{read, max_depth}
+use Rattle.serde_json.specs.Written.{IsInOrder, compact_text, has_float}
 use Rattle.filterset_listing.specs.Asking.{Text}
 use Rattle.filterset_listing.specs.Listing.{tests_of}
 use Rattle.filterset_listing.specs.declared.listing.BinaryPicks.{BinaryPicks}
@@ -58,18 +59,28 @@ abbrev pub first_tests : List BinaryPicks → List Text
 first_tests [] = []
 first_tests (picks ∷ all) = tests_of picks
 
--- each test of the suites says whether it is picked, where the all are those of the suites, in their order
+-- each test of the suites says whether it is picked, where the first picks are those of the first suite; no test of a
+-- suite without picks is picked
 pub data MarksSuites : List BinaryPicks → Members → Members → Type 0 where
   no_suites : {all : List BinaryPicks} → MarksSuites all no_members no_members
-  next_suite : {all : List BinaryPicks} {id : Text} {before after : Data} {members others : Members}
-      → MarksSuite (first_tests all) before after → MarksSuites (drop 1 all) members others
-      → MarksSuites all (member id before members) (member id after others)
+  next_suite : {picks : BinaryPicks} {all : List BinaryPicks} {id : Text} {before after : Data}
+      {members others : Members} → MarksSuite (tests_of picks) before after → MarksSuites all members others
+      → MarksSuites (picks ∷ all) (member id before members) (member id after others)
+  further_suite : {id : Text} {before after : Data} {members others : Members}
+      → MarksSuite [] before after → MarksSuites [] members others
+      → MarksSuites [] (member id before members) (member id after others)
 
 -- each test of a list says whether it is picked, and all else stays as nextest wrote it
 abbrev pub MarksList : List BinaryPicks → Data → Data → Type 0
 MarksList all = MarksObject (MarksAt (codes "rust-suites") (MarksObject (MarksSuites all)))
 
--- the text is JSON of the list with what is picked of it, where it nests no deeper than JSON is read
+-- The text is compact JSON of the value: members in their order and no white space. If the value has floats, whose digits
+-- are not known, its members stand in their order and the text reads back.
+pub record IsCompactJson (value : Data) (text : Text) : Type 0 where
+  pub bytes : has_float value ≡ false → text ≡ compact_text value
+  pub in_order : IsInOrder text value
+  pub reads_back : depth value ≤ max_depth → read text ≡ Some value
+
+-- the text is compact JSON of the list with what is picked of it
 abbrev pub IsListJson : List BinaryPicks → Data → Text → Type 0
-IsListJson all list text =
-    (marked : Data) × MarksList all list marked × (depth marked ≤ max_depth → read text ≡ Some marked)
+IsListJson all list text = (marked : Data) × MarksList all list marked × IsCompactJson marked text

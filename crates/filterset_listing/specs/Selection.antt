@@ -1,20 +1,56 @@
--- The tests that a runner runs, by the filtersets it is given and the default filter.
-use Rattle.std.specs.Prelude.{◌↔◌, Bool, true, false, List}
-use Rattle.filterset_expression.specs.Expression.{Holds, HoldsOfTest, formula}
+-- Which tests a runner runs, by the filtersets that it is given and the default filter.
+use Rattle.std.specs.Prelude.{◌≡◌, ◌↔◌, Bool, true, false, List}
+use Rattle.std.specs.List.{AllZip}
+use Rattle.filterset_faults.specs.declared.span.SourceSpan.{SourceSpan}
+use Rattle.filterset_graph.specs.declared.package.PackageMetadata.{PackageMetadata}
+use Rattle.filterset_grammar.specs.Tree.{Tree}
+use Rattle.filterset_expression.specs.Expression.{HoldsOfBinary, HoldsOfTest, formula, has_leaf, is_default, is_of_test}
 use Rattle.filterset_expression.specs.Formula.{TrueWhere}
+use Rattle.filterset_expression.specs.Meaning.{IsCompiled}
+use Rattle.filterset_expression.specs.Values.{CanBe}
 use Rattle.filterset_expression.specs.declared.expression.CompiledExpr.{CompiledExpr}
+use Rattle.filterset_expression.specs.declared.query.BinaryQuery.{BinaryQuery}
 use Rattle.filterset_expression.specs.declared.query.TestQuery.{TestQuery}
-use Rattle.filterset_listing.specs.Asking.{in_global}
-use Rattle.filterset_listing.specs.Union.{AnyHolds}
+use Rattle.filterset_listing.specs.Asking.{ExprCanPick, ExprPicks, TreeCanPick, TreePicks, in_global}
+use Rattle.filterset_listing.specs.Union.{AnyDoes}
 
--- the default filter holds of the test, or is ignored
-abbrev pub DefaultHolds : Bool → TestQuery → CompiledExpr → Type 0
-DefaultHolds true test default = Unit {0}
-DefaultHolds false test default = TrueWhere (HoldsOfTest test in_global) (formula default)
+-- the default filter does so, unless it is ignored, and one of the filtersets does, if there are any
+abbrev pub RunDoes : {A : Type 0} → Bool → Type 0 → (A → Type 0) → List A → Type 0
+RunDoes true DefaultDoes Does filters = AnyDoes Does filters
+RunDoes false DefaultDoes Does filters = DefaultDoes × AnyDoes Does filters
 
--- The set is that of the tests that the default filter holds of, unless it is ignored, and one of the filtersets, where
--- there are any. This is so whatever the default filter is.
-abbrev pub IsSelection : Bool → List CompiledExpr → CompiledExpr → Type 0
-IsSelection ignores_default exprs selection =
-    (test : TestQuery) (default : CompiledExpr)
-    → Holds selection test default in_global ↔ (DefaultHolds ignores_default test default × AnyHolds test default exprs)
+-- the selection picks what the default filter and the expressions pick, and can pick what they can, whatever the default
+-- filter is
+pub record IsSelection (ignores_default : Bool) (exprs : List CompiledExpr) (selection : CompiledExpr) : Type 0 where
+  pub picks : (default : CompiledExpr) (test : TestQuery) → ExprPicks default selection test
+      ↔ RunDoes ignores_default (TrueWhere (HoldsOfTest test in_global) (formula default))
+      (λ expr. ExprPicks default expr test) exprs
+  pub can_pick : (default : CompiledExpr) (binary : BinaryQuery) → ExprCanPick default selection binary
+      ↔ RunDoes ignores_default (CanBe is_of_test (HoldsOfBinary binary) (formula default) true)
+      (λ expr. ExprCanPick default expr binary) exprs
+
+-- a runner runs the test, if the default filter and the filtersets have these trees
+abbrev pub RunPicks :
+    List PackageMetadata → Bool → CompiledExpr → Tree SourceSpan → List (Tree SourceSpan) → TestQuery → Type 0
+RunPicks packages ignores_default default default_tree trees test =
+    RunDoes ignores_default (TreePicks packages default default_tree test)
+    (λ tree. TreePicks packages default tree test) trees
+
+-- it can run a test of the binary
+abbrev pub RunCanPick :
+    List PackageMetadata → Bool → CompiledExpr → Tree SourceSpan → List (Tree SourceSpan) → BinaryQuery → Type 0
+RunCanPick packages ignores_default default default_tree trees binary =
+    RunDoes ignores_default (TreeCanPick packages default default_tree binary)
+    (λ tree. TreeCanPick packages default tree binary) trees
+
+-- If the expressions are compiled trees, and so is the default filter, in which no leaf is `default`, then the selection
+-- picks and can pick what a runner runs and can run by these trees.
+abbrev pub MeansSelection : Bool → List CompiledExpr → CompiledExpr → Type 0
+MeansSelection ignores_default exprs selection =
+    (packages : List PackageMetadata) (default : CompiledExpr) (default_tree : Tree SourceSpan)
+    (trees : List (Tree SourceSpan)) → IsCompiled packages default_tree default → has_leaf is_default default ≡ false
+    → AllZip (IsCompiled packages) trees exprs
+    → ((test : TestQuery)
+    → ExprPicks default selection test ↔ RunPicks packages ignores_default default default_tree trees test)
+    × ((binary : BinaryQuery)
+    → ExprCanPick default selection binary ↔ RunCanPick packages ignores_default default default_tree trees binary)

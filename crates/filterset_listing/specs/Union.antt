@@ -1,22 +1,27 @@
 -- The union of filtersets.
-use Rattle.std.specs.Prelude.{◌↔◌, ◌⊎◌, List, [], ◌∷◌}
-use Rattle.filterset_expression.specs.Expression.{Holds}
+use Rattle.std.specs.Prelude.{◌⊎◌, List, [], ◌∷◌}
+use Rattle.filterset_expression.specs.declared.logic.Connective.TheVariants.{Disjunction}
+use Rattle.filterset_expression.specs.Expression as compiled
+use Rattle.filterset_expression.specs.Expression.{CompiledLeaf, formula}
+use Rattle.filterset_expression.specs.Formula.{Compound, Formula, Leaf}
 use Rattle.filterset_expression.specs.declared.expression.CompiledExpr.{CompiledExpr}
-use Rattle.filterset_expression.specs.declared.query.TestQuery.{TestQuery}
-use Rattle.filterset_listing.specs.Asking.{in_global}
 
--- one of the sets holds of the test
-abbrev pub OneHolds : TestQuery → CompiledExpr → List CompiledExpr → Type 0
-OneHolds test default [] = ⊥
-OneHolds test default (expr ∷ exprs) = Holds expr test default in_global ⊎ OneHolds test default exprs
+-- one of the filtersets does so
+abbrev pub OneDoes : {A : Type 0} → (A → Type 0) → List A → Type 0
+OneDoes Does [] = ⊥
+OneDoes Does (x ∷ xs) = Does x ⊎ OneDoes Does xs
 
--- one of the sets holds of the test, or there is no set
-abbrev pub AnyHolds : TestQuery → CompiledExpr → List CompiledExpr → Type 0
-AnyHolds test default [] = Unit {0}
-AnyHolds test default (expr ∷ exprs) = OneHolds test default (expr ∷ exprs)
+-- one of the filtersets does so, or there is none
+abbrev pub AnyDoes : {A : Type 0} → (A → Type 0) → List A → Type 0
+AnyDoes Does [] = Unit {0}
+AnyDoes Does (x ∷ xs) = OneDoes Does (x ∷ xs)
 
--- the set is that of the tests that are in one of the sets, whatever the default filter is; where there is none, of all
-abbrev pub IsUnion : List CompiledExpr → CompiledExpr → Type 0
-IsUnion exprs union =
-    (test : TestQuery) (default : CompiledExpr)
-    → Holds union test default in_global ↔ AnyHolds test default exprs
+-- the formula or one of the expressions
+abbrev pub or_one_of : Formula CompiledLeaf → List CompiledExpr → Formula CompiledLeaf
+or_one_of f [] = f
+or_one_of f (expr ∷ exprs) = or_one_of (Compound Disjunction f (formula expr)) exprs
+
+-- one of the expressions, or all tests if there is none
+abbrev pub union_formula : List CompiledExpr → Formula CompiledLeaf
+union_formula [] = Leaf compiled.All
+union_formula (expr ∷ exprs) = or_one_of (formula expr) exprs

@@ -2,7 +2,7 @@
 ghost use Rattle.std.specs.Prelude.{◌≡◌, IfOk};
 ghost use Rattle.filterset_expression.specs.FlatExpressions.{IsFlat, IsTold};
 ghost use Rattle.filterset_expression.specs.declared.expression.CompiledExpr.{CompiledExpr};
-ghost use Rattle.filterset_listing.specs.Asking.{Tells, is_no};
+ghost use Rattle.filterset_listing.specs.Asking.{ExprPicks, Tells, is_no};
 
 use crate::global::GlobalLookup;
 use filterset_expression::{BinaryQuery, FlatExpr, TestQuery};
@@ -41,7 +41,7 @@ pub fn picks(
 ) -> Result<bool, AllocError>
     requires { IsTold flat.now query.now binary_answer }
     ensures { IfOk result (λ answer. (expr default : CompiledExpr) → IsFlat flat.now expr default
-        → Tells expr default query.now test.now answer) }
+        → Tells (ExprPicks default expr) query.now test.now answer) }
 {
     let query = query_of(query, test);
     flat.matches_test_of_told(alloc, binary_answer, &query, lookup)

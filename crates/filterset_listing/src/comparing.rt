@@ -1,9 +1,14 @@
 //! How two filtersets differ on a list.
-ghost use Rattle.std.specs.Prelude.{◌≡◌, ◌&&◌, ◌++◌, IfOk, OnOk, map, not};
+ghost use Rattle.std.specs.Prelude.{◌≡◌, ◌&&◌, ◌++◌, IfOk, List, OnOk, map, not};
 ghost use Rattle.std.specs.List.{AllZip};
 ghost use Rattle.filterset_expression.specs.Contexts.{default_of};
 ghost use Rattle.filterset_expression.specs.FlatExpressions.{IsFlat};
+ghost use Rattle.filterset_expression.specs.Meaning.{IsCompiled};
 ghost use Rattle.filterset_expression.specs.declared.expression.CompiledExpr.{CompiledExpr};
+ghost use Rattle.filterset_faults.specs.declared.span.SourceSpan.{SourceSpan};
+ghost use Rattle.filterset_graph.specs.declared.package.PackageMetadata.{PackageMetadata};
+ghost use Rattle.filterset_grammar.specs.Tree.{Tree};
+ghost use Rattle.filterset_listing.specs.Asking.{ExprPicks, TreePicks};
 ghost use Rattle.filterset_listing.specs.Comparing.{IsBinaryDifference};
 ghost use Rattle.filterset_listing.specs.Listing.{one_of};
 
@@ -62,7 +67,8 @@ fn divide<'s>(
     binary: &AskedBinary<'s>,
 ) -> Result<BinaryDifference<'s>, AllocError>
     ensures { IfOk result (λ difference. (one other default : CompiledExpr) → IsFlat first.now one default
-        → IsFlat second.now other default → IsBinaryDifference one other default binary.now difference) }
+        → IsFlat second.now other default
+        → IsBinaryDifference (ExprPicks default one) (ExprPicks default other) binary.now difference) }
 {
     let lookup = GlobalLookup;
     let query = &binary.query;
@@ -91,7 +97,7 @@ fn differences_of<'s>(
 ) -> Result<Vec<BinaryDifference<'s>>, AllocError>
     ensures { IfOk result (λ all. (one other default : CompiledExpr) → IsFlat first.now one default
         → IsFlat second.now other default
-        → AllZip (IsBinaryDifference one other default) binaries.now all.items) }
+        → AllZip (IsBinaryDifference (ExprPicks default one) (ExprPicks default other)) binaries.now all.items) }
 {
     let mut all = Vec::with_capacity(alloc, binaries.len())?;
     for binary in binaries {
@@ -108,8 +114,15 @@ pub fn compare<'s>(
     context: &EvalContext<'_>,
     binaries: &[AskedBinary<'s>],
 ) -> Result<Vec<BinaryDifference<'s>>, AllocError>
-    ensures { IfOk result (λ all.
-        AllZip (IsBinaryDifference first.now second.now (default_of context.now)) binaries.now all.items) }
+    ensures picks { let default = default_of context.now in IfOk result (λ all.
+        AllZip (IsBinaryDifference (ExprPicks default first.now) (ExprPicks default second.now))
+        binaries.now all.items) }
+
+    // If both expressions are compiled trees, the parts are those of what the trees pick.
+    ensures meaning { let default = default_of context.now in IfOk result (λ all. (packages : List PackageMetadata)
+        (one other : Tree SourceSpan) → IsCompiled packages one first.now → IsCompiled packages other second.now
+        → AllZip (IsBinaryDifference (TreePicks packages default one) (TreePicks packages default other))
+        binaries.now all.items) }
 {
     let first = FlatExpr::new(alloc, first, context)?;
     let second = FlatExpr::new(alloc, second, context)?;

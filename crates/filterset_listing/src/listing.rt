@@ -1,10 +1,14 @@
 //! Which tests of a list a filterset picks.
-ghost use Rattle.std.specs.Prelude.{◌≡◌, ◌++◌, IfOk, OnOk, map};
+ghost use Rattle.std.specs.Prelude.{◌≡◌, ◌++◌, IfOk, List, OnOk, map};
 ghost use Rattle.std.specs.List.{AllZip};
 ghost use Rattle.filterset_expression.specs.Contexts.{default_of};
 ghost use Rattle.filterset_expression.specs.FlatExpressions.{IsFlat, IsTold};
+ghost use Rattle.filterset_expression.specs.Meaning.{IsCompiled};
 ghost use Rattle.filterset_expression.specs.declared.expression.CompiledExpr.{CompiledExpr};
-ghost use Rattle.filterset_listing.specs.Asking.{Tells};
+ghost use Rattle.filterset_faults.specs.declared.span.SourceSpan.{SourceSpan};
+ghost use Rattle.filterset_graph.specs.declared.package.PackageMetadata.{PackageMetadata};
+ghost use Rattle.filterset_grammar.specs.Tree.{Tree};
+ghost use Rattle.filterset_listing.specs.Asking.{ExprCanPick, ExprPicks, Tells, TreeCanPick, TreePicks};
 ghost use Rattle.filterset_listing.specs.Listing.{IsBinaryPicks, Picked, one_of};
 
 pub mod json;
@@ -53,7 +57,7 @@ fn pick_tests<'s>(
 ) -> Result<Vec<&'s TestCaseName>, AllocError>
     requires { IsTold flat.now query.now binary_answer }
     ensures { IfOk result (λ picked. (expr default : CompiledExpr) → IsFlat flat.now expr default
-        → Picked (Tells expr default query.now) tests.now (map (λ t. t.now) picked.items)) }
+        → Picked (Tells (ExprPicks default expr) query.now) tests.now (map (λ t. t.now) picked.items)) }
 {
     let lookup = GlobalLookup;
     let mut picked = Vec::new(alloc);
@@ -71,7 +75,7 @@ fn picks_of<'s>(
     binary: &AskedBinary<'s>,
 ) -> Result<BinaryPicks<'s>, AllocError>
     ensures { IfOk result (λ picks. (expr default : CompiledExpr) → IsFlat flat.now expr default
-        → IsBinaryPicks expr default binary.now picks) }
+        → IsBinaryPicks (ExprPicks default expr) (ExprCanPick default expr) binary.now picks) }
 {
     let binary_answer = flat.matches_binary(alloc, &binary.query)?;
     if is_no(binary_answer) {
@@ -95,7 +99,7 @@ fn all_picks_of<'s>(
     binaries: &[AskedBinary<'s>],
 ) -> Result<Vec<BinaryPicks<'s>>, AllocError>
     ensures { IfOk result (λ all. (expr default : CompiledExpr) → IsFlat flat.now expr default
-        → AllZip (IsBinaryPicks expr default) binaries.now all.items) }
+        → AllZip (IsBinaryPicks (ExprPicks default expr) (ExprCanPick default expr)) binaries.now all.items) }
 {
     let mut all = Vec::with_capacity(alloc, binaries.len())?;
     for binary in binaries {
@@ -116,8 +120,14 @@ pub fn list<'s>(
     context: &EvalContext<'_>,
     binaries: &[AskedBinary<'s>],
 ) -> Result<Vec<BinaryPicks<'s>>, AllocError>
-    ensures { IfOk result (λ all.
-        AllZip (IsBinaryPicks expr.now (default_of context.now)) binaries.now all.items) }
+    ensures picks { let default = default_of context.now in IfOk result (λ all.
+        AllZip (IsBinaryPicks (ExprPicks default expr.now) (ExprCanPick default expr.now)) binaries.now all.items) }
+
+    // If the expression is a compiled tree, exactly those tests are picked that the tree picks.
+    ensures meaning { let default = default_of context.now in IfOk result (λ all. (packages : List PackageMetadata)
+        (tree : Tree SourceSpan) → IsCompiled packages tree expr.now
+        → AllZip (IsBinaryPicks (TreePicks packages default tree) (TreeCanPick packages default tree))
+        binaries.now all.items) }
 {
     let flat = FlatExpr::new(alloc, expr, context)?;
     all_picks_of(alloc, &flat, binaries)

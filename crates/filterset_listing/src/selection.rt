@@ -3,7 +3,7 @@ ghost use Rattle.std.specs.Prelude.{◌≡◌, IfOk};
 ghost use Rattle.filterset_expression.specs.declared.logic.Connective.TheVariants.{Conjunction};
 ghost use Rattle.filterset_expression.specs.Expression.{Default, formula};
 ghost use Rattle.filterset_expression.specs.Formula.{Compound, Leaf};
-ghost use Rattle.filterset_listing.specs.Selection.{IsSelection};
+ghost use Rattle.filterset_listing.specs.Selection.{IsSelection, MeansSelection};
 
 use crate::union::union_of;
 use filterset_expression::nodes::combine;
@@ -27,7 +27,8 @@ pub fn selection_of(
     exprs: Vec<CompiledExpr>,
     ignores_default: bool,
 ) -> Result<CompiledExpr, AllocError>
-    ensures { IfOk result (IsSelection ignores_default exprs.items) }
+    ensures picks { IfOk result (IsSelection ignores_default exprs.items) }
+    ensures meaning { IfOk result (MeansSelection ignores_default exprs.items) }
 {
     let union = union_of(alloc, exprs)?;
     if ignores_default {

@@ -3,7 +3,7 @@ ghost use Rattle.std.specs.Prelude.{◌≡◌, IfOk, MatchOption};
 ghost use Rattle.filterset_expression.specs.declared.logic.Connective.TheVariants.{Disjunction};
 ghost use Rattle.filterset_expression.specs.Expression.{formula};
 ghost use Rattle.filterset_expression.specs.Formula.{Compound};
-ghost use Rattle.filterset_listing.specs.Union.{IsUnion};
+ghost use Rattle.filterset_listing.specs.Union.{union_formula};
 
 use filterset_expression::nodes::combine;
 use filterset_expression::{CompiledExpr, Connective, FiltersetLeaf};
@@ -32,7 +32,7 @@ pub(crate) fn union_of(
     alloc: Global,
     exprs: Vec<CompiledExpr>,
 ) -> Result<Box<CompiledExpr>, AllocError>
-    ensures { IfOk result (λ union. IsUnion exprs.items union.value) }
+    ensures { IfOk result (λ union. formula union.value ≡ union_formula exprs.items) }
 {
     let mut union = None;
     for expr in exprs {

@@ -1,9 +1,11 @@
 //! The packages that a predicate matches, by name.
-ghost use Rattle.std.specs.Prelude.{◌≡◌, IfOk, map};
-ghost use Rattle.filterset_listing.specs.NamedPackages.{AreNamed, IsNameOf, NamesSet};
+ghost use Rattle.std.specs.Prelude.{◌≡◌, ◌++◌, ◌∷◌, [], IfOk, List, OnOk, string_bytes};
+ghost use Rattle.filterset_graph.specs.declared.package.PackageMetadata as declared;
+ghost use Rattle.filterset_listing.specs.NamedPackages.{Names, NamesSet, members};
 
+use crate::counting::add_count;
 use filterset_expression::{CompiledExpr, FiltersetLeaf};
-use filterset_graph::{PackageGraph, PackageId};
+use filterset_graph::{PackageGraph, PackageId, PackageMetadata};
 use std::alloc::{AllocError, Global};
 use std::collections::BTreeSet;
 
@@ -13,53 +15,72 @@ const NAMED: usize = 10;
 /// The packages that a predicate matches.
 #[derive(Debug, Drop)]
 pub struct NamedPackages<'g> {
-    /// The names of the first ten, in the order of their ids.
+    /// The names of the first ten, in the order of the graph.
     pub names: Vec<&'g str>,
     /// How many others there are.
     pub others: usize,
 }
 
-/// Returns the name of a package, or its id if the graph does not have it.
-fn name_of<'g>(graph: &'g PackageGraph, id: &'g PackageId) -> &'g str
-    ensures { IsNameOf graph.now id.now result.now }
-{
-    match graph.metadata(id) {
-        Some(package) => package.name(),
-        None => id.repr(),
+impl<'g> NamedPackages<'g> {
+    /// Adds a package: by name if fewer than ten are named, and otherwise to the number of the others.
+    fn push(&mut self, name: &'g str) -> Result<(), AllocError>
+        ensures { OnOk result ((packages : List declared.PackageMetadata) (p : declared.PackageMetadata)
+            → Names packages self.old → string_bytes p.name ≡ name.entry.now → Names (packages ++ p ∷ []) self.new) }
+    {
+        if self.names.len() < NAMED {
+            self.names.push(name)?;
+            return Ok(());
+        }
+        self.others = add_count(self.others, 1)?;
+        Ok(())
+    }
+
+    /// Adds a package if its id is in the set.
+    fn push_member(
+        &mut self,
+        ids: &BTreeSet<PackageId>,
+        metadata: &'g PackageMetadata,
+    ) -> Result<(), AllocError>
+        ensures { OnOk result ((packages : List declared.PackageMetadata)
+            → Names (members ids.now.keys packages) self.old
+            → Names (members ids.now.keys (packages ++ metadata.entry.now ∷ [])) self.new) }
+    {
+        if ids.contains(&metadata.id) {
+            return self.push(metadata.name());
+        }
+        Ok(())
     }
 }
 
-/// Returns the names of the first ten of the packages.
-fn first_names<'g>(
+/// Names the packages of the graph whose ids are in the set, in the order of the graph.
+fn name_members<'g>(
     alloc: Global,
     graph: &'g PackageGraph,
-    ids: &'g BTreeSet<PackageId>,
-) -> Result<Vec<&'g str>, AllocError>
-    ensures { IfOk result (λ names. AreNamed graph.now ids.now.keys (map (λ n. n.now) names.items)) }
+    ids: &BTreeSet<PackageId>,
+) -> Result<NamedPackages<'g>, AllocError>
+    ensures { IfOk result (Names (members ids.now.keys graph.now)) }
 {
-    let mut names = Vec::new(alloc);
-    for id in ids {
-        if names.len() == NAMED {
-            return Ok(names);
-        }
-        names.push(name_of(graph, id))?;
+    let mut named = NamedPackages {
+        names: Vec::new(alloc),
+        others: 0,
+    };
+    for package in graph.packages() {
+        named.push_member(ids, package)?;
     }
-    Ok(names)
+    Ok(named)
 }
 
 /// Returns the packages that a predicate is compiled to, or `None` if it is compiled to something else.
 pub fn named_packages<'g>(
     alloc: Global,
     graph: &'g PackageGraph,
-    expr: &'g CompiledExpr,
+    expr: &CompiledExpr,
 ) -> Result<Option<NamedPackages<'g>>, AllocError>
     ensures { IfOk result (NamesSet graph.now expr.now) }
 {
     match expr {
         CompiledExpr::Set(FiltersetLeaf::Packages(ids)) => {
-            let names = first_names(alloc, graph, ids)?;
-            let others = ids.len() - names.len();
-            Ok(Some(NamedPackages { names, others }))
+            Ok(Some(name_members(alloc, graph, ids)?))
         }
         _ => Ok(None),
     }

@@ -2,6 +2,7 @@ use Rattle.std.proofs.Common.{take}
 use Rattle.std.specs.List.{AllZip}
 use Rattle.filterset_expression.specs.FlatExpressions.{IsFlat}
 use Rattle.filterset_expression.specs.declared.expression.CompiledExpr.{CompiledExpr}
+use Rattle.filterset_listing.specs.Asking.{ExprPicks}
 use Rattle.filterset_listing.specs.Comparing.{IsBinaryDifference}
 use Rattle.filterset_listing.proofs.comparing.differences_of.Given as goal
 
@@ -9,4 +10,4 @@ use Rattle.filterset_listing.proofs.comparing.differences_of.Given as goal
 abbrev pub invariant-loop-binary : goal.invariant-loop-binary
 invariant-loop-binary l =
     (one other default : CompiledExpr) → IsFlat l.first one default → IsFlat l.second other default
-    → AllZip (IsBinaryDifference one other default) (take l.binary-index l.binaries) l.all.items
+    → AllZip (IsBinaryDifference (ExprPicks default one) (ExprPicks default other)) (take l.binary-index l.binaries) l.all.items

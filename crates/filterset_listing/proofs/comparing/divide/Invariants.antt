@@ -1,7 +1,7 @@
 use Rattle.std.proofs.Common.{◌≡◌, map, take}
 use Rattle.filterset_expression.specs.FlatExpressions.{IsFlat}
 use Rattle.filterset_expression.specs.declared.expression.CompiledExpr.{CompiledExpr}
-use Rattle.filterset_listing.specs.Asking.{Tells}
+use Rattle.filterset_listing.specs.Asking.{ExprPicks, Tells}
 use Rattle.filterset_listing.specs.Comparing.{Divides}
 use Rattle.filterset_listing.proofs.comparing.divide.Given as goal
 
@@ -10,5 +10,5 @@ abbrev pub invariant-loop-test : goal.invariant-loop-test
 invariant-loop-test l =
     (l.difference.binary ≡ l.binary)
     × ((one other default : CompiledExpr) → IsFlat l.first one default → IsFlat l.second other default
-    → Divides (Tells one default l.binary.query) (Tells other default l.binary.query) (take l.test-index l.binary.tests.now)
+    → Divides (Tells (ExprPicks default one) l.binary.query) (Tells (ExprPicks default other) l.binary.query) (take l.test-index l.binary.tests.now)
     (map (λ t. t.now) l.difference.first.items) (map (λ t. t.now) l.difference.second.items) (map (λ t. t.now) l.difference.both.items))

@@ -1,5 +1,6 @@
 use Rattle.std.proofs.Common.{rules, arith, ◌≡◌, ◌<◌, length, get_or, take}
 use Rattle.std.proofs.lemmas.List.{take_all}
+use Rattle.filterset_listing.specs.Asking.{ExprCanPick, ExprPicks}
 use Rattle.filterset_listing.specs.Listing.{IsBinaryPicks}
 use Rattle.filterset_listing.proofs.ListingLemmas.{AllZip-push, one_more}
 use Rattle.filterset_listing.proofs.listing.all_picks_of.Goals as goal
@@ -16,4 +17,4 @@ loop-binary-preserved c expr default flat =
     let binary = c.binary-item.result in
     let lt : i < length binaries = omega (arith, c.loop-binary-test.true) in
     let at : get_or binaries i binary ≡ binary = search (rules, c.binary-item.is) in
-    rw (c.in_ok-push.ensures.items, one_more binaries i binary lt at) (AllZip-push (IsBinaryPicks expr default) (take i binaries) _ binary _ (c.loop-binary.invariant expr default flat) (c.in_ok-picks_of.ensures expr default flat))
+    rw (c.in_ok-push.ensures.items, one_more binaries i binary lt at) (AllZip-push (IsBinaryPicks (ExprPicks default expr) (ExprCanPick default expr)) (take i binaries) _ binary _ (c.loop-binary.invariant expr default flat) (c.in_ok-picks_of.ensures expr default flat))

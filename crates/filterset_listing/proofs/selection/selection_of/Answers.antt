@@ -1,13 +1,23 @@
 use Rattle.std.proofs.Common.{rules, ◌≡◌}
-use Rattle.filterset_listing.proofs.SelectionLemmas.{IsSelection-ignoring, IsSelection-within}
+use Rattle.filterset_listing.proofs.SelectionLemmas.{IsSelection-ignoring, IsSelection-within, selection_means}
 use Rattle.filterset_listing.proofs.selection.selection_of.Goals as goal
 
-pub returns-then-ignores_default : goal.returns-then-ignores_default
-returns-then-ignores_default c =
+pub returns-then-ignores_default-clause-picks : goal.returns-then-ignores_default-clause-picks
+returns-then-ignores_default-clause-picks c =
     let value : c.into_inner.result ≡ c.in_ok-union.union.value = search rules in
     rw value (IsSelection-ignoring c.args.ignores_default c.args.exprs.items c.in_ok-union.union.value c.if-ignores_default.true c.in_ok-union.ensures)
 
-pub returns : goal.returns
-returns c =
+pub returns-then-ignores_default-clause-meaning : goal.returns-then-ignores_default-clause-meaning
+returns-then-ignores_default-clause-meaning c =
+    let value : c.into_inner.result ≡ c.in_ok-union.union.value = search rules in
+    rw value (selection_means _ _ _ (IsSelection-ignoring c.args.ignores_default c.args.exprs.items c.in_ok-union.union.value c.if-ignores_default.true c.in_ok-union.ensures))
+
+pub returns-clause-picks : goal.returns-clause-picks
+returns-clause-picks c =
     let value : c.into_inner-2.result ≡ c.in_ok-within_default.field-0.value = search rules in
     rw value (IsSelection-within c.args.ignores_default c.args.exprs.items c.in_ok-union.union.value c.in_ok-within_default.field-0.value c.if-ignores_default.false c.in_ok-union.ensures c.in_ok-within_default.ensures)
+
+pub returns-clause-meaning : goal.returns-clause-meaning
+returns-clause-meaning c =
+    let value : c.into_inner-2.result ≡ c.in_ok-within_default.field-0.value = search rules in
+    rw value (selection_means _ _ _ (IsSelection-within c.args.ignores_default c.args.exprs.items c.in_ok-union.union.value c.in_ok-within_default.field-0.value c.if-ignores_default.false c.in_ok-union.ensures c.in_ok-within_default.ensures))

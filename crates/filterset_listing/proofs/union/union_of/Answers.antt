@@ -1,9 +1,9 @@
-use Rattle.std.proofs.Common.{rules, ◌∙◌, subst, sym}
+use Rattle.std.proofs.Common.{rules, ◌∙◌, ap, sym}
 use Rattle.std.proofs.lemmas.Iterator.Adapters.{YieldsList-from_vec}
 use Rattle.std.proofs.lemmas.Iterator.Consumers.{YieldsList-end}
 use Rattle.std.proofs.lemmas.List.{map-id}
-use Rattle.filterset_listing.specs.Union.{IsUnion}
-use Rattle.filterset_listing.proofs.UnionLemmas.{IsUnion-some, more_sets}
+use Rattle.filterset_listing.specs.Union.{union_formula}
+use Rattle.filterset_listing.proofs.UnionLemmas.{more_sets}
 use Rattle.filterset_listing.proofs.union.union_of.Goals as goal
 
 pub loop-expr-preserved : goal.loop-expr-preserved
@@ -16,5 +16,4 @@ returns-in-Some-union c =
     let whole = YieldsList-end left c.loop-expr.yielded c.loop-expr.expr-iterator c.loop-expr.yielded_by _ c.next.new.self c.in-None.is c.next.ensures.steps in
     let all = sym (map-id c.loop-expr.yielded) ∙ whole.0 in
     let sets = rw c.in-Some-union.is at c.loop-expr.invariant in
-    subst (λ exprs. IsUnion exprs c.in-Some-union.union.value) all
-    (IsUnion-some c.loop-expr.yielded c.in-Some-union.union.value sets.0 sets.1)
+    sets.1 ∙ ap union_formula all
