@@ -1,34 +1,60 @@
--- Texts that are read one after the other.
-use Rattle.std.proofs.Common.{◌≡◌, ℕ, ◌+◌, ◌<◌, List, [], ◌∷◌, ◌++◌, length, map, take, get_or, ◌∙◌, sym, ap}
-use Rattle.std.proofs.lemmas.List.{map-append, take_more}
+-- The rows of texts that are numbered one after the other.
+use Rattle.std.proofs.Common.{◌≡◌, ℕ, ◌+◌, ◌<◌, arith, List, [], ◌∷◌, ◌++◌, length, map, take, get_or, ◌∙◌, sym, ap}
+use Rattle.std.proofs.lemmas.List.{map-append, length-map, length-take-le, take_more}
+use Rattle.std.proofs.lemmas.List.FromFn.{length-enumerate_from}
+use Rattle.std.specs.List.{enumerate_from}
 use Rattle.std.specs.Borrow.{Bor}
 use Rattle.filterset_drawing.specs.Columns.{Text}
 use Rattle.filterset_faults.specs.declared.kind.FiltersetKind.{FiltersetKind}
 use Rattle.filterset_answers.specs.Checked.{TextRow, text_row}
 use Rattle.filterset_answers.specs.declared.text.TextEntry.{TextEntry}
-use Rattle.filterset_answers.specs.Entries.{HaveTexts}
+use Rattle.filterset_answers.specs.Entries.{numbered_row, numbered_rows}
 
--- one more text
-pub HaveTexts-push : (kind : FiltersetKind) (texts : List Text) (rows : List TextRow) (text : Text) (row : TextRow)
-    → HaveTexts kind texts rows → row.kind ≡ kind → row.text ≡ text → HaveTexts kind (texts ++ text ∷ []) (rows ++ row ∷ [])
-HaveTexts-push kind texts rows text row have of_kind of_text =
-    map-append (λ (r : TextRow). (r.kind, r.text)) rows (row ∷ [])
-    ∙ ap (λ ps. ps ++ (row.kind, row.text) ∷ []) have
-    ∙ ap (λ k. map (λ t. (kind, t)) texts ++ (k, row.text) ∷ []) of_kind
-    ∙ ap (λ t. map (λ t. (kind, t)) texts ++ (kind, t) ∷ []) of_text
-    ∙ sym (map-append (λ t. (kind, t)) texts (text ∷ []))
+-- one more element, with the number behind those of the others
+enumerate_from-push : {A : Type 0} (n : ℕ) (xs : List A) (x : A)
+    → enumerate_from n (xs ++ x ∷ []) ≡ enumerate_from n xs ++ (n + length xs, x) ∷ []
+enumerate_from-push n [] x =
+    let same : n ≡ n + 0 = omega arith in ap (λ k. (k, x) ∷ []) same
+enumerate_from-push {A} n (y ∷ ys) x =
+    let same : (n + 1) + length ys ≡ n + length (y ∷ ys) = omega arith in
+    ap (λ zs. (n, y) ∷ zs) (enumerate_from-push (n + 1) ys x ∙ ap (λ k. enumerate_from (n + 1) ys ++ (k, x) ∷ []) same)
+
+-- there is a row for each text
+pub length-numbered_rows : (word : Text) (kind : FiltersetKind) (texts : List Text)
+    → length (numbered_rows word kind texts) ≡ length texts
+length-numbered_rows word kind texts =
+    length-map (enumerate_from 1 texts) (λ (numbered : ℕ × Text). numbered_row word kind numbered.0 numbered.1)
+    ∙ length-enumerate_from 1 texts
+
+-- the row of one more text
+pub numbered_rows-push : (word : Text) (kind : FiltersetKind) (texts : List Text) (text : Text)
+    → numbered_rows word kind (texts ++ text ∷ []) ≡ numbered_rows word kind texts ++ numbered_row word kind (1 + length texts) text ∷ []
+numbered_rows-push word kind texts text =
+    let row : ℕ × Text → TextRow = λ (numbered : ℕ × Text). numbered_row word kind numbered.0 numbered.1 in
+    ap (map row) (enumerate_from-push 1 texts text) ∙ map-append row (enumerate_from 1 texts) ((1 + length texts, text) ∷ [])
 
 -- the entry of one more text
-pub HaveTexts-entry : (kind : FiltersetKind) (texts : List Text) (entries : List TextEntry) (text : Text) (entry : TextEntry)
-    → HaveTexts kind texts (map text_row entries) → entry.kind ≡ kind → entry.text.now ≡ text
-    → HaveTexts kind (texts ++ text ∷ []) (map text_row (entries ++ entry ∷ []))
-HaveTexts-entry kind texts entries text entry have of_kind of_text =
-    rw (map-append text_row entries (entry ∷ [])) (HaveTexts-push kind texts (map text_row entries) text (text_row entry) have of_kind of_text)
+pub numbered_entry : (word : Text) (kind : FiltersetKind) (texts : List Text) (entries : List TextEntry) (number : ℕ) (text : Text) (entry : TextEntry)
+    → map text_row entries ≡ numbered_rows word kind texts → number ≡ 1 + length texts → text_row entry ≡ numbered_row word kind number text
+    → map text_row (entries ++ entry ∷ []) ≡ numbered_rows word kind (texts ++ text ∷ [])
+numbered_entry word kind texts entries number text entry are next is =
+    map-append text_row entries (entry ∷ [])
+    ∙ ap (λ rows. rows ++ text_row entry ∷ []) are
+    ∙ ap (λ row. numbered_rows word kind texts ++ row ∷ []) (is ∙ ap (λ n. numbered_row word kind n text) next)
+    ∙ sym (numbered_rows-push word kind texts text)
+
+-- there is an entry for each text
+pub entries_long : (word : Text) (kind : FiltersetKind) (texts : List Text) (entries : List TextEntry)
+    → map text_row entries ≡ numbered_rows word kind texts → length entries ≡ length texts
+entries_long word kind texts entries are =
+    sym (length-map entries text_row) ∙ ap length are ∙ length-numbered_rows word kind texts
 
 -- the entry of the next of given texts
-pub HaveTexts-next : (kind : FiltersetKind) (texts : List (Bor Text)) (i : ℕ) (d : Bor Text) (entries : List TextEntry) (entry : TextEntry) → i < length texts
-    → HaveTexts kind (map (λ (t : Bor Text). t.now) (take i texts)) (map text_row entries) → entry.kind ≡ kind → entry.text.now ≡ (get_or texts i d).now
-    → HaveTexts kind (map (λ (t : Bor Text). t.now) (take (i + 1) texts)) (map text_row (entries ++ entry ∷ []))
-HaveTexts-next kind texts i d entries entry lt have of_kind of_text =
+pub given_entry : (word : Text) (kind : FiltersetKind) (texts : List (Bor Text)) (i : ℕ) (d : Bor Text) (entries : List TextEntry) (entry : TextEntry) → i < length texts
+    → map text_row entries ≡ numbered_rows word kind (map (λ (t : Bor Text). t.now) (take i texts))
+    → text_row entry ≡ numbered_row word kind (i + 1) (get_or texts i d).now
+    → map text_row (entries ++ entry ∷ []) ≡ numbered_rows word kind (map (λ (t : Bor Text). t.now) (take (i + 1) texts))
+given_entry word kind texts i d entries entry lt are is =
+    let next : i + 1 ≡ 1 + length (map (λ (t : Bor Text). t.now) (take i texts)) = omega (arith, length-map (take i texts) (λ (t : Bor Text). t.now), length-take-le i texts (omega arith)) in
     rw (take_more texts i d lt, map-append (λ (t : Bor Text). t.now) (take i texts) (get_or texts i d ∷ []))
-    (HaveTexts-entry kind (map (λ (t : Bor Text). t.now) (take i texts)) entries (get_or texts i d).now entry have of_kind of_text)
+    (numbered_entry word kind (map (λ (t : Bor Text). t.now) (take i texts)) entries (i + 1) (get_or texts i d).now entry are next is)

@@ -1,4 +1,4 @@
--- The test binaries of nextest's list.
+-- What filtersets are asked about the test binaries of nextest's list.
 use Rattle.std.specs.Prelude.{◌≡◌, Bool, true, false, string_bytes}
 use Rattle.filterset_listing.specs.declared.binary.AskedBinary.{AskedBinary}
 use Rattle.filterset_sources.specs.declared.list.Suite.{Suite}

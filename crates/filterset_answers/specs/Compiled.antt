@@ -1,4 +1,4 @@
--- What texts are as filtersets.
+-- Which filtersets texts spell, or which faults they have.
 use Rattle.std.specs.Prelude.{◌≡◌, ◌≢◌, ◌⊎◌, ℕ, List, [], ◌∷◌, Option, Some, None, false, string_bytes}
 use Rattle.std.specs.List.{AllZip}
 use Rattle.filterset_drawing.specs.Columns.{Text}

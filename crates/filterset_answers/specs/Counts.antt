@@ -1,4 +1,4 @@
--- Counting.
+-- How a truth value is counted.
 use Rattle.std.specs.Prelude.{ℕ, Bool, true, false}
 
 -- one if so, and else none

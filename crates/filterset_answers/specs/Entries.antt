@@ -1,5 +1,6 @@
--- The texts that commands are about.
-use Rattle.std.specs.Prelude.{◌≡◌, List, [], ◌∷◌, map, string_bytes}
+-- Which texts commands check, format or ask, as rows: where a text comes from, what it has to be, and the text.
+use Rattle.std.specs.Prelude.{ℕ, ◌++◌, List, [], ◌∷◌, codes, decimal, map, string_bytes}
+use Rattle.std.specs.List.{enumerate_from}
 use Rattle.filterset_drawing.specs.Columns.{Text}
 use Rattle.filterset_faults.specs.declared.kind.FiltersetKind.{FiltersetKind}
 use Rattle.filterset_faults.specs.declared.kind.FiltersetKind.TheVariants as kinds
@@ -8,30 +9,35 @@ use Rattle.filterset_answers.specs.Checked.{TextRow}
 use Rattle.filterset_answers.specs.declared.question.Question.{Question}
 use Rattle.filterset_answers.specs.declared.question.Question.TheVariants as questions
 
--- the rows have these texts, in their order, and are to be filtersets of this kind
-abbrev pub HaveTexts : FiltersetKind → List Text → List TextRow → Type 0
-HaveTexts kind texts rows =
-    map {B = FiltersetKind × Text} (λ (row : TextRow). (row.kind, row.text)) rows
-    ≡ map {B = FiltersetKind × Text} (λ text. (kind, text)) texts
+abbrev pub row_of : Text → FiltersetKind → Text → TextRow
+row_of origin kind text = record { origin = origin; kind = kind; text = text }
 
--- the row has this text, and is to be a filterset of this kind
-abbrev pub IsRowOf : FiltersetKind → Text → TextRow → Type 0
-IsRowOf kind text row = (row.kind ≡ kind) × (row.text ≡ text)
+-- the row of a text that is called by a word and a number, as `argument 2`
+abbrev pub numbered_row : Text → FiltersetKind → ℕ → Text → TextRow
+numbered_row word kind number text = row_of (word ++ (codes " " ++ decimal number)) kind text
 
--- a filterset of a configuration, called by its path
+-- the rows of texts, which are called by the word and numbered from 1 in their order
+abbrev pub numbered_rows : Text → FiltersetKind → List Text → List TextRow
+numbered_rows word kind texts =
+    map (λ (numbered : ℕ × Text). numbered_row word kind numbered.0 numbered.1) (enumerate_from 1 texts)
+
+-- a filterset of a configuration is called by its path
 abbrev pub file_row : ConfiguredFilterset → TextRow
-file_row filterset =
-    record { origin = string_bytes filterset.path; kind = filterset.kind; text = string_bytes filterset.text }
+file_row filterset = row_of (string_bytes filterset.path) filterset.kind (string_bytes filterset.text)
 
 abbrev pub file_rows : List ConfiguredFilterset → List TextRow
 file_rows filtersets = map file_row filtersets
 
--- the filtersets that a question is about
-abbrev pub filter_texts : Question → List Text
-filter_texts (questions.List filters ignores_default) = map (λ t. t.now) filters.now
-filter_texts (questions.Compare first second has_names) = first.now ∷ second.now ∷ []
+-- filtersets of a question have to be ones of tests
+abbrev pub test_row : Text → Text → TextRow
+test_row origin text = row_of origin kinds.Test text
 
--- the rows of a question: that of the default filter, and those of the filtersets, which are to be ones of tests
-abbrev pub AreQuestionRows : Text → Question → TextRow → List TextRow → Type 0
-AreQuestionRows default question row rows =
-    IsRowOf kinds.DefaultFilter default row × HaveTexts kinds.Test (filter_texts question) rows
+abbrev pub default_row : Text → TextRow
+default_row text = row_of (codes "--default-filter") kinds.DefaultFilter text
+
+-- the rows of the filtersets of a question: those of a list are numbered, and two that are compared are `A` and `B`
+abbrev pub question_rows : Question → List TextRow
+question_rows (questions.List filters ignores_default) =
+    numbered_rows (codes "-E") kinds.Test (map (λ t. t.now) filters.now)
+question_rows (questions.Compare first second has_names) =
+    test_row (codes "A") first.now ∷ test_row (codes "B") second.now ∷ []

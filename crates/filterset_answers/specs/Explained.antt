@@ -1,8 +1,7 @@
--- How a filterset is explained.
-use Rattle.std.specs.Prelude.{◌≡◌, ◌++◌, List, Option, Some}
+-- What `explain` writes.
+use Rattle.std.specs.Prelude.{◌≡◌, ◌++◌, List, Option, Some, codes}
 use Rattle.std.specs.List.{AllZip, flat_map}
 use Rattle.filterset_drawing.specs.Columns.{Text}
-use Rattle.filterset_faults.specs.declared.kind.FiltersetKind.TheVariants as kinds
 use Rattle.filterset_graph.specs.declared.package.PackageMetadata.{PackageMetadata}
 use Rattle.filterset_language.specs.Views.{tree_of}
 use Rattle.filterset_listing.specs.Explaining.{IsExplained}
@@ -13,9 +12,8 @@ use Rattle.filterset_listing.specs.declared.explaining.candidate.Candidate.{Cand
 use Rattle.nextest_filtering.specs.Groups.{IsGlobalOnly}
 use Rattle.nextest_filtering.specs.declared.compile.context.KnownGroups.{KnownGroups}
 use Rattle.nextest_filtering.specs.declared.filterset.Filterset.{Filterset}
-use Rattle.filterset_answers.specs.Checked.{TextRow}
 use Rattle.filterset_answers.specs.Compiled.{IsParsedAs}
-use Rattle.filterset_answers.specs.Entries.{IsRowOf}
+use Rattle.filterset_answers.specs.Entries.{default_row, test_row}
 use Rattle.filterset_answers.specs.declared.form.Form.{Form}
 use Rattle.filterset_answers.specs.declared.text.Ending.{Ending}
 use Rattle.filterset_answers.specs.declared.text.Ending.TheVariants.{Fine, Faulty}
@@ -25,11 +23,9 @@ use Rattle.filterset_answers.specs.declared.text.Ending.TheVariants.{Fine, Fault
 abbrev pub AreParsed :
     Form → Text → Text → List PackageMetadata → Option Filterset → Option Filterset → Text → Type 0
 AreParsed form default_text filter_text packages default filter written =
-    (groups : KnownGroups) × (first : TextRow) × (second : TextRow) × (front : Text) × (rest : Text)
-    × IsGlobalOnly groups
-    × IsRowOf kinds.DefaultFilter default_text first × IsRowOf kinds.Test filter_text second
-    × IsParsedAs packages groups form 1 first default front
-    × IsParsedAs packages groups form 2 second filter rest
+    (groups : KnownGroups) × (front : Text) × (rest : Text) × IsGlobalOnly groups
+    × IsParsedAs packages groups form 1 (default_row default_text) default front
+    × IsParsedAs packages groups form 2 (test_row (codes "-E") filter_text) filter rest
     × (written ≡ front ++ rest)
 
 -- the answer is the value of each node of the filterset's tree, a line each

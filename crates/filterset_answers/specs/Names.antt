@@ -1,4 +1,4 @@
--- Which names are known, and which faults count where not all are.
+-- Which names filtersets may use, and which faults count if not all names are known.
 use Rattle.std.specs.Prelude.{◌≡◌, List, Bool, true}
 use Rattle.filterset_drawing.specs.Columns.{Text}
 use Rattle.filterset_faults.specs.declared.error.ParseSingleError.{ParseSingleError}

@@ -1,4 +1,4 @@
--- What filtersets pick of a workspace.
+-- What `list` and `compare` write.
 use Rattle.std.specs.Prelude.{◌≡◌, ◌≢◌, ◌⊎◌, ℕ, List, [], ◌∷◌, Bool, Option, Some, None, length, map}
 use Rattle.std.specs.List.{AllZip, list_any}
 use Rattle.serde_json.specs.Data.{Data}
@@ -21,7 +21,7 @@ use Rattle.filterset_answers.specs.Answers.{FaultsOf}
 use Rattle.filterset_answers.specs.Checked.{TextRow}
 use Rattle.filterset_answers.specs.Compiled.{HasRefusal, IsFiltersetFor}
 use Rattle.filterset_answers.specs.Endings.{differing_ending}
-use Rattle.filterset_answers.specs.Entries.{AreQuestionRows}
+use Rattle.filterset_answers.specs.Entries.{default_row, question_rows}
 use Rattle.filterset_answers.specs.declared.form.Form.{Form}
 use Rattle.filterset_answers.specs.declared.question.Question.{Question}
 use Rattle.filterset_answers.specs.declared.question.Question.TheVariants as questions
@@ -81,10 +81,9 @@ AnswersRows packages groups form question kept row rows binaries ending text =
     ⊎ ((faulty : ℕ) × (faulty ≢ 0) × FaultsOf (HasRefusal packages groups) form 1 (row ∷ rows) faulty text
     × (ending ≡ Faulty))
 
--- what a question is answered, whose texts name these packages, and no group but `@global`
+-- the answer to a question, whose filtersets may name these packages, and no group but `@global`
 abbrev pub AnswersQuestion :
     Form → Text → Question → Option Data → List PackageMetadata → List AskedBinary → Ending → Text → Type 0
 AnswersQuestion form default question kept packages binaries ending text =
-    (groups : KnownGroups) × (row : TextRow) × (rows : List TextRow) × IsGlobalOnly groups
-    × AreQuestionRows default question row rows
-    × AnswersRows packages groups form question kept row rows binaries ending text
+    (groups : KnownGroups) × IsGlobalOnly groups
+    × AnswersRows packages groups form question kept (default_row default) (question_rows question) binaries ending text

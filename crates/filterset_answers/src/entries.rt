@@ -1,9 +1,9 @@
 //! The texts that commands are about, each with where it comes from.
-ghost use Rattle.std.specs.Prelude.{◌≡◌, ◌∷◌, [], IfOk, map};
+ghost use Rattle.std.specs.Prelude.{◌≡◌, ◌∷◌, [], IfOk, codes, map};
 ghost use Rattle.std.specs.Str.Lines.{lines};
-ghost use Rattle.filterset_faults.specs.declared.kind.FiltersetKind.TheVariants as kinds;
 ghost use Rattle.filterset_answers.specs.Checked.{text_row};
-ghost use Rattle.filterset_answers.specs.Entries.{AreQuestionRows, HaveTexts, file_row, file_rows, filter_texts};
+ghost use Rattle.filterset_answers.specs.Entries.{default_row, file_row, file_rows, numbered_row, numbered_rows};
+ghost use Rattle.filterset_answers.specs.Entries.{question_rows, row_of, test_row};
 
 use crate::question::Question;
 use crate::text::TextEntry;
@@ -11,24 +11,36 @@ use filterset_sources::ConfiguredFilterset;
 use nextest_filtering::FiltersetKind;
 use std::alloc::{AllocError, Global};
 
-/// Makes an entry of each text of the command line, called `what` and its number.
+/// Makes the entry of a text that is called `word` and its number.
+fn numbered_entry<'t>(
+    alloc: Global,
+    word: &str,
+    number: usize,
+    kind: FiltersetKind,
+    text: &'t str,
+) -> Result<TextEntry<'t>, AllocError>
+    ensures { IfOk result (λ entry. text_row entry ≡ numbered_row word.now kind number text.now) }
+{
+    Ok(TextEntry {
+        origin: format!(in alloc; "{word} {number}")?,
+        kind,
+        text,
+    })
+}
+
+/// Makes an entry of each text of the command line, called `word` and its number.
 pub fn given_entries<'t>(
     alloc: Global,
-    what: &str,
+    word: &str,
     kind: FiltersetKind,
     texts: &[&'t str],
 ) -> Result<Vec<TextEntry<'t>>, AllocError>
     ensures { IfOk result (λ entries.
-        HaveTexts kind (map (λ t. t.now) texts.now) (map text_row entries.items)) }
+        map text_row entries.items ≡ numbered_rows word.now kind (map (λ t. t.now) texts.now)) }
 {
-    let mut entries = Vec::new(alloc);
-    for text in texts {
-        let number = entries.len() + 1;
-        entries.push(TextEntry {
-            origin: format!(in alloc; "{what} {number}")?,
-            kind,
-            text: *text,
-        })?;
+    let mut entries = Vec::with_capacity(alloc, texts.len())?;
+    for (i, text) in texts.iter().enumerate() {
+        entries.push(numbered_entry(alloc, word, i + 1, kind, text)?)?;
     }
     Ok(entries)
 }
@@ -39,16 +51,12 @@ pub fn line_entries<'t>(
     kind: FiltersetKind,
     text: &'t str,
 ) -> Result<Vec<TextEntry<'t>>, AllocError>
-    ensures { IfOk result (λ entries. HaveTexts kind (lines text.now) (map text_row entries.items)) }
+    ensures { IfOk result (λ entries. map text_row entries.items ≡ numbered_rows (codes "line") kind (lines text.now)) }
 {
     let mut entries = Vec::new(alloc);
     for line in text.lines() {
         let number = entries.len() + 1;
-        entries.push(TextEntry {
-            origin: format!(in alloc; "line {number}")?,
-            kind,
-            text: line,
-        })?;
+        entries.push(numbered_entry(alloc, "line", number, kind, line)?)?;
     }
     Ok(entries)
 }
@@ -60,8 +68,7 @@ pub fn entry_of<'t>(
     kind: FiltersetKind,
     text: &'t str,
 ) -> Result<TextEntry<'t>, AllocError>
-    ensures kind { IfOk result (λ entry. entry.kind ≡ kind) }
-    ensures text { IfOk result (λ entry. entry.text.now ≡ text.now) }
+    ensures { IfOk result (λ entry. text_row entry ≡ row_of origin.now kind text.now) }
 {
     Ok(TextEntry {
         origin: String::from_str(alloc, origin)?,
@@ -104,8 +111,8 @@ fn pair_entries<'t>(
     first: &'t str,
     second: &'t str,
 ) -> Result<Vec<TextEntry<'t>>, AllocError>
-    ensures { IfOk result (λ entries.
-        HaveTexts kinds.Test (first.now ∷ second.now ∷ []) (map text_row entries.items)) }
+    ensures { IfOk result (λ entries. map text_row entries.items
+        ≡ test_row (codes "A") first.now ∷ test_row (codes "B") second.now ∷ []) }
 {
     let mut entries = Vec::with_capacity(alloc, 2)?;
     entries.push(entry_of(alloc, "A", FiltersetKind::Test, first)?)?;
@@ -118,8 +125,7 @@ fn filter_entries<'t>(
     alloc: Global,
     question: &Question<'t>,
 ) -> Result<Vec<TextEntry<'t>>, AllocError>
-    ensures { IfOk result (λ entries.
-        HaveTexts kinds.Test (filter_texts question.now) (map text_row entries.items)) }
+    ensures { IfOk result (λ entries. map text_row entries.items ≡ question_rows question.now) }
 {
     match question {
         Question::List { filters, .. } => given_entries(alloc, "-E", FiltersetKind::Test, filters),
@@ -140,8 +146,8 @@ pub fn question_texts<'t>(
     default_filter: &'t str,
     question: &Question<'t>,
 ) -> Result<QuestionTexts<'t>, AllocError>
-    ensures { IfOk result (λ texts. AreQuestionRows default_filter.now question.now
-        (text_row texts.default) (map text_row texts.filters.items)) }
+    ensures default { IfOk result (λ texts. text_row texts.default ≡ default_row default_filter.now) }
+    ensures filters { IfOk result (λ texts. map text_row texts.filters.items ≡ question_rows question.now) }
 {
     Ok(QuestionTexts {
         default: default_entry(alloc, default_filter)?,
@@ -151,8 +157,7 @@ pub fn question_texts<'t>(
 
 /// Makes the entry of a default filter.
 pub fn default_entry(alloc: Global, text: &str) -> Result<TextEntry<'_>, AllocError>
-    ensures kind { IfOk result (λ entry. entry.kind ≡ kinds.DefaultFilter) }
-    ensures text { IfOk result (λ entry. entry.text.now ≡ text.now) }
+    ensures { IfOk result (λ entry. text_row entry ≡ default_row text.now) }
 {
     entry_of(
         alloc,

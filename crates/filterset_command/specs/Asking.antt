@@ -1,4 +1,4 @@
--- What filtersets pick of the workspace that files describe.
+-- What `list` and `compare` answer about the workspace that files describe.
 use Rattle.std.specs.Prelude.{List, Option, Some, None}
 use Rattle.std.specs.List.{AllZip}
 use Rattle.serde_json.specs.Data.{Data}

@@ -1,5 +1,5 @@
--- What texts, and the filtersets of a configuration, are checked against.
-use Rattle.std.specs.Prelude.{◌≡◌, ◌++◌, ℕ, List, [], Option, Some, None, IfSome, is_some, map, string_bytes}
+-- What `check` answers, by the names that files give.
+use Rattle.std.specs.Prelude.{◌≡◌, ◌++◌, ℕ, List, [], Option, Some, None, is_some, map, string_bytes}
 use Rattle.std.specs.Borrow.{Bor}
 use Rattle.filterset_answers.specs.Answers.{ChecksTexts}
 use Rattle.filterset_answers.specs.Checked.{TextRow}
@@ -13,7 +13,7 @@ use Rattle.filterset_drawing.specs.Columns.{Text}
 use Rattle.filterset_graph.specs.declared.package.PackageMetadata.{PackageMetadata}
 use Rattle.filterset_sources.specs.Configurations.{IsConfiguration}
 use Rattle.filterset_sources.specs.declared.configuration.Configuration.{Configuration}
-use Rattle.filterset_command.specs.Workspaces.{ArePackagesIn}
+use Rattle.filterset_command.specs.Workspaces.{ArePackagesIn, IsContent}
 use Rattle.filterset_command.specs.declared.checking.CheckPaths.{CheckPaths}
 
 -- the packages are those of the file, and none where there is no file
@@ -26,7 +26,7 @@ abbrev pub KnownConfiguration : (Text → Option Text) → Option (Bor Text) →
 KnownConfiguration content None configuration =
     (configuration.filtersets.items ≡ []) × (configuration.groups.items ≡ [])
 KnownConfiguration content (Some path) configuration =
-    IfSome (content path.now) (λ bytes. IsConfiguration bytes configuration)
+    (bytes : Text) × IsContent (content path.now) bytes × IsConfiguration bytes configuration
 
 -- What checking answers: the faults of the filtersets of the configuration and of the texts that are given, as far as
 -- there are files that say which names there are.

@@ -1,4 +1,4 @@
--- What is explained, and how.
+-- What `explain` answers, and about which binary or test.
 use Rattle.std.specs.Prelude.{◌≡◌, List, Option, Some, None, string_bytes}
 use Rattle.std.specs.Borrow.{Bor}
 use Rattle.std.specs.List.{AllZip, find}

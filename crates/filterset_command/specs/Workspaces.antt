@@ -1,4 +1,4 @@
--- What files say of a workspace.
+-- What files say about a workspace.
 use Rattle.std.specs.Prelude.{◌≡◌, List, All, Option, Some, IfSome}
 use Rattle.serde_json.specs.Data.{Data}
 use Rattle.serde_json.specs.Read.{read}
@@ -12,9 +12,13 @@ use Rattle.filterset_sources.specs.declared.list.Suite.{Suite}
 use Rattle.filterset_command.specs.declared.workspace.Workspace.{Workspace}
 use Rattle.filterset_command.specs.declared.workspace.WorkspacePaths.{WorkspacePaths}
 
--- the file with these bytes, where they are known, is this JSON value
+-- the bytes are the content of a file, as far as that is known
+abbrev pub IsContent : Option Text → Text → Type 0
+IsContent content bytes = IfSome content (λ known. bytes ≡ known)
+
+-- the bytes of the file are this JSON value
 abbrev pub IsJsonOf : Option Text → Data → Type 0
-IsJsonOf content d = IfSome content (λ bytes. read bytes ≡ Some d)
+IsJsonOf content d = (bytes : Text) × IsContent content bytes × (read bytes ≡ Some d)
 
 -- the file says that these are the packages
 abbrev pub ArePackagesIn : Option Text → List PackageMetadata → Type 0

@@ -2,7 +2,7 @@
 ghost use Rattle.std.specs.Prelude.{◌≡◌, IfErr, IfOk, IfSome, map, string_bytes};
 ghost use Rattle.filterset_answers.specs.Checked.{text_row};
 ghost use Rattle.filterset_command.specs.Files.{NotWrite};
-ghost use Rattle.filterset_command.specs.Requests.{AreRowsOf, IsAnswered, IsInput};
+ghost use Rattle.filterset_command.specs.Requests.{IsAnswered, IsInput, rows_of};
 
 use crate::asking::ask;
 use crate::checking::check_texts;
@@ -85,7 +85,7 @@ fn entries_of<'t>(
     texts: &Texts<'t>,
     lines: &'t str,
 ) -> Result<Vec<TextEntry<'t>>, AllocError>
-    ensures { IfOk result (λ entries. AreRowsOf kind texts.now lines.now (map text_row entries.items)) }
+    ensures { IfOk result (λ entries. map text_row entries.items ≡ rows_of kind texts.now lines.now) }
 {
     match texts {
         Texts::Given(texts) => given_entries(alloc, "argument", kind, texts),
