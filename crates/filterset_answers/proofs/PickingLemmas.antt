@@ -1,14 +1,15 @@
 -- What the texts of a question are as filtersets.
-use Rattle.std.proofs.Common.{◌≡◌, List, subst}
+use Rattle.std.proofs.Common.{◌≡◌, List, [], ◌∷◌, map, subst}
 use Rattle.std.specs.List.{AllZip}
 use Rattle.std.proofs.lemmas.Slice.Zip.{AllZip-long}
+use Rattle.filterset_expression.specs.Meaning.{IsCompiled}
 use Rattle.filterset_graph.specs.declared.package.PackageMetadata.{PackageMetadata}
 use Rattle.nextest_filtering.specs.declared.compile.context.KnownGroups.{KnownGroups}
 use Rattle.nextest_filtering.specs.declared.filterset.Filterset.{Filterset}
 use Rattle.filterset_answers.specs.Checked.{TextRow}
 use Rattle.filterset_answers.specs.Compiled.{AreCompiled, IsFiltersetFor}
 use Rattle.filterset_answers.specs.Entries.{question_rows}
-use Rattle.filterset_answers.specs.Picking.{IsPairFor}
+use Rattle.filterset_answers.specs.Picking.{IsPairFor, compiled_of, parsed_of}
 use Rattle.filterset_answers.specs.declared.compiling.CompiledTexts.{CompiledTexts}
 use Rattle.filterset_answers.specs.declared.form.Form.{Form}
 use Rattle.filterset_answers.specs.declared.question.Question.{Question}
@@ -28,3 +29,12 @@ rows_compiled packages groups form row row' rows rows' made made' same_row same_
     subst (λ r. AreCompiled packages groups form r rows' made') same_row
     (subst (λ rs. AreCompiled packages groups form row rs made') same_rows
     (subst (λ m. AreCompiled packages groups form row rows m) same_made are))
+
+-- the expressions of filtersets are their compiled trees
+pub compiled_trees : (packages : List PackageMetadata) (groups : KnownGroups) (rows : List TextRow) (filters : List Filterset) → AllZip (IsFiltersetFor packages groups) rows filters
+    → AllZip (IsCompiled packages) (map parsed_of filters) (map compiled_of filters)
+compiled_trees packages groups [] [] are = tt
+compiled_trees packages groups [] (f ∷ filters) are = absurd are
+compiled_trees packages groups (row ∷ rows) [] are = absurd are
+compiled_trees packages groups (row ∷ rows) (f ∷ filters) (is, are) =
+    (is.compiled, compiled_trees packages groups rows filters are)

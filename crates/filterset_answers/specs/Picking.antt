@@ -1,16 +1,22 @@
 -- What `list` and `compare` write.
-use Rattle.std.specs.Prelude.{◌≡◌, ◌≢◌, ◌⊎◌, ℕ, List, [], ◌∷◌, Bool, Option, Some, None, length, map}
+use Rattle.std.specs.Prelude.{◌≡◌, ◌≢◌, ◌⊎◌, ℕ, List, [], ◌∷◌, Bool, false, Option, Some, None, length, map}
 use Rattle.std.specs.List.{AllZip, list_any}
 use Rattle.serde_json.specs.Data.{Data}
 use Rattle.filterset_drawing.specs.Columns.{Text}
+use Rattle.filterset_expression.specs.Expression.{has_leaf, is_default}
+use Rattle.filterset_expression.specs.Meaning.{IsCompiled}
 use Rattle.filterset_expression.specs.declared.expression.CompiledExpr.{CompiledExpr}
+use Rattle.filterset_faults.specs.declared.span.SourceSpan.{SourceSpan}
 use Rattle.filterset_graph.specs.declared.package.PackageMetadata.{PackageMetadata}
+use Rattle.filterset_grammar.specs.Tree.{Tree}
+use Rattle.filterset_language.specs.Views.{tree_of}
+use Rattle.filterset_listing.specs.Asking.{ExprPicks}
 use Rattle.filterset_listing.specs.Comparing.{IsBinaryDifference}
 use Rattle.filterset_listing.specs.ComparisonText.{comparison_text, differs}
 use Rattle.filterset_listing.specs.ListJson.{IsListJson}
 use Rattle.filterset_listing.specs.ListText.{list_text}
 use Rattle.filterset_listing.specs.Listing.{IsBinaryPicks}
-use Rattle.filterset_listing.specs.Selection.{IsSelection}
+use Rattle.filterset_listing.specs.Selection.{RunCanPick, RunPicks}
 use Rattle.filterset_listing.specs.declared.binary.AskedBinary.{AskedBinary}
 use Rattle.filterset_listing.specs.declared.comparing.BinaryDifference.{BinaryDifference}
 use Rattle.filterset_listing.specs.declared.listing.BinaryPicks.{BinaryPicks}
@@ -31,6 +37,15 @@ use Rattle.filterset_answers.specs.declared.text.Ending.TheVariants.{Fine, Fault
 abbrev pub compiled_of : Filterset → CompiledExpr
 compiled_of filterset = filterset.compiled
 
+abbrev pub parsed_of : Filterset → Tree SourceSpan
+parsed_of filterset = tree_of filterset.parsed
+
+-- the expressions of the default filter, in which no leaf is `default`, and of the filtersets are their compiled trees
+abbrev pub AreCompiledTrees : List PackageMetadata → Filterset → List Filterset → Type 0
+AreCompiledTrees packages default filters =
+    IsCompiled packages (parsed_of default) default.compiled × (has_leaf is_default default.compiled ≡ false)
+    × AllZip (IsCompiled packages) (map parsed_of filters) (map compiled_of filters)
+
 -- there are two filtersets where two are compared
 abbrev pub IsPairFor : {A : Type 0} → Question → List A → Type 0
 IsPairFor (questions.List filters ignores_default) filtersets = Unit {0}
@@ -41,34 +56,38 @@ abbrev pub WritesList : Option Data → List BinaryPicks → Text → Type 0
 WritesList None all text = text ≡ list_text all
 WritesList (Some list) all text = IsListJson all list text
 
--- the picks are the tests that one of the filtersets holds of, where there are any, and the default filter, unless it is
--- ignored
-abbrev pub ArePicks : Bool → CompiledExpr → List CompiledExpr → List AskedBinary → List BinaryPicks → Type 0
-ArePicks ignores_default default filters binaries all =
-    (selection : CompiledExpr) × IsSelection ignores_default filters selection
-    × AllZip (IsBinaryPicks selection default) binaries all
+-- the picks are the tests that the tree of the default filter picks, unless it is ignored, and the tree of one of the
+-- filtersets, if there are any
+abbrev pub ArePicks :
+    List PackageMetadata → Bool → Filterset → List Filterset → List AskedBinary → List BinaryPicks → Type 0
+ArePicks packages ignores_default default filters binaries all =
+    AllZip (IsBinaryPicks
+    (RunPicks packages ignores_default default.compiled (parsed_of default) (map parsed_of filters))
+    (RunCanPick packages ignores_default default.compiled (parsed_of default) (map parsed_of filters)))
+    binaries all
 
--- The answer is these picks.
+-- the answer is these picks
 abbrev pub Lists :
-    Bool → CompiledExpr → List CompiledExpr → Option Data → List AskedBinary → Ending → Text → Type 0
-Lists ignores_default default filters kept binaries ending text =
-    (all : List BinaryPicks) × ArePicks ignores_default default filters binaries all
+    List PackageMetadata → Bool → Filterset → List Filterset → Option Data → List AskedBinary → Ending → Text → Type 0
+Lists packages ignores_default default filters kept binaries ending text =
+    (all : List BinaryPicks) × ArePicks packages ignores_default default filters binaries all
     × WritesList kept all text × (ending ≡ Fine)
 
 -- The answer is how two filtersets differ.
 abbrev pub Compares : Bool → CompiledExpr → List CompiledExpr → List AskedBinary → Ending → Text → Type 0
 Compares has_names default filters binaries ending text =
     (one : CompiledExpr) × (other : CompiledExpr) × (all : List BinaryDifference) × (filters ≡ one ∷ other ∷ [])
-    × AllZip (IsBinaryDifference one other default) binaries all
+    × AllZip (IsBinaryDifference (ExprPicks default one) (ExprPicks default other)) binaries all
     × (text ≡ comparison_text has_names all) × (ending ≡ differing_ending (list_any differs all))
 
 -- what is answered where all texts are filtersets
 abbrev pub Tells :
-    Question → CompiledExpr → List CompiledExpr → Option Data → List AskedBinary → Ending → Text → Type 0
-Tells (questions.List filters ignores_default) default exprs kept binaries ending text =
-    Lists ignores_default default exprs kept binaries ending text
-Tells (questions.Compare first second has_names) default exprs kept binaries ending text =
-    Compares has_names default exprs binaries ending text
+    List PackageMetadata → Question → Filterset → List Filterset → Option Data → List AskedBinary → Ending → Text
+    → Type 0
+Tells packages (questions.List texts ignores_default) default filters kept binaries ending text =
+    Lists packages ignores_default default filters kept binaries ending text
+Tells packages (questions.Compare first second has_names) default filters kept binaries ending text =
+    Compares has_names default.compiled (map compiled_of filters) binaries ending text
 
 -- what texts are answered: their faults, where any has some; else what they are as filtersets
 abbrev pub AnswersRows :
@@ -77,7 +96,7 @@ abbrev pub AnswersRows :
 AnswersRows packages groups form question kept row rows binaries ending text =
     ((default : Filterset) × (filters : List Filterset)
     × IsFiltersetFor packages groups row default × AllZip (IsFiltersetFor packages groups) rows filters
-    × Tells question default.compiled (map compiled_of filters) kept binaries ending text)
+    × Tells packages question default filters kept binaries ending text)
     ⊎ ((faulty : ℕ) × (faulty ≢ 0) × FaultsOf (HasRefusal packages groups) form 1 (row ∷ rows) faulty text
     × (ending ≡ Faulty))
 

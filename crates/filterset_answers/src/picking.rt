@@ -1,9 +1,17 @@
 //! Which tests of a workspace filtersets pick, and how two differ.
-ghost use Rattle.std.specs.Prelude.{◌≡◌, IfOk, false, length, map, option_map, string_bytes};
+ghost use Rattle.std.specs.Prelude.{◌≡◌, IfOk, List, false, length, map, option_map, string_bytes};
+ghost use Rattle.std.specs.List.{AllZip};
 ghost use Rattle.serde_json.specs.View.{view};
 ghost use Rattle.filterset_expression.specs.Contexts.{default_of};
 ghost use Rattle.filterset_expression.specs.Expression.{has_leaf, is_default, is_group};
-ghost use Rattle.filterset_answers.specs.Picking.{AnswersQuestion, ArePicks, Compares, IsPairFor, Lists, Tells, WritesList, compiled_of};
+ghost use Rattle.filterset_expression.specs.Meaning.{IsCompiled};
+ghost use Rattle.filterset_faults.specs.declared.span.SourceSpan.{SourceSpan};
+ghost use Rattle.filterset_grammar.specs.Tree.{Tree};
+ghost use Rattle.filterset_graph.specs.declared.package.PackageMetadata.{PackageMetadata};
+ghost use Rattle.filterset_listing.specs.Listing.{IsBinaryPicks};
+ghost use Rattle.filterset_listing.specs.Selection.{RunCanPick, RunPicks};
+ghost use Rattle.nextest_filtering.specs.declared.filterset.Filterset as declared;
+ghost use Rattle.filterset_answers.specs.Picking.{AnswersQuestion, AreCompiledTrees, Compares, IsPairFor, Lists, Tells, WritesList, compiled_of};
 
 use crate::compiling::{CompiledTexts, QuestionFiltersets, compile_texts};
 use crate::entries::question_texts;
@@ -56,8 +64,11 @@ fn picks_of<'s>(
     context: &EvalContext<'_>,
     binaries: &[AskedBinary<'s>],
 ) -> Result<Vec<BinaryPicks<'s>>, AllocError>
-    ensures { IfOk result (λ all. ArePicks ignores_default (default_of context.now) filters.items binaries.now
-        all.items) }
+    ensures { let default = default_of context.now in IfOk result (λ all. (packages : List PackageMetadata)
+        (tree : Tree SourceSpan) (trees : List (Tree SourceSpan)) → IsCompiled packages tree default
+        → has_leaf is_default default ≡ false → AllZip (IsCompiled packages) trees filters.items
+        → AllZip (IsBinaryPicks (RunPicks packages ignores_default default tree trees)
+        (RunCanPick packages ignores_default default tree trees)) binaries.now all.items) }
 {
     let selection = selection_of(alloc, filters, ignores_default)?;
     list(alloc, &selection, context, binaries)
@@ -72,8 +83,10 @@ fn answer_list(
     kept: Option<Value>,
     binaries: &[AskedBinary<'_>],
 ) -> Result<Answer, AllocError>
-    ensures { IfOk result (λ answer. Lists ignores_default (default_of context.now) (map compiled_of filters.items)
-        (option_map view kept) binaries.now answer.ending (string_bytes answer.text)) }
+    ensures { IfOk result (λ answer. (packages : List PackageMetadata) (default : declared.Filterset)
+        → default.compiled ≡ default_of context.now → AreCompiledTrees packages default filters.items
+        → Lists packages ignores_default default filters.items (option_map view kept) binaries.now
+        answer.ending (string_bytes answer.text)) }
 {
     let filters = expressions_of(alloc, filters)?;
     let all = picks_of(alloc, filters, ignores_default, context, binaries)?;
@@ -114,8 +127,9 @@ fn answer_question(
     requires no_default { has_leaf is_default filtersets.default.compiled ≡ false }
     requires no_group { has_leaf is_group filtersets.default.compiled ≡ false }
     requires pair { IsPairFor question.now filtersets.filters.items }
-    ensures { IfOk result (λ answer. Tells question.now filtersets.default.compiled
-        (map compiled_of filtersets.filters.items) (option_map view kept) binaries.now
+    ensures { IfOk result (λ answer. (packages : List PackageMetadata)
+        → AreCompiledTrees packages filtersets.default filtersets.filters.items
+        → Tells packages question.now filtersets.default filtersets.filters.items (option_map view kept) binaries.now
         answer.ending (string_bytes answer.text)) }
 {
     let QuestionFiltersets { default, filters } = filtersets;

@@ -1,7 +1,9 @@
 use Rattle.std.proofs.Common.{inl, inr, refl}
 use Rattle.std.proofs.lemmas.Result.{IfOk-weaker}
 use Rattle.nextest_filtering.specs.Compiling.{packages_of}
-use Rattle.filterset_answers.proofs.PickingLemmas.{pair_of, rows_compiled}
+use Rattle.filterset_answers.specs.Entries.{question_rows}
+use Rattle.filterset_answers.specs.Picking.{AreCompiledTrees}
+use Rattle.filterset_answers.proofs.PickingLemmas.{compiled_trees, pair_of, rows_compiled}
 use Rattle.filterset_answers.proofs.picking.ask_workspace.Goals as goal
 
 pub answer_question-requires-clause-no_default : goal.answer_question-requires-clause-no_default
@@ -31,8 +33,10 @@ returns-in-Filtersets c =
     let made = c.in-Filtersets.filtersets in
     let compiled = rw c.in_ok-context.ensures at c.in_ok-filtersets.ensures in
     let are = rows_compiled c.args.graph.now groups c.args.form _ _ _ _ _ _ texts.default texts.filters c.in-Filtersets.is compiled in
+    let trees : AreCompiledTrees c.args.graph.now made.default made.filters.items =
+    (are.0.compiled, are.0.no_default refl, compiled_trees c.args.graph.now groups (question_rows c.args.question.now) made.filters.items are.1) in
     IfOk-weaker c.answer_question.result _ _ (λ answer tells.
-    (groups, c.global_only-groups.ensures.global, inl (made.default, made.filters.items, are.0, are.1, tells)))
+    (groups, c.global_only-groups.ensures.global, inl (made.default, made.filters.items, are.0, are.1, tells c.args.graph.now trees)))
     c.answer_question.ensures
 
 pub returns-in-Faults : goal.returns-in-Faults
