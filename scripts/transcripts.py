@@ -158,10 +158,7 @@ def listed_in(programs):
             for value in values:
                 yield f"{words} {name} {value}".rstrip(), rf"{words}\b.*\s{name}" + (rf" {value}\b" if value else r"(?=\s|$)")
         example = re.search(r"^Example: (.*)$", text, re.M)
-        if example:
-            yield example[1], re.escape(example[1])
-        elif command:
-            yield f"the help of {words}, which has no example", r"(?!)"
+        yield (example[1], re.escape(example[1])) if example else (f"an example of {words}: its help has none", r"(?!)")
 
 
 def check_options(programs):

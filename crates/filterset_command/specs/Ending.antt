@@ -7,13 +7,13 @@ use Rattle.filterset_command.specs.declared.fault.CommandFault.TheVariants.{Word
 use Rattle.filterset_command.specs.declared.fault.FileFault.{FileFault}
 use Rattle.filterset_command.specs.declared.fault.FileFault.TheVariants as files
 
--- whether a file of this fault is not what it must be, or could not be read
+-- the exit status after a fault of a file: 3 if reading it failed, and 2 if its content is rejected
 abbrev pub file_status : FileFault → ℕ
 file_status (files.Unread error) = 3
 file_status files.NotText = 2
 file_status (files.Refused refusal) = 2
 
--- the exit status
+-- the exit status of a command
 abbrev pub status_of : Result Ending CommandFault → ℕ
 status_of (Ok Fine) = 0
 status_of (Ok Faulty) = 1
@@ -22,7 +22,7 @@ status_of (Err (Words error)) = 2
 status_of (Err NoWords) = 2
 status_of (Err NotText) = 2
 status_of (Err (Missing argument)) = 2
-status_of (Err (File path fault)) = file_status fault
-status_of (Err (NoBinary id)) = 2
-status_of (Err (NoTest binary test)) = 2
+status_of (Err (File role path fault)) = file_status fault
+status_of (Err (NoBinary list binary)) = 2
+status_of (Err (NoTest list binary test)) = 2
 status_of (Err (Run fault)) = 3

@@ -1,4 +1,4 @@
--- What `explain` answers, and about which binary or test.
+-- What `explain` writes about a binary or a test.
 use Rattle.std.specs.Prelude.{◌≡◌, List, Option, Some, None, string_bytes}
 use Rattle.std.specs.Borrow.{Bor}
 use Rattle.std.specs.List.{AllZip, find}
@@ -21,7 +21,7 @@ use Rattle.filterset_command.specs.declared.workspace.Workspace.{Workspace}
 abbrev pub binary_called : Text → List AskedBinary → Option AskedBinary
 binary_called id binaries = find (λ (b : AskedBinary). bytes_eq b.query.binary_id.now id) binaries
 
--- the name, where a test has it
+-- the name, if a test has it
 abbrev pub name_called : Text → List Text → Option Text
 name_called name names = find (λ n. bytes_eq n name) names
 
@@ -34,23 +34,24 @@ IsCandidate binaries id (Some test) (Test query) =
     × (name_called test.now binary.tests.now ≡ Some query.test_name.now)
 IsCandidate binaries id _ _ = ⊥
 
--- the fault names what there is not: a binary with this id, or a test of it with this name; or it is out of memory
-abbrev pub IsMissing : List AskedBinary → Text → Option (Bor Text) → CommandFault → Type 0
-IsMissing binaries id test (NoBinary own) = (string_bytes own ≡ id) × (binary_called id binaries ≡ None)
-IsMissing binaries id (Some test) (NoTest own name) =
-    (binary : AskedBinary) × (binary_called id binaries ≡ Some binary) × (string_bytes own ≡ id)
-    × (string_bytes name ≡ test.now) × (name_called test.now binary.tests.now ≡ None)
-IsMissing binaries id test (Run (Memory refused)) = Unit {0}
-IsMissing binaries id test _ = ⊥
+-- the fault names the list, and what it lacks: a binary with this id, or a test of it with this name; or it is out of memory
+abbrev pub IsMissing : Text → List AskedBinary → Text → Option (Bor Text) → CommandFault → Type 0
+IsMissing list binaries id test (NoBinary at own) =
+    (string_bytes at ≡ list) × (string_bytes own ≡ id) × (binary_called id binaries ≡ None)
+IsMissing list binaries id (Some test) (NoTest at own name) =
+    (binary : AskedBinary) × (binary_called id binaries ≡ Some binary) × (string_bytes at ≡ list)
+    × (string_bytes own ≡ id) × (string_bytes name ≡ test.now) × (name_called test.now binary.tests.now ≡ None)
+IsMissing list binaries id test (Run (Memory refused)) = Unit {0}
+IsMissing list binaries id test _ = ⊥
 
--- what is answered of the binary or the test in this workspace
+-- the answer about the binary or the test in this workspace
 abbrev pub AnswersIn : ExplainRequest → Workspace → Ending → Text → Type 0
 AnswersIn asked workspace ending text =
     (binaries : List AskedBinary) × (candidate : Candidate) × AllZip IsAsked workspace.list.suites.items binaries
     × IsCandidate binaries asked.binary.now asked.test candidate
     × AnswersExplanation asked.form asked.default_filter.now asked.filter.now workspace.graph candidate ending text
 
--- what is answered of the binary or the test in the workspace that the files describe
+-- the answer about the binary or the test in the workspace that the files describe
 abbrev pub AnswersExplained : (Text → Option Text) → ExplainRequest → Ending → Text → Type 0
 AnswersExplained content asked ending text =
     (workspace : Workspace) × IsWorkspaceIn content asked.paths workspace × AnswersIn asked workspace ending text

@@ -71,11 +71,11 @@ fn config<'a>(alloc: Global) -> Arg<'a> {
 /// Makes the command `check`.
 fn check<'a>(alloc: Global) -> Result<Command<'a>, AllocError> {
     let command = Command::new(alloc, "check")
-        .about("Shows the faults of filtersets")
+        .about("Shows the faults of filtersets, and where they are")
         .after_help("Example: filterset check 'package(parser) and not test(~slow)'")
-        .arg(kind(alloc))?
         .arg(config(alloc))?
         .arg(metadata(alloc))?
+        .arg(kind(alloc))?
         .arg(message_format(alloc).help("how the faults are written"))?
         .arg(color(alloc))?;
     with_argument(command, texts(alloc).required_unless_present("config"))
@@ -157,7 +157,7 @@ fn tests<'a>(alloc: Global) -> Arg<'a> {
     Arg::new(alloc, "tests")
         .long("tests")
         .action(ArgAction::SetTrue)
-        .help("writes the tests by name")
+        .help("writes the tests by name, and skipped binaries by id")
 }
 
 /// Makes a required argument, given by its place.
@@ -174,9 +174,9 @@ fn compare<'a>(alloc: Global) -> Result<Command<'a>, AllocError> {
         .about("Counts the tests that only one of two filtersets picks, and those that both pick")
         .after_help(
             "Example: filterset compare --cargo-metadata metadata.json --nextest-list list.json --tests 'all()' 'not test(~slow)'",
-        )
-        .arg(tests(alloc))?;
+        );
     with_workspace(alloc, command)?
+        .arg(tests(alloc))?
         .arg(color(alloc))?
         .arg(required_text(alloc, "first", "A", "a filterset"))?
         .arg(required_text(alloc, "second", "B", "another filterset"))
@@ -229,6 +229,7 @@ pub fn arguments<'a>(alloc: Global) -> Result<Command<'a>, AllocError> {
     let command = Command::new(alloc, "filterset")
         .version(VERSION)
         .about("Checks the filtersets of cargo-nextest, and shows which tests they pick and why")
+        .after_help("Example: filterset check --config .config/nextest.toml")
         .subcommand_required(true);
     let command = with_command(command, check(alloc))?;
     let command = with_command(command, format(alloc))?;

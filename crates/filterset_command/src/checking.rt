@@ -4,7 +4,7 @@ ghost use Rattle.filterset_answers.specs.Checked.{text_row};
 ghost use Rattle.filterset_command.specs.Checking.{AnswersCheck, KnownConfiguration, KnownPackages};
 ghost use Rattle.filterset_command.specs.Files.{NotWrite};
 
-use crate::fault::CommandFault;
+use crate::fault::{CommandFault, FileRole};
 use crate::files::{FileSource, read_text};
 use crate::workspace::read_graph;
 use filterset_answers::{Answer, Form, Names, TextEntry, check_configured};
@@ -51,10 +51,11 @@ fn known_configuration<F: FileSource>(
             groups: Vec::new(alloc),
         });
     };
-    let text = read_text(alloc, files, path)?;
+    let role = FileRole::Configuration;
+    let text = read_text(alloc, files, role, path)?;
     match read_configuration(alloc, text.as_str()) {
         Ok(configuration) => Ok(configuration),
-        Err(refusal) => Err(CommandFault::from_refusal(alloc, path, refusal)),
+        Err(refusal) => Err(CommandFault::from_refusal(alloc, role, path, refusal)),
     }
 }
 

@@ -25,7 +25,7 @@ pub fn status(ended: &Result<Ending, CommandFault>) -> u8
         Err(CommandFault::Words(_)) | Err(CommandFault::NoWords) | Err(CommandFault::NotText) => 2,
         Err(CommandFault::Missing(_)) => 2,
         Err(CommandFault::File { fault, .. }) => file_status(fault),
-        Err(CommandFault::NoBinary(_)) | Err(CommandFault::NoTest { .. }) => 2,
+        Err(CommandFault::NoBinary { .. }) | Err(CommandFault::NoTest { .. }) => 2,
         Err(CommandFault::Run(_)) => 3,
     }
 }

@@ -41,25 +41,29 @@ fn test_called<'s>(tests: &'s [TestCaseName], name: &str) -> Option<&'s TestCase
     tests.iter().find(|test| test.as_str() == name)
 }
 
-/// Returns the binary with this id, or its test with this name.
+/// Returns the binary, or the test, that the filterset is explained for.
 fn candidate_of<'s>(
     alloc: Global,
+    asked: &ExplainRequest<'_>,
     binaries: &[AskedBinary<'s>],
-    id: &str,
-    test: Option<&str>,
 ) -> Result<Candidate<'s>, CommandFault>
-    ensures found { IfOk result (IsCandidate binaries.now id.now test.entry) }
-    ensures missing { IfErr result (IsMissing binaries.now id.now test.entry) }
+    ensures found { IfOk result (IsCandidate binaries.now asked.now.binary.now asked.now.test) }
+    ensures missing { IfErr result
+        (IsMissing asked.now.paths.list.now binaries.now asked.now.binary.now asked.now.test) }
 {
-    let Some(binary) = binary_called(binaries, id) else {
-        return Err(CommandFault::NoBinary(String::from_str(alloc, id)?));
+    let Some(binary) = binary_called(binaries, asked.binary) else {
+        return Err(CommandFault::NoBinary {
+            list: String::from_str(alloc, asked.paths.list)?,
+            binary: String::from_str(alloc, asked.binary)?,
+        });
     };
-    let Some(test) = test else {
+    let Some(test) = asked.test else {
         return Ok(Candidate::Binary(binary.query));
     };
     let Some(test_name) = test_called(binary.tests, test) else {
         return Err(CommandFault::NoTest {
-            binary: String::from_str(alloc, id)?,
+            list: String::from_str(alloc, asked.paths.list)?,
+            binary: String::from_str(alloc, asked.binary)?,
             test: String::from_str(alloc, test)?,
         });
     };
@@ -80,7 +84,7 @@ fn explain_in(
     ensures no_write { IfErr result NotWrite }
 {
     let binaries = asked_binaries(alloc, workspace.list.suites.as_slice())?;
-    let candidate = candidate_of(alloc, binaries.as_slice(), asked.binary, asked.test)?;
+    let candidate = candidate_of(alloc, asked, binaries.as_slice())?;
     Ok(explain_filterset(
         alloc,
         asked.form,

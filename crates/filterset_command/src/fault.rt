@@ -1,4 +1,4 @@
-//! The faults that end a command without an answer.
+//! The faults that end a command without an answer, and what they tell people to do next.
 ghost use Rattle.filterset_command.specs.Files.{NotWrite};
 
 use clap::Error;
@@ -6,6 +6,34 @@ use filterset_io::RunFault;
 use filterset_sources::SourceRefusal;
 use std::alloc::{AllocError, Global};
 use std::{fmt, io};
+
+/// What a file is read for.
+#[derive(Clone, Copy, Debug, PartialEq, Eq)]
+pub enum FileRole {
+    /// It has the packages: what `cargo metadata` wrote.
+    Metadata,
+    /// It has the tests: what `cargo nextest list` wrote.
+    List,
+    /// It is nextest's configuration.
+    Configuration,
+}
+
+impl FileRole {
+    /// Returns which file the option takes.
+    fn help(self) -> &'static str {
+        match self {
+            FileRole::Metadata => {
+                "`--cargo-metadata` takes the output of `cargo metadata --format-version 1`"
+            }
+            FileRole::List => {
+                "`--nextest-list` takes the output of `cargo nextest list --message-format json`"
+            }
+            FileRole::Configuration => {
+                "`--config` takes nextest's configuration, such as `.config/nextest.toml`"
+            }
+        }
+    }
+}
 
 /// Why a file is not used.
 pub enum FileFault {
@@ -28,12 +56,13 @@ impl Drop for FileFault {
     }
 }
 
-impl fmt::Display for FileFault {
-    fn fmt<W: fmt::Write>(&self, f: &mut fmt::Formatter<W>) -> fmt::Result {
+impl FileFault {
+    /// Writes the fault of the file at a path.
+    fn write_at<W: fmt::Write>(&self, f: &mut fmt::Formatter<W>, path: &str) -> fmt::Result {
         match self {
-            FileFault::Unread(error) => write!(f, "cannot be read: {error}"),
-            FileFault::NotText => f.write_str("not UTF-8"),
-            FileFault::Refused(refusal) => write!(f, "{refusal}"),
+            FileFault::Unread(error) => write!(f, "error: cannot read {path}: {error}"),
+            FileFault::NotText => write!(f, "error: {path} is not UTF-8"),
+            FileFault::Refused(refusal) => write!(f, "error: {path}: {refusal}"),
         }
     }
 }
@@ -49,11 +78,22 @@ pub enum CommandFault {
     /// The command line lacks this argument.
     Missing(&'static str),
     /// The file at this path is not used.
-    File { path: String, fault: FileFault },
-    /// The list has no test binary with this id.
-    NoBinary(String),
-    /// The binary with this id has no test with this name in the list.
-    NoTest { binary: String, test: String },
+    File {
+        role: FileRole,
+        path: String,
+        fault: FileFault,
+    },
+    /// The list at this path has no test binary with this id.
+    NoBinary {
+        list: String,
+        binary: String,
+    },
+    /// The binary with this id has no test with this name in the list at this path.
+    NoTest {
+        list: String,
+        binary: String,
+        test: String,
+    },
     /// Out of memory, or a read or a write failed.
     Run(RunFault),
 }
@@ -66,11 +106,16 @@ impl Drop for CommandFault {
             CommandFault::NoWords | CommandFault::NotText => {}
             CommandFault::Missing(_) | CommandFault::Run(_) => {}
             CommandFault::File {
+                role: _role,
                 path: _path,
                 fault: _fault,
             } => {}
-            CommandFault::NoBinary(_id) => {}
+            CommandFault::NoBinary {
+                list: _list,
+                binary: _binary,
+            } => {}
             CommandFault::NoTest {
+                list: _list,
                 binary: _binary,
                 test: _test,
             } => {}
@@ -80,22 +125,37 @@ impl Drop for CommandFault {
 
 impl CommandFault {
     /// Makes the fault of the file at a path.
-    pub fn in_file(alloc: Global, path: &str, fault: FileFault) -> CommandFault
+    pub fn in_file(alloc: Global, role: FileRole, path: &str, fault: FileFault) -> CommandFault
         ensures { NotWrite result }
     {
         match String::from_str(alloc, path) {
-            Ok(path) => CommandFault::File { path, fault },
+            Ok(path) => CommandFault::File { role, path, fault },
             Err(refused) => CommandFault::Run(RunFault::Memory(refused)),
         }
     }
 
+    /// Makes the fault of the file at a path that could not be read.
+    pub fn from_read(alloc: Global, role: FileRole, path: &str, error: io::Error) -> CommandFault
+        ensures { NotWrite result }
+    {
+        match error.kind() {
+            io::ErrorKind::OutOfMemory => CommandFault::Run(RunFault::Memory(AllocError)),
+            _ => CommandFault::in_file(alloc, role, path, FileFault::Unread(error)),
+        }
+    }
+
     /// Makes the fault of the file at a path whose content is rejected.
-    pub fn from_refusal(alloc: Global, path: &str, refusal: SourceRefusal) -> CommandFault
+    pub fn from_refusal(
+        alloc: Global,
+        role: FileRole,
+        path: &str,
+        refusal: SourceRefusal,
+    ) -> CommandFault
         ensures { NotWrite result }
     {
         match refusal {
             SourceRefusal::OutOfMemory(refused) => CommandFault::Run(RunFault::Memory(refused)),
-            other => CommandFault::in_file(alloc, path, FileFault::Refused(other)),
+            other => CommandFault::in_file(alloc, role, path, FileFault::Refused(other)),
         }
     }
 }
@@ -104,22 +164,29 @@ impl fmt::Display for CommandFault {
     fn fmt<W: fmt::Write>(&self, f: &mut fmt::Formatter<W>) -> fmt::Result {
         match self {
             CommandFault::Words(error) => error.fmt(f),
-            CommandFault::NoWords => f.write_str("error: the command line is not UTF-8"),
-            CommandFault::NotText => f.write_str("error: standard input is not UTF-8"),
-            CommandFault::Missing(argument) => {
-                write!(
-                    f,
-                    "error: the command line has no {argument}; try `filterset --help`"
-                )
+            CommandFault::NoWords => f.write_str(
+                "error: the command line is not UTF-8\nhelp: write filtersets, paths and names in UTF-8",
+            ),
+            CommandFault::NotText => f.write_str(
+                "error: standard input is not UTF-8\nhelp: `-` takes filtersets in UTF-8, one a line",
+            ),
+            CommandFault::Missing(argument) => write!(
+                f,
+                "error: the command line has no {argument}\nhelp: `filterset --help` lists the commands",
+            ),
+            CommandFault::File { role, path, fault } => {
+                fault.write_at(f, path.as_str())?;
+                let help = role.help();
+                write!(f, "\nhelp: {help}")
             }
-            CommandFault::File { path, fault } => write!(f, "error: {path}: {fault}"),
-            CommandFault::NoBinary(id) => write!(f, "error: the list has no test binary `{id}`"),
-            CommandFault::NoTest { binary, test } => {
-                write!(
-                    f,
-                    "error: the list has no test `{test}` of the binary `{binary}`"
-                )
-            }
+            CommandFault::NoBinary { list, binary } => write!(
+                f,
+                "error: {list} has no test binary `{binary}`\nhelp: `filterset list` with the same files prints the binaries and their tests",
+            ),
+            CommandFault::NoTest { list, binary, test } => write!(
+                f,
+                "error: {list} has no test `{test}` of the binary `{binary}`\nhelp: `filterset list` with the same files and -E 'binary_id(={binary})' prints its tests",
+            ),
             CommandFault::Run(fault) => fault.fmt(f),
         }
     }

@@ -1,23 +1,20 @@
 //! Reading whole files.
-ghost use Rattle.std.specs.Prelude.{◌≡◌, ◌≢◌, IfErr, IfOk, IfSome, List, Option, ℕ, string_bytes};
-ghost use Rattle.filterset_io.specs.declared.fault.RunFault.TheVariants.{Write};
+ghost use Rattle.std.specs.Prelude.{◌≡◌, IfErr, IfOk, IfSome, List, Option, ℕ, string_bytes};
 ghost use Rattle.filterset_command.specs.Files.{NotWrite};
 
-use crate::fault::{CommandFault, FileFault};
-use filterset_io::RunFault;
-use std::alloc::{AllocError, Global};
+use crate::fault::{CommandFault, FileFault, FileRole};
+use std::alloc::Global;
 use std::{fs, io};
 
 /// Where files are read from.
 pub trait FileSource {
-    /// The bytes of the file at a path, where they are known.
+    /// The bytes of the file at a path, if they are known.
     ghost content: { Self → List ℕ → Option (List ℕ) };
 
     /// Reads all bytes of the file at a path.
-    fn read(&self, alloc: Global, path: &str) -> Result<Vec<u8>, CommandFault>
-        ensures whole { IfOk result
-            (λ bytes. IfSome (content self.now path.now) (λ known. bytes.items ≡ known)) }
-        ensures no_write { IfErr result NotWrite };
+    fn read(&self, alloc: Global, path: &str) -> io::Result<Vec<u8>>
+        ensures { IfOk result
+            (λ bytes. IfSome (content self.now path.now) (λ known. bytes.items ≡ known)) };
 }
 
 /// The files of the machine.
@@ -31,14 +28,8 @@ impl FileSource for HostFiles<'_> {
 
     ghost content = { λ _ _. None };
 
-    fn read(&self, alloc: Global, path: &str) -> Result<Vec<u8>, CommandFault> {
-        match fs::read(self.runtime, path) {
-            Ok(bytes) => Ok(bytes),
-            Err(error) if error.kind() == io::ErrorKind::OutOfMemory => {
-                Err(CommandFault::Run(RunFault::Memory(AllocError)))
-            }
-            Err(error) => Err(CommandFault::in_file(alloc, path, FileFault::Unread(error))),
-        }
+    fn read(&self, _alloc: Global, path: &str) -> io::Result<Vec<u8>> {
+        fs::read(self.runtime, path)
     }
 }
 
@@ -46,15 +37,19 @@ impl FileSource for HostFiles<'_> {
 pub fn read_text<F: FileSource>(
     alloc: Global,
     files: &F,
+    role: FileRole,
     path: &str,
 ) -> Result<String, CommandFault>
     ensures whole { IfOk result
         (λ text. IfSome (F.content files.now path.now) (λ known. string_bytes text ≡ known)) }
     ensures no_write { IfErr result NotWrite }
 {
-    let bytes = files.read(alloc, path)?;
+    let bytes = match files.read(alloc, path) {
+        Ok(bytes) => bytes,
+        Err(error) => return Err(CommandFault::from_read(alloc, role, path, error)),
+    };
     match String::from_utf8(bytes) {
         Ok(text) => Ok(text),
-        Err(_) => Err(CommandFault::in_file(alloc, path, FileFault::NotText)),
+        Err(_) => Err(CommandFault::in_file(alloc, role, path, FileFault::NotText)),
     }
 }

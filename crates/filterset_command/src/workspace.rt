@@ -6,7 +6,7 @@ ghost use Rattle.filterset_sources.specs.Suites.{IsOfPackage, IsTestList};
 ghost use Rattle.filterset_command.specs.Files.{NotWrite};
 ghost use Rattle.filterset_command.specs.Workspaces.{ArePackagesIn, AreSuitesIn, IsJsonOf, IsWorkspaceIn};
 
-use crate::fault::CommandFault;
+use crate::fault::{CommandFault, FileRole};
 use crate::files::{FileSource, read_text};
 use filterset_graph::PackageGraph;
 use filterset_sources::{
@@ -34,14 +34,19 @@ pub struct Workspace {
 }
 
 /// Reads a file as a JSON value.
-fn read_value<F: FileSource>(alloc: Global, files: &F, path: &str) -> Result<Value, CommandFault>
+fn read_value<F: FileSource>(
+    alloc: Global,
+    files: &F,
+    role: FileRole,
+    path: &str,
+) -> Result<Value, CommandFault>
     ensures read { IfOk result (λ value. IsJsonOf (F.content files.now path.now) (view value)) }
     ensures no_write { IfErr result NotWrite }
 {
-    let text = read_text(alloc, files, path)?;
+    let text = read_text(alloc, files, role, path)?;
     match read_json(alloc, text.as_str()) {
         Ok(value) => Ok(value),
-        Err(refusal) => Err(CommandFault::from_refusal(alloc, path, refusal)),
+        Err(refusal) => Err(CommandFault::from_refusal(alloc, role, path, refusal)),
     }
 }
 
@@ -54,10 +59,11 @@ pub fn read_graph<F: FileSource>(
     ensures read { IfOk result (λ graph. ArePackagesIn (F.content files.now path.now) graph) }
     ensures no_write { IfErr result NotWrite }
 {
-    let value = read_value(alloc, files, path)?;
+    let role = FileRole::Metadata;
+    let value = read_value(alloc, files, role, path)?;
     match read_metadata(alloc, &value) {
         Ok(graph) => Ok(graph),
-        Err(refusal) => Err(CommandFault::from_refusal(alloc, path, refusal)),
+        Err(refusal) => Err(CommandFault::from_refusal(alloc, role, path, refusal)),
     }
 }
 
@@ -82,10 +88,11 @@ fn read_list<F: FileSource>(
         (view both.1) both.0.suites.items) }
     ensures no_write { IfErr result NotWrite }
 {
-    let value = read_value(alloc, files, path)?;
+    let role = FileRole::List;
+    let value = read_value(alloc, files, role, path)?;
     match list_of(alloc, &value, graph) {
         Ok(list) => Ok((list, value)),
-        Err(refusal) => Err(CommandFault::from_refusal(alloc, path, refusal)),
+        Err(refusal) => Err(CommandFault::from_refusal(alloc, role, path, refusal)),
     }
 }
 
