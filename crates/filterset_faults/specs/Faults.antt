@@ -1,7 +1,7 @@
--- The table of faults: code, span, label and help.
+-- The table of faults: code, message, span, label and help.
 use Rattle.std.specs.Prelude.{List, ℕ, codes, ◌++◌, Option, Some, None}
 use Rattle.filterset_glob.specs.FaultTexts.{glob_fault_text}
-use Rattle.filterset_faults.specs.Texts.{reason_text}
+use Rattle.filterset_faults.specs.Texts.{kind_text, reason_text}
 use Rattle.filterset_faults.specs.declared.span.SourceSpan.{SourceSpan}
 use Rattle.filterset_faults.specs.declared.error.ParseSingleError.{ParseSingleError}
 use Rattle.filterset_faults.specs.declared.error.ParseSingleError.TheVariants as fault
@@ -30,6 +30,32 @@ code_of (fault.NoBinaryNameMatch span) = codes "NoBinaryNameMatch"
 code_of (fault.InvalidPlatformArgument span) = codes "InvalidPlatformArgument"
 code_of (fault.UnsupportedExpression span) = codes "UnsupportedExpression"
 code_of fault.Unknown = codes "Unknown"
+
+abbrev pub message_of : ParseSingleError → List ℕ
+message_of (fault.InvalidGlob span error) = codes "invalid glob"
+message_of (fault.BannedPredicate span kind reason) =
+    codes "predicate not allowed in `" ++ kind_text kind ++ codes "` expressions"
+message_of (fault.InvalidRegexWithoutMessage span) = codes "invalid regex"
+message_of (fault.ExpectedCloseRegex span) = codes "expected close regex"
+message_of (fault.InvalidOrOperator span) = codes "invalid OR operator"
+message_of (fault.InvalidAndOperator span) = codes "invalid AND operator"
+message_of (fault.UnexpectedArgument span) = codes "unexpected argument"
+message_of (fault.UnexpectedComma span) = codes "unexpected comma"
+message_of (fault.InvalidString span) = codes "invalid string"
+message_of (fault.ExpectedOpenParenthesis span) = codes "expected open parenthesis"
+message_of (fault.ExpectedCloseParenthesis span) = codes "expected close parenthesis"
+message_of (fault.InvalidEscapeCharacter span) = codes "invalid escape character"
+message_of (fault.ExpectedExpr span) = codes "expected expression"
+message_of (fault.ExprFoundBinaryOp span op suggest) = codes "expected expression, found `" ++ op.now ++ codes "`"
+message_of (fault.ExprFoundUnaryOp span op suggest) = codes "expected expression, found `" ++ op.now ++ codes "`"
+message_of (fault.ExpectedEndOfExpression span) = codes "expected end of expression"
+message_of (fault.NoPackageMatch span) = codes "operator didn't match any packages"
+message_of (fault.NoGroupMatch span) = codes "operator didn't match any test groups"
+message_of (fault.NoBinaryIdMatch span) = codes "operator didn't match any binary IDs"
+message_of (fault.NoBinaryNameMatch span) = codes "operator didn't match any binary names"
+message_of (fault.InvalidPlatformArgument span) = codes "invalid argument for platform"
+message_of (fault.UnsupportedExpression span) = codes "unsupported expression"
+message_of fault.Unknown = codes "unknown parsing error"
 
 abbrev pub span_of : ParseSingleError → Option SourceSpan
 span_of (fault.InvalidGlob span error) = Some span

@@ -10,98 +10,73 @@ use crate::span::SourceSpan;
 use crate::text::{Help, Label};
 use filterset_glob::GlobConstructError;
 use std::alloc::{AllocError, Global};
-use thiserror::Error;
-
-// A constant, since the gate takes an attribute that has the word `test` for a test of this crate.
-const TEST_GROUPS: &str = "test groups";
+use std::error::Error;
+use std::fmt;
 
 /// A fault of a filterset text. Every variant but `Unknown` has the span of the text that it is about. Displays as a
 /// message.
-#[derive(Clone, Copy, Debug, Error)]
+#[derive(Clone, Copy, Debug)]
 pub enum ParseSingleError {
     /// The text of a glob matcher is not a glob.
-    #[error("invalid glob")]
     InvalidGlob {
         span: SourceSpan,
         error: GlobConstructError,
     },
     /// A predicate is banned from filtersets of this kind.
-    #[error("predicate not allowed in `{kind}` expressions")]
     BannedPredicate {
         span: SourceSpan,
         kind: FiltersetKind,
         reason: BannedPredicateReason,
     },
     /// `regex` rejected a pattern, for a reason other than out of memory.
-    #[error("invalid regex")]
     InvalidRegexWithoutMessage(SourceSpan),
     /// A regular expression has no closing `/`.
-    #[error("expected close regex")]
     ExpectedCloseRegex(SourceSpan),
     /// `||` or `OR` stands for an operator.
-    #[error("invalid OR operator")]
     InvalidOrOperator(SourceSpan),
     /// `&&` or `AND` stands for an operator.
-    #[error("invalid AND operator")]
     InvalidAndOperator(SourceSpan),
     /// A predicate that takes no argument has one.
-    #[error("unexpected argument")]
     UnexpectedArgument(SourceSpan),
     /// A predicate has a second argument.
-    #[error("unexpected comma")]
     UnexpectedComma(SourceSpan),
     /// The text of a matcher is empty.
-    #[error("invalid string")]
     InvalidString(SourceSpan),
     /// A predicate has no `(`.
-    #[error("expected open parenthesis")]
     ExpectedOpenParenthesis(SourceSpan),
     /// A `(` has no `)`.
-    #[error("expected close parenthesis")]
     ExpectedCloseParenthesis(SourceSpan),
     /// A backslash begins no escape.
-    #[error("invalid escape character")]
     InvalidEscapeCharacter(SourceSpan),
     /// An operand is missing.
-    #[error("expected expression")]
     ExpectedExpr(SourceSpan),
     /// A binary operator is where an operand belongs. `op` is its text, `suggest` the operator to write.
-    #[error("expected expression, found `{op}`")]
     ExprFoundBinaryOp {
         span: SourceSpan,
         op: &'static str,
         suggest: &'static str,
     },
     /// `NOT` is where an operand belongs. `op` is its text, `suggest` the operator to write.
-    #[error("expected expression, found `{op}`")]
     ExprFoundUnaryOp {
         span: SourceSpan,
         op: &'static str,
         suggest: &'static str,
     },
     /// Text follows the expression.
-    #[error("expected end of expression")]
     ExpectedEndOfExpression(SourceSpan),
     /// A matcher matches no package of the workspace.
-    #[error("operator didn't match any packages")]
     NoPackageMatch(SourceSpan),
     /// A matcher matches no test group.
-    #[error("operator didn't match any {groups}", groups = TEST_GROUPS)]
     NoGroupMatch(SourceSpan),
     /// A matcher matches no id of a test binary.
-    #[error("operator didn't match any binary IDs")]
     NoBinaryIdMatch(SourceSpan),
     /// A matcher matches no name of a test binary.
-    #[error("operator didn't match any binary names")]
     NoBinaryNameMatch(SourceSpan),
     /// The argument of `platform` is neither `host` nor `target`.
-    #[error("invalid argument for platform")]
     InvalidPlatformArgument(SourceSpan),
     /// A predicate cannot be compiled. Never reported: every predicate can be.
-    #[error("unsupported expression")]
     UnsupportedExpression(SourceSpan),
     /// Never reported.
-    #[error("unknown parsing error")]
     Unknown,
 }
 
@@ -136,6 +111,46 @@ impl<'f> Row<'f> {
         }
     }
 }
+
+/// Writes the message.
+impl fmt::Display for ParseSingleError {
+    ghost use Rattle.filterset_faults.specs.Faults.{message_of};
+
+    ghost output = { λ fault. Some (message_of fault) };
+
+    fn fmt<W: fmt::Write>(&self, f: &mut fmt::Formatter<W>) -> fmt::Result {
+        match self {
+            Self::InvalidGlob { .. } => f.write_str("invalid glob"),
+            Self::BannedPredicate { kind, .. } => {
+                write!(f, "predicate not allowed in `{kind}` expressions")
+            }
+            Self::InvalidRegexWithoutMessage(_) => f.write_str("invalid regex"),
+            Self::ExpectedCloseRegex(_) => f.write_str("expected close regex"),
+            Self::InvalidOrOperator(_) => f.write_str("invalid OR operator"),
+            Self::InvalidAndOperator(_) => f.write_str("invalid AND operator"),
+            Self::UnexpectedArgument(_) => f.write_str("unexpected argument"),
+            Self::UnexpectedComma(_) => f.write_str("unexpected comma"),
+            Self::InvalidString(_) => f.write_str("invalid string"),
+            Self::ExpectedOpenParenthesis(_) => f.write_str("expected open parenthesis"),
+            Self::ExpectedCloseParenthesis(_) => f.write_str("expected close parenthesis"),
+            Self::InvalidEscapeCharacter(_) => f.write_str("invalid escape character"),
+            Self::ExpectedExpr(_) => f.write_str("expected expression"),
+            Self::ExprFoundBinaryOp { op, .. } | Self::ExprFoundUnaryOp { op, .. } => {
+                write!(f, "expected expression, found `{op}`")
+            }
+            Self::ExpectedEndOfExpression(_) => f.write_str("expected end of expression"),
+            Self::NoPackageMatch(_) => f.write_str("operator didn't match any packages"),
+            Self::NoGroupMatch(_) => f.write_str("operator didn't match any test groups"),
+            Self::NoBinaryIdMatch(_) => f.write_str("operator didn't match any binary IDs"),
+            Self::NoBinaryNameMatch(_) => f.write_str("operator didn't match any binary names"),
+            Self::InvalidPlatformArgument(_) => f.write_str("invalid argument for platform"),
+            Self::UnsupportedExpression(_) => f.write_str("unsupported expression"),
+            Self::Unknown => f.write_str("unknown parsing error"),
+        }
+    }
+}
+
+impl Error for ParseSingleError {}
 
 /// Compares the variants, by their codes, and all fields.
 impl PartialEq for ParseSingleError {
