@@ -1,15 +1,17 @@
 -- Widths of characters, and the columns of texts.
-use Rattle.std.proofs.Common.{◌≡◌, ℕ, ◌+◌, ◌*◌, ◌<◌, ◌≤◌, Bool, true, false, cond, ◌&&◌, nat_le, nat_lt, List, [], ◌∷◌, ◌++◌, length, Option, Some, None, unwrap_or, refl, sym, ap, ◌∙◌, arith, ⊎_elim, zero-add, add-zero, append-nil, length-append}
+use Rattle.std.proofs.Common.{◌≡◌, ℕ, ◌+◌, ◌*◌, ◌<◌, ◌≤◌, Bool, true, false, cond, ◌&&◌, nat_le, nat_lt, List, [], ◌∷◌, ◌++◌, length, take, Option, Some, None, unwrap_or, refl, sym, ap, ◌∙◌, arith, ⊎_elim, zero-add, add-zero, append-nil, append_assoc, length-append}
 use Rattle.std.specs.Prelude.{filter, sum_by, encode_utf8, encode_utf8_all}
+use Rattle.std.specs.List.{enumerate_from}
 use Rattle.std.proofs.Math.Bool.{and-false}
 use Rattle.std.proofs.lemmas.Bool.{and_from, cases_lt, le-leb, le-ltb, lt-leb, lt-ltb}
 use Rattle.std.proofs.lemmas.Bool.Decides.{nat_tests}
+use Rattle.std.proofs.lemmas.List.{length_push, take_at}
 use Rattle.std.proofs.lemmas.List.Elements.{filter-append}
-use Rattle.std.proofs.lemmas.List.Sums.{sum_by-append}
+use Rattle.std.proofs.lemmas.List.Sums.{sum_by-append, sum_by-cons}
 use Rattle.std.proofs.lemmas.Str.{encodes-append, length-encode, len_utf8_bounds}
 use Rattle.unicode_width.specs.Width.{char_width}
 use Rattle.unicode_width.proofs.Rules.{width_or_zero-le}
-use Rattle.filterset_drawing.specs.Columns.{columns_of, placed}
+use Rattle.filterset_drawing.specs.Columns.{columns_of}
 
 width_or_one : (o : Option ℕ) → unwrap_or o 0 ≤ 3 → unwrap_or o 1 ≤ 3
 width_or_one None h = omega arith
@@ -29,6 +31,11 @@ width_bound c =
     (λ (low : c < 128). omega (arith, ascii_width c low, length-encode c, (len_utf8_bounds c).0))
     (λ (high : 128 ≤ c). omega (arith, width_or_one (char_width false c) (width_or_zero-le false c), two_bytes c high))
     (cases_lt c 128)
+
+-- characters with the bytes at which they begin, the first of them at this byte
+abbrev pub placed : ℕ → List ℕ → List (ℕ × ℕ)
+placed at [] = []
+placed at (c ∷ cs) = (at, c) ∷ placed (at + length (encode_utf8 c)) cs
 
 -- the columns of the characters that begin in a stretch, the first of them at this byte
 abbrev pub within : ℕ → ℕ → ℕ → List ℕ → ℕ
@@ -83,3 +90,36 @@ within-push_after from to cs c at is after =
 -- the bytes of one more character
 pub encodes-push : (cs : List ℕ) (c : ℕ) → length (encode_utf8_all (cs ++ c ∷ [])) ≡ length (encode_utf8_all cs) + length (encode_utf8 c)
 encodes-push cs c = ap length (encodes-append cs (c ∷ []) ∙ ap (λ l. encode_utf8_all cs ++ l) (append-nil (encode_utf8 c))) ∙ length-append (encode_utf8_all cs) (encode_utf8 c)
+
+-- ---- and these are the columns of the definition, which names each character by its index
+
+-- the bytes before the character with this index
+abbrev begins : List ℕ → ℕ → ℕ
+begins cs index = length (encode_utf8_all (take index cs))
+
+abbrev width : ℕ × ℕ → ℕ
+width p = columns_of p.1
+
+-- the columns of those of the characters `cs`, with their indices, that begin in a stretch of the characters `whole`
+abbrev named : ℕ → ℕ → List ℕ → List (ℕ × ℕ) → ℕ
+named from to whole cs = sum_by width (filter (λ p. nat_le from (begins whole p.0) && nat_lt (begins whole p.0) to) cs)
+
+one_more : (c m n : ℕ) (ps qs : List (ℕ × ℕ)) (test : Bool) → sum_by width ps ≡ sum_by width qs → sum_by width (cond test ((m, c) ∷ ps) ps) ≡ sum_by width (cond test ((n, c) ∷ qs) qs)
+one_more c m n ps qs true same = sum_by-cons width (m, c) ps ∙ ap (λ k. columns_of c + k) same ∙ sym (sum_by-cons width (n, c) qs)
+one_more c m n ps qs false same = same
+
+pub named-within : (from to : ℕ) (whole read cs : List ℕ) → whole ≡ read ++ cs → named from to whole (enumerate_from (length read) cs) ≡ within from to (length (encode_utf8_all read)) cs
+named-within from to whole read [] cut = refl
+named-within from to whole read (c ∷ cs) cut =
+    let at = length (encode_utf8_all read) in
+    let test = λ (n : ℕ). nat_le from n && nat_lt n to in
+    let start : begins whole (length read) ≡ at = ap (λ t. length (encode_utf8_all t)) (ap (take (length read)) cut ∙ take_at read (c ∷ cs) (length read) refl) in
+    let longer : whole ≡ (read ++ c ∷ []) ++ cs = cut ∙ sym (append_assoc read (c ∷ []) cs) in
+    let others = filter (λ (p : ℕ × ℕ). test (begins whole p.0)) (enumerate_from (length read + 1) cs) in
+    let placed_others = filter (λ (p : ℕ × ℕ). test p.0) (placed (at + length (encode_utf8 c)) cs) in
+    let rest : sum_by width others ≡ sum_by width placed_others =
+    ap (λ k. named from to whole (enumerate_from k cs)) (sym (length_push read c))
+    ∙ named-within from to whole (read ++ c ∷ []) cs longer
+    ∙ ap (λ k. within from to k cs) (encodes-push read c) in
+    ap (λ n. sum_by width (cond (test n) ((length read, c) ∷ others) others)) start
+    ∙ one_more c (length read) at others placed_others (test at) rest

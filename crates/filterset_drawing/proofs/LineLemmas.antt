@@ -1,14 +1,13 @@
 -- The lines of a text, one after the other.
-use Rattle.std.proofs.Common.{◌≡◌, ℕ, zero, suc, ◌+◌, ◌<◌, ◌≤◌, Bool, true, false, cond, List, [], ◌∷◌, ◌++◌, length, map, take, get_or, refl, sym, ap, ap₂, ◌∙◌, ◌==◌, arith, add-zero, zero-add}
+use Rattle.std.proofs.Common.{◌≡◌, ℕ, zero, suc, ◌+◌, ◌<◌, ◌≤◌, Bool, true, false, cond, List, [], ◌∷◌, ◌++◌, length, map, take, drop, get_or, refl, sym, ap, ap₂, subst, ◌∙◌, ◌==◌, arith, add-zero, zero-add}
 use Rattle.std.specs.Prelude.{sum_by}
 use Rattle.std.specs.List.{onto_first, slice_split}
-use Rattle.std.specs.Prelude.{Contains}
 use Rattle.std.proofs.lemmas.Bool.{leb-false, leb-true}
-use Rattle.std.proofs.lemmas.List.{get_or-map, length-map, map-append, take_all}
-use Rattle.std.proofs.lemmas.List.Elements.{Contains-get_or}
+use Rattle.std.proofs.lemmas.List.{drop_more, get_or-map, length-map, length-take-le, map-append, take-append-drop, take_all}
 use Rattle.std.proofs.lemmas.List.Sums.{sum_by-cons, sum_by_more}
 use Rattle.filterset_drawing.specs.Columns.{Text}
-use Rattle.filterset_drawing.specs.Lines.{LineRow, column_of, line_row, lines_of, numbered, pieces, reaches}
+use Rattle.filterset_drawing.specs.Cutting.{line_row, lines_of, numbered, reaches}
+use Rattle.filterset_drawing.specs.Lines.{IsLine, LineRow, column_of, pieces}
 use Rattle.filterset_drawing.specs.Locations.{StandsAt}
 use Rattle.filterset_drawing.specs.declared.line.Line.{Line}
 use Rattle.filterset_drawing.specs.declared.source.Location.{Location}
@@ -20,18 +19,18 @@ extent texts = sum_by (λ text. length text + 1) texts
 extent-cons : (text : Text) (texts : List Text) → extent (text ∷ texts) ≡ length text + 1 + extent texts
 extent-cons text texts = sum_by-cons (λ (t : Text). length t + 1) text texts
 
-abbrev row : ℕ → ℕ → Text → LineRow
+abbrev pub row : ℕ → ℕ → Text → LineRow
 row number start text = record { number = number; start = start; text = text }
 
--- one more line
-pub numbered-push : (number start : ℕ) (texts : List Text) (text : Text) → numbered number start (texts ++ text ∷ []) ≡ numbered number start texts ++ row (number + length texts) (start + extent texts) text ∷ []
-numbered-push number start [] text = ap₂ (λ n s. row n s text ∷ []) (sym (add-zero number)) (sym (add-zero start))
-numbered-push number start (t ∷ texts) text =
+-- more lines
+pub numbered-append : (number start : ℕ) (texts others : List Text) → numbered number start (texts ++ others) ≡ numbered number start texts ++ numbered (number + length texts) (start + extent texts) others
+numbered-append number start [] others = ap₂ (λ n s. numbered n s others) (sym (add-zero number)) (sym (add-zero start))
+numbered-append number start (t ∷ texts) others =
     let n : number + 1 + length texts ≡ number + length (t ∷ texts) = omega arith in
     let s : start + (length t + 1) + extent texts ≡ start + extent (t ∷ texts) = omega (arith, extent-cons t texts) in
     ap (λ ls. row number start t ∷ ls)
-    (numbered-push (number + 1) (start + (length t + 1)) texts text
-    ∙ ap₂ (λ m b. numbered (number + 1) (start + (length t + 1)) texts ++ row m b text ∷ []) n s)
+    (numbered-append (number + 1) (start + (length t + 1)) texts others
+    ∙ ap₂ (λ m b. numbered (number + 1) (start + (length t + 1)) texts ++ numbered m b others) n s)
 
 -- the line at a position
 pub numbered-at : (number start : ℕ) (texts : List Text) (k : ℕ) (d : LineRow) → k < length texts → get_or (numbered number start texts) k d ≡ row (number + k) (start + extent (take k texts)) (get_or texts k [])
@@ -73,29 +72,44 @@ pub lines-push : (lines : List Line) (line : Line) (texts : List Text) → map l
 lines-push lines line texts cut n s =
     map-append line_row lines (line ∷ [])
     ∙ ap₂ (λ ls (l : LineRow). ls ++ l ∷ []) cut (ap₂ (λ m b. row m b line.text.now) n (s ∙ sym (zero-add (extent texts))))
-    ∙ sym (numbered-push 1 0 texts line.text.now)
+    ∙ sym (numbered-append 1 0 texts (line.text.now ∷ []))
+
+-- a text has as many lines as pieces
+pub length-lines : (text : Text) (lines : List Line) → map line_row lines ≡ lines_of text → length lines ≡ length (pieces text)
+length-lines text lines cut = sym (length-map lines line_row) ∙ ap length cut ∙ length-numbered 1 0 (pieces text)
 
 -- the line at a position of a text that is cut into these
 line-at : (text : Text) (lines : List Line) (k : ℕ) (d : Line) → map line_row lines ≡ lines_of text → k < length lines → line_row (get_or lines k d) ≡ row (1 + k) (extent (take k (pieces text))) (get_or (pieces text) k [])
 line-at text lines k d cut lt =
     let texts = pieces text in
-    let size : length lines ≡ length texts = sym (length-map lines line_row) ∙ ap length cut ∙ length-numbered 1 0 texts in
+    let size = length-lines text lines cut in
     sym (get_or-map line_row lines k d (line_row d) lt) ∙ ap (λ ls. get_or ls k (line_row d)) cut
-    ∙ numbered-at 1 0 texts k (line_row d) (omega arith)
+    ∙ numbered-at 1 0 texts k (line_row d) (omega (arith, size))
     ∙ ap (λ s. row (1 + k) s (get_or texts k [])) (zero-add (extent (take k texts)))
 
-is-line : (text : Text) (lines : List Line) (k : ℕ) (d : Line) → map line_row lines ≡ lines_of text → k < length lines → Contains (lines_of text) (line_row (get_or lines k d))
+-- the piece at a position is a line
+pub row-is_line : (text : Text) (k : ℕ) → k < length (pieces text) → IsLine text (row (1 + k) (extent (take k (pieces text))) (get_or (pieces text) k []))
+row-is_line text k lt =
+    let texts = pieces text in
+    record {
+      earlier = take k texts;
+      later = drop (k + 1) texts;
+      cut = sym (take-append-drop k texts) ∙ ap (λ rest. take k texts ++ rest) (drop_more texts k [] lt);
+      number_is = omega (arith, length-take-le k texts (omega arith));
+      start_is = refl;
+    }
+
+is-line : (text : Text) (lines : List Line) (k : ℕ) (d : Line) → map line_row lines ≡ lines_of text → k < length lines → IsLine text (line_row (get_or lines k d))
 is-line text lines k d cut lt =
-    let within : k < length (map line_row lines) = rw length-map lt in
-    rw (get_or-map line_row lines k d (line_row d) lt, cut) at (Contains-get_or (map line_row lines) k (line_row d) within)
+    subst (IsLine text) (sym (line-at text lines k d cut lt)) (row-is_line text k (omega (arith, length-lines text lines cut)))
 
 -- the first line that reaches a position is the one in which it stands
 pub stands : (text : Text) (lines : List Line) (k from : ℕ) (d : Line) (location : Location) → map line_row lines ≡ lines_of text → k < length lines → extent (take k (pieces text)) ≤ from → reaches from (line_row (get_or lines k d)) ≡ true → location.line ≡ (get_or lines k d).number → location.column ≡ column_of (line_row (get_or lines k d)) from + 1 → StandsAt text from location
-stands text lines k from d location cut lt passed reached is_line is_column =
+stands text lines k from d location cut lt passed reached number_is column_is =
     let line = get_or lines k d in
     let start : line.start ≡ extent (take k (pieces text)) = ap (λ l. l.start) (line-at text lines k d cut lt) in
     let end : from ≤ line.start + length line.text.now = leb-true from (line.start + length line.text.now) reached in
-    (line_row line, is-line text lines k d cut lt, omega arith, end, is_line, is_column)
+    (line_row line, is-line text lines k d cut lt, (omega arith, end), number_is, column_is)
 
 -- a line that does not reach a position is passed
 pub passed-more : (text : Text) (lines : List Line) (k from : ℕ) (d : Line) → map line_row lines ≡ lines_of text → k < length lines → reaches from (line_row (get_or lines k d)) ≡ false → extent (take (k + 1) (pieces text)) ≤ from
@@ -103,7 +117,7 @@ passed-more text lines k from d cut lt missed =
     let texts = pieces text in
     let line = get_or lines k d in
     let here = line-at text lines k d cut lt in
-    let size : length lines ≡ length texts = sym (length-map lines line_row) ∙ ap length cut ∙ length-numbered 1 0 texts in
+    let size : length lines ≡ length texts = length-lines text lines cut in
     let more = sum_by_more (λ (t : Text). length t + 1) texts k [] (omega arith) in
     let start : line.start ≡ extent (take k texts) = ap (λ l. l.start) here in
     let bytes : length line.text.now ≡ length (get_or texts k []) = ap (λ l. length l.text) here in
@@ -114,6 +128,6 @@ passed-more text lines k from d cut lt missed =
 pub not_past : (text : Text) (lines : List Line) (k from : ℕ) → map line_row lines ≡ lines_of text → length lines ≤ k → extent (take k (pieces text)) ≤ from → from ≤ length text → ⊥
 not_past text lines k from cut all passed within =
     let texts = pieces text in
-    let size : length lines ≡ length texts = sym (length-map lines line_row) ∙ ap length cut ∙ length-numbered 1 0 texts in
+    let size : length lines ≡ length texts = length-lines text lines cut in
     let whole : take k texts ≡ texts = take_all k texts (omega arith) in
     omega (arith, extent-slice_split (λ b. b == 10) text, ap extent whole)

@@ -1,4 +1,4 @@
--- The sequences that begin and end a colour.
+-- Which sequences begin and end a colour.
 use Rattle.std.specs.Prelude.{ℕ, List, [], ◌∷◌, codes}
 use Rattle.filterset_drawing.specs.declared.color.Color.{Color}
 use Rattle.filterset_drawing.specs.declared.color.Color.TheVariants.{Never, Always}

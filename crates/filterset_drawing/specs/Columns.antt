@@ -1,6 +1,6 @@
--- How characters are drawn, and which columns of a terminal they take.
-use Rattle.std.specs.Prelude.{ℕ, ◌+◌, ◌==◌, ◌&&◌, nat_le, nat_lt, false, List, [], ◌∷◌, Option, Some, None, length, sum_by, filter, chars, codes, encode_utf8, unwrap_or, if◌then◌else◌}
-use Rattle.std.specs.List.{flat_map}
+-- How a character is drawn, and how many columns of a terminal it takes.
+use Rattle.std.specs.Prelude.{ℕ, ◌==◌, ◌&&◌, nat_le, nat_lt, false, List, [], Option, Some, None, length, sum_by, filter, take, chars, codes, encode_utf8, encode_utf8_all, unwrap_or, if◌then◌else◌}
+use Rattle.std.specs.List.{enumerate_from, flat_map}
 use Rattle.unicode_width.specs.Width.{char_width}
 
 -- a text, by its bytes
@@ -26,12 +26,13 @@ drawn_char c = if c == 9 then codes "  " else if c == 13 then [] else shown (cha
 abbrev pub drawn : Text → Text
 drawn text = flat_map drawn_char (chars text)
 
--- characters with the bytes at which they begin, the first of them at this byte
-abbrev pub placed : ℕ → List ℕ → List (ℕ × ℕ)
-placed at [] = []
-placed at (c ∷ cs) = (at, c) ∷ placed (at + length (encode_utf8 c)) cs
+-- the bytes before the character of a text that has this index
+abbrev pub begin_of : Text → ℕ → ℕ
+begin_of text index = length (encode_utf8_all (take index (chars text)))
 
 -- the columns of the characters of a text that begin at the byte `from` or after it, and before the byte `to`
 abbrev pub columns_between : Text → ℕ → ℕ → ℕ
 columns_between text from to =
-    sum_by (λ p. columns_of p.1) (filter (λ p. nat_le from p.0 && nat_lt p.0 to) (placed 0 (chars text)))
+    sum_by (λ (index, c). columns_of c)
+    (filter (λ (index, c). nat_le from (begin_of text index) && nat_lt (begin_of text index) to)
+    (enumerate_from 0 (chars text)))

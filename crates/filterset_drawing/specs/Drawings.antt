@@ -1,7 +1,7 @@
--- What a drawing of a fault is.
-use Rattle.std.specs.Prelude.{◌≡◌, ℕ, ◌-◌, ◌++◌, List, [], Option, Some, None, codes, decimal, filter, length, replicate}
+-- What `draw` writes about a fault.
+use Rattle.std.specs.Prelude.{◌≡◌, ℕ, ◌-◌, ◌++◌, List, [], Option, Some, None, codes, decimal, length, replicate}
 use Rattle.std.specs.List.{flat_map}
-use Rattle.filterset_faults.specs.Faults.{code_of, span_of, label_of, help_of}
+use Rattle.filterset_faults.specs.Faults.{code_of, message_of, span_of, label_of, help_of}
 use Rattle.filterset_faults.specs.declared.span.SourceSpan.{SourceSpan}
 use Rattle.filterset_faults.specs.declared.error.ParseSingleError.{ParseSingleError}
 use Rattle.filterset_drawing.specs.declared.color.Color.{Color}
@@ -9,20 +9,22 @@ use Rattle.filterset_drawing.specs.declared.drawing.Margin.{Margin}
 use Rattle.filterset_drawing.specs.declared.source.Location.{Location}
 use Rattle.filterset_drawing.specs.Color.{red_of, blue_of, plain_of}
 use Rattle.filterset_drawing.specs.Columns.{Text, drawn}
-use Rattle.filterset_drawing.specs.Lines.{LineRow, caret_count, column_of, from_of, is_touched, lines_of, to_of}
+use Rattle.filterset_drawing.specs.Lines.{AreMet, LineRow, caret_count, column_of, from_of, pieces, to_of}
 use Rattle.filterset_drawing.specs.Locations.{StandsAt}
 
 -- what stands left of a text: as many columns as the number of its last line takes
 abbrev pub margin_of : Color → Text → Margin
-margin_of color text = record { width = length (decimal (length (lines_of text))); color = color }
+margin_of color text = record { width = length (decimal (length (pieces text))); color = color }
 
 -- a new line, with blanks where the number of a line of the text would stand
 abbrev pub margin_line : Margin → Text
 margin_line margin = codes "\n" ++ (replicate margin.width 32 ++ blue_of margin.color)
 
-abbrev pub header : Color → Text → Text → Text
-header color code message =
-    red_of color ++ (codes "error" ++ (plain_of color ++ (codes ": " ++ (code ++ (codes ": " ++ message)))))
+-- the code and the message of a fault, on one line
+abbrev pub header : Color → ParseSingleError → Text
+header color fault =
+    red_of color ++ (codes "error" ++ (plain_of color
+    ++ (codes ": " ++ (code_of fault ++ (codes ": " ++ drawn (message_of fault))))))
 
 abbrev pub location_part : Margin → Text → Location → Text
 location_part margin origin location =
@@ -45,18 +47,19 @@ caret_line margin from to line =
     bar margin ++ (codes " " ++ (replicate (column_of line from) 32
     ++ (red_of margin.color ++ (replicate (caret_count line from to) 94 ++ plain_of margin.color))))
 
--- the lines that the stretch from the one position to the other concerns, each with its carets
+-- lines, each with the carets of the stretch from the one position to the other
 abbrev pub marked_lines : Margin → ℕ → ℕ → List LineRow → Text
 marked_lines margin from to lines =
-    flat_map (λ line. text_line margin line ++ caret_line margin from to line) (filter (is_touched from to) lines)
+    flat_map (λ line. text_line margin line ++ caret_line margin from to line) lines
 
--- what is drawn of a span of the text
+-- what is drawn of a span of the text: where it begins, and each line that it meets
 abbrev pub DrawnSpan : Margin → Text → Text → Option SourceSpan → Text → Type 0
 DrawnSpan margin origin text None part = part ≡ []
 DrawnSpan margin origin text (Some span) part =
-    (location : Location) × StandsAt text (from_of text span) location
-    × (part ≡ location_part margin origin location
-    ++ (bar margin ++ marked_lines margin (from_of text span) (to_of text span) (lines_of text)))
+    let from = from_of text span in
+    let to = to_of text span in
+    (location : Location) × (lines : List LineRow) × StandsAt text from location × AreMet text from to lines
+    × (part ≡ location_part margin origin location ++ (bar margin ++ marked_lines margin from to lines))
 
 abbrev pub label_part : Color → Option Text → Text
 label_part color None = []
@@ -65,12 +68,12 @@ label_part color (Some label) = codes " " ++ (red_of color ++ (drawn label ++ pl
 abbrev pub help_part : Margin → Option Text → Text
 help_part margin None = []
 help_part margin (Some help) =
-    margin_line margin ++ (codes " =" ++ (plain_of margin.color ++ (codes " help: " ++ help)))
+    margin_line margin ++ (codes " =" ++ (plain_of margin.color ++ (codes " help: " ++ drawn help)))
 
--- A drawing of a fault under a text that stands where `origin` says, with the fault's message.
+-- A drawing of a fault under a text that stands where `origin` says.
 abbrev pub Drawing : Color → Text → Text → ParseSingleError → Text → Type 0
 Drawing color origin text fault drawing =
-    (message : Text) × (part : Text) × DrawnSpan (margin_of color text) origin text (span_of fault) part
-    × (drawing ≡ header color (code_of fault) message
+    (part : Text) × DrawnSpan (margin_of color text) origin text (span_of fault) part
+    × (drawing ≡ header color fault
     ++ (part ++ (label_part color (label_of fault)
     ++ (help_part (margin_of color text) (help_of fault) ++ codes "\n"))))

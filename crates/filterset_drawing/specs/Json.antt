@@ -1,4 +1,4 @@
--- A fault as JSON.
+-- What `fault_json` returns about a fault.
 use Rattle.std.specs.Prelude.{◌≡◌, ℕ, Option, Some, None, codes, option_map}
 use Rattle.serde_json.specs.Data.{Data, null, number, unsigned, string, object, member, no_members}
 use Rattle.filterset_faults.specs.Faults.{code_of, span_of, label_of, help_of}

@@ -1,9 +1,8 @@
--- The lines of a text, and where a stretch of it lies in them.
-use Rattle.std.specs.Prelude.{ℕ, ◌+◌, ◌-◌, ◌==◌, ◌&&◌, ◌||◌, Bool, nat_le, nat_lt, max, min, List, [], ◌∷◌, length}
+-- Which lines a text has, and which of them a stretch of it meets.
+use Rattle.std.specs.Prelude.{◌≡◌, ℕ, ◌+◌, ◌-◌, ◌<◌, ◌≤◌, ◌==◌, ◌⊎◌, ◌↔◌, max, min, List, ◌∷◌, ◌++◌, AllPairs, Contains, length, sum_by}
 use Rattle.std.specs.List.{slice_split}
 use Rattle.filterset_faults.specs.Span.{offset_of, length_of}
 use Rattle.filterset_faults.specs.declared.span.SourceSpan.{SourceSpan}
-use Rattle.filterset_drawing.specs.declared.line.Line.{Line}
 use Rattle.filterset_drawing.specs.Columns.{Text, columns_between}
 
 -- a line: its number, how many bytes stand before it, and its text without the line feed that ends it
@@ -12,21 +11,18 @@ pub record LineRow : Type 0 where
   pub start : ℕ
   pub text : Text
 
-abbrev pub line_row : Line → LineRow
-line_row line = record { number = line.number; start = line.start; text = line.text.now }
-
--- the lines with these texts, the first of which has this number and begins here; one line feed ends each
-abbrev pub numbered : ℕ → ℕ → List Text → List LineRow
-numbered number start [] = []
-numbered number start (text ∷ texts) =
-    record { number = number; start = start; text = text } ∷ numbered (number + 1) (start + (length text + 1)) texts
-
 -- what stands between the line feeds of a text
 abbrev pub pieces : Text → List Text
 pieces text = slice_split (λ b. b == 10) text
 
-abbrev pub lines_of : Text → List LineRow
-lines_of text = numbered 1 0 (pieces text)
+-- A line of a text is one of its pieces. The first has the number 1. Before a line stand the earlier pieces, each with its
+-- line feed.
+pub record IsLine (text : Text) (line : LineRow) : Type 0 where
+  pub earlier : List Text
+  pub later : List Text
+  pub cut : pieces text ≡ earlier ++ line.text ∷ later
+  pub number_is : line.number ≡ length earlier + 1
+  pub start_is : line.start ≡ sum_by (λ piece. length piece + 1) earlier
 
 -- ---- a stretch of a text, from one position to another
 
@@ -37,13 +33,20 @@ from_of text span = min (offset_of span) (length text)
 abbrev pub to_of : Text → SourceSpan → ℕ
 to_of text span = min (offset_of span + length_of span) (length text)
 
--- the line ends at this position or after it
-abbrev pub reaches : ℕ → LineRow → Bool
-reaches position line = nat_le position (line.start + length line.text)
+-- the position is in the line: before one of its bytes, or at its end
+abbrev pub IsIn : LineRow → ℕ → Type 0
+IsIn line position = (line.start ≤ position) × (position ≤ line.start + length line.text)
 
--- the stretch begins in the line, or the line begins after that and before the end of the stretch
-abbrev pub is_touched : ℕ → ℕ → LineRow → Bool
-is_touched from to line = reaches from line && (nat_le line.start from || nat_lt line.start to)
+-- A position of the stretch is in the line. The stretch has the positions before its bytes, and if it is empty, that where
+-- it stands.
+abbrev pub Meets : ℕ → ℕ → LineRow → Type 0
+Meets from to line =
+    (position : ℕ) × IsIn line position × (from ≤ position) × ((position ≡ from) ⊎ (position < to))
+
+-- these are the lines of the text that the stretch meets, in their order
+pub record AreMet (text : Text) (from to : ℕ) (lines : List LineRow) : Type 0 where
+  pub exactly : (line : LineRow) → Contains lines line ↔ (IsLine text line × Meets from to line)
+  pub in_order : AllPairs (λ one other. one.number < other.number) lines
 
 -- the columns of a line before a position of the text
 abbrev pub column_of : LineRow → ℕ → ℕ

@@ -1,10 +1,9 @@
 //! Faults drawn under their text.
-ghost use Rattle.std.specs.Prelude.{◌≡◌, ◌++◌, IfOk, OnOk, map, option_map, string_bytes};
-ghost use Rattle.filterset_faults.specs.Faults.{code_of};
+ghost use Rattle.std.specs.Prelude.{◌≡◌, ◌++◌, IfOk, OnOk, filter, map, option_map, string_bytes};
 ghost use Rattle.filterset_faults.specs.Label.{label_text, help_text};
 ghost use Rattle.filterset_drawing.specs.Columns.{Text};
 ghost use Rattle.filterset_drawing.specs.Drawings.{Drawing, DrawnSpan, bar, caret_line, header, help_part, label_part, location_part, margin_line, margin_of, marked_lines, text_line};
-ghost use Rattle.filterset_drawing.specs.Lines.{line_row};
+ghost use Rattle.filterset_drawing.specs.Cutting.{is_touched, line_row};
 
 use crate::color::Color;
 use crate::column::{push_drawn, push_repeated};
@@ -39,7 +38,7 @@ pub fn draw(
     push_header(drawing, alloc, margin.color, fault)?;
     push_span(drawing, alloc, margin, source, fault.span())?;
     push_label(drawing, alloc, margin.color, fault.label())?;
-    push_help(drawing, margin, fault.help())?;
+    push_help(drawing, alloc, margin, fault.help())?;
     drawing.push_str("\n")
 }
 
@@ -54,20 +53,19 @@ fn margin_of(alloc: Global, source: &Source<'_>) -> Result<Margin, AllocError>
     })
 }
 
-/// Writes the code and the message of a fault.
+/// Writes the code and the message of a fault, on one line.
 fn push_header(
     drawing: &mut String,
     alloc: Global,
     color: Color,
     fault: &ParseSingleError,
 ) -> Result<(), AllocError>
-    ensures { OnOk result ((message : Text)
-        × (string_bytes drawing.new ≡ string_bytes drawing.old ++ header color (code_of fault.now) message)) }
+    ensures { OnOk result (string_bytes drawing.new ≡ string_bytes drawing.old ++ header color fault.now) }
 {
     let (red, plain, code) = (color.red(), color.plain(), fault.code());
     let message = format!(in alloc; "{fault}")?;
-    let message = message.as_str();
-    write!(drawing, "{red}error{plain}: {code}: {message}")
+    write!(drawing, "{red}error{plain}: {code}: ")?;
+    push_drawn(drawing, message.as_str())
 }
 
 /// Begins a line, with blanks in place of a line number.
@@ -140,7 +138,8 @@ fn push_lines(
     stretch: Stretch,
 ) -> Result<(), AllocError>
     ensures { OnOk result (string_bytes drawing.new
-        ≡ string_bytes drawing.old ++ marked_lines margin stretch.from stretch.to (map line_row lines.now)) }
+        ≡ string_bytes drawing.old ++ marked_lines margin stretch.from stretch.to
+        (filter (is_touched stretch.from stretch.to) (map line_row lines.now))) }
 {
     for line in lines {
         if line.is_touched(stretch) {
@@ -208,7 +207,12 @@ fn push_label(
 }
 
 /// Writes a help.
-fn push_help(drawing: &mut String, margin: Margin, help: Option<Help>) -> Result<(), AllocError>
+fn push_help(
+    drawing: &mut String,
+    alloc: Global,
+    margin: Margin,
+    help: Option<Help>,
+) -> Result<(), AllocError>
     ensures { OnOk result (string_bytes drawing.new
         ≡ string_bytes drawing.old ++ help_part margin (option_map help_text help)) }
 {
@@ -216,6 +220,8 @@ fn push_help(drawing: &mut String, margin: Margin, help: Option<Help>) -> Result
         return Ok(());
     };
     let plain = margin.color.plain();
+    let help = format!(in alloc; "{help}")?;
     push_margin(drawing, margin)?;
-    write!(drawing, " ={plain} help: {help}")
+    write!(drawing, " ={plain} help: ")?;
+    push_drawn(drawing, help.as_str())
 }

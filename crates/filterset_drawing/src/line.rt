@@ -1,6 +1,7 @@
 //! The lines of a text.
 ghost use Rattle.std.specs.Prelude.{◌≡◌, ◌+◌, ◌*◌, ◌≤◌, IfOk, length, map};
-ghost use Rattle.filterset_drawing.specs.Lines.{caret_count, column_of, is_touched, line_row, lines_of, reaches};
+ghost use Rattle.filterset_drawing.specs.Cutting.{is_touched, line_row, lines_of, reaches};
+ghost use Rattle.filterset_drawing.specs.Lines.{caret_count, column_of};
 
 use crate::column::columns_between;
 use std::alloc::{AllocError, Global};

@@ -1,7 +1,7 @@
 //! Texts under which faults are drawn.
 ghost use Rattle.std.specs.Prelude.{◌≡◌, IfOk, map};
 ghost use Rattle.std.proofs.Props.{props};
-ghost use Rattle.filterset_drawing.specs.Lines.{line_row, lines_of};
+ghost use Rattle.filterset_drawing.specs.Cutting.{line_row, lines_of};
 
 use crate::color::Color;
 use crate::line::{Line, Stretch, lines_of};

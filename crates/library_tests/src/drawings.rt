@@ -1,4 +1,4 @@
-//! Faults that no program reports: spans past the end of the text, and none.
+//! Faults that no program reports: spans past the end of the text, none, and texts with line feeds.
 use filterset_drawing::{Color, Source, draw, fault_json};
 use filterset_faults::{ParseSingleError, SourceSpan};
 use std::alloc::{AllocError, Global};
@@ -13,7 +13,7 @@ fn drawing(alloc: Global, fault: &ParseSingleError) -> Result<String, AllocError
 }
 
 #[test]
-fn draws_spans_past_the_end_and_none(rt: HostRuntime) -> Result<(), Fail> {
+fn draws_faults_of_no_text(rt: HostRuntime) -> Result<(), Fail> {
     for (fault, wanted) in [
         (
             ParseSingleError::ExpectedEndOfExpression(SourceSpan::new(3, 9)),
@@ -31,6 +31,20 @@ fn draws_spans_past_the_end_and_none(rt: HostRuntime) -> Result<(), Fail> {
   |
 1 | all()
   |      ^ contained an unsupported expression
+",
+        ),
+        (
+            ParseSingleError::ExprFoundUnaryOp {
+                span: SourceSpan::new(0, 3),
+                op: "a\nb",
+                suggest: "c\r\td",
+            },
+            "error: ExprFoundUnaryOp: expected expression, found `a\u{fffd}b`
+ --> here:1:1
+  |
+1 | all()
+  | ^^^ `a\u{fffd}b` is not a recognized operator
+  = help: use `c  d <expr>` instead
 ",
         ),
         (

@@ -1,5 +1,5 @@
 use Rattle.std.proofs.Common.{◌≡◌, ◌+◌, length, map}
-use Rattle.filterset_drawing.specs.Lines.{line_row, numbered}
+use Rattle.filterset_drawing.specs.Cutting.{line_row, numbered}
 use Rattle.filterset_drawing.proofs.LineLemmas.{extent}
 use Rattle.filterset_drawing.proofs.line.lines_of.Given as goal
 

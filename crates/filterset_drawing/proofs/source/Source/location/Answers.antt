@@ -1,5 +1,5 @@
 use Rattle.std.proofs.Common.{◌≡◌, ◌+◌, ◌≤◌, [], length, map, refl, arith, ap, ◌∙◌, sym}
-use Rattle.filterset_drawing.specs.Lines.{line_row, lines_of}
+use Rattle.filterset_drawing.specs.Cutting.{line_row, lines_of}
 use Rattle.filterset_drawing.specs.declared.line.Line.{Line}
 use Rattle.filterset_drawing.proofs.LineLemmas.{not_past, passed-more, stands}
 use Rattle.filterset_drawing.proofs.source.Source.location.Goals as goal

@@ -1,0 +1,23 @@
+use Rattle.std.proofs.Common.{◌≡◌, ◌++◌, ◌∙◌, OnOk, Option, ap, map, string_bytes, subst, sym}
+use Rattle.std.proofs.lemmas.Result.{on_ok_weaker}
+use Rattle.filterset_faults.specs.declared.span.SourceSpan.{SourceSpan}
+use Rattle.filterset_drawing.specs.Columns.{Text}
+use Rattle.filterset_drawing.specs.Cutting.{line_row, lines_of}
+use Rattle.filterset_drawing.specs.Drawings.{DrawnSpan}
+use Rattle.filterset_drawing.proofs.MetLemmas.{span-drawn}
+use Rattle.filterset_drawing.proofs.drawing.push_span.Goals as goal
+
+pub returns : goal.returns
+returns c =
+    let source = c.args.source.now in
+    let text = source.text.now in
+    let old = string_bytes c.args.drawing.now in
+    let new = string_bytes c.push_lines.new.drawing in
+    let rows = map line_row c.as_slice.result.now in
+    let cut : rows ≡ lines_of text = ap (map line_row) c.as_slice.ensures.value ∙ source.cut in
+    subst (λ (span : Option SourceSpan). OnOk c.push_lines.result ((part : Text) × (new ≡ old ++ part) × DrawnSpan c.args.margin source.origin.now text span part)) (sym c.in-Some.is)
+    (on_ok_weaker c.push_lines.result
+    (span-drawn c.args.margin source.origin.now text c.in-Some.span c.location.result rows c.stretch.result.from c.stretch.result.to
+    old (string_bytes c.push_location.new.drawing) (string_bytes c.push_bar.new.drawing) new
+    c.location.ensures cut c.stretch.ensures.from c.stretch.ensures.to c.in_ok-push_location.ensures c.in_ok-push_bar.ensures)
+    c.push_lines.ensures)
