@@ -4,6 +4,8 @@ pub mod CompiledLemmas
 pub mod Literals
 pub mod PatternLemmas
 pub mod PlainLemmas
+pub mod PlainReading
 pub mod Runs
 pub mod Substrings
 pub mod TextParts
+pub mod Unescaping

@@ -1,5 +1,5 @@
 -- From what `regex` promises to what a pattern's text alone says.
-use Rattle.std.proofs.Common.{◌≡◌, ℕ, ◌<◌, List, length, All, Option, Some, None, true, false, Bool, IsTrue, IsSome, IsSomeAnd, is_some, cond, get_or, refl, sym, ap, ◌∙◌, subst, arith, ◌↔◌}
+use Rattle.std.proofs.Common.{◌≡◌, ◌≢◌, ℕ, ◌<◌, List, length, All, Option, Some, None, true, false, Bool, IsTrue, IsSome, IsSomeAnd, IfSome, IfErr, IsErrAnd, Result, Ok, Err, is_some, ⊎_elim, cond, get_or, refl, sym, ap, ◌∙◌, subst, arith, ◌↔◌}
 use Rattle.std.proofs.lemmas.List.{get_or_default}
 use Rattle.std.proofs.lemmas.Option.{same_Some}
 use Rattle.std.specs.Str.{chars}
@@ -11,7 +11,17 @@ use Rattle.regex_hir.specs.Text.{is_boundary}
 use Rattle.regex_hir.specs.Meaning.{meaning}
 use Rattle.regex_hir.specs.declared.hir.Hir.{Hir}
 use Rattle.regex_syntax.specs.Captures.{SameCaptures}
-use Rattle.regex_syntax.specs.Grammar.{read}
+use Rattle.regex_syntax.specs.Grammar.{Names, read}
+use Rattle.regex_syntax.specs.Verdict.{Refuses}
+use Rattle.regex_syntax.specs.declared.error.Error as parser
+use Rattle.regex_syntax.specs.declared.error.ErrorKind.{ErrorKind}
+use Rattle.regex_syntax.specs.declared.error.ErrorKind.TheVariants as kinds
+use Rattle.regex_compile.specs.declared.error.Error as compiler
+use Rattle.regex_compile.specs.declared.error.Error.TheVariants as compiled
+use Rattle.regex.specs.declared.error.Error.{Error}
+use Rattle.regex.specs.declared.error.Error.TheVariants.{Syntax, CompiledTooBig, Internal, OutOfMemory}
+use Rattle.regex.specs.Failures.{IsOfParser, IsRightKind, of_compiler}
+use Rattle.regex.specs.Sources.{IsRefusal}
 use Rattle.regex_syntax.proofs.CapturesLemmas.{spans, find_str_alike}
 use Rattle.regex_syntax.proofs.Written.{is_some-option_map}
 use Rattle.regex.specs.Patterns.{Matches, Re, find_str, Reads, default_config}
@@ -20,7 +30,7 @@ use Rattle.regex.specs.declared.string.regex.Regex.{Regex}
 use Rattle.regex.proofs.ForCallers.{find_str_sound, find_str_complete}
 use Rattle.regex.proofs.Utf8Lemmas.{IsCharBoundary-of_test}
 use Rattle.filterset_matchers.specs.Compiled.{IsReadAs}
-use Rattle.filterset_matchers.specs.Pattern.{IsPattern, MatchesSomewhere, HasMatch, IsBuiltOf, IsSearchedFor}
+use Rattle.filterset_matchers.specs.Pattern.{IsPattern, MatchesSomewhere, HasMatch, IsBuiltOf, IsErrorFor, IsSearchedFor}
 use Rattle.filterset_matchers.specs.declared.matcher.pattern.Searched.{Searched}
 use Rattle.filterset_matchers.specs.declared.matcher.pattern.Searched.TheVariants as searched
 
@@ -102,3 +112,59 @@ pub IsPattern-of_searched : (pattern : List ℕ) (s : Searched) → IsSearchedFo
 IsPattern-of_searched pattern (searched.Texts texts) choice = choice.read
 IsPattern-of_searched pattern (searched.Compiled compiled) is = IsPattern-of_tree pattern is.tree is.read
 IsPattern-of_searched pattern (searched.Regex regex) built = IsPattern-of_built pattern regex.value built
+
+-- ---- a text that is no pattern, or too large
+
+no_depth : {A : Type 0} {P Q : A → Type 0} (o : Option A) → IsSomeAnd o P → IfSome o Q → ((x : A) → P x → Q x → ⊥) → ⊥
+no_depth None within beyond apart = within
+no_depth (Some x) within beyond apart = apart x within beyond
+
+-- what the parser refuses for another cause than memory, the grammar does not read
+pub unread : (pattern : List ℕ) (kind : ErrorKind) → Refuses default_config pattern kind → kind ≢ kinds.OutOfMemory → ¬ IsPattern pattern
+unfolding Refuses
+unread pattern kind refuses not_memory =
+    ⊎_elim
+    (λ memory. absurd (not_memory memory))
+    (⊎_elim
+    (λ (none : read default_config (chars pattern) ≡ None). λ reads. rw none at reads)
+    (λ (is, deep). λ reads. no_depth (read default_config (chars pattern)) reads deep (λ x within beyond. omega (arith, within, beyond))))
+    refuses
+
+-- what the grammar reads as a tree is a pattern
+pub IsPattern-of_reads : (pattern : List ℕ) (tree : Hir) (names : Names) → Reads default_config pattern tree names → IsPattern pattern
+unfolding Reads
+IsPattern-of_reads pattern tree names reads = IsSomeAnd-map (read default_config (chars pattern)) reads (λ x h. h.0)
+
+-- the errors of `Regex::new`
+pub IsErrorFor-of_built : (pattern : List ℕ) (error : Error) → IsRefusal default_config pattern error → IsRightKind default_config pattern error → IsErrorFor pattern error
+IsErrorFor-of_built pattern error refusal right = record {
+  syntax = λ e is. unread pattern e.kind (refusal e is) (subst (IsRightKind default_config pattern) is right);
+  size = λ is. let (tree, names, reads) = subst (IsRightKind default_config pattern) is right in IsPattern-of_reads pattern tree names reads;
+}
+
+-- the errors of the parser
+pub IsErrorFor-of_parser : (pattern : List ℕ) (given : parser.Error) (error : Error) → Refuses default_config pattern given.kind → IsOfParser given error → IsErrorFor pattern error
+IsErrorFor-of_parser pattern given error refuses of = record {
+  syntax = λ e is. unread pattern given.kind refuses (λ memory. absurd (let both : Syntax e ≡ OutOfMemory = sym is ∙ of.0 memory in cc));
+  size = λ is.
+      let not_memory : given.kind ≢ kinds.OutOfMemory = λ memory. absurd (let both : CompiledTooBig ≡ OutOfMemory = sym is ∙ of.0 memory in cc) in
+      absurd (let both : CompiledTooBig ≡ Syntax given = sym is ∙ of.1 not_memory in cc);
+}
+
+-- the errors of the compiler
+pub IsErrorFor-of_compiler : (pattern : List ℕ) (given : compiler.Error) (error : Error) → IsPattern pattern → error ≡ of_compiler given → IsErrorFor pattern error
+IsErrorFor-of_compiler pattern compiled.TooBig error reads of =
+    record { syntax = λ e is. absurd (let both : Syntax e ≡ CompiledTooBig = sym is ∙ of in cc); size = λ is. reads }
+IsErrorFor-of_compiler pattern compiled.Malformed error reads of =
+    record { syntax = λ e is. absurd (let both : Syntax e ≡ Internal = sym is ∙ of in cc); size = λ is. reads }
+IsErrorFor-of_compiler pattern compiled.OutOfMemory error reads of =
+    record { syntax = λ e is. absurd (let both : Syntax e ≡ OutOfMemory = sym is ∙ of in cc); size = λ is. reads }
+
+-- the error of a text with too many groups
+pub IsErrorFor-of_groups : (pattern : List ℕ) → IsPattern pattern → IsErrorFor pattern CompiledTooBig
+IsErrorFor-of_groups pattern reads = record { syntax = λ e is. absurd cc; size = λ is. reads }
+
+-- an error that a `?` hands on
+pub handed_on : {T E : Type 0} (r : Result T E) (e : E) (P : E → Type 0) → IsErrAnd r (λ y. y ≡ e) → P e → IfErr r P
+handed_on (Ok x) e P is h = tt
+handed_on (Err y) e P is h = subst P (sym is) h

@@ -1,38 +1,55 @@
--- A pattern of which each character stands for itself matches where its text stands.
-use Rattle.std.proofs.Common.{◌≡◌, ◌↔◌, ◌+◌, ℕ, List, [], ◌∷◌, ◌++◌, true, false, Some, slice_get, add-zero, length, take, drop, get_or, ◌<◌, refl, sym, ap, ◌∙◌, subst, arith}
-use Rattle.std.proofs.lemmas.Bool.{or_parts}
+-- A pattern of which each character stands for itself matches where the text stands that it stands for.
+use Rattle.std.proofs.Common.{◌≡◌, ◌↔◌, ◌+◌, ℕ, List, [], ◌∷◌, ◌++◌, true, false, inl, inr, Option, Some, None, option_map, slice_get, add-zero, length, take, drop, get_or, ◌<◌, refl, sym, ap, ◌∙◌, subst, arith, encode_utf8_all}
 use Rattle.std.proofs.lemmas.List.{get_or-drop, length-append, take-append-drop}
-use Rattle.std.proofs.lemmas.Option.{slice_get-get_or}
+use Rattle.std.proofs.lemmas.Option.{same_Some, slice_get-get_or}
 use Rattle.std.proofs.Math.Seq.{drop-append_seam}
-use Rattle.std.proofs.lemmas.Str.{IsCharBoundary-start, encodes-chars}
-use Rattle.std.specs.List.{list_any}
+use Rattle.std.proofs.lemmas.Str.{IsCharBoundary-start}
 use Rattle.std.specs.Str.{chars, IsCharBoundary, IsUtf8}
-use lib.Utf8.{encodes}
 use Rattle.std.specs.Str.Iter.{HasSubslice}
+use Rattle.regex_hir.proofs.OptionLemmas.{value_of_IsSome}
 use Rattle.regex_hir.proofs.TextLemmas.{has_bytes_at_from, has_bytes_at_parts}
 use Rattle.regex_hir.specs.Text.{is_boundary}
-use Rattle.regex_syntax.proofs.EscapeLemmas.{escaped_reads}
 use Rattle.regex_syntax.specs.Grammar.{read}
-use Rattle.regex_syntax.specs.Verdict.{escaped_text, is_meta, ReadsAsText}
+use Rattle.regex_syntax.specs.Verdict.{ReadsAsText}
 use Rattle.regex.specs.Patterns.{literal, default_config}
 use Rattle.regex.proofs.Utf8Lemmas.{IsCharBoundary-of_test, test_of_IsCharBoundary}
 use Rattle.filterset_matchers.proofs.PatternLemmas.{IsSomeAnd-map, IsSomeAnd-both, found_alike, found_exactly}
-use Rattle.filterset_matchers.specs.Pattern.{HasMatch, IsChoice, IsPattern, IsPlain, MatchesSomewhere}
+use Rattle.filterset_matchers.proofs.PlainReading.{IsUtf8-meant, plain_reads}
+use Rattle.filterset_matchers.specs.Pattern.{HasMatch, IsChoice, IsPattern, IsPlain, MatchesSomewhere, MayBeRejected, plain_from, plain_text}
 
--- nothing is escaped
-escapes_nothing : (cs : List ℕ) → list_any is_meta cs ≡ false → escaped_text cs ≡ cs
-escapes_nothing [] plain = refl
-escapes_nothing (c ∷ cs) plain =
-    let parts = or_parts (is_meta c) (list_any is_meta cs) plain in rw (parts.0, escapes_nothing cs parts.1) refl
+-- the characters that a plain pattern stands for
+record Meant (pattern text : List ℕ) : Type 0 where
+  pub characters : List ℕ
+  pub plain : plain_from false (chars pattern) ≡ Some characters
+  pub are : text ≡ encode_utf8_all characters
 
-reads_as_itself : (pattern : List ℕ) → IsUtf8 pattern → IsPlain pattern → ReadsAsText pattern pattern
-reads_as_itself pattern spelled plain =
-    subst (λ (text : List ℕ). ReadsAsText text pattern) (ap encodes (escapes_nothing (chars pattern) plain) ∙ encodes-chars pattern spelled) (escaped_reads pattern spelled)
+meant_of : (pattern text : List ℕ) → plain_text pattern ≡ Some text → Meant pattern text
+meant_of pattern text e = at (plain_from false (chars pattern)) refl e
+  where
+    at : (o : Option (List ℕ)) → plain_from false (chars pattern) ≡ o → option_map encode_utf8_all o ≡ Some text → Meant pattern text
+    at None is e = absurd cc
+    at (Some cs) is e = record { characters = cs; plain = is; are = sym (same_Some _ _ e) }
 
-IsPattern-of_plain : (pattern : List ℕ) → IsUtf8 pattern → IsPlain pattern → IsPattern pattern
+reads_as_meant : (pattern text : List ℕ) → IsUtf8 pattern → plain_text pattern ≡ Some text → ReadsAsText pattern text
+reads_as_meant pattern text utf8 plain =
+    let meant = meant_of pattern text plain in
+    subst (ReadsAsText pattern) (sym meant.are) (plain_reads pattern meant.characters utf8 meant.plain)
+
+IsUtf8-of_plain : (pattern text : List ℕ) → IsUtf8 pattern → plain_text pattern ≡ Some text → IsUtf8 text
+IsUtf8-of_plain pattern text utf8 plain =
+    let meant = meant_of pattern text plain in
+    subst IsUtf8 (sym meant.are) (IsUtf8-meant pattern meant.characters utf8 meant.plain)
+
+IsPattern-of_plain : (pattern text : List ℕ) → IsUtf8 pattern → plain_text pattern ≡ Some text → IsPattern pattern
 unfolding ReadsAsText
-IsPattern-of_plain pattern spelled plain =
-    IsSomeAnd-map (read default_config (chars pattern)) (reads_as_itself pattern spelled plain default_config refl refl) (λ x reading. omega (arith, reading.0))
+IsPattern-of_plain pattern text spelled plain =
+    IsSomeAnd-map (read default_config (chars pattern)) (reads_as_meant pattern text spelled plain default_config refl refl) (λ x reading. omega (arith, reading.0))
+
+-- no plain pattern is rejected
+pub not_plain : (pattern : List ℕ) → IsUtf8 pattern → MayBeRejected pattern → ¬ IsPlain pattern
+not_plain pattern spelled (inl unread) = λ plain.
+    let text = value_of_IsSome (plain_text pattern) plain in absurd (unread (IsPattern-of_plain pattern text.0 spelled text.1))
+not_plain pattern spelled (inr large) = large.not_plain
 
 -- a character of the text begins where another text stands that is not empty
 pub begins_a_character : (text a b : List ℕ) (c : ℕ) (cs : List ℕ) → IsUtf8 (c ∷ cs) → text ≡ a ++ ((c ∷ cs) ++ b) → IsCharBoundary text (length a)
@@ -54,28 +71,28 @@ stands_where_it_matches : (text pattern : List ℕ) → MatchesSomewhere (litera
 stands_where_it_matches text pattern (i, j, begins, (has, end)) =
     (take i text, drop (i + length pattern) text, sym (take-append-drop i text) ∙ ap (λ xs. take i text ++ xs) (has_bytes_at_parts text i pattern has))
 
-HasMatch-of_plain : (pattern text : List ℕ) → IsUtf8 pattern → IsPlain pattern → IsUtf8 text → ((k : ℕ) → get_or text k 0 < 256) →
-    HasSubslice text pattern ↔ HasMatch pattern text
+HasMatch-of_plain : (pattern plain text : List ℕ) → IsUtf8 pattern → plain_text pattern ≡ Some plain → IsUtf8 text → ((k : ℕ) → get_or text k 0 < 256) →
+    HasSubslice text plain ↔ HasMatch pattern text
 unfolding ReadsAsText
-HasMatch-of_plain pattern text spelled plain whole bytes =
-    let reading = reads_as_itself pattern spelled plain default_config refl refl in
+HasMatch-of_plain pattern plain text spelled is whole bytes =
+    let reading = reads_as_meant pattern plain spelled is default_config refl refl in
     let o = read default_config (chars pattern) in (
       λ stands. IsSomeAnd-map o reading (λ x h. (found_exactly x.0.value text).0
-          (rw (found_alike _ (literal pattern) h.1 text bytes) ((found_exactly (literal pattern) text).1 (stands_somewhere text pattern whole spelled stands)))),
-      λ has. IsSomeAnd-both o reading has (λ x h somewhere. stands_where_it_matches text pattern ((found_exactly (literal pattern) text).0
-          (rw (sym (found_alike _ (literal pattern) h.1 text bytes)) ((found_exactly x.0.value text).1 somewhere)))),
+          (rw (found_alike _ (literal plain) h.1 text bytes) ((found_exactly (literal plain) text).1 (stands_somewhere text plain whole (IsUtf8-of_plain pattern plain spelled is) stands)))),
+      λ has. IsSomeAnd-both o reading has (λ x h somewhere. stands_where_it_matches text plain ((found_exactly (literal plain) text).0
+          (rw (sym (found_alike _ (literal plain) h.1 text bytes)) ((found_exactly x.0.value text).1 somewhere)))),
     )
 
--- a plain text is the choice of itself alone
-pub IsChoice-of_plain : (pattern : List ℕ) → IsUtf8 pattern → IsPlain pattern → IsChoice pattern (pattern ∷ [])
-IsChoice-of_plain pattern spelled plain = record {
-  read = IsPattern-of_plain pattern spelled plain;
+-- a plain pattern is the choice of the text alone that it stands for
+pub IsChoice-of_plain : (pattern plain : List ℕ) → IsUtf8 pattern → plain_text pattern ≡ Some plain → IsChoice pattern (plain ∷ [])
+IsChoice-of_plain pattern plain spelled is = record {
+  read = IsPattern-of_plain pattern plain spelled is;
   finds = λ input whole bytes.
-      let means = HasMatch-of_plain pattern input spelled plain whole bytes in (
-        λ has. (0, pattern, omega arith, refl, means.1 has),
+      let means = HasMatch-of_plain pattern plain input spelled is whole bytes in (
+        λ has. (0, plain, omega arith, refl, means.1 has),
         λ (k, text, within, at, stands).
             let first : k ≡ 0 = omega arith in
-            let same : pattern ≡ text = sym (ap (λ n. get_or (pattern ∷ []) n text) first) ∙ at in
+            let same : plain ≡ text = sym (ap (λ n. get_or (plain ∷ []) n text) first) ∙ at in
             means.0 (subst (HasSubslice input) (sym same) stands),
       );
 }

@@ -1,12 +1,16 @@
 -- Patterns of the crate `regex`, and their matches.
-use Rattle.std.specs.Prelude.{◌≡◌, ◌↔◌, ℕ, ◌<◌, ◌≤◌, false, List, map, IsTrue, is_some, IsSomeAnd, IsCharBoundary, IsUtf8, get_or, chars, string_bytes}
-use Rattle.std.specs.List.{list_any, Any}
+use Rattle.std.specs.Prelude.{◌≡◌, ◌⊎◌, ◌↔◌, ℕ, ◌<◌, ◌≤◌, ◌==◌, ◌&&◌, not, Bool, true, false, List, [], ◌∷◌, length, map, count_by, Option, Some, None, option_map, IsSome, IsTrue, is_some, IsSomeAnd, IsCharBoundary, IsUtf8, get_or, chars, encode_utf8_all, string_bytes, if◌then◌else◌}
+use Rattle.std.specs.Char.{is_ascii_punctuation}
+use Rattle.std.specs.List.{Any}
 use Rattle.std.specs.Str.Iter.{HasSubslice}
 use Rattle.regex_syntax.specs.Grammar.{read}
-use Rattle.regex_syntax.specs.Verdict.{is_meta}
+use Rattle.regex_syntax.specs.declared.error.Error as parser
 use Rattle.regex.specs.Patterns.{Matches, default_config, Re, find_str}
 use Rattle.regex.specs.Strings.{regex_source, regex_config, IsReadFromSource, matcher_pattern}
+use Rattle.regex.specs.declared.error.Error.{Error}
+use Rattle.regex.specs.declared.error.Error.TheVariants.{Syntax, CompiledTooBig}
 use Rattle.regex.specs.declared.string.regex.Regex.{Regex}
+use Rattle.filterset_glob.specs.Signs.{sign, ◌∈◌}
 use Rattle.filterset_matchers.specs.Compiled.{IsCompiledOf}
 use Rattle.filterset_matchers.specs.declared.matcher.pattern.Searched.{Searched}
 use Rattle.filterset_matchers.specs.declared.matcher.pattern.Searched.TheVariants as searched
@@ -27,9 +31,68 @@ abbrev pub HasMatch : List ℕ → List ℕ → Type 0
 HasMatch pattern text =
     IsSomeAnd (read default_config (chars pattern)) (λ (found, _). MatchesSomewhere found.value text)
 
--- no character of the text has a meaning of its own in a pattern, so that the pattern matches where its text stands
+-- ---- plain patterns
+
+-- the character has a meaning of its own in a pattern, outside of classes
+abbrev pub has_meaning : ℕ → Bool
+has_meaning c = c ∈ "\\.+*?()|[{^$"
+
+-- A backslash makes the character stand for itself: it is ASCII punctuation. `\<` and `\>` stand for the borders of words.
+abbrev pub is_escapable : ℕ → Bool
+is_escapable c = is_ascii_punctuation c && not (c ∈ "<>")
+
+-- The characters that those of a pattern stand for, if each stands for itself: because it has no meaning of its own, or
+-- after a backslash. `escaped` says whether a backslash stands before the first.
+abbrev pub plain_from : Bool → List ℕ → Option (List ℕ)
+plain_from escaped [] = if escaped then None else Some []
+plain_from escaped (c ∷ cs) =
+    if escaped then (if is_escapable c then option_map (λ (text : List ℕ). c ∷ text) (plain_from false cs) else None)
+    else if c == sign "\\" then plain_from true cs
+    else if has_meaning c then None
+    else option_map (λ (text : List ℕ). c ∷ text) (plain_from false cs)
+
+-- the text that a plain pattern stands for
+abbrev pub plain_text : List ℕ → Option (List ℕ)
+plain_text pattern = option_map encode_utf8_all (plain_from false (chars pattern))
+
+-- each character of the pattern stands for itself, so that it matches where the text stands that it stands for
 abbrev pub IsPlain : List ℕ → Type 0
-IsPlain pattern = list_any is_meta (chars pattern) ≡ false
+IsPlain pattern = IsSome (plain_text pattern)
+
+-- ---- patterns that are rejected
+
+-- how many bytes of the text are this one
+abbrev pub count_byte : ℕ → List ℕ → ℕ
+count_byte byte text = count_by (λ b. b == byte) text
+
+-- a pattern that is too short to be compiled to anything large: it counts no repetitions, and few of its classes are
+-- written as escapes
+pub record IsSmall (pattern : List ℕ) : Type 0 where
+  pub short : length pattern ≤ 1024
+  pub few_escapes : count_byte (sign "\\") pattern ≤ 64
+  pub no_braces : count_byte (sign "{") pattern ≡ 0
+
+-- the grammar does not read the pattern; or it does, and what is compiled of it may be too large
+abbrev pub IsUnreadOrLarge : List ℕ → Type 0
+IsUnreadOrLarge pattern = (¬ IsPattern pattern) ⊎ (IsPattern pattern × ¬ IsSmall pattern)
+
+-- The grammar reads the pattern, and what is compiled of it may be too large: of a plain pattern nothing is compiled, and
+-- of a small one nothing large.
+pub record MayBeTooLarge (pattern : List ℕ) : Type 0 where
+  pub read : IsPattern pattern
+  pub not_plain : ¬ IsPlain pattern
+  pub not_small : ¬ IsSmall pattern
+
+-- why a pattern may be rejected
+abbrev pub MayBeRejected : List ℕ → Type 0
+MayBeRejected pattern = (¬ IsPattern pattern) ⊎ MayBeTooLarge pattern
+
+-- an error of syntax is for a text that the grammar does not read, and one of size for a text that it reads
+pub record IsErrorFor (pattern : List ℕ) (error : Error) : Type 0 where
+  pub syntax : (e : parser.Error) → error ≡ Syntax e → ¬ IsPattern pattern
+  pub size : error ≡ CompiledTooBig → IsPattern pattern
+
+-- ---- how patterns are searched for
 
 -- the regex was built of the text
 pub record IsBuiltOf (pattern : List ℕ) (regex : Regex) : Type 0 where

@@ -9,6 +9,7 @@ mod compiled;
 mod glob;
 mod literal;
 mod pattern;
+mod plain;
 mod substring;
 
 pub use glob::GlobMatcher;

@@ -1,19 +1,22 @@
 //! Patterns and their matchers. A pattern that is a choice of few texts, such as `net::tcp` or `unix|windows`, needs no
 //! regex: the texts are searched for. A pattern whose matches all have a known place is compiled to one DFA. Any other
 //! pattern has a `Regex`.
-ghost use Rattle.std.specs.Prelude.{◌≡◌, ◌≢◌, ◌↔◌, [], ◌∷◌, All, IsTrue, IsUtf8, IfErr, IfOk, IfSome, List, ℕ, map, string_bytes};
+ghost use Rattle.std.specs.Prelude.{◌≡◌, ◌≢◌, ◌↔◌, [], ◌∷◌, All, IsTrue, IsUtf8, IfErr, IfOk, IfSome, List, ℕ, OnOk, map, string_bytes};
 ghost use Rattle.regex.specs.declared.error.Error.TheVariants as regex;
 ghost use Rattle.regex_hir.specs.Meaning.{meaning};
 ghost use Rattle.filterset_matchers.specs.Compiled.{IsCompiledOf, IsPlaceOf, IsReadAs};
 ghost use Rattle.filterset_matchers.specs.declared.matcher.pattern.PatternRefusal.TheVariants as refusal;
-ghost use Rattle.filterset_matchers.specs.Pattern.{IsPattern, IsPlain, HasMatch, IsBuiltOf, HasOneOf, IsChoice, IsSearchedFor};
+ghost use Rattle.filterset_matchers.specs.Pattern.{IsPattern, IsPlain, IsSmall, IsErrorFor, IsUnreadOrLarge, MayBeRejected};
+ghost use Rattle.filterset_matchers.specs.Pattern.{HasMatch, IsBuiltOf, HasOneOf, IsChoice, IsSearchedFor};
+ghost use Rattle.filterset_matchers.specs.Pattern.{count_byte};
 
 use crate::matcher::compiled::{Compiled, CompiledMatcher, LEAST_LITERAL, Place, place_of};
+use crate::matcher::plain::{is_special, unescape};
 use crate::matcher::substring;
 use regex::{Matcher, Regex};
 use regex_extract::exact_literals;
 use regex_hir::Hir;
-use regex_syntax::{Config, Parsed, is_meta_character};
+use regex_syntax::{Config, ErrorKind, Parsed};
 use std::alloc::{AllocError, Global};
 use std::fmt;
 use std::marker::Model;
@@ -21,7 +24,8 @@ use std::marker::Model;
 /// The reason why a text is not a pattern.
 #[derive(Debug, Drop)]
 pub enum PatternRefusal {
-    /// `regex`, or a part of it, rejected the text, for a reason other than out of memory.
+    /// The grammar of `regex` does not read the text, or it does and the compiled pattern would be too large.
+    /// [`PatternRegex::is_pattern`] tells which.
     NotBuilt,
     /// Out of memory.
     OutOfMemory(AllocError),
@@ -39,6 +43,12 @@ impl From<AllocError> for PatternRefusal {
 
 /// The most texts that are searched for one by one.
 const MAX_TEXTS: usize = 4;
+
+/// The most bytes of a small pattern.
+const MAX_SMALL_BYTES: usize = 1024;
+
+/// The most backslashes of a small pattern.
+const MAX_SMALL_ESCAPES: usize = 64;
 
 /// The way to search for a pattern.
 #[derive(Debug, Drop)]
@@ -73,15 +83,34 @@ impl Model for PatternRegex {
 impl PatternRegex {
     /// Compiles a pattern. An error drops the text.
     ///
-    /// The grammar of `regex` accepts the text of every pattern, but `regex` may reject a text that its grammar accepts. A
-    /// text without meta characters is rejected only if it is out of memory.
+    /// A text is rejected only if the grammar of `regex` does not read it, or the compiled pattern would be larger than
+    /// `regex` allows, or out of memory. No plain pattern is too large, and no small one:
+    ///
+    /// - In a plain pattern, each character stands for itself, like those of `my-crate`, or after a backslash, like the
+    ///   dot of `a\.b`.
+    /// - A small pattern has at most 1,024 bytes and 64 backslashes, and no `{`.
     pub fn new(alloc: Global, pattern: String) -> Result<PatternRegex, PatternRefusal>
         ensures text { IfOk result (λ p. p ≡ string_bytes pattern) }
         ensures read { IfOk result (λ p. IsPattern p) }
         ensures plain { IsPlain (string_bytes pattern) → IfErr result (λ refused. refused ≢ refusal.NotBuilt) }
+        ensures refused { IfErr result (λ refused. refused ≡ refusal.NotBuilt → MayBeRejected (string_bytes pattern)) }
     {
         let searched = choose_search(alloc, pattern.as_str())?;
         Ok(PatternRegex { pattern, searched })
+    }
+
+    /// Returns whether the grammar of `regex` reads the text. If [`PatternRegex::new`] did not build a pattern of a text
+    /// that it reads, the compiled pattern would be too large. The only error is out of memory.
+    pub fn is_pattern(alloc: Global, text: &str) -> Result<bool, AllocError>
+        ensures { IfOk result (λ is. IsTrue is ↔ IsPattern text.now) }
+    {
+        match regex_syntax::parse(alloc, text, &Config::default()) {
+            Ok(_parsed) => Ok(true),
+            Err(error) => match error.kind {
+                ErrorKind::OutOfMemory => Err(AllocError),
+                _ => Ok(false),
+            },
+        }
     }
 
     /// Returns the text of the pattern.
@@ -152,10 +181,10 @@ impl Drop for PatternRegex {
 /// Chooses the way to search for a pattern.
 fn choose_search(alloc: Global, text: &str) -> Result<Searched, PatternRefusal>
     ensures searched { IfOk result (λ searched. IsSearchedFor text.now searched) }
-    ensures plain { IsPlain text.now → IfErr result (λ refused. refused ≢ refusal.NotBuilt) }
+    ensures refused { IfErr result (λ refused. refused ≡ refusal.NotBuilt → MayBeRejected text.now) }
 {
-    if is_plain(text) {
-        return Ok(Searched::Texts(copy_alone(alloc, text)?));
+    if let Some(plain) = unescape(alloc, text)? {
+        return Ok(Searched::Texts(list_alone(alloc, plain)?));
     }
     if is_worth_reading(text) {
         if let Some(searched) = choose_search_by_tree(alloc, text)? {
@@ -165,24 +194,11 @@ fn choose_search(alloc: Global, text: &str) -> Result<Searched, PatternRefusal>
     Ok(Searched::Regex(build_regex(alloc, text)?))
 }
 
-/// Copies the text, as the only one of a list. The only error is out of memory.
-fn copy_alone(alloc: Global, text: &str) -> Result<Vec<String>, AllocError>
-    ensures { IfOk result (λ texts. map string_bytes texts.items ≡ text.now ∷ []) }
+/// Returns a list of this text alone. The only error is out of memory.
+fn list_alone(alloc: Global, text: String) -> Result<Vec<String>, AllocError>
+    ensures { IfOk result (λ texts. map string_bytes texts.items ≡ string_bytes text ∷ []) }
 {
-    let only = String::from_str(alloc, text)?;
-    Ok(vec![in alloc; only]?)
-}
-
-/// Returns whether no character of the text is a meta character.
-fn is_plain(text: &str) -> bool
-    ensures { IsTrue result ↔ IsPlain text.now }
-{
-    for character in text.chars() {
-        if is_meta_character(character) {
-            return false;
-        }
-    }
-    true
+    Ok(vec![in alloc; text]?)
 }
 
 /// Returns whether to parse the text before a regex is built: it may be a choice of few texts, or its matches may have a
@@ -191,12 +207,12 @@ fn is_worth_reading(text: &str) -> bool {
     text.starts_with("^") || text.ends_with("$") || begins_with_literal(text) || may_be_choice(text)
 }
 
-/// Returns whether no meta character is among the first `LEAST_LITERAL` characters of the text.
+/// Returns whether none of the first `LEAST_LITERAL` characters of the text has a meaning of its own.
 fn begins_with_literal(text: &str) -> bool {
     !text
         .chars()
         .take(LEAST_LITERAL)
-        .any(|character| is_meta_character(character))
+        .any(|character| is_special(character))
 }
 
 /// Returns whether the text has none of the characters that are rare in a choice of few texts.
@@ -212,52 +228,61 @@ fn may_be_choice(text: &str) -> bool {
 /// Parses the text, and chooses the way to search for it, if it is a choice of few texts or its matches have a known
 /// place.
 ///
-/// It is not inlined, so that a text without meta characters does not pay for the locals of a parser.
+/// It is not inlined, so that a plain text does not pay for the locals of a parser.
 #[cold]
 #[inline(never)]
 fn choose_search_by_tree(alloc: Global, text: &str) -> Result<Option<Searched>, PatternRefusal>
-    ensures { IfOk result (λ found. IfSome found (IsSearchedFor text.now)) }
+    ensures searched { IfOk result (λ found. IfSome found (IsSearchedFor text.now)) }
+    ensures refused { IfErr result (λ refused. refused ≡ refusal.NotBuilt → IsUnreadOrLarge text.now) }
 {
     let (tree, groups) = tree_of(alloc, text)?;
     if let Some(texts) = texts_of_tree(alloc, &tree)? {
         return Ok(Some(Searched::Texts(texts)));
     }
     match place_of(alloc, &tree)? {
-        Some(place) => Ok(Some(Searched::Compiled(compile_tree(alloc, &tree, groups, place)?))),
+        Some(place) => {
+            let compiled = compile_tree(alloc, text, &tree, groups, place)?;
+            Ok(Some(Searched::Compiled(compiled)))
+        }
         None => Ok(None),
     }
 }
 
 /// Parses the text. Returns its tree and the number of its groups, counting the whole pattern.
 fn tree_of(alloc: Global, text: &str) -> Result<(Hir, u32), PatternRefusal>
-    ensures { IfOk result (λ read. IsReadAs text.now read.0) }
+    ensures read { IfOk result (λ read. IsReadAs text.now read.0) }
+    ensures pattern { OnOk result (IsPattern text.now) }
+    ensures refused { IfErr result (λ refused. refused ≡ refusal.NotBuilt → IsUnreadOrLarge text.now) }
 {
     match regex_syntax::parse(alloc, text, &Config::default()) {
         Ok(Parsed { hir, names }) => match u32::try_from(names.len()) {
             Ok(groups) => Ok((hir, groups)),
-            Err(_) => Err(refusal_of(regex::Error::CompiledTooBig)),
+            Err(_) => Err(refusal_of(text, regex::Error::CompiledTooBig)),
         },
-        Err(error) => Err(refusal_of(error.into())),
+        Err(error) => Err(refusal_of(text, error.into())),
     }
 }
 
 /// Compiles the tree of a pattern with so many groups, whose matches have this place.
 fn compile_tree(
     alloc: Global,
+    text: &str,
     tree: &Hir,
     groups: u32,
     place: Place,
 ) -> Result<Box<Compiled>, PatternRefusal>
-    requires { IsPlaceOf (meaning tree.now) place }
-    ensures { IfOk result (λ compiled. (pattern : List ℕ) → IsReadAs pattern tree.now
+    requires pattern { IsPattern text.now }
+    requires place { IsPlaceOf (meaning tree.now) place }
+    ensures compiled { IfOk result (λ compiled. (pattern : List ℕ) → IsReadAs pattern tree.now
         → IsCompiledOf pattern compiled.value) }
+    ensures refused { IfErr result (λ refused. refused ≡ refusal.NotBuilt → IsUnreadOrLarge text.now) }
 {
     match Compiled::new(alloc, tree, groups, place) {
         Ok(compiled) => match Box::new(alloc, compiled) {
             Ok(compiled) => Ok(compiled),
             Err(failed) => Err(PatternRefusal::OutOfMemory(failed.into())),
         },
-        Err(error) => Err(refusal_of(error.into())),
+        Err(error) => Err(refusal_of(text, error.into())),
     }
 }
 
@@ -291,25 +316,46 @@ fn texts_of_needles(alloc: Global, needles: &[Vec<u8>]) -> Result<Option<Vec<Str
 #[cold]
 #[inline(never)]
 fn build_regex(alloc: Global, text: &str) -> Result<Box<Regex>, PatternRefusal>
-    ensures { IfOk result (λ regex. IsBuiltOf text.now regex.value) }
+    ensures built { IfOk result (λ regex. IsBuiltOf text.now regex.value) }
+    ensures refused { IfErr result (λ refused. refused ≡ refusal.NotBuilt → IsUnreadOrLarge text.now) }
 {
     match Regex::new(alloc, text) {
         Ok(regex) => match Box::new(alloc, regex) {
             Ok(regex) => Ok(regex),
             Err(failed) => Err(PatternRefusal::OutOfMemory(failed.into())),
         },
-        Err(error) => Err(refusal_of(error)),
+        Err(error) => Err(refusal_of(text, error)),
     }
 }
 
-/// Converts an error of `regex`. Out of memory is not a fault of the text.
-fn refusal_of(error: regex::Error) -> PatternRefusal
-    ensures { result ≡ refusal.NotBuilt ↔ error ≢ regex.OutOfMemory }
+/// Converts the error of `regex` for a text. Out of memory is not a fault of the text. Nor is the size of a small pattern:
+/// `regex` allows what it compiles of one, but promises nothing of that.
+fn refusal_of(text: &str, error: regex::Error) -> PatternRefusal
+    requires { IsErrorFor text.now error }
+    ensures refused { result ≡ refusal.NotBuilt → IsUnreadOrLarge text.now }
+    ensures memory { error ≡ regex.OutOfMemory → result ≢ refusal.NotBuilt }
 {
     match error {
-        regex::Error::OutOfMemory => PatternRefusal::OutOfMemory(AllocError),
-        _ => PatternRefusal::NotBuilt,
+        regex::Error::Syntax(_) => PatternRefusal::NotBuilt,
+        regex::Error::CompiledTooBig if !is_small(text) => PatternRefusal::NotBuilt,
+        _ => PatternRefusal::OutOfMemory(AllocError),
     }
+}
+
+/// Returns whether the text is small. What `regex` compiles of a small pattern is within its limit.
+fn is_small(text: &str) -> bool
+    ensures { IsTrue result ↔ IsSmall text.now }
+{
+    text.len() <= MAX_SMALL_BYTES
+        && count_bytes(text, b'\\') <= MAX_SMALL_ESCAPES
+        && count_bytes(text, b'{') == 0
+}
+
+/// Counts how many bytes of the text are this one.
+fn count_bytes(text: &str, byte: u8) -> usize
+    ensures { result ≡ count_byte byte text.now }
+{
+    text.bytes().filter(|own| *own == byte).count()
 }
 
 /// Compares the texts.
