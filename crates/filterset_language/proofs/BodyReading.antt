@@ -10,6 +10,7 @@ use Rattle.filterset_faults.specs.declared.span.SourceSpan.{SourceSpan}
 use Rattle.filterset_faults.specs.declared.error.ParseSingleError.TheVariants.{InvalidRegexWithoutMessage}
 use Rattle.filterset_grammar.specs.Text.{SlashesFollow, ends_in_backslash, with_slashes, Body}
 use Rattle.std.specs.Prelude.{slice_range}
+use Rattle.filterset_matchers.specs.Pattern.{MayBeRejected}
 use Rattle.filterset_language.specs.Parsing.Position.{Position, position, position_of, advanced, after}
 use Rattle.filterset_language.specs.Parsing.RawTexts.{body_len, body_by, body_at, BodyTaken}
 use Rattle.filterset_language.specs.Faults.{piece, EndsWith}
@@ -149,8 +150,8 @@ seam_between : (front : List ℕ) (b : ℕ) (rest : List ℕ) → b < 128 → Is
 seam_between front b rest low = (omega (arith, length-append front (b ∷ rest)), λ lt high. let is = get_or-append_seam front b rest 0 in absurd (omega (arith, is)))
 
 -- a body that is refused, where a `/` stands before it
-pub refused_body_found : (i : Input) (pattern : List ℕ) (s : SourceSpan) (q : Position) → EndsWith (take i.offset i.text.now) (47 ∷ []) → BodyTaken (position_of i) pattern s q → Found i.text.now (InvalidRegexWithoutMessage s)
-refused_body_found i pattern s q slash t =
+pub refused_body_found : (i : Input) (pattern : List ℕ) (s : SourceSpan) (q : Position) → EndsWith (take i.offset i.text.now) (47 ∷ []) → BodyTaken (position_of i) pattern s q → MayBeRejected pattern → Found i.text.now (InvalidRegexWithoutMessage s)
+refused_body_found i pattern s q slash t rejected =
     let n = length t.body in
     let onward : drop i.offset i.text.now ≡ t.body ++ (47 ∷ q.rest) = i.seam.onward ∙ t.parts in
     let cut : take n (drop i.offset i.text.now) ≡ t.body = ap (take n) onward ∙ take_at t.body (47 ∷ q.rest) n refl in
@@ -166,7 +167,7 @@ refused_body_found i pattern s q slash t =
         within = omega arith;
         begins = begins_here i;
         ends = IsCharBoundary-from_rest i.text.now i.offset n i.seam.within (rw onward (seam_between t.body 47 q.rest (omega arith)));
-        there = ((pattern, subst (λ (x : List ℕ). Body x pattern) (sym cut) t.is), slash, record { rest = q.rest; parts = behind });
+        there = ((pattern, subst (λ (x : List ℕ). Body x pattern) (sym cut) t.is, rejected), slash, record { rest = q.rest; parts = behind });
       };
       inside = refl;
     })

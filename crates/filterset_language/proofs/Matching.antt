@@ -15,6 +15,7 @@ use Rattle.filterset_faults.specs.declared.span.SourceSpan.{SourceSpan}
 use Rattle.filterset_language.specs.declared.parsing.names.PredicateName.{PredicateName}
 use Rattle.filterset_language.specs.Parsing.Position.{Position, position_of, skip, after}
 use Rattle.filterset_matchers.specs.Matcher.{Matcher, Equal, Contains, Glob, Regex}
+use Rattle.filterset_matchers.specs.Pattern.{MayBeRejected}
 use Rattle.filterset_grammar.specs.Tree.{Leaf, Matching, Platform, Default, Set}
 use Rattle.filterset_grammar.specs.declared.predicate.Predicate.{Predicate}
 use Rattle.filterset_grammar.specs.Patterns.{MatcherIsRead, LeafIsRead, PatternsAreRead}
@@ -59,15 +60,16 @@ regex_gives i f g h pattern at q v a taken made =
     lies : MakesPattern at f h v (Regex pattern) → Carried MatcherIsRead (LiesOnPattern i.text.now q.at) f h v (Regex pattern)
     lies (comes same is read) = comes same is read
     lies (refused added same some each none) =
-        refused added same some (λ k d lt. record { at = at; is = (each k d lt).0; pattern = pattern; is_regex = refl; not_plain = (each k d lt).1; body = body_piece i pattern at q taken; ends = ends }) none
+        refused added same some (λ k d lt. record { at = at; is = (each k d lt).0; pattern = pattern; is_regex = refl; rejected = (each k d lt).1; body = body_piece i pattern at q taken; ends = ends }) none
 
 -- the faults of a refused pattern stand
 pub regex_keeps : (i : Input) (text : List ℕ) (f g h : Faults) (pattern : List ℕ) (at : SourceSpan) (q : Position) (v : Option Matcher) → i.text.now ≡ text → EndsWith (take i.offset i.text.now) (47 ∷ []) → BodyTaken (position_of i) pattern at q
     → Keeps text f g → MakesPattern at g h v (Regex pattern) → Keeps text f h
 regex_keeps i text f g h pattern at q v same slash taken keeps (comes is value read) = subst (λ (x : Faults). Keeps text f x) (sym is) keeps
 regex_keeps i text f g h pattern at q v same slash taken keeps (refused added is some each none) = λ old.
-    let one : Found text (InvalidRegexWithoutMessage at) = subst (λ (t : List ℕ). Found t (InvalidRegexWithoutMessage at)) same (refused_body_found i pattern at q slash taken) in
-    record { each = rw is (All-append (Found text) g added (keeps old).each (λ k d lt. subst (Found text) (sym (each k d lt).0) one)) }
+    let one : MayBeRejected pattern → Found text (InvalidRegexWithoutMessage at) =
+    λ rejected. subst (λ (t : List ℕ). Found t (InvalidRegexWithoutMessage at)) same (refused_body_found i pattern at q slash taken rejected) in
+    record { each = rw is (All-append (Found text) g added (keeps old).each (λ k d lt. subst (Found text) (sym (each k d lt).0) (one (each k d lt).1))) }
 
 -- ---- texts
 
@@ -120,7 +122,7 @@ matching_lies text predicate m p q x le lies = record {
   pattern = lies.pattern;
   argument = between p.at q.at;
   is_leaf = (0, omega arith, ap (λ (y : Matcher). Matching predicate y (between p.at q.at)) lies.is_regex);
-  not_plain = lies.not_plain;
+  rejected = lies.rejected;
   body = lies.body;
   end = let ends = lies.ends in omega arith;
 }

@@ -159,7 +159,7 @@ lies_in text d e x part lies = record {
   pattern = lies.pattern;
   argument = lies.argument;
   is_leaf = part _ lies.is_leaf;
-  not_plain = lies.not_plain;
+  rejected = lies.rejected;
   body = lies.body;
   end = lies.end;
 }

@@ -18,6 +18,7 @@ use Rattle.filterset_glob.specs.Tokens.{Tokens}
 use Rattle.filterset_faults.specs.Faults.{span_of}
 use Rattle.filterset_faults.specs.declared.span.SourceSpan.{SourceSpan}
 use Rattle.filterset_graph.specs.declared.package.BuildPlatform.{BuildPlatform}
+use Rattle.filterset_matchers.specs.Pattern.{MayBeRejected}
 use Rattle.filterset_grammar.specs.declared.operators.NotOperator.{NotOperator}
 use Rattle.filterset_grammar.specs.declared.operators.OrOperator.{OrOperator}
 use Rattle.filterset_faults.specs.declared.error.ParseSingleError.{ParseSingleError}
@@ -176,7 +177,7 @@ FaultSays text (ExprFoundUnaryOp s op suggest) =
     (piece text s ≡ op.now) × (op.now ≡ codes "NOT") × (suggest.now ≡ codes "not")
 FaultSays text (ExpectedCloseRegex s) = IsPoint s × ClosesArgument (onward text s)
 FaultSays text (InvalidRegexWithoutMessage s) =
-    ((pattern : List ℕ) × Body (piece text s) pattern)
+    ((pattern : List ℕ) × Body (piece text s) pattern × MayBeRejected pattern)
     × EndsWith (before text s) (codes "/") × BeginsWith (codes "/") (behind text s)
 FaultSays text (InvalidGlob s error) =
     (value : List ℕ) × Spelled (piece text s) value

@@ -4,7 +4,7 @@ use Rattle.std.specs.List.{Contains}
 use Rattle.std.specs.Option.{option_map}
 use Rattle.filterset_grammar.specs.Text.{Body}
 use Rattle.filterset_matchers.specs.Matcher.{Regex}
-use Rattle.filterset_matchers.specs.Pattern.{IsPlain}
+use Rattle.filterset_matchers.specs.Pattern.{MayBeRejected, MayBeTooLarge}
 use Rattle.filterset_grammar.specs.Tree.{Matching, Tree, tree_leaves}
 use Rattle.filterset_grammar.specs.declared.predicate.Predicate.{Predicate}
 use Rattle.filterset_language.specs.Views.{tree_of}
@@ -23,8 +23,8 @@ pub record Reads (text : List ℕ) (e : Tree SourceSpan) : Type 0 where
   pub spelled : Spells text e
   pub patterns : PatternsAreRead e
 
--- the fault says that the body of one of the tree's regular expressions is refused, in whose pattern not each character
--- stands for itself: it lies on that body, and the span of the predicate ends after the slash that follows
+-- the fault says that the body of one of the tree's regular expressions is rejected, whose pattern the grammar of `regex`
+-- does not read, or may be too large: it lies on that body, and the span of the predicate ends after the slash that follows
 pub record LiesOnBody (text : List ℕ) (e : Tree SourceSpan) (fault : ParseSingleError) : Type 0 where
   pub at : SourceSpan
   pub is : fault ≡ InvalidRegexWithoutMessage at
@@ -32,9 +32,14 @@ pub record LiesOnBody (text : List ℕ) (e : Tree SourceSpan) (fault : ParseSing
   pub pattern : List ℕ
   pub argument : SourceSpan
   pub is_leaf : Contains (tree_leaves e) (Matching predicate (Regex pattern) argument)
-  pub not_plain : ¬ (IsPlain pattern)
+  pub rejected : MayBeRejected pattern
   pub body : Body (piece text at) pattern
   pub end : argument.offset + argument.len ≡ at.offset + at.len + 1
+
+-- the same, and it is the size of the pattern for which it is rejected: the grammar of `regex` reads it
+pub record LiesOnLargeBody (text : List ℕ) (e : Tree SourceSpan) (fault : ParseSingleError) : Type 0 where
+  pub lies : LiesOnBody text e fault
+  pub large : MayBeTooLarge lies.pattern
 
 -- the tree comes
 abbrev pub Comes : Parsed → Tree SourceSpan → Type 0

@@ -5,7 +5,7 @@ use Rattle.std.specs.Option.{option_map}
 use Rattle.filterset_grammar.specs.Text.{Body}
 use Rattle.filterset_language.specs.Parsing.Position.{Position, position_of, after, skip}
 use Rattle.filterset_matchers.specs.Matcher.{Matcher, Regex}
-use Rattle.filterset_matchers.specs.Pattern.{IsPlain}
+use Rattle.filterset_matchers.specs.Pattern.{MayBeRejected}
 use Rattle.filterset_grammar.specs.Tree.{Leaf, Set, Not, Parens}
 use Rattle.filterset_language.specs.Views.{leaf_of}
 use Rattle.filterset_grammar.specs.Patterns.{MatcherIsRead, LeafIsRead, PatternsAreRead}
@@ -49,9 +49,9 @@ pub data Going {O : Type 0} (next : Next O) (make : Make O) (Good : Placed → T
       → Going next make Good On old new left p read total
   failed : length old < length new → total ≡ None → Going next make Good On old new left p read total
 
--- the fault is that the body at this span is refused, by whose pattern the matcher is; no plain pattern is refused
+-- the fault is that the body at this span is rejected, by whose pattern the matcher is, and which may be rejected
 abbrev pub RefusesBody : SourceSpan → Matcher → ParseSingleError → Type 0
-RefusesBody at (Regex pattern) fault = (fault ≡ InvalidRegexWithoutMessage at) × ¬ (IsPlain pattern)
+RefusesBody at (Regex pattern) fault = (fault ≡ InvalidRegexWithoutMessage at) × MayBeRejected pattern
 RefusesBody at _ fault = ⊥
 
 -- the matcher by the pattern of the body at a span
@@ -64,7 +64,7 @@ pub record LiesOnPattern (text : List ℕ) (end : ℕ) (m : Matcher) (fault : Pa
   pub is : fault ≡ InvalidRegexWithoutMessage at
   pub pattern : List ℕ
   pub is_regex : m ≡ Regex pattern
-  pub not_plain : ¬ (IsPlain pattern)
+  pub rejected : MayBeRejected pattern
   pub body : Body (piece text at) pattern
   pub ends : end ≡ at.offset + at.len + 1
 
