@@ -1,5 +1,6 @@
 -- Why texts are refused.
 use Rattle.std.proofs.Common.{◌≡◌, ◌≢◌, ◌⊎◌, inl, inr, ⊎_elim, ℕ, List, [], sym, ◌∙◌, subst}
+use Rattle.std.proofs.lemmas.List.Elements.{All-weaker}
 use Rattle.std.specs.Prelude.{All, Result, Ok, Err, IsErrAnd, IfErr, OnOk}
 use Rattle.filterset_faults.specs.declared.error.ParseSingleError.{ParseSingleError}
 use Rattle.filterset_faults.specs.declared.kind.FiltersetKind.{FiltersetKind}
@@ -7,12 +8,13 @@ use Rattle.filterset_faults.specs.declared.span.SourceSpan.{SourceSpan}
 use Rattle.filterset_graph.specs.declared.package.PackageMetadata.{PackageMetadata}
 use Rattle.filterset_language.specs.Faults.{FaultStands}
 use Rattle.filterset_grammar.specs.Grammar.{Spells}
-use Rattle.filterset_language.specs.Parsed.{Reads, LiesOnBody, Comes, HasRefusedBodies, IsUnreadWith}
+use Rattle.filterset_language.specs.Parsed.{Reads, LiesOnBody, LiesOnLargeBody, Comes, HasRefusedBodies, IsUnreadWith}
 use Rattle.filterset_language.specs.Parsed.{IsRefusalOf as IsUnread}
 use Rattle.filterset_grammar.specs.Tree.{Tree, tree_leaves}
 use Rattle.filterset_language.specs.declared.parsing.parse.ParseStop.{ParseStop}
 use Rattle.filterset_language.specs.declared.parsing.parse.ParseStop.TheVariants as stop
 use Rattle.filterset_language.specs.declared.parsing.parse.Parsed.{Parsed}
+use Rattle.filterset_language.proofs.LargeBodies.{large_body}
 use Rattle.filterset_language.proofs.SpelledIsRead.{one_tree}
 use Rattle.nextest_filtering.specs.Compiling.{IsFiltersetOf, IsRejectedWith, banned, unmatched, IsRefusedWith, found, rejected, IsStopOf, IsRejectionOf}
 use Rattle.nextest_filtering.specs.declared.compile.context.KnownGroups.{KnownGroups}
@@ -59,7 +61,8 @@ module _ (text : List ℕ) (kind : FiltersetKind) (packages : List PackageMetada
 
   -- so only bodies are
   pub of_filterset : (faults : List ParseSingleError) (e : Tree SourceSpan) → IsFiltersetOf text kind packages groups e → IsRefusedWith text kind packages groups faults
-      → (faults ≢ []) × All (LiesOnBody text e) faults
-  of_filterset faults e is (found refutes) = (refutes.some, refutes.bodies e is.reads.spelled)
+      → (faults ≢ []) × All (LiesOnLargeBody text e) faults
+  of_filterset faults e is (found refutes) =
+      (refutes.some, All-weaker (LiesOnBody text e) (LiesOnLargeBody text e) (λ fault. large_body text e fault is.reads.patterns) faults (refutes.bodies e is.reads.spelled))
   of_filterset faults e is (rejected d reads r) =
       absurd (not_rejected e faults is (subst (λ (t : Tree SourceSpan). IsRejectedWith kind packages groups t faults) (one_tree text d e reads.spelled is.reads.spelled) r))

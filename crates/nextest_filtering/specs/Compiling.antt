@@ -6,7 +6,7 @@ use Rattle.filterset_faults.specs.declared.error.ParseSingleError.{ParseSingleEr
 use Rattle.filterset_faults.specs.declared.kind.FiltersetKind.{FiltersetKind}
 use Rattle.filterset_faults.specs.declared.span.SourceSpan.{SourceSpan}
 use Rattle.filterset_graph.specs.declared.package.PackageMetadata.{PackageMetadata}
-use Rattle.filterset_language.specs.Parsed.{Reads, LiesOnBody, IsUnreadWith}
+use Rattle.filterset_language.specs.Parsed.{Reads, LiesOnBody, LiesOnLargeBody, IsUnreadWith}
 use Rattle.filterset_grammar.specs.Tree.{Tree, tree_leaves}
 use Rattle.filterset_language.specs.declared.parsing.parse.ParseStop.{ParseStop}
 use Rattle.filterset_language.specs.declared.parsing.parse.ParseStop.TheVariants as stop
@@ -66,10 +66,11 @@ IsRefusalOfTree text kind packages groups e (Faults refused) =
     All (LiesOnBody text e) refused.errors.items ⊎ IsRejectedWith kind packages groups e refused.errors.items
 IsRefusalOfTree text kind packages groups e (OutOfMemory given) = Unit {0}
 
--- a refusal by faults: there is one at least, and each lies on the body of one of the tree's regular expressions
+-- A refusal by faults: there is one at least, and each lies on the body of one of the tree's regular expressions, whose
+-- pattern the grammar of `regex` reads, and may be too large.
 abbrev pub IsRefusalOfBodies : List ℕ → Tree SourceSpan → ParseRefusal → Type 0
 IsRefusalOfBodies text e (Faults refused) =
-    (refused.errors.items ≢ []) × All (LiesOnBody text e) refused.errors.items
+    (refused.errors.items ≢ []) × All (LiesOnLargeBody text e) refused.errors.items
 IsRefusalOfBodies text e (OutOfMemory given) = Unit {0}
 
 -- why parsing a text stopped

@@ -103,8 +103,9 @@ impl Filterset {
     /// - `binary` matches the name, and `binary_id` the id, of a test binary of the workspace;
     /// - `group` matches the name of a known group; `@global` is always known.
     ///
-    /// It accepts exactly the valid inputs, with one exception: `regex` may reject a pattern that is not plain, and then
-    /// each fault lies on the body of such a pattern.
+    /// It accepts exactly the valid inputs, with one exception: `regex` may find a pattern too large that is neither plain
+    /// nor small ([`PatternRegex::new`](crate::PatternRegex::new) says what that is), and then each fault lies on the body
+    /// of such a pattern.
     ///
     /// A refusal returns the input. If the input could be parsed, the faults are those of its banned predicates, or, if it
     /// has none, those of its unmatched ones, from left to right, with the spans of their arguments.
@@ -151,7 +152,7 @@ impl Filterset {
         ensures spelled { (e : Tree SourceSpan) → Spells (string_bytes input) e
             → IfErr result (IsRefusalOfTree (string_bytes input) kind (packages_of cx.now) known_groups.now e) }
 
-        // A valid input is rejected only for the bodies of its regular expressions or lack of memory.
+        // A valid input is rejected only for lack of memory, or for the bodies of regular expressions that may be too large.
         ensures complete { (e : Tree SourceSpan)
             → IsFiltersetOf (string_bytes input) kind (packages_of cx.now) known_groups.now e
             → IfErr result (IsRefusalOfBodies (string_bytes input) e) }
