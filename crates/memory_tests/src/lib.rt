@@ -15,6 +15,8 @@ mod refusals;
 #[cfg(test)]
 mod returning;
 #[cfg(test)]
+mod sizes;
+#[cfg(test)]
 mod support;
 #[cfg(test)]
 mod trees;

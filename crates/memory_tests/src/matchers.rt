@@ -77,11 +77,17 @@ fn pattern_returns(rt: &(impl AllocGlobal + Abort), text: &str) -> bool {
     }
 }
 
-/// Returns whether all patterns returned.
+/// Returns whether all patterns returned, and whether all were found to be patterns, and the other texts not.
 pub fn patterns_return(rt: &(impl AllocGlobal + Abort)) -> bool {
     let mut all = true;
-    for text in ["a/(b|c)", "^xa", "cy$", "xa/[a-z]", "a/b|a/c", "a/c"] {
+    for text in [
+        "a/(b|c)", "^xa", "cy$", "xa/[a-z]", "a/b|a/c", "a/c", "a\\/c",
+    ] {
         all &= pattern_returns(rt, text);
+        all &= returns(rt, PatternRegex::is_pattern(rt.alloc(), text), &true);
+    }
+    for text in ["(", "a{", "[b-a]", "\\"] {
+        all &= returns(rt, PatternRegex::is_pattern(rt.alloc(), text), &false);
     }
     all
 }
