@@ -1,6 +1,7 @@
 -- What `check` answers, by the names that files give.
-use Rattle.std.specs.Prelude.{◌≡◌, ◌++◌, ℕ, List, [], Option, Some, None, is_some, map, string_bytes}
+use Rattle.std.specs.Prelude.{◌≡◌, ◌⊎◌, ◌++◌, ℕ, List, [], Option, Some, None, IsSomeAnd, is_some, map, string_bytes}
 use Rattle.std.specs.Borrow.{Bor}
+use Rattle.std.specs.declared.io.Error.{Error}
 use Rattle.filterset_answers.specs.Answers.{ChecksTexts}
 use Rattle.filterset_answers.specs.Checked.{TextRow}
 use Rattle.filterset_answers.specs.Endings.{ending_of}
@@ -11,10 +12,14 @@ use Rattle.filterset_answers.specs.declared.names.Names.{Names}
 use Rattle.filterset_answers.specs.declared.text.Ending.{Ending}
 use Rattle.filterset_drawing.specs.Columns.{Text}
 use Rattle.filterset_graph.specs.declared.package.PackageMetadata.{PackageMetadata}
-use Rattle.filterset_sources.specs.Configurations.{IsConfiguration}
+use Rattle.filterset_sources.specs.Configurations.{IsConfiguration, RefusesConfiguration}
+use Rattle.filterset_sources.specs.Metadata.{RefusesMetadata}
 use Rattle.filterset_sources.specs.declared.configuration.Configuration.{Configuration}
-use Rattle.filterset_command.specs.Workspaces.{ArePackagesIn, IsContent}
+use Rattle.filterset_command.specs.Files.{IsContent, IsFileFault}
+use Rattle.filterset_command.specs.Workspaces.{ArePackagesIn, RefusesValue}
 use Rattle.filterset_command.specs.declared.checking.CheckPaths.{CheckPaths}
+use Rattle.filterset_command.specs.declared.fault.CommandFault.{CommandFault}
+use Rattle.filterset_command.specs.declared.fault.FileRole.TheVariants as roles
 
 -- the packages are those of the file, and none where there is no file
 abbrev pub KnownPackages : (Text → Option Text) → Option (Bor Text) → List PackageMetadata → Type 0
@@ -38,3 +43,11 @@ AnswersCheck content form paths given ending text =
     (map (λ s. string_bytes s) configuration.groups.items) names
     × ChecksTexts names form (file_rows configuration.filtersets.items ++ given) faulty text
     × (ending ≡ ending_of faulty)
+
+-- one of the files that are given is not used: the configuration, or the one of the packages
+abbrev pub IsCheckFault : (Text → Option Text) → (Text → Error → Type 0) → CheckPaths → CommandFault → Type 0
+IsCheckFault content fails paths fault =
+    IsSomeAnd paths.configuration
+    (λ path. IsFileFault content fails roles.Configuration RefusesConfiguration path.now fault)
+    ⊎ IsSomeAnd paths.metadata
+    (λ path. IsFileFault content fails roles.Metadata (RefusesValue RefusesMetadata) path.now fault)

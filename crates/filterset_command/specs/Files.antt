@@ -1,9 +1,41 @@
 -- Faults of files.
-use Rattle.std.specs.Prelude.{◌≢◌}
-use Rattle.filterset_io.specs.declared.fault.RunFault.TheVariants.{Write}
+use Rattle.std.specs.Prelude.{◌≡◌, ◌≢◌, Option, IfSome, alloc_error, string_bytes}
+use Rattle.std.specs.Str.{IsUtf8}
+use Rattle.std.specs.declared.io.Error.{Error}
+use Rattle.filterset_drawing.specs.Columns.{Text}
+use Rattle.filterset_io.specs.declared.fault.RunFault.TheVariants.{Memory}
+use Rattle.filterset_sources.specs.declared.refusal.SourceRefusal.{SourceRefusal}
+use Rattle.filterset_sources.specs.declared.refusal.SourceRefusal.TheVariants.{OutOfMemory}
 use Rattle.filterset_command.specs.declared.fault.CommandFault.{CommandFault}
-use Rattle.filterset_command.specs.declared.fault.CommandFault.TheVariants.{Run}
+use Rattle.filterset_command.specs.declared.fault.CommandFault.TheVariants.{File, Run}
+use Rattle.filterset_command.specs.declared.fault.FileFault.{FileFault}
+use Rattle.filterset_command.specs.declared.fault.FileFault.TheVariants.{Unread, NotText, Refused}
+use Rattle.filterset_command.specs.declared.fault.FileRole.{FileRole}
 
--- the fault is no failed write
-abbrev pub NotWrite : CommandFault → Type 0
-NotWrite fault = fault ≢ Run Write
+-- the bytes are the content of a file, as far as that is known
+abbrev pub IsContent : Option Text → Text → Type 0
+IsContent content bytes = IfSome content (λ known. bytes ≡ known)
+
+-- P holds of the fault, or it is out of memory
+abbrev pub OrMemory : (CommandFault → Type 0) → CommandFault → Type 0
+OrMemory P (Run (Memory refused)) = Unit {0}
+OrMemory P fault = P fault
+
+-- the fault is this one of the file at this path, which is read for this
+abbrev pub IsFaultAt : FileRole → Text → FileFault → CommandFault → Type 0
+IsFaultAt role path fault (File own at is) = (own ≡ role) × (string_bytes at ≡ path) × (is ≡ fault)
+IsFaultAt role path fault _ = ⊥
+
+-- why a file is not used: reading it fails so, its content is not UTF-8, or its text is refused
+abbrev pub IsUnused : Option Text → (Error → Type 0) → (Text → SourceRefusal → Type 0) → FileFault → Type 0
+IsUnused content fails refuses (Unread error) = fails error
+IsUnused content fails refuses NotText = (bytes : Text) × IsContent content bytes × ¬ IsUtf8 bytes
+IsUnused content fails refuses (Refused refusal) =
+    (text : Text) × IsContent content text × refuses text refusal × (refusal ≢ OutOfMemory alloc_error)
+
+-- the fault names the file at this path, what it is read for, and why it is not used
+abbrev pub IsFileFault : (Text → Option Text) → (Text → Error → Type 0) → FileRole → (Text → SourceRefusal → Type 0)
+    → Text → CommandFault → Type 0
+IsFileFault content fails role refuses path (File own at fault) =
+    (own ≡ role) × (string_bytes at ≡ path) × IsUnused (content path) (fails path) refuses fault
+IsFileFault content fails role refuses path _ = ⊥

@@ -5,3 +5,4 @@ pub mod Asking
 pub mod Checking
 pub mod Explaining
 pub mod Requests
+pub mod Words

@@ -1,20 +1,23 @@
 -- What files say about a workspace.
-use Rattle.std.specs.Prelude.{◌≡◌, List, All, Option, Some, IfSome}
+use Rattle.std.specs.Prelude.{◌≡◌, ◌⊎◌, List, All, Option, Some}
+use Rattle.std.specs.declared.io.Error.{Error}
 use Rattle.serde_json.specs.Data.{Data}
 use Rattle.serde_json.specs.Read.{read}
 use Rattle.serde_json.specs.View.{view}
 use Rattle.filterset_drawing.specs.Columns.{Text}
 use Rattle.filterset_graph.specs.Packages.{ids}
 use Rattle.filterset_graph.specs.declared.package.PackageMetadata.{PackageMetadata}
-use Rattle.filterset_sources.specs.Metadata.{IsMetadata}
+use Rattle.filterset_sources.specs.Metadata.{IsMetadata, RefusesMetadata}
+use Rattle.filterset_sources.specs.Refusals.{Refuses, RefusesJson}
 use Rattle.filterset_sources.specs.Suites.{IsOfPackage, IsTestList}
 use Rattle.filterset_sources.specs.declared.list.Suite.{Suite}
+use Rattle.filterset_sources.specs.declared.list.TestList.{TestList}
+use Rattle.filterset_sources.specs.declared.refusal.SourceRefusal.{SourceRefusal}
+use Rattle.filterset_command.specs.Files.{IsContent, IsFileFault}
+use Rattle.filterset_command.specs.declared.fault.CommandFault.{CommandFault}
+use Rattle.filterset_command.specs.declared.fault.FileRole.TheVariants as roles
 use Rattle.filterset_command.specs.declared.workspace.Workspace.{Workspace}
 use Rattle.filterset_command.specs.declared.workspace.WorkspacePaths.{WorkspacePaths}
-
--- the bytes are the content of a file, as far as that is known
-abbrev pub IsContent : Option Text → Text → Type 0
-IsContent content bytes = IfSome content (λ known. bytes ≡ known)
 
 -- the bytes of the file are this JSON value
 abbrev pub IsJsonOf : Option Text → Data → Type 0
@@ -35,3 +38,22 @@ IsWorkspaceIn content paths workspace =
     ArePackagesIn (content paths.metadata.now) workspace.graph
     × AreSuitesIn (content paths.list.now) workspace.graph (view workspace.value)
     workspace.list.suites.items
+
+-- the text is no JSON, or its value is refused
+abbrev pub RefusesValue : (Data → SourceRefusal → Type 0) → Text → SourceRefusal → Type 0
+RefusesValue refuses text refusal =
+    RefusesJson text refusal ⊎ ((d : Data) × (read text ≡ Some d) × refuses d refusal)
+
+-- the value is no list of test binaries, or one of these is of none of the packages
+abbrev pub RefusesList : List PackageMetadata → Data → SourceRefusal → Type 0
+RefusesList packages d refusal =
+    Refuses ((list : TestList) × IsTestList d list.suites.items) refusal
+    ⊎ ((list : TestList) × IsTestList d list.suites.items
+    × Refuses (All (IsOfPackage (ids packages)) list.suites.items) refusal)
+
+-- one of the files at the paths is not used: the one of the packages, or the list of their tests
+abbrev pub IsWorkspaceFault : (Text → Option Text) → (Text → Error → Type 0) → WorkspacePaths → CommandFault → Type 0
+IsWorkspaceFault content fails paths fault =
+    IsFileFault content fails roles.Metadata (RefusesValue RefusesMetadata) paths.metadata.now fault
+    ⊎ ((packages : List PackageMetadata) × ArePackagesIn (content paths.metadata.now) packages
+    × IsFileFault content fails roles.List (RefusesValue (RefusesList packages)) paths.list.now fault)

@@ -1,8 +1,8 @@
 //! The answers to requests.
-ghost use Rattle.std.specs.Prelude.{◌≡◌, IfErr, IfOk, IfSome, map, string_bytes};
+ghost use Rattle.std.specs.Prelude.{◌≡◌, IfErr, IfOk, IfSome, OnOk, map, string_bytes};
 ghost use Rattle.filterset_answers.specs.Checked.{text_row};
-ghost use Rattle.filterset_command.specs.Files.{NotWrite};
-ghost use Rattle.filterset_command.specs.Requests.{IsAnswered, IsInput, rows_of};
+ghost use Rattle.filterset_command.specs.Files.{OrMemory};
+ghost use Rattle.filterset_command.specs.Requests.{IsAnswered, IsFaultOf, IsInput, IsInputFault, rows_of};
 
 use crate::asking::ask;
 use crate::checking::check_texts;
@@ -24,7 +24,9 @@ pub fn answer<F: FileSource, R: Source>(
 ) -> Result<Answer, CommandFault>
     ensures answered { IfOk result (λ answer. IsAnswered (F.content files.now) request.now (R.left input.old)
         answer.ending (string_bytes answer.text)) }
-    ensures no_write { IfErr result NotWrite }
+    ensures refused { IfErr result (OrMemory (IsFaultOf (F.content files.now) (F.fails files.now) request.now
+        (R.left input.old) (R.failed input.new))) }
+    ensures none_failed { OnOk result (R.failed input.new ≡ R.failed input.old) }
 {
     match request {
         Request::Check {
@@ -54,7 +56,9 @@ pub fn answer<F: FileSource, R: Source>(
 /// Reads what standard input has left as text.
 fn read_input<R: Source>(alloc: Global, input: &mut R) -> Result<String, CommandFault>
     ensures whole { IfOk result (λ text. IfSome (R.left input.old) (λ left. string_bytes text ≡ left)) }
-    ensures no_write { IfErr result NotWrite }
+    ensures refused { IfErr result (OrMemory
+        (IsInputFault Texts.StandardInput (R.left input.old) (R.failed input.new))) }
+    ensures none_failed { OnOk result (R.failed input.new ≡ R.failed input.old) }
 {
     let bytes = read_all(alloc, input)?;
     match String::from_utf8(bytes) {
@@ -70,7 +74,8 @@ fn read_lines<R: Source>(
     input: &mut R,
 ) -> Result<String, CommandFault>
     ensures whole { IfOk result (λ lines. IsInput texts.now (R.left input.old) (string_bytes lines)) }
-    ensures no_write { IfErr result NotWrite }
+    ensures refused { IfErr result (OrMemory (IsInputFault texts.now (R.left input.old) (R.failed input.new))) }
+    ensures none_failed { OnOk result (R.failed input.new ≡ R.failed input.old) }
 {
     match texts {
         Texts::Given(_) => Ok(String::new(alloc)),

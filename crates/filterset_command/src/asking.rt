@@ -2,7 +2,8 @@
 ghost use Rattle.std.specs.Prelude.{◌≡◌, IfErr, IfOk, option_map, string_bytes};
 ghost use Rattle.serde_json.specs.View.{view};
 ghost use Rattle.filterset_command.specs.Asking.{AnswersAsked, kept_of};
-ghost use Rattle.filterset_command.specs.Files.{NotWrite};
+ghost use Rattle.filterset_command.specs.Files.{OrMemory};
+ghost use Rattle.filterset_command.specs.Workspaces.{IsWorkspaceFault};
 
 use crate::fault::CommandFault;
 use crate::files::FileSource;
@@ -39,7 +40,8 @@ pub fn ask<F: FileSource>(
 ) -> Result<Answer, CommandFault>
     ensures answered { IfOk result (λ answer. AnswersAsked (F.content files.now) asked.now
         answer.ending (string_bytes answer.text)) }
-    ensures no_write { IfErr result NotWrite }
+    ensures refused { IfErr result (OrMemory
+        (IsWorkspaceFault (F.content files.now) (F.fails files.now) asked.now.paths)) }
 {
     let Workspace { graph, list, value } = read_workspace(alloc, files, &asked.paths)?;
     let kept = kept_of(asked.form, value);

@@ -1,8 +1,11 @@
 //! The command `check`: the faults of texts and of a configuration's filtersets, by the names that files give.
-ghost use Rattle.std.specs.Prelude.{◌≡◌, IfErr, IfOk, map, string_bytes};
+ghost use Rattle.std.specs.Prelude.{◌≡◌, IfErr, IfOk, IsSomeAnd, map, string_bytes};
 ghost use Rattle.filterset_answers.specs.Checked.{text_row};
-ghost use Rattle.filterset_command.specs.Checking.{AnswersCheck, KnownConfiguration, KnownPackages};
-ghost use Rattle.filterset_command.specs.Files.{NotWrite};
+ghost use Rattle.filterset_sources.specs.Configurations.{RefusesConfiguration};
+ghost use Rattle.filterset_sources.specs.Metadata.{RefusesMetadata};
+ghost use Rattle.filterset_command.specs.Checking.{AnswersCheck, IsCheckFault, KnownConfiguration, KnownPackages};
+ghost use Rattle.filterset_command.specs.Files.{IsFileFault, OrMemory};
+ghost use Rattle.filterset_command.specs.Workspaces.{RefusesValue};
 
 use crate::fault::{CommandFault, FileRole};
 use crate::files::{FileSource, read_text};
@@ -28,7 +31,8 @@ fn known_packages<F: FileSource>(
     path: Option<&str>,
 ) -> Result<PackageGraph, CommandFault>
     ensures known { IfOk result (KnownPackages (F.content files.now) path.entry) }
-    ensures no_write { IfErr result NotWrite }
+    ensures refused { IfErr result (OrMemory (λ fault. IsSomeAnd path.entry (λ path. IsFileFault
+        (F.content files.now) (F.fails files.now) FileRole.Metadata (RefusesValue RefusesMetadata) path.now fault))) }
 {
     match path {
         Some(path) => read_graph(alloc, files, path),
@@ -43,7 +47,8 @@ fn known_configuration<F: FileSource>(
     path: Option<&str>,
 ) -> Result<Configuration, CommandFault>
     ensures known { IfOk result (KnownConfiguration (F.content files.now) path.entry) }
-    ensures no_write { IfErr result NotWrite }
+    ensures refused { IfErr result (OrMemory (λ fault. IsSomeAnd path.entry (λ path. IsFileFault
+        (F.content files.now) (F.fails files.now) FileRole.Configuration RefusesConfiguration path.now fault))) }
 {
     let Some(path) = path else {
         return Ok(Configuration {
@@ -69,7 +74,7 @@ pub fn check_texts<F: FileSource>(
 ) -> Result<Answer, CommandFault>
     ensures answered { IfOk result (λ answer. AnswersCheck (F.content files.now) form paths.now
         (map text_row given.entry.items) answer.ending (string_bytes answer.text)) }
-    ensures no_write { IfErr result NotWrite }
+    ensures refused { IfErr result (OrMemory (IsCheckFault (F.content files.now) (F.fails files.now) paths.now)) }
 {
     let Configuration { filtersets, groups } = known_configuration(
         alloc,

@@ -1,7 +1,8 @@
 //! The words of the command line, as `clap` matches them.
 ghost use Rattle.std.specs.Prelude.{◌≡◌, IfErr, IfOk};
 ghost use Rattle.clap.specs.Words.{kind_of};
-ghost use Rattle.filterset_command.specs.Requests.{IsShown, IsWordFault};
+ghost use Rattle.filterset_command.specs.Files.{OrMemory};
+ghost use Rattle.filterset_command.specs.Requests.{IsShown};
 
 use crate::arguments::arguments;
 use crate::fault::CommandFault;
@@ -50,7 +51,7 @@ impl<'w> CommandLine<'w> {
 /// Returns the help or the version if `clap` stopped for these, and otherwise the fault of the words.
 fn text_to_show(alloc: Global, error: Error) -> Result<String, CommandFault>
     ensures shown { IfOk result (λ text. IsShown (kind_of error)) }
-    ensures fault { IfErr result (IsWordFault error) }
+    ensures fault { IfErr result (OrMemory (λ fault. fault ≡ CommandFault.Words error)) }
 {
     match error.kind() {
         ErrorKind::DisplayHelp | ErrorKind::DisplayVersion => Ok(format!(in alloc; "{error}")?),

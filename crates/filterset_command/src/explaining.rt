@@ -1,7 +1,7 @@
 //! The command `explain`: why a filterset picks a test or not.
 ghost use Rattle.std.specs.Prelude.{◌≡◌, IfErr, IfOk, option_map, string_bytes};
-ghost use Rattle.filterset_command.specs.Explaining.{AnswersExplained, AnswersIn, IsCandidate, IsMissing, binary_called, name_called};
-ghost use Rattle.filterset_command.specs.Files.{NotWrite};
+ghost use Rattle.filterset_command.specs.Explaining.{AnswersExplained, AnswersIn, IsCandidate, IsExplainFault, IsMissing, LacksIn, binary_called, name_called};
+ghost use Rattle.filterset_command.specs.Files.{OrMemory};
 
 use crate::fault::CommandFault;
 use crate::files::FileSource;
@@ -48,8 +48,8 @@ fn candidate_of<'s>(
     binaries: &[AskedBinary<'s>],
 ) -> Result<Candidate<'s>, CommandFault>
     ensures found { IfOk result (IsCandidate binaries.now asked.now.binary.now asked.now.test) }
-    ensures missing { IfErr result
-        (IsMissing asked.now.paths.list.now binaries.now asked.now.binary.now asked.now.test) }
+    ensures missing { IfErr result (OrMemory
+        (IsMissing asked.now.paths.list.now binaries.now asked.now.binary.now asked.now.test)) }
 {
     let Some(binary) = binary_called(binaries, asked.binary) else {
         return Err(CommandFault::NoBinary {
@@ -81,7 +81,7 @@ fn explain_in(
 ) -> Result<Answer, CommandFault>
     ensures answered { IfOk result (λ answer. AnswersIn asked.now workspace.now
         answer.ending (string_bytes answer.text)) }
-    ensures no_write { IfErr result NotWrite }
+    ensures missing { IfErr result (OrMemory (LacksIn asked.now workspace.now)) }
 {
     let binaries = asked_binaries(alloc, workspace.list.suites.as_slice())?;
     let candidate = candidate_of(alloc, asked, binaries.as_slice())?;
@@ -103,7 +103,7 @@ pub fn explain_asked<F: FileSource>(
 ) -> Result<Answer, CommandFault>
     ensures answered { IfOk result (λ answer. AnswersExplained (F.content files.now) asked.now
         answer.ending (string_bytes answer.text)) }
-    ensures no_write { IfErr result NotWrite }
+    ensures refused { IfErr result (OrMemory (IsExplainFault (F.content files.now) (F.fails files.now) asked.now)) }
 {
     let workspace = read_workspace(alloc, files, &asked.paths)?;
     explain_in(alloc, asked, &workspace)

@@ -1,5 +1,6 @@
 //! The faults that end a command without an answer, and what they tell people to do next.
-ghost use Rattle.filterset_command.specs.Files.{NotWrite};
+ghost use Rattle.std.specs.Prelude.{◌≢◌, alloc_error};
+ghost use Rattle.filterset_command.specs.Files.{IsFaultAt, OrMemory};
 
 use clap::Error;
 use filterset_io::RunFault;
@@ -126,7 +127,7 @@ impl Drop for CommandFault {
 impl CommandFault {
     /// Makes the fault of the file at a path.
     pub fn in_file(alloc: Global, role: FileRole, path: &str, fault: FileFault) -> CommandFault
-        ensures { NotWrite result }
+        ensures { OrMemory (IsFaultAt role path.now fault) result }
     {
         match String::from_str(alloc, path) {
             Ok(path) => CommandFault::File { role, path, fault },
@@ -136,7 +137,7 @@ impl CommandFault {
 
     /// Makes the fault of the file at a path that could not be read.
     pub fn from_read(alloc: Global, role: FileRole, path: &str, error: io::Error) -> CommandFault
-        ensures { NotWrite result }
+        ensures { OrMemory (IsFaultAt role path.now (FileFault.Unread error)) result }
     {
         match error.kind() {
             io::ErrorKind::OutOfMemory => CommandFault::Run(RunFault::Memory(AllocError)),
@@ -151,7 +152,8 @@ impl CommandFault {
         path: &str,
         refusal: SourceRefusal,
     ) -> CommandFault
-        ensures { NotWrite result }
+        ensures { OrMemory (λ fault. IsFaultAt role path.now (FileFault.Refused refusal) fault
+            × (refusal ≢ SourceRefusal.OutOfMemory alloc_error)) result }
     {
         match refusal {
             SourceRefusal::OutOfMemory(refused) => CommandFault::Run(RunFault::Memory(refused)),

@@ -1,6 +1,7 @@
 //! Reading whole files.
 ghost use Rattle.std.specs.Prelude.{◌≡◌, IfErr, IfOk, IfSome, List, Option, ℕ, string_bytes};
-ghost use Rattle.filterset_command.specs.Files.{NotWrite};
+ghost use Rattle.std.specs.declared.io.Error.{Error};
+ghost use Rattle.filterset_command.specs.Files.{IsFileFault, OrMemory};
 
 use crate::fault::{CommandFault, FileFault, FileRole};
 use std::alloc::Global;
@@ -10,11 +11,14 @@ use std::{fs, io};
 pub trait FileSource {
     /// The bytes of the file at a path, if they are known.
     ghost content: { Self → List ℕ → Option (List ℕ) };
+    /// Reading the file at a path may fail with this error.
+    ghost fails: { Self → List ℕ → Error → Type 0 };
 
     /// Reads all bytes of the file at a path.
     fn read(&self, alloc: Global, path: &str) -> io::Result<Vec<u8>>
-        ensures { IfOk result
-            (λ bytes. IfSome (content self.now path.now) (λ known. bytes.items ≡ known)) };
+        ensures bytes { IfOk result
+            (λ bytes. IfSome (content self.now path.now) (λ known. bytes.items ≡ known)) }
+        ensures failed { IfErr result (fails self.now path.now) };
 }
 
 /// The files of the machine.
@@ -27,6 +31,9 @@ impl FileSource for HostFiles<'_> {
     ghost use Rattle.std.specs.Prelude.{None};
 
     ghost content = { λ _ _. None };
+
+    // The standard library does not say which errors a file gives.
+    ghost fails = { λ _ _ _. Unit {0} };
 
     fn read(&self, _alloc: Global, path: &str) -> io::Result<Vec<u8>> {
         fs::read(self.runtime, path)
@@ -42,7 +49,8 @@ pub fn read_text<F: FileSource>(
 ) -> Result<String, CommandFault>
     ensures whole { IfOk result
         (λ text. IfSome (F.content files.now path.now) (λ known. string_bytes text ≡ known)) }
-    ensures no_write { IfErr result NotWrite }
+    ensures refused { IfErr result (OrMemory
+        (IsFileFault (F.content files.now) (F.fails files.now) role (λ _ _. ⊥) path.now)) }
 {
     let bytes = match files.read(alloc, path) {
         Ok(bytes) => bytes,

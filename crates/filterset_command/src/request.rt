@@ -1,4 +1,8 @@
 //! What the command line asks for.
+ghost use Rattle.std.specs.Prelude.{◌≡◌, IfErr, IfOk};
+ghost use Rattle.clap.specs.Words.{first_value, found_of};
+ghost use Rattle.filterset_command.specs.Words.{IsMissingArgument, LacksArgument};
+
 use crate::asking::WorkspaceQuestion;
 use crate::checking::CheckPaths;
 use crate::explaining::ExplainRequest;
@@ -38,7 +42,9 @@ pub enum Request<'w> {
 }
 
 /// Returns what matched words ask for.
-pub fn request_of<'m>(matches: &'m ArgMatches<'_>) -> Result<Request<'m>, CommandFault> {
+pub fn request_of<'m>(matches: &'m ArgMatches<'_>) -> Result<Request<'m>, CommandFault>
+    ensures missing { IfErr result IsMissingArgument }
+{
     match matches.subcommand() {
         Some(("check", own)) => Ok(check_of(own)),
         Some(("format", own)) => Ok(format_of(own)),
@@ -71,7 +77,9 @@ fn format_of<'m>(matches: &'m ArgMatches<'_>) -> Request<'m> {
 }
 
 /// Returns what `list` asks for.
-fn list_of<'m>(matches: &'m ArgMatches<'_>) -> Result<Request<'m>, CommandFault> {
+fn list_of<'m>(matches: &'m ArgMatches<'_>) -> Result<Request<'m>, CommandFault>
+    ensures missing { IfErr result (LacksArgument (found_of matches.now)) }
+{
     let question = Question::List {
         filters: matches.get_strs("filterset").unwrap_or(&[]),
         ignores_default: matches.get_flag("ignore"),
@@ -80,7 +88,9 @@ fn list_of<'m>(matches: &'m ArgMatches<'_>) -> Result<Request<'m>, CommandFault>
 }
 
 /// Returns what `compare` asks for.
-fn compare_of<'m>(matches: &'m ArgMatches<'_>) -> Result<Request<'m>, CommandFault> {
+fn compare_of<'m>(matches: &'m ArgMatches<'_>) -> Result<Request<'m>, CommandFault>
+    ensures missing { IfErr result (LacksArgument (found_of matches.now)) }
+{
     let question = Question::Compare {
         first: text_of(matches, "first")?,
         second: text_of(matches, "second")?,
@@ -94,7 +104,9 @@ fn ask_of<'m>(
     matches: &'m ArgMatches<'_>,
     form: Form,
     question: Question<'m>,
-) -> Result<Request<'m>, CommandFault> {
+) -> Result<Request<'m>, CommandFault>
+    ensures missing { IfErr result (LacksArgument (found_of matches.now)) }
+{
     Ok(Request::Ask(WorkspaceQuestion {
         paths: paths_of(matches)?,
         form,
@@ -104,7 +116,9 @@ fn ask_of<'m>(
 }
 
 /// Returns what `explain` asks for.
-fn explain_of<'m>(matches: &'m ArgMatches<'_>) -> Result<Request<'m>, CommandFault> {
+fn explain_of<'m>(matches: &'m ArgMatches<'_>) -> Result<Request<'m>, CommandFault>
+    ensures missing { IfErr result (LacksArgument (found_of matches.now)) }
+{
     Ok(Request::Explain(ExplainRequest {
         paths: paths_of(matches)?,
         form: Form::Drawn(color_of(matches)),
@@ -116,12 +130,17 @@ fn explain_of<'m>(matches: &'m ArgMatches<'_>) -> Result<Request<'m>, CommandFau
 }
 
 /// Returns the text of a required argument.
-fn text_of<'w>(matches: &ArgMatches<'w>, id: &'static str) -> Result<&'w str, CommandFault> {
+fn text_of<'w>(matches: &ArgMatches<'w>, id: &'static str) -> Result<&'w str, CommandFault>
+    ensures found { IfOk result (λ text. first_value (found_of matches.now) id.now ≡ Some text.now) }
+    ensures missing { IfErr result (LacksArgument (found_of matches.now)) }
+{
     matches.get_str(id).ok_or(CommandFault::Missing(id))
 }
 
 /// Returns the paths of the files that describe the workspace.
-fn paths_of<'w>(matches: &ArgMatches<'w>) -> Result<WorkspacePaths<'w>, CommandFault> {
+fn paths_of<'w>(matches: &ArgMatches<'w>) -> Result<WorkspacePaths<'w>, CommandFault>
+    ensures missing { IfErr result (LacksArgument (found_of matches.now)) }
+{
     Ok(WorkspacePaths {
         metadata: text_of(matches, "metadata")?,
         list: text_of(matches, "list")?,

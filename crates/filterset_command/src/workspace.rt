@@ -3,8 +3,10 @@ ghost use Rattle.std.specs.Prelude.{All, IfErr, IfOk};
 ghost use Rattle.serde_json.specs.View.{view};
 ghost use Rattle.filterset_graph.specs.Packages.{ids};
 ghost use Rattle.filterset_sources.specs.Suites.{IsOfPackage, IsTestList};
-ghost use Rattle.filterset_command.specs.Files.{NotWrite};
-ghost use Rattle.filterset_command.specs.Workspaces.{ArePackagesIn, AreSuitesIn, IsJsonOf, IsWorkspaceIn};
+ghost use Rattle.filterset_sources.specs.Metadata.{RefusesMetadata};
+ghost use Rattle.filterset_sources.specs.Refusals.{RefusesJson};
+ghost use Rattle.filterset_command.specs.Files.{IsFileFault, OrMemory};
+ghost use Rattle.filterset_command.specs.Workspaces.{ArePackagesIn, AreSuitesIn, IsJsonOf, IsWorkspaceFault, IsWorkspaceIn, RefusesList, RefusesValue};
 
 use crate::fault::{CommandFault, FileRole};
 use crate::files::{FileSource, read_text};
@@ -41,7 +43,8 @@ fn read_value<F: FileSource>(
     path: &str,
 ) -> Result<Value, CommandFault>
     ensures read { IfOk result (λ value. IsJsonOf (F.content files.now path.now) (view value)) }
-    ensures no_write { IfErr result NotWrite }
+    ensures refused { IfErr result (OrMemory
+        (IsFileFault (F.content files.now) (F.fails files.now) role RefusesJson path.now)) }
 {
     let text = read_text(alloc, files, role, path)?;
     match read_json(alloc, text.as_str()) {
@@ -57,7 +60,8 @@ pub fn read_graph<F: FileSource>(
     path: &str,
 ) -> Result<PackageGraph, CommandFault>
     ensures read { IfOk result (λ graph. ArePackagesIn (F.content files.now path.now) graph) }
-    ensures no_write { IfErr result NotWrite }
+    ensures refused { IfErr result (OrMemory (IsFileFault (F.content files.now) (F.fails files.now)
+        FileRole.Metadata (RefusesValue RefusesMetadata) path.now)) }
 {
     let role = FileRole::Metadata;
     let value = read_value(alloc, files, role, path)?;
@@ -69,8 +73,9 @@ pub fn read_graph<F: FileSource>(
 
 /// Reads nextest's list, whose test binaries have to be built of these packages.
 fn list_of(alloc: Global, value: &Value, graph: &PackageGraph) -> Result<TestList, SourceRefusal>
-    ensures { IfOk result (λ list. IsTestList (view value.now) list.suites.items
+    ensures read { IfOk result (λ list. IsTestList (view value.now) list.suites.items
         × All (IsOfPackage (ids graph.now)) list.suites.items) }
+    ensures refused { IfErr result (RefusesList graph.now (view value.now)) }
 {
     let list = read_test_list(alloc, value)?;
     check_packages(alloc, &list, graph)?;
@@ -86,7 +91,8 @@ fn read_list<F: FileSource>(
 ) -> Result<(TestList, Value), CommandFault>
     ensures read { IfOk result (λ both. AreSuitesIn (F.content files.now path.now) graph.now
         (view both.1) both.0.suites.items) }
-    ensures no_write { IfErr result NotWrite }
+    ensures refused { IfErr result (OrMemory (IsFileFault (F.content files.now) (F.fails files.now)
+        FileRole.List (RefusesValue (RefusesList graph.now)) path.now)) }
 {
     let role = FileRole::List;
     let value = read_value(alloc, files, role, path)?;
@@ -103,7 +109,7 @@ pub fn read_workspace<F: FileSource>(
     paths: &WorkspacePaths<'_>,
 ) -> Result<Workspace, CommandFault>
     ensures read { IfOk result (IsWorkspaceIn (F.content files.now) paths.now) }
-    ensures no_write { IfErr result NotWrite }
+    ensures refused { IfErr result (OrMemory (IsWorkspaceFault (F.content files.now) (F.fails files.now) paths.now)) }
 {
     let graph = read_graph(alloc, files, paths.metadata)?;
     let (list, value) = read_list(alloc, files, paths.list, &graph)?;
