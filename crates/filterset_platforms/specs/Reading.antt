@@ -1,0 +1,72 @@
+-- What readers return.
+use Rattle.std.specs.Prelude.{◌≡◌, ◌≢◌, ◌+◌, ◌<◌, ℕ, false, List, [], ◌∷◌, ◌++◌, length, take, slice_index_or, Result, Ok, Err}
+use Rattle.std.specs.List.{All}
+use Rattle.std.specs.Borrow.{Bor}
+use Rattle.filterset_platforms.specs.Grammar.{AreLines, BeginsWithWord, IsLine, is_triple_byte}
+use Rattle.filterset_platforms.specs.Trees.{Text, Setting, Spec, spec_of}
+use Rattle.filterset_platforms.specs.declared.fault.CfgRefusal.{CfgRefusal}
+use Rattle.filterset_platforms.specs.declared.fault.CfgRefusal.TheVariants as lines
+use Rattle.filterset_platforms.specs.declared.fault.Expected.{Expected}
+use Rattle.filterset_platforms.specs.declared.fault.Expected.TheVariants.{Expression, OpenParenthesis, CloseParenthesis, CommaOrCloseParenthesis, Value, End, TripleCharacter}
+use Rattle.filterset_platforms.specs.declared.fault.PlatformRefusal.{PlatformRefusal}
+use Rattle.filterset_platforms.specs.declared.fault.PlatformRefusal.TheVariants as platforms
+use Rattle.filterset_platforms.specs.declared.fault.ReadError.{ReadError}
+use Rattle.filterset_platforms.specs.declared.fault.ReadError.TheVariants.{OutOfMemory, Fault}
+use Rattle.filterset_platforms.specs.declared.specification.PlatformSpec.{PlatformSpec}
+
+abbrev pub IsOutOfMemory : ReadError → Type 0
+IsOutOfMemory OutOfMemory = Unit {0}
+IsOutOfMemory (Fault left expected) = ⊥
+
+-- the reader returns this value, unless it is out of memory
+abbrev pub Returns : {X Y : Type 0} → (X → Y) → Result X ReadError → Y → Type 0
+Returns view (Ok x) y = view x ≡ y
+Returns view (Err e) y = IsOutOfMemory e
+
+-- the same of a value and the rest of the text
+abbrev pub Gives : {X Y : Type 0} → (X → Y) → Result (X × Bor Text) ReadError → Y → Text → Type 0
+Gives view (Ok x) y r = (view x.0 ≡ y) × (x.1.now ≡ r)
+Gives view (Err e) y r = IsOutOfMemory e
+
+-- the platform is parsed, unless it is out of memory
+abbrev pub IsParsed : Result PlatformSpec PlatformRefusal → Spec → Type 0
+IsParsed (Ok x) spec = spec_of x ≡ spec
+IsParsed (Err (platforms.OutOfMemory error)) spec = Unit {0}
+IsParsed (Err (platforms.Fault fault)) spec = ⊥
+
+-- the text ends in the rest
+abbrev pub IsRest : Text → Text → Type 0
+IsRest text rest = (before : Text) × (text ≡ before ++ rest)
+
+-- nothing of what is expected is at the front; 34, 40, 41 and 44 are the quote, the parentheses and the comma
+abbrev pub Lacks : Expected → Text → Type 0
+Lacks Expression t = (word u : Text) → BeginsWithWord word t u → ⊥
+Lacks OpenParenthesis t = (u : Text) → t ≢ 40 ∷ u
+Lacks CloseParenthesis t = (u : Text) → t ≢ 41 ∷ u
+Lacks CommaOrCloseParenthesis t = ((u : Text) → t ≢ 44 ∷ u) × ((u : Text) → t ≢ 41 ∷ u)
+Lacks Value t = (value u : Text) → All (λ b. b ≢ 34) value → t ≢ 34 ∷ (value ++ (34 ∷ u))
+Lacks End t = t ≢ []
+Lacks TripleCharacter t = (b : ℕ) (u : Text) → t ≡ b ∷ u → is_triple_byte b ≡ false
+
+-- what is expected is lacking so many bytes before the end of the text
+abbrev pub IsTrueOf : Text → ReadError → Type 0
+IsTrueOf text OutOfMemory = Unit {0}
+IsTrueOf text (Fault left expected) = (t : Text) × IsRest text t × (left ≡ length t) × Lacks expected t
+
+-- a reader goes on in the text, or its fault is true
+abbrev pub IsPlaced : {X : Type 0} → Text → Result (X × Bor Text) ReadError → Type 0
+IsPlaced text (Ok x) = IsRest text x.1.now
+IsPlaced text (Err e) = IsTrueOf text e
+
+-- what is expected is lacking at this offset
+abbrev pub FaultStands : Text → PlatformRefusal → Type 0
+FaultStands text (platforms.OutOfMemory error) = Unit {0}
+FaultStands text (platforms.Fault fault) =
+    (before : Text) × (t : Text) × (text ≡ before ++ t) × (fault.offset ≡ length before) × Lacks fault.expected t
+
+-- the refused line, counted from 1, is the first that is of no setting
+abbrev pub Refuses : List Text → CfgRefusal → Type 0
+Refuses all (lines.OutOfMemory error) = Unit {0}
+Refuses all (lines.Line number) =
+    (at : ℕ) × (before : List Setting) × (number ≡ at + 1) × (at < length all)
+    × AreLines (take at all) before × ((s : Setting) → IsLine (slice_index_or all at []) s → ⊥)

@@ -1,0 +1,46 @@
+//! The platforms of an override.
+ghost use Rattle.std.specs.Prelude.{◌≡◌, IfSome, Some};
+ghost use Rattle.std.specs.Option.{option_map};
+ghost use Rattle.filterset_platforms.specs.Trees.{Facts, facts_of, spec_of};
+ghost use Rattle.filterset_platforms.specs.Values.{Extends, both, part_value};
+
+use crate::evaluating::both;
+use crate::facts::PlatformFacts;
+use crate::specification::PlatformSpec;
+
+/// The platforms for which an override is. A part that is missing is any platform.
+#[derive(Debug, Drop)]
+pub struct PlatformFilter {
+    /// The platform that runs the build.
+    pub host: Option<PlatformSpec>,
+    /// The platform that tests are built for.
+    pub target: Option<PlatformSpec>,
+}
+
+impl PlatformFilter {
+    /// Returns whether both parts apply to platforms of which these facts are known, or `None` if they do not decide it.
+    pub fn applies(&self, host: &PlatformFacts, target: &PlatformFacts) -> Option<bool>
+        ensures value { result
+            ≡ both (part_value (facts_of host.now) (option_map spec_of self.now.host))
+            (part_value (facts_of target.now) (option_map spec_of self.now.target)) }
+        ensures sound { IfSome result (λ b. (of_host of_target : Facts)
+            → Extends (facts_of host.now) of_host → Extends (facts_of target.now) of_target
+            → both (part_value of_host (option_map spec_of self.now.host))
+            (part_value of_target (option_map spec_of self.now.target)) ≡ Some b) }
+    {
+        both(
+            part_value(&self.host, host),
+            part_value(&self.target, target),
+        )
+    }
+}
+
+/// Returns whether a part applies.
+fn part_value(part: &Option<PlatformSpec>, facts: &PlatformFacts) -> Option<bool>
+    ensures { result ≡ part_value (facts_of facts.now) (option_map spec_of part.now) }
+{
+    match part {
+        Some(spec) => spec.applies(facts),
+        None => Some(true),
+    }
+}
