@@ -13,4 +13,8 @@ mod groups;
 #[cfg(test)]
 mod matchers;
 #[cfg(test)]
+mod places;
+#[cfg(test)]
 mod support;
+#[cfg(test)]
+mod trees;

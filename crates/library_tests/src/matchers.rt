@@ -17,9 +17,11 @@ fn matches_again(rt: &impl Abort, matcher: &mut PatternMatcher<'_>) {
     }
 }
 
+static PATTERNS: [&str; 6] = ["a+b", "^a", "d$", "abc[a-z]", "ab", "ab|xy"];
+
 #[test]
 fn kept_matchers_match_again(rt: HostRuntime) -> Result<(), Fail> {
-    for text in ["a+b", "^a", "d$", "abc[a-z]", "ab", "ab|xy"] {
+    for text in &PATTERNS {
         let pattern = pattern(rt.alloc(), text)?;
         matches_again(&rt, &mut pattern.matcher(rt.alloc())?);
     }
@@ -32,41 +34,43 @@ fn match_at_once(alloc: Global, text: &str, name: &str) -> Result<Option<bool>, 
     Ok(pattern.is_match_at_once(name))
 }
 
+/// Patterns, names, and whether each name is matched, if that takes no matcher.
+static AT_ONCE: [(&str, &str, Option<bool>); 6] = [
+    ("slow", "very_slow", Some(true)),
+    ("slow", "slo", Some(false)),
+    ("unix|windows", "on_windows", Some(true)),
+    ("sub_[01]::", "sub_2::", Some(false)),
+    ("a|b|c|d|e", "xe", None),
+    ("b$", "ab", None),
+];
+
 #[test]
 fn few_texts_are_matched_at_once(rt: HostRuntime) -> Result<(), Fail> {
-    for (text, name, wanted) in [
-        ("slow", "very_slow", Some(true)),
-        ("slow", "slo", Some(false)),
-        ("unix|windows", "on_windows", Some(true)),
-        ("sub_[01]::", "sub_2::", Some(false)),
-        ("a|b|c|d|e", "xe", None),
-        ("b$", "ab", None),
-    ] {
-        assert_eq!(rt;
-            match_at_once(rt.alloc(), text, name)?,
-            wanted,
-            "{text} {name}"
-        );
+    for (text, name, wanted) in &AT_ONCE {
+        let found = match_at_once(rt.alloc(), text, name)?;
+        assert!(rt; found == *wanted, "{text} {name}");
     }
     Ok(())
 }
 
+static PREDICATES: [&str; 12] = [
+    "`all(",
+    "`none(",
+    "`test(",
+    "`group(",
+    "`package(",
+    "`deps(",
+    "`rdeps(",
+    "`binary_id(",
+    "`kind(",
+    "`binary(",
+    "`platform(",
+    "`default(",
+];
+
 #[test]
 fn reference_names_each_predicate(rt: HostRuntime) {
-    for name in [
-        "`all(",
-        "`none(",
-        "`test(",
-        "`group(",
-        "`package(",
-        "`deps(",
-        "`rdeps(",
-        "`binary_id(",
-        "`kind(",
-        "`binary(",
-        "`platform(",
-        "`default(",
-    ] {
+    for name in &PREDICATES {
         assert!(rt; FILTERSET_REFERENCE_MD.contains(name), "{name}");
     }
 }
