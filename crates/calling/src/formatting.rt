@@ -2,8 +2,9 @@
 ghost use Rattle.std.specs.Prelude.{IfOk, IfSome, IfNone, IsTrue, string_bytes};
 ghost use Rattle.filterset_grammar.specs.Tree.{SameTree};
 ghost use Rattle.filterset_language.specs.Views.{tree_of};
+ghost use Rattle.filterset_grammar.specs.AddedParens.{HasWellFormedLeaves};
 ghost use Rattle.filterset_grammar.specs.Printing.{WellFormed};
-ghost use Rattle.calling.specs.Formatting.{ComesBack, SpellAlike, IsRefused};
+ghost use Rattle.calling.specs.Formatting.{ComesBack, SpellAlike, SpellsWithParens, IsRefused};
 
 use nextest_filtering::{Parsed, ParsedExpr, laws};
 use std::alloc::{AllocError, Global};
@@ -34,6 +35,22 @@ pub fn print_alike<S, T>(
     let text = format!(in alloc; "{one}")?;
     let other_text = format!(in alloc; "{other}")?;
     Ok(text == other_text)
+}
+
+/// Prints the tree with the parentheses that its operands need. Returns `None` if one of its predicates is not well formed.
+pub fn print_with_parens<S: Copy>(
+    alloc: Global,
+    expr: &ParsedExpr<S>,
+) -> Result<Option<String>, AllocError>
+    ensures spelled { IfOk result (λ found. IfSome found (λ text. SpellsWithParens (tree_of expr.now) (string_bytes text))) }
+    ensures refused { IfOk result (λ found. IfNone found (HasWellFormedLeaves (tree_of expr.now) → ⊥)) }
+{
+    let tree = expr.with_parens(alloc)?;
+    if !tree.is_well_formed() {
+        return Ok(None);
+    }
+    laws::printed_reads_back(&tree);
+    Ok(Some(format!(in alloc; "{tree}")?))
 }
 
 /// Returns a text as its tree prints, which spells the same tree. Returns `None` if the text has faults: it spells no

@@ -10,11 +10,11 @@ mod formatting;
 mod selecting;
 mod underlining;
 
-use formatting::{format_text, print_alike, read_back};
+use formatting::{format_text, print_alike, print_with_parens, read_back};
 use nextest_filtering::{
-    BinaryQuery, BuildPlatform, CompiledExpr, EvalContext, FiltersetParseErrors, PackageGraph,
-    PackageId, ParseContext, ParsedExpr, ParsedLeaf, RustBinaryId, RustTestBinaryKind,
-    TestCaseName, TestQuery,
+    BinaryQuery, BuildPlatform, CompiledExpr, EvalContext, FiltersetParseErrors, NotOperator,
+    OrOperator, PackageGraph, PackageId, ParseContext, ParsedExpr, ParsedLeaf, RustBinaryId,
+    RustTestBinaryKind, TestCaseName, TestQuery,
 };
 use selecting::{Selection, select};
 use std::alloc::{AllocError, Global};
@@ -136,6 +136,23 @@ fn print_made(rt: &impl Print, alloc: Global) -> io::Result<()> {
     println!(rt; "`{made}` {answer}")
 }
 
+/// Makes the negation of a union, without spans and parentheses.
+fn make_negation(alloc: Global) -> Result<ParsedExpr<()>, AllocError> {
+    let default = Box::new(alloc, ParsedExpr::Set(ParsedLeaf::Default(())))?;
+    let none = Box::new(alloc, ParsedExpr::Set(ParsedLeaf::None))?;
+    let union = ParsedExpr::Union(OrOperator::LiteralOr, default, none);
+    Ok(ParsedExpr::Not(NotOperator::LiteralNot, Box::new(alloc, union)?))
+}
+
+/// Prints a tree that is made without parentheses, and the text that spells it with them.
+fn print_negation(rt: &impl Print, alloc: Global) -> io::Result<()> {
+    let made = make_negation(alloc)?;
+    match print_with_parens(alloc, &made)? {
+        Some(text) => println!(rt; "`{made}` is written `{text}`"),
+        None => println!(rt; "`{made}` has no text"),
+    }
+}
+
 /// Makes the names of the tests.
 fn test_names(alloc: Global) -> Result<[TestCaseName; 3], AllocError> {
     Ok([
@@ -177,5 +194,6 @@ fn main(rt: HostRuntime) -> io::Result<()> {
     let names = test_names(alloc)?;
     answer_all(&rt, alloc, &tests_of(binary_query, &names))?;
     print_formatted(&rt, alloc)?;
-    print_made(&rt, alloc)
+    print_made(&rt, alloc)?;
+    print_negation(&rt, alloc)
 }
