@@ -20,10 +20,15 @@ struct Deep<'a> {
 }
 
 /// Repeats what opens and what closes a level round the middle.
-fn text_of(alloc: Global, deep: &Deep<'_>) -> Result<String, AllocError> {
-    let middle = deep.middle;
-    let openings = deep.opening.repeat(alloc, deep.depth)?;
-    let closings = deep.closing.repeat(alloc, deep.depth)?;
+fn nest(
+    alloc: Global,
+    depth: usize,
+    opening: &str,
+    middle: &str,
+    closing: &str,
+) -> Result<String, AllocError> {
+    let openings = opening.repeat(alloc, depth)?;
+    let closings = closing.repeat(alloc, depth)?;
     format!(in alloc; "{openings}{middle}{closings}")
 }
 
@@ -68,7 +73,7 @@ fn is_listed(
 
 /// Returns whether the text is accepted, and every call on the filterset returns what is wanted.
 fn is_handled(alloc: Global, deep: &Deep<'_>) -> Result<bool, AllocError> {
-    let text = text_of(alloc, deep)?;
+    let text = nest(alloc, deep.depth, deep.opening, deep.middle, deep.closing)?;
     let reading = Reading::new(alloc, text.as_str())?;
     match reading.filterset() {
         Some(filterset) => Ok(
@@ -81,62 +86,64 @@ fn is_handled(alloc: Global, deep: &Deep<'_>) -> Result<bool, AllocError> {
     }
 }
 
+static DEEP: [(usize, &str, &str, &str, usize, usize, Option<bool>, bool); 7] = [
+    (
+        19_999,
+        "",
+        "all()",
+        " and test(a)",
+        20_000,
+        19_999,
+        None,
+        true,
+    ),
+    (
+        19_999,
+        "",
+        "none()",
+        " or none()",
+        20_000,
+        0,
+        Some(false),
+        false,
+    ),
+    (
+        19_999,
+        "",
+        "all()",
+        " - none()",
+        20_000,
+        0,
+        Some(true),
+        true,
+    ),
+    (
+        19_999,
+        "",
+        "all()",
+        " ^ test(a)",
+        20_000,
+        19_999,
+        None,
+        false,
+    ),
+    (10_000, "not ", "none()", "", 1, 0, Some(false), false),
+    (4_000, "(", "all()", ")", 1, 0, Some(true), true),
+    (3_000, "all() and (", "test(b)", ")", 3_001, 1, None, false),
+];
+
 #[test]
 fn deep_filtersets_are_handled(rt: HostRuntime) -> Result<(), Fail> {
-    for (depth, opening, middle, closing, leaves, of_tests, binary, test) in [
-        (
-            19_999,
-            "",
-            "all()",
-            " and test(a)",
-            20_000,
-            19_999,
-            None,
-            true,
-        ),
-        (
-            19_999,
-            "",
-            "none()",
-            " or none()",
-            20_000,
-            0,
-            Some(false),
-            false,
-        ),
-        (
-            19_999,
-            "",
-            "all()",
-            " - none()",
-            20_000,
-            0,
-            Some(true),
-            true,
-        ),
-        (
-            19_999,
-            "",
-            "all()",
-            " ^ test(a)",
-            20_000,
-            19_999,
-            None,
-            false,
-        ),
-        (10_000, "not ", "none()", "", 1, 0, Some(false), false),
-        (4_000, "(", "all()", ")", 1, 0, Some(true), true),
-        (3_000, "all() and (", "test(b)", ")", 3_001, 1, None, false),
-    ] {
+    for (depth, opening, middle, closing, leaves, of_tests, binary, test) in &DEEP {
         let deep = Deep {
-            depth,
+            depth: *depth,
             opening,
             middle,
             closing,
-            leaves,
-            of_tests,
-            binary,
-            test,
+            leaves: *leaves,
+            of_tests: *of_tests,
+            binary: *binary,
+            test: *test,
         };
         assert!(rt;
             is_handled(rt.alloc(), &deep)?,
@@ -159,26 +166,36 @@ fn is_matched(alloc: Global, glob: &str, text: &str, wanted: bool) -> Result<boo
     }
 }
 
+/// Returns whether deep groups round `a*` match so many `a`, and no text of other letters.
+fn is_deep_glob_matched(
+    alloc: Global,
+    opening: &str,
+    closing: &str,
+    length: usize,
+) -> Result<bool, AllocError> {
+    let glob = nest(alloc, 40_000, opening, "a*", closing)?;
+    let matched = "a".repeat(alloc, length)?;
+    let missed = "c".repeat(alloc, length)?;
+    Ok(
+        is_matched(alloc, glob.as_str(), matched.as_str(), true)?
+            && is_matched(alloc, glob.as_str(), missed.as_str(), false)?,
+    )
+}
+
+/// What opens and closes each group, and how long the texts are.
+static DEEP_GLOBS: [(&str, &str, usize); 5] = [
+    ("{", "}", 1),
+    ("{", ",b}", 1),
+    ("{b,", ",b}", 63),
+    ("{", ",b}", 64),
+    ("{b,", ",b}", 130),
+];
+
 #[test]
 fn deep_globs_are_handled(rt: HostRuntime) -> Result<(), Fail> {
-    let alloc = rt.alloc();
-    for (opening, closing, length) in [
-        ("{", "}", 1),
-        ("{", ",b}", 1),
-        ("{b,", ",b}", 63),
-        ("{", ",b}", 64),
-        ("{b,", ",b}", 130),
-    ] {
-        let openings = opening.repeat(alloc, 40_000)?;
-        let closings = closing.repeat(alloc, 40_000)?;
-        let glob = format!(in alloc; "{openings}a*{closings}")?;
-        for (piece, wanted) in [("a", true), ("c", false)] {
-            let text = piece.repeat(alloc, length)?;
-            assert!(rt;
-                is_matched(alloc, glob.as_str(), text.as_str(), wanted)?,
-                "{text}"
-            );
-        }
+    for (opening, closing, length) in &DEEP_GLOBS {
+        let is_matched = is_deep_glob_matched(rt.alloc(), opening, closing, *length)?;
+        assert!(rt; is_matched, "{opening}{closing} {length}");
     }
     Ok(())
 }
