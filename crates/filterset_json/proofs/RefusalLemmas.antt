@@ -1,7 +1,14 @@
 -- What refusals refuse.
-use Rattle.std.proofs.Common.{◌≡◌, Result, Ok, Err, subst, sym}
-use Rattle.std.specs.Prelude.{IfErr, IsErrAnd}
-use Rattle.filterset_json.specs.Refusals.{Refuses, IsAfter}
+use Rattle.std.proofs.Common.{◌≡◌, Result, Ok, Err, subst, sym, ap, refl, string_bytes, [], List, ℕ, Option, Some, None, is_some, true}
+use Rattle.std.specs.Prelude.{IfErr, IsErrAnd, MatchOption, codes}
+use Rattle.std.specs.declared.alloc.AllocError.{AllocError}
+use Rattle.serde_json.specs.Data.{Data}
+use Rattle.serde_json.specs.Find.{as_object, get}
+use Rattle.filterset_json.specs.Paths.{joined, key_text, step_text}
+use Rattle.filterset_json.specs.Places.{After, Names, Place, WrongMember}
+use Rattle.filterset_json.specs.Shape.{Text}
+use Rattle.filterset_json.specs.Refusals.{Refuses, IsAfter, IsWrong}
+use Rattle.filterset_json.specs.declared.refusal.WrongValue.{WrongValue}
 use Rattle.filterset_json.specs.declared.path.Step.{Step}
 use Rattle.filterset_json.specs.declared.refusal.EntryRefusal.{EntryRefusal}
 use Rattle.filterset_json.specs.declared.refusal.EntryRefusal.TheVariants.{Wrong, OutOfMemory}
@@ -26,3 +33,38 @@ pub Refuses-after : {A B : Type 0} (step : Step) (inner outer : EntryRefusal) �
 Refuses-after step (Wrong v) (Wrong w) is f h = λ b. h (f b)
 Refuses-after step (Wrong v) (OutOfMemory e) is f h = tt
 Refuses-after step (OutOfMemory e) outer is f h = rw is tt
+
+-- ---- the places that refusals name
+
+abbrev wrong_or : WrongValue → EntryRefusal → WrongValue
+wrong_or other (Wrong w) = w
+wrong_or other (OutOfMemory e) = other
+
+-- a wrong value names its own place
+Names-wrong : (P : Place → Type 0) (w : WrongValue) → P (string_bytes w.path, w.expected.now) → Names P (Wrong w)
+Names-wrong P w h = λ wrong same. subst (λ (x : WrongValue). P (string_bytes x.path, x.expected.now)) (ap (wrong_or w) same) h
+
+-- out of memory names none
+Names-none : (P : Place → Type 0) (e : AllocError) → Names P (OutOfMemory e)
+Names-none P e = λ wrong same. absurd (cc (same))
+
+-- a refusal of a whole value
+pub Names-whole : (r : EntryRefusal) (expected : List ℕ) → IsWrong r [] expected → Names (λ place. place ≡ ([], expected)) r
+Names-whole (Wrong w) expected is = Names-wrong (λ place. place ≡ ([], expected)) w (cc (is.0, is.1))
+Names-whole (OutOfMemory e) expected is = absurd is
+
+-- a refusal by a longer path
+pub Names-after : (P : Place → Type 0) (step : Step) (inner outer : EntryRefusal) → IsAfter step inner outer → Names P inner → Names (After (step_text step) P) outer
+Names-after P step (Wrong v) (Wrong w) is h =
+    Names-wrong (After (step_text step) P) w (string_bytes v.path, is.0, subst (λ (must : List ℕ). P (string_bytes v.path, must)) (sym is.1) (h v refl))
+Names-after P step (Wrong v) (OutOfMemory e) is h = Names-none (After (step_text step) P) e
+Names-after P step (OutOfMemory e) outer is h = rw is (Names-none (After (step_text step) P) e)
+
+known_some : {A : Type 0} (o : Option A) (P Q : Type 0) → is_some o ≡ true → Q → MatchOption o P (λ _. Q)
+known_some (Some x) P Q some q = q
+known_some None P Q some q = absurd (cc (some))
+
+-- a key that is missing
+pub missing_key : (W : Data → Place → Type 0) (key : Text) (d : Data) (place : Place) → None ≡ get key d → is_some (as_object d) ≡ true → place.0 ≡ joined (key_text key) [] →
+    WrongMember key W d place
+missing_key W key d place none object at = rw (← none) (known_some (as_object d) (place ≡ ([], codes "an object")) (place.0 ≡ joined (key_text key) []) object at)

@@ -1,5 +1,5 @@
 -- Lists of entries, item by item, and the keys of objects.
-use Rattle.std.proofs.Common.{◌≡◌, ℕ, zero, suc, ◌<◌, ◌⊎◌, inl, inr, List, [], ◌∷◌, ◌++◌, length, get_or, map, Contains, arith, refl, Global, String, string_bytes, Bor, Decides, Option, Some, MatchOption}
+use Rattle.std.proofs.Common.{◌≡◌, ℕ, zero, suc, ◌+◌, ◌<◌, ◌⊎◌, inl, inr, List, [], ◌∷◌, ◌++◌, length, get_or, map, take, subst, Contains, arith, refl, Global, String, string_bytes, Bor, Decides, Option, Some, MatchOption}
 use Rattle.std.specs.List.{list_all}
 use Rattle.std.specs.Map as maps
 use Rattle.std.proofs.lemmas.Bool.Decides.{Decides-and, Decides-like, Decides-or}
@@ -10,7 +10,10 @@ use Rattle.serde_json.specs.Find.{as_object}
 use Rattle.serde_json.specs.View.{view, items_view, members_view}
 use Rattle.serde_json.specs.declared.value.Value.{Value}
 use Rattle.std.specs.Prelude.{IsSomeAnd}
+use Rattle.filterset_json.specs.Paths.{step_text}
+use Rattle.filterset_json.specs.Places.{After, Place, WrongItem}
 use Rattle.filterset_json.specs.Shape.{Each, IsListOf, KeysAmong, is_named}
+use Rattle.filterset_json.specs.declared.path.Step.TheVariants.{Item}
 
 -- one more item, and one more entry
 pub Each-push : {A : Type 0} (P : Data → A → Type 0) (vs : List Value) (ys : List A) (v : Value) (y : A) → Each P (items_view vs) ys → P (view v) y →
@@ -27,6 +30,18 @@ Each-at P [] xs i d lt h = absurd (omega arith)
 Each-at P (v ∷ vs) [] i d lt h = absurd h
 Each-at P (v ∷ vs) (x ∷ xs) zero d lt h = (x, h.0)
 Each-at P (v ∷ vs) (x ∷ xs) (suc i) d lt h = Each-at P vs xs i d (omega arith) h.1
+
+-- the first item that is wrong
+pub WrongItem-at : {A : Type 0} (P : Data → A → Type 0) (W : Data → Place → Type 0) (at : ℕ) (vs : List Value) (xs : List A) (i : ℕ) (d : Value) (place : Place) → i < length vs →
+    Each P (items_view (take i vs)) xs → After (step_text (Item (at + i))) (W (view (get_or vs i d))) place → WrongItem P W at (items_view vs) place
+WrongItem-at P W at [] xs i d place lt h wrong = absurd (omega arith)
+WrongItem-at P W at (v ∷ vs) xs zero d place lt h wrong =
+    let here : at + 0 ≡ at = omega arith in
+    inl (subst (λ n. After (step_text (Item n)) (W (view v)) place) here wrong)
+WrongItem-at P W at (v ∷ vs) [] (suc i) d place lt h wrong = absurd h
+WrongItem-at P W at (v ∷ vs) (x ∷ xs) (suc i) d place lt h wrong =
+    let next : at + suc i ≡ suc at + i = omega arith in
+    inr ((x, h.0), WrongItem-at P W (suc at) vs xs i d place (omega arith) h.1 (subst (λ n. After (step_text (Item n)) (W (view (get_or vs i d))) place) next wrong))
 
 -- values that are two items, or three
 pub two_items : (vs : List Value) (e f : Data) → items_view vs ≡ item e (item f no_items) → length vs ≡ 2

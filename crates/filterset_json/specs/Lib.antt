@@ -1,3 +1,4 @@
 pub mod Shape
 pub mod Paths
 pub mod Refusals
+pub mod Places

@@ -1,7 +1,10 @@
 //! Entries: values, lists, pairs and triples.
-ghost use Rattle.std.specs.Prelude.{◌≡◌, IfErr, IfOk};
+ghost use Rattle.std.specs.Prelude.{◌≡◌, IfErr, IfOk, [], codes};
 ghost use Rattle.serde_json.specs.Data.{Data, Items, array};
+ghost use Rattle.serde_json.specs.Find.{as_array};
 ghost use Rattle.serde_json.specs.View.{items_view, view};
+ghost use Rattle.filterset_json.specs.Paths.{step_text};
+ghost use Rattle.filterset_json.specs.Places.{After, Itself, Names, Place};
 ghost use Rattle.filterset_json.specs.Refusals.{Refuses};
 ghost use Rattle.filterset_json.specs.Shape.{IsText, Text};
 
@@ -18,16 +21,20 @@ pub trait Entry: Drop {
     ghost row_of: { Self → Row };
     /// The value stands for the entry that is seen as this.
     ghost stands_for: { Data → Row → Type 0 };
+    /// The value is wrong at this place. By default nothing is said of it.
+    ghost is_wrong: { Data → Place → Type 0 } = { λ _ _. Unit {0} };
 
     /// What a value must be, as it goes after "must be".
     const EXPECTED: &'static str;
 
-    /// Reads the entry that `value` stands for. Fails if it stands for none, or out of memory.
+    /// Reads the entry that `value` stands for. Fails if it stands for none, or out of memory; the refusal names the
+    /// place of the first value that is wrong.
     fn read(alloc: Global, value: &Value) -> Result<Self, EntryRefusal>
     where
         Self: Sized,
         ensures read { IfOk result (λ entry. stands_for (view value.now) (row_of entry)) }
-        ensures refused { IfErr result (Refuses ((row : Row) × stands_for (view value.now) row)) };
+        ensures refused { IfErr result (Refuses ((row : Row) × stands_for (view value.now) row)) }
+        ensures place { IfErr result (Names (is_wrong (view value.now))) };
 }
 
 /// Reads the entry at `step`, and reports a wrong value by its path from before the step.
@@ -38,6 +45,7 @@ pub(crate) fn read_at<T: Entry>(
 ) -> Result<T, EntryRefusal>
     ensures read { IfOk result (λ entry. T.stands_for (view value.now) (T.row_of entry)) }
     ensures refused { IfErr result (Refuses ((row : T.Row) × T.stands_for (view value.now) row)) }
+    ensures place { IfErr result (Names (After (step_text step.entry) (T.is_wrong (view value.now)))) }
 {
     match T::read(alloc, value) {
         Ok(entry) => Ok(entry),
@@ -49,6 +57,7 @@ pub(crate) fn read_at<T: Entry>(
 pub fn text_of<'v>(alloc: Global, value: &'v Value) -> Result<&'v str, EntryRefusal>
     ensures read { IfOk result (λ text. IsText (view value.now) text.now) }
     ensures refused { IfErr result (Refuses ((text : Text) × IsText (view value.now) text)) }
+    ensures place { IfErr result (Names (Itself IsText (codes "a text") (view value.now))) }
 {
     match value.as_str() {
         Some(text) => Ok(text),
@@ -57,7 +66,8 @@ pub fn text_of<'v>(alloc: Global, value: &'v Value) -> Result<&'v str, EntryRefu
 }
 
 impl Entry for String {
-    ghost use Rattle.std.specs.Prelude.{string_bytes};
+    ghost use Rattle.std.specs.Prelude.{codes, string_bytes};
+    ghost use Rattle.filterset_json.specs.Places.{Itself};
     ghost use Rattle.filterset_json.specs.Shape.{IsText, Text};
 
     ghost Row = { Text };
@@ -65,6 +75,8 @@ impl Entry for String {
     ghost row_of = { string_bytes };
 
     ghost stands_for = { IsText };
+
+    ghost is_wrong = { Itself IsText (codes "a text") };
 
     const EXPECTED: &'static str = "a text";
 
@@ -74,7 +86,8 @@ impl Entry for String {
 }
 
 impl Entry for bool {
-    ghost use Rattle.std.specs.Prelude.{Bool};
+    ghost use Rattle.std.specs.Prelude.{Bool, codes};
+    ghost use Rattle.filterset_json.specs.Places.{Itself};
     ghost use Rattle.filterset_json.specs.Shape.{IsBoolean};
 
     ghost Row = { Bool };
@@ -82,6 +95,8 @@ impl Entry for bool {
     ghost row_of = { λ b. b };
 
     ghost stands_for = { IsBoolean };
+
+    ghost is_wrong = { Itself IsBoolean (codes "`true` or `false`") };
 
     const EXPECTED: &'static str = "`true` or `false`";
 
@@ -94,7 +109,8 @@ impl Entry for bool {
 }
 
 impl Entry for usize {
-    ghost use Rattle.std.specs.Prelude.{ℕ};
+    ghost use Rattle.std.specs.Prelude.{codes, ℕ};
+    ghost use Rattle.filterset_json.specs.Places.{Itself};
     ghost use Rattle.filterset_json.specs.Shape.{IsNumber};
 
     ghost Row = { ℕ };
@@ -102,6 +118,8 @@ impl Entry for usize {
     ghost row_of = { λ n. n };
 
     ghost stands_for = { IsNumber };
+
+    ghost is_wrong = { Itself IsNumber (codes "a whole number") };
 
     const EXPECTED: &'static str = "a whole number";
 
@@ -117,6 +135,7 @@ impl Entry for usize {
 fn items_of<'v>(alloc: Global, value: &'v Value) -> Result<&'v [Value], EntryRefusal>
     ensures read { IfOk result (λ values. view value.now ≡ array (items_view values.now)) }
     ensures refused { IfErr result (Refuses ((items : Items) × (view value.now ≡ array items))) }
+    ensures place { IfErr result (Names (λ place. (as_array (view value.now) ≡ None) × (place ≡ ([], codes "a list")))) }
 {
     match value.as_array() {
         Some(values) => Ok(values.as_slice()),
@@ -126,6 +145,7 @@ fn items_of<'v>(alloc: Global, value: &'v Value) -> Result<&'v [Value], EntryRef
 
 impl<T: Entry> Entry for Vec<T> {
     ghost use Rattle.std.specs.Prelude.{List, map};
+    ghost use Rattle.filterset_json.specs.Places.{WrongList};
     ghost use Rattle.filterset_json.specs.Shape.{IsListOf};
 
     ghost Row = { List T.Row };
@@ -133,6 +153,8 @@ impl<T: Entry> Entry for Vec<T> {
     ghost row_of = { λ all. map T.row_of all.items };
 
     ghost stands_for = { IsListOf T.stands_for };
+
+    ghost is_wrong = { WrongList T.stands_for T.is_wrong };
 
     const EXPECTED: &'static str = "a list";
 
@@ -156,6 +178,8 @@ impl<T: Entry> Entry for Option<T> {
     ghost row_of = { option_map T.row_of };
 
     ghost stands_for = { IsNullOr T.stands_for };
+
+    ghost is_wrong = { T.is_wrong };
 
     const EXPECTED: &'static str = T::EXPECTED;
 

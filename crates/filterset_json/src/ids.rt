@@ -7,6 +7,8 @@ use serde_json::Value;
 use std::alloc::Global;
 
 impl Entry for PackageId {
+    ghost use Rattle.std.specs.Prelude.{codes};
+    ghost use Rattle.filterset_json.specs.Places.{Itself};
     ghost use Rattle.filterset_json.specs.Shape.{IsText, Text};
 
     ghost Row = { Text };
@@ -14,6 +16,8 @@ impl Entry for PackageId {
     ghost row_of = { λ text. text };
 
     ghost stands_for = { IsText };
+
+    ghost is_wrong = { Itself IsText (codes "a text") };
 
     const EXPECTED: &'static str = "a text";
 
@@ -23,6 +27,8 @@ impl Entry for PackageId {
 }
 
 impl Entry for RustBinaryId {
+    ghost use Rattle.std.specs.Prelude.{codes};
+    ghost use Rattle.filterset_json.specs.Places.{Itself};
     ghost use Rattle.filterset_json.specs.Shape.{IsText, Text};
 
     ghost Row = { Text };
@@ -30,6 +36,8 @@ impl Entry for RustBinaryId {
     ghost row_of = { λ text. text };
 
     ghost stands_for = { IsText };
+
+    ghost is_wrong = { Itself IsText (codes "a text") };
 
     const EXPECTED: &'static str = "a text";
 
@@ -39,6 +47,8 @@ impl Entry for RustBinaryId {
 }
 
 impl Entry for RustTestBinaryKind {
+    ghost use Rattle.std.specs.Prelude.{codes};
+    ghost use Rattle.filterset_json.specs.Places.{Itself};
     ghost use Rattle.filterset_json.specs.Shape.{IsText, Text};
 
     ghost Row = { Text };
@@ -46,6 +56,8 @@ impl Entry for RustTestBinaryKind {
     ghost row_of = { λ text. text };
 
     ghost stands_for = { IsText };
+
+    ghost is_wrong = { Itself IsText (codes "a text") };
 
     const EXPECTED: &'static str = "a text";
 
@@ -55,6 +67,8 @@ impl Entry for RustTestBinaryKind {
 }
 
 impl Entry for TestCaseName {
+    ghost use Rattle.std.specs.Prelude.{codes};
+    ghost use Rattle.filterset_json.specs.Places.{Itself};
     ghost use Rattle.filterset_json.specs.Shape.{IsText, Text};
 
     ghost Row = { Text };
@@ -62,6 +76,8 @@ impl Entry for TestCaseName {
     ghost row_of = { λ text. text };
 
     ghost stands_for = { IsText };
+
+    ghost is_wrong = { Itself IsText (codes "a text") };
 
     const EXPECTED: &'static str = "a text";
 
@@ -71,6 +87,8 @@ impl Entry for TestCaseName {
 }
 
 impl Entry for BuildPlatform {
+    ghost use Rattle.std.specs.Prelude.{codes};
+    ghost use Rattle.filterset_json.specs.Places.{Itself};
     ghost use Rattle.filterset_json.specs.Shape.{IsPlatform};
     ghost use Rattle.filterset_graph.specs.declared.package.BuildPlatform as platforms;
 
@@ -79,6 +97,8 @@ impl Entry for BuildPlatform {
     ghost row_of = { λ platform. platform };
 
     ghost stands_for = { IsPlatform };
+
+    ghost is_wrong = { Itself IsPlatform (codes "`target` or `host`") };
 
     const EXPECTED: &'static str = "`target` or `host`";
 

@@ -1,8 +1,9 @@
 //! Objects: which keys they may have, and the entries under their keys.
-ghost use Rattle.std.specs.Prelude.{◌≡◌, ◌↔◌, IfErr, IfOk, IsTrue, OnOk, Option, map, option_map, string_bytes};
+ghost use Rattle.std.specs.Prelude.{◌≡◌, ◌↔◌, IfErr, IfOk, IsTrue, OnOk, Option, [], codes, map, option_map, string_bytes};
 ghost use Rattle.std.specs.BTreeMap.{keys};
 ghost use Rattle.std.specs.List.{list_all};
 ghost use Rattle.serde_json.specs.View.{view};
+ghost use Rattle.filterset_json.specs.Places.{Itself, Names, WrongIfGiven, WrongMember};
 ghost use Rattle.filterset_json.specs.Refusals.{Refuses};
 ghost use Rattle.filterset_json.specs.Shape.{Given, IsObjectWith, IsText, Optional, Required, Text, is_named};
 
@@ -34,6 +35,7 @@ pub fn check_keys(alloc: Global, value: &Value, names: &[&str]) -> Result<(), En
     ensures ok { OnOk result (IsObjectWith (map (λ name. name.now) names.now) (view value.now)) }
     ensures refused { IfErr result
         (Refuses (IsObjectWith (map (λ name. name.now) names.now) (view value.now))) }
+    ensures place { IfErr result (Names (λ place. place ≡ ([], codes "an object that has no other keys"))) }
 {
     if is_object_with(value, names) {
         Ok(())
@@ -46,6 +48,7 @@ pub fn check_keys(alloc: Global, value: &Value, names: &[&str]) -> Result<(), En
 pub fn required<T: Entry>(alloc: Global, value: &Value, key: &str) -> Result<T, EntryRefusal>
     ensures read { IfOk result (λ entry. Required key.now T.stands_for (view value.now) (T.row_of entry)) }
     ensures refused { IfErr result (Refuses ((row : T.Row) × Required key.now T.stands_for (view value.now) row)) }
+    ensures place { IfErr result (Names (WrongMember key.now T.is_wrong (view value.now))) }
 {
     match value.get(key) {
         Some(found) => read_at(alloc, Step::Key(key), found),
@@ -67,6 +70,7 @@ pub fn optional<T: Entry>(
         (λ entry. Optional key.now T.stands_for (T.row_of default) (view value.now) (T.row_of entry)) }
     ensures refused { IfErr result (Refuses ((row : T.Row) × (other : T.Row)
         × Optional key.now T.stands_for other (view value.now) row)) }
+    ensures place { IfErr result (Names (WrongIfGiven key.now T.is_wrong (view value.now))) }
 {
     match value.get(key) {
         Some(found) => read_at(alloc, Step::Key(key), found),
@@ -80,6 +84,7 @@ pub fn given<T: Entry>(alloc: Global, value: &Value, key: &str) -> Result<Option
         (λ found. Given key.now T.stands_for (view value.now) (option_map T.row_of found)) }
     ensures refused { IfErr result (Refuses ((found : Option T.Row)
         × Given key.now T.stands_for (view value.now) found)) }
+    ensures place { IfErr result (Names (WrongIfGiven key.now T.is_wrong (view value.now))) }
 {
     match value.get(key) {
         Some(found) => Ok(Some(read_at(alloc, Step::Key(key), found)?)),
@@ -98,6 +103,7 @@ pub fn optional_text(
         (λ text. Optional key.now IsText default.now (view value.now) (string_bytes text)) }
     ensures refused { IfErr result (Refuses ((text : Text) × (other : Text)
         × Optional key.now IsText other (view value.now) text)) }
+    ensures place { IfErr result (Names (WrongIfGiven key.now (Itself IsText (codes "a text")) (view value.now))) }
 {
     match value.get(key) {
         Some(found) => read_at(alloc, Step::Key(key), found),

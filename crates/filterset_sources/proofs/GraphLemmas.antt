@@ -1,19 +1,20 @@
 -- Positions of ids, and packages that are linked.
-use Rattle.std.proofs.Common.{◌≡◌, ℕ, zero, suc, ◌+◌, ◌<◌, ◌≤◌, inl, inr, Bool, true, false, cond, List, [], ◌∷◌, ◌++◌, length, get_or, map, take, Option, Some, None, is_some, refl, sym, ◌∙◌, ap, subst, arith}
-use Rattle.std.specs.Prelude.{All, Contains, MatchOption, not, slice_get}
+use Rattle.std.proofs.Common.{◌≡◌, ℕ, zero, suc, ◌+◌, ◌<◌, ◌≤◌, inl, inr, Bool, true, false, cond, List, [], ◌∷◌, ◌++◌, length, get_or, map, take, Option, Some, None, is_some, refl, sym, ◌∙◌, ap, subst, arith, append-nil}
+use Rattle.std.specs.Prelude.{All, Contains, MatchOption, codes, not, slice_get}
 use Rattle.std.specs.BTreeMap.{BTreeMap}
 use Rattle.std.specs.Cmp.Lexicographic.{slice_cmp}
 use Rattle.std.specs.Ordering.{is_eq, nat_cmp}
-use Rattle.std.proofs.lemmas.List.{map-append, take_more, take_all, length-take-le}
+use Rattle.std.proofs.lemmas.List.{map-append, take-map, take_more, take_all, length-take-le}
 use Rattle.std.proofs.lemmas.List.Elements.{All-more, All-push}
 use Rattle.std.proofs.lemmas.Option.{none-some, slice_get-get_or, slice_get_within, get_or_from_slice_get}
 use Rattle.filterset_graph.specs.Index.{PositionsAre, index_of}
-use Rattle.filterset_graph.specs.Packages.{Text, AllDiffer, IsUnknownLink, LinksKnown, ids}
+use Rattle.filterset_graph.specs.Packages.{Text, AllDiffer, IsFirstRepeat, IsUnknownLink, LinksKnown, ids}
 use Rattle.filterset_graph.specs.declared.package.PackageMetadata.{PackageMetadata}
 use Rattle.filterset_graph.proofs.Positions.{position_from_Contains, Contains-from_position, element_from_mapped, mapped_at}
 use Rattle.filterset_graph.proofs.Rows.{PositionsAre-IsFirstRepeat, PositionsAre-push}
-use Rattle.filterset_sources.specs.Metadata.{AreLinked, HasLinksOf, IsGraphOf, IsKnown, IsLinkedAs, IsPlaced, IsWhole, NamesKnown, NamesPackages, itself, links_of, node_ids}
-use Rattle.filterset_sources.specs.declared.metadata.parts.Dependency.{Dependency}
+use Rattle.filterset_sources.specs.Metadata.{AreLinked, HasLinksOf, IsGraphOf, IsKnown, IsLinkedAs, IsPlaced, IsWhole, NamesOnly, Repeats, Unknown, UnknownIn, UnknownNode, itself, link_path, links_of, node_ids}
+use Rattle.filterset_sources.specs.Shape.{item_path}
+use Rattle.filterset_json.specs.Places.{IsFirstNot, Place}
 use Rattle.filterset_sources.specs.declared.metadata.parts.Node.{Node}
 use Rattle.filterset_sources.specs.declared.metadata.parts.Parts.{Parts}
 
@@ -25,13 +26,12 @@ none_of : (o : Option ℕ) → is_some o ≡ false → o ≡ None
 none_of (Some k) e = absurd (cc)
 none_of None e = refl
 
--- an id whose look-up found an earlier position stands twice
-pub repeated_at : (names : List Text) (at : ℕ) (id key : Text) (positions : BTreeMap Text ℕ) (earlier : Option ℕ) → at < length names → id ≡ get_or names at id → key ≡ id → PositionsAre positions (take at names) → earlier ≡ index_of positions key → is_some earlier ≡ true → AllDiffer names → ⊥
-repeated_at names at id key positions earlier within read copy placed old found differ =
+-- an id whose look-up found an earlier position stands twice, and no id before it does
+pub repeated_at : (names : List Text) (at : ℕ) (id key : Text) (positions : BTreeMap Text ℕ) (earlier : Option ℕ) → at < length names → id ≡ get_or names at id → key ≡ id → PositionsAre positions (take at names) → earlier ≡ index_of positions key → is_some earlier ≡ true → IsFirstRepeat names at
+repeated_at names at id key positions earlier within read copy placed old found =
     let k = some_of earlier found in
     let here : slice_get names at ≡ Some id = slice_get-get_or names at id within ∙ ap Some (sym read) in
-    let first = PositionsAre-IsFirstRepeat positions names at id k.0 placed here (ap (index_of positions) (sym copy) ∙ sym old ∙ k.1) in
-    differ at first.0
+    PositionsAre-IsFirstRepeat positions names at id k.0 placed here (ap (index_of positions) (sym copy) ∙ sym old ∙ k.1)
 
 -- an id whose look-up found none has its own position now
 pub placed_more : (names : List Text) (at : ℕ) (id key : Text) (old new : BTreeMap Text ℕ) (earlier : Option ℕ) → at < length names → id ≡ get_or names at id → key ≡ id → PositionsAre old (take at names) → earlier ≡ index_of old key → is_some earlier ≡ false → ((q : Text) → index_of new q ≡ cond (is_eq (slice_cmp nat_cmp key q)) (Some at) (index_of old q)) → PositionsAre new (take (at + 1) names)
@@ -54,15 +54,10 @@ Contains-IsKnown positions names id placed found =
     ap is_some ((placed id k.0).1 k.1)
 
 -- what holds of each element, seen through a function
-All-mapped : {X Y : Type 0} (P : Y → Type 0) (f : X → Y) (xs : List X) → All (λ x. P (f x)) xs → All P (map f xs)
+pub All-mapped : {X Y : Type 0} (P : Y → Type 0) (f : X → Y) (xs : List X) → All (λ x. P (f x)) xs → All P (map f xs)
 All-mapped P f [] h k d lt = absurd (omega arith)
 All-mapped P f (x ∷ xs) h zero d lt = h zero x (omega arith)
 All-mapped P f (x ∷ xs) h (suc k) d lt = All-mapped P f xs (λ j e less. h (suc j) e (omega arith)) k d (omega arith)
-
-All-unmapped : {X Y : Type 0} (P : Y → Type 0) (f : X → Y) (xs : List X) → All P (map f xs) → All (λ x. P (f x)) xs
-All-unmapped P f [] h k d lt = absurd (omega arith)
-All-unmapped P f (x ∷ xs) h zero d lt = h zero (f d) (omega arith)
-All-unmapped P f (x ∷ xs) h (suc k) d lt = All-unmapped P f xs (λ j e less. h (suc j) e (omega arith)) k d (omega arith)
 
 All-if : {X : Type 0} (P Q : X → Type 0) (xs : List X) → ((x : X) → P x → Q x) → All P xs → All Q xs
 All-if P Q xs f h k d lt = f _ (h k d lt)
@@ -70,9 +65,39 @@ All-if P Q xs f h k d lt = f _ (h k d lt)
 All-at : {X : Type 0} (P : X → Type 0) (xs : List X) (x : X) → All P xs → Contains xs x → P x
 All-at P xs x h (k, lt, is) = subst P is (h k x lt)
 
--- what holds of each does not hold of one alone
-pub All-not : {X : Type 0} (P : X → Type 0) (xs : List X) (i : ℕ) (x : X) → i < length xs → x ≡ get_or xs i x → (P x → ⊥) → All P xs → ⊥
-All-not P xs i x lt is refuted all = refuted (subst P (sym is) (all i x lt))
+-- the first element of which P does not hold
+pub first_not : {X : Type 0} (P : X → Type 0) (xs : List X) (i : ℕ) (x : X) → i < length xs → x ≡ get_or xs i x → All P (take i xs) → (P x → ⊥) → IsFirstNot P xs i x
+first_not P xs i x lt is all refuted = (slice_get-get_or xs i x lt ∙ ap Some (sym is), all, refuted)
+
+first_not-if : {X : Type 0} (P Q : X → Type 0) (xs : List X) (i : ℕ) (x : X) → ((y : X) → P y → Q y) → ((y : X) → Q y → P y) → IsFirstNot P xs i x → IsFirstNot Q xs i x
+first_not-if P Q xs i x to back (at, all, refuted) = (at, All-if P Q (take i xs) to all, λ q. refuted (back x q))
+
+pub first_not-mapped : {X Y : Type 0} (P : Y → Type 0) (f : X → Y) (xs : List X) (i : ℕ) (x : X) → IsFirstNot (λ y. P (f y)) xs i x → IsFirstNot P (map f xs) i (f x)
+first_not-mapped P f xs i x (at, all, refuted) = (mapped_at f xs i x at, subst (All P) (sym (take-map f i xs)) (All-mapped P f (take i xs) all), refuted)
+
+-- the same ids are unknown by another test
+pub Unknown-if : (P Q : Text → Type 0) (path : ℕ → Text) (names : List Text) (place : Place) → ((y : Text) → P y → Q y) → ((y : Text) → Q y → P y) → Unknown P path names place → Unknown Q path names place
+Unknown-if P Q path names place to back (at, id, first, is) = (at, id, first_not-if P Q names at id to back first, is)
+
+NamesOnly-if : (P Q : Text → Type 0) → ((y : Text) → P y → Q y) → (node : Node) → NamesOnly P node → NamesOnly Q node
+NamesOnly-if P Q to node h = (to node.id h.0, All-if P Q (links_of node) to h.1)
+
+UnknownIn-if : (P Q : Text → Type 0) (at : ℕ) (node : Node) (place : Place) → ((y : Text) → P y → Q y) → ((y : Text) → Q y → P y) → UnknownIn P at node place → UnknownIn Q at node place
+UnknownIn-if P Q at node place to back (inl wrong) = inl (wrong.0, λ q. wrong.1 (back node.id q))
+UnknownIn-if P Q at node place to back (inr wrong) = inr (to node.id wrong.0, Unknown-if P Q (link_path at) (links_of node) place to back wrong.1)
+
+pub UnknownNode-if : (P Q : Text → Type 0) (nodes : List Node) (place : Place) → ((y : Text) → P y → Q y) → ((y : Text) → Q y → P y) → UnknownNode P nodes place → UnknownNode Q nodes place
+UnknownNode-if P Q nodes place to back (at, node, first, wrong) =
+    (at, node, first_not-if (NamesOnly P) (NamesOnly Q) nodes at node (NamesOnly-if P Q to) (NamesOnly-if Q P back) first, UnknownIn-if P Q at node place to back wrong)
+
+-- a node that names what is unknown does not only name what is known
+pub UnknownIn-not : (P : Text → Type 0) (at : ℕ) (node : Node) (place : Place) → UnknownIn P at node place → NamesOnly P node → ⊥
+UnknownIn-not P at node place (inl wrong) names = wrong.1 names.0
+UnknownIn-not P at node place (inr (known, (k, id, first, is))) names = first.2 (All-at P (links_of node) id names.1 (Contains-from_position (links_of node) id k first.0))
+
+-- paths to items of a list that are the items themselves
+pub Repeats-items : (list : Text) (names : List Text) (place : Place) → Repeats (λ at. item_path list at ++ []) names place → Repeats (item_path list) names place
+Repeats-items list names place (at, first, is) = (at, first, is ∙ ap (λ (path : Text). (path, codes "an id that no package before it has")) (append-nil (item_path list at)))
 
 -- what holds of the elements so far and of the next
 pub All-next : {X : Type 0} (P : X → Type 0) (xs : List X) (i : ℕ) (x : X) → i < length xs → x ≡ get_or xs i x → All P (take i xs) → P x → All P (take (i + 1) xs)
@@ -91,30 +116,13 @@ pub unknown-link : (ps : List PackageMetadata) (owner link : ℕ) → IsUnknownL
 unknown-link ps owner link (p, id, at, here, unknown) known =
     unknown (All-at (Contains (ids ps)) p.links.items id (All-at (λ (q : PackageMetadata). All (Contains (ids ps)) q.links.items) ps p known (Contains-from_position ps p owner at)) (Contains-from_position p.links.items id link here))
 
--- members and nodes that are known stand in the list, and the other way round
+-- members and nodes that are known stand in the list
 pub members-Contained : (positions : BTreeMap Text ℕ) (names members : List Text) → PositionsAre positions names → All (IsKnown positions) members → All (Contains names) members
 members-Contained positions names members placed h = All-if (IsKnown positions) (Contains names) members (λ id. IsKnown-Contains positions names id placed) h
 
-pub members-Known : (positions : BTreeMap Text ℕ) (names members : List Text) → PositionsAre positions names → All (Contains names) members → All (IsKnown positions) members
-members-Known positions names members placed h = All-if (Contains names) (IsKnown positions) members (λ id. Contains-IsKnown positions names id placed) h
-
-node-Contained : (positions : BTreeMap Text ℕ) (names : List Text) → PositionsAre positions names → (node : Node) → NamesKnown positions node → NamesPackages names node
-node-Contained positions names placed node h = (
-  IsKnown-Contains positions names node.id placed h.0,
-  All-mapped (Contains names) (λ (d : Dependency). d.package) node.dependencies.items (All-if (λ (d : Dependency). IsKnown positions d.package) (λ (d : Dependency). Contains names d.package) node.dependencies.items (λ d. IsKnown-Contains positions names d.package placed) h.1),
-)
-
-node-Known : (positions : BTreeMap Text ℕ) (names : List Text) → PositionsAre positions names → (node : Node) → NamesPackages names node → NamesKnown positions node
-node-Known positions names placed node h = (
-  Contains-IsKnown positions names node.id placed h.0,
-  All-if (λ (d : Dependency). Contains names d.package) (λ (d : Dependency). IsKnown positions d.package) node.dependencies.items (λ d. Contains-IsKnown positions names d.package placed) (All-unmapped (Contains names) (λ (d : Dependency). d.package) node.dependencies.items h.1),
-)
-
-pub nodes-Contained : (positions : BTreeMap Text ℕ) (names : List Text) (nodes : List Node) → PositionsAre positions names → All (NamesKnown positions) nodes → All (NamesPackages names) nodes
-nodes-Contained positions names nodes placed h = All-if (NamesKnown positions) (NamesPackages names) nodes (node-Contained positions names placed) h
-
-pub nodes-Known : (positions : BTreeMap Text ℕ) (names : List Text) (nodes : List Node) → PositionsAre positions names → All (NamesPackages names) nodes → All (NamesKnown positions) nodes
-nodes-Known positions names nodes placed h = All-if (NamesPackages names) (NamesKnown positions) nodes (node-Known positions names placed) h
+pub nodes-Contained : (positions : BTreeMap Text ℕ) (names : List Text) (nodes : List Node) → PositionsAre positions names → All (NamesOnly (IsKnown positions)) nodes → All (NamesOnly (Contains names)) nodes
+nodes-Contained positions names nodes placed h =
+    All-if (NamesOnly (IsKnown positions)) (NamesOnly (Contains names)) nodes (NamesOnly-if (IsKnown positions) (Contains names) (λ id. IsKnown-Contains positions names id placed)) h
 
 -- the links of an id with a position are those of the node there
 pub links-found : (positions : BTreeMap Text ℕ) (nodes : List Node) (id : Text) (at : ℕ) → PositionsAre positions (node_ids nodes) → index_of positions id ≡ Some at → at < length nodes
@@ -159,8 +167,8 @@ pub same_ids : (ps qs : List PackageMetadata) → map itself ps ≡ map itself q
 same_ids ps qs h = ids-itself ps ∙ ap (map (λ p. p.0)) h ∙ sym (ids-itself qs)
 
 -- all links of a graph of whole parts name packages
-links-known : (known : List Text) (nodes : List Node) (id : Text) (links : List Text) → All (NamesPackages known) nodes → HasLinksOf nodes id links → All (Contains known) links
-links-known known nodes id links named (inl (node, found, same, are)) = rw are (All-at (NamesPackages known) nodes node named found).1
+links-known : (known : List Text) (nodes : List Node) (id : Text) (links : List Text) → All (NamesOnly (Contains known)) nodes → HasLinksOf nodes id links → All (Contains known) links
+links-known known nodes id links named (inl (node, found, same, are)) = rw are (All-at (NamesOnly (Contains known)) nodes node named found).1
 links-known known nodes id links named (inr (none, are)) = rw are (λ k d lt. absurd (omega arith))
 
 pub whole-graph : (parts : Parts) (all : List PackageMetadata) → IsWhole parts → IsGraphOf parts all → AllDiffer (ids all) × LinksKnown all

@@ -1,6 +1,6 @@
 -- The kinds of a target.
 use Rattle.std.proofs.Common.{◌≡◌, ◌<◌, List, [], ◌∷◌, length, map, Global, String, string_bytes, subst, arith}
-use Rattle.serde_json.specs.Data.{Data, array, Items, no_items, item}
+use Rattle.serde_json.specs.Data.{Data, array, no_items, item}
 use Rattle.filterset_graph.specs.declared.package.BuildTargetId.{BuildTargetId}
 use Rattle.filterset_json.specs.Shape.{Each, IsListOf, IsText, Text}
 use Rattle.filterset_sources.specs.Metadata.{IsOfKinds, IsTargetKind}
@@ -20,3 +20,9 @@ pub no_kind_of : (d : Data) (texts : List (String Global)) → length texts < 1 
     (id : BuildTargetId) × IsTargetKind d id → ⊥
 no_kind_of d [] less list (id, kinds) = no_kinds d id list kinds
 no_kind_of d (text ∷ texts) less list fact = absurd (omega arith)
+
+-- an empty list has no items
+pub empty_list : (d : Data) (texts : List (String Global)) → length texts < 1 → IsListOf IsText d (map string_bytes texts) → d ≡ array no_items
+empty_list d [] less (no_items, is, none) = is
+empty_list d [] less (item e es, is, none) = absurd none
+empty_list d (text ∷ texts) less list = absurd (omega arith)

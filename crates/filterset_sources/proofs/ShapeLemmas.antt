@@ -1,21 +1,27 @@
 -- Objects of entries, and refusals.
-use Rattle.std.proofs.Common.{◌≡◌, List, [], ◌∷◌, ◌++◌, map, refl, string_bytes, Some, Result, Ok, Err, ap, subst, sym}
+use Rattle.std.proofs.Common.{◌≡◌, List, [], ◌∷◌, ◌++◌, map, refl, string_bytes, Result, Ok, Err, ap, inl, inr, subst, sym}
 use Rattle.std.specs.Prelude.{IfErr, IsErrAnd, OnOk}
 use Rattle.std.specs.Map as maps
 use Rattle.serde_json.specs.Data.{Data}
 use Rattle.serde_json.specs.View.{view, members_view}
 use Rattle.serde_json.proofs.Views.{Entry}
-use Rattle.filterset_json.specs.Refusals as entries
+use Rattle.filterset_json.specs.Paths.{joined, key_text}
+use Rattle.filterset_json.specs.Places.{After, Names, Place}
+use Rattle.filterset_json.specs.Shape.{Text}
 use Rattle.filterset_json.specs.declared.refusal.EntryRefusal.{EntryRefusal}
+use Rattle.filterset_json.specs.declared.refusal.WrongValue.{WrongValue as Wrongs}
+use Rattle.std.specs.declared.alloc.AllocError.{AllocError}
 use Rattle.filterset_json.specs.declared.refusal.EntryRefusal.TheVariants.{Wrong}
 use Rattle.filterset_json.specs.declared.refusal.EntryRefusal.TheVariants as refusals
 use Rattle.filterset_sources.specs.Refusals.{Refuses, source_refusal}
 use Rattle.filterset_sources.specs.Shape.{EachMember, keys_of}
+use Rattle.filterset_sources.specs.Suites.{IsSuiteUnder, WrongSuites, WrongSuiteUnder}
+use Rattle.filterset_sources.specs.declared.list.Suite.{Suite}
 use Rattle.filterset_sources.specs.declared.refusal.SourceRefusal.{SourceRefusal}
 use Rattle.filterset_sources.specs.declared.refusal.SourceRefusal.TheVariants.{NotJson, NotToml, WrongValue, OutOfMemory}
 
 -- one more member, and one more entry
-pub EachMember-push : {A : Type 0} (P : Data → A → Type 0) (done : List Entry) (ys : List A) (e : Entry) (y : A) → EachMember P (members_view done) ys → P (view e.1) y →
+pub EachMember-push : {A : Type 0} (P : Text → Data → A → Type 0) (done : List Entry) (ys : List A) (e : Entry) (y : A) → EachMember P (members_view done) ys → P (string_bytes e.0) (view e.1) y →
     EachMember P (members_view (done ++ e ∷ [])) (ys ++ y ∷ [])
 EachMember-push P [] [] e y h p = (p, tt)
 EachMember-push P [] (z ∷ ys) e y h p = absurd h
@@ -28,45 +34,53 @@ keys-entries [] = refl
 keys-entries (e ∷ es) = ap (λ t. string_bytes e.0 ∷ t) (keys-entries es)
 
 -- the entry of a member
-pub EachMember-at : {A : Type 0} (P : Data → A → Type 0) (done : List Entry) (e : Entry) (rest : List Entry) (xs : List A) → EachMember P (members_view (done ++ e ∷ rest)) xs → (x : A) × P (view e.1) x
+pub EachMember-at : {A : Type 0} (P : Text → Data → A → Type 0) (done : List Entry) (e : Entry) (rest : List Entry) (xs : List A) → EachMember P (members_view (done ++ e ∷ rest)) xs → (x : A) × P (string_bytes e.0) (view e.1) x
 EachMember-at P [] e rest [] h = absurd h
 EachMember-at P [] e rest (x ∷ xs) h = (x, h.0)
 EachMember-at P (d ∷ done) e rest [] h = absurd h
 EachMember-at P (d ∷ done) e rest (x ∷ xs) h = EachMember-at P done e rest xs h.1
 
--- what is refused is refused for each fact from which that follows
-pub Refuses-if : {A B : Type 0} (r : SourceRefusal) → (B → A) → Refuses A r → Refuses B r
-Refuses-if (WrongValue w) f h = λ b. h (f b)
-Refuses-if (OutOfMemory e) f h = tt
-Refuses-if (NotJson e) f h = absurd h
-Refuses-if (NotToml e line) f h = absurd h
+-- the first suite that is wrong
+pub WrongSuites-at : (done : List Entry) (suites : List Suite) (e : Entry) (rest : List Entry) (place : Place) → EachMember IsSuiteUnder (members_view done) suites →
+    After (key_text (string_bytes e.0)) (WrongSuiteUnder (string_bytes e.0) (view e.1)) place → WrongSuites (members_view (done ++ e ∷ rest)) place
+WrongSuites-at [] suites e rest place h wrong = inl wrong
+WrongSuites-at (d ∷ done) [] e rest place h wrong = absurd h
+WrongSuites-at (d ∷ done) (x ∷ xs) e rest place h wrong = inr ((x, h.0), WrongSuites-at done xs e rest place h.1 wrong)
+
+-- a refusal by a longer path
+pub Names-by : (P : Place → Type 0) (step : Text) (inner outer : EntryRefusal) → ((v w : Wrongs) → inner ≡ Wrong v → outer ≡ Wrong w → (string_bytes w.path ≡ joined step (string_bytes v.path)) × (w.expected.now ≡ v.expected.now)) →
+    ((e : AllocError) (w : Wrongs) → inner ≡ refusals.OutOfMemory e → outer ≡ Wrong w → ⊥) → Names P inner → Names (After step P) outer
+Names-by P step (Wrong v) outer is_wrong not_wrong h = λ w same.
+    let is = is_wrong v w refl same in
+    (string_bytes v.path, is.0, subst (λ (must : Text). P (string_bytes v.path, must)) (sym is.1) (h v refl))
+Names-by P step (refusals.OutOfMemory e) outer is_wrong not_wrong h = λ w same. absurd (not_wrong e w refl same)
+
+-- where one place is wrong, so is the other
+pub Refuses-if : (P Q : Place → Type 0) (r : SourceRefusal) → ((place : Place) → P place → Q place) → Refuses P r → Refuses Q r
+Refuses-if P Q (WrongValue w) f h = f _ h
+Refuses-if P Q (OutOfMemory e) f h = tt
+Refuses-if P Q (NotJson e) f h = absurd h
+Refuses-if P Q (NotToml e line) f h = absurd h
 
 -- a refusal that a `?` hands on
-pub handed_on : {T A B : Type 0} (r : Result T SourceRefusal) (e : SourceRefusal) → IsErrAnd r (λ y. y ≡ e) → (B → A) → Refuses A e → IfErr r (Refuses B)
-handed_on (Ok v) e same f h = absurd same
-handed_on {B} (Err y) e same f h = subst (Refuses B) (sym same) (Refuses-if e f h)
+pub handed_on : {T : Type 0} (P Q : Place → Type 0) (r : Result T SourceRefusal) (e : SourceRefusal) → IsErrAnd r (λ y. y ≡ e) → ((place : Place) → P place → Q place) → Refuses P e → IfErr r (Refuses Q)
+handed_on P Q (Ok v) e same f h = absurd same
+handed_on P Q (Err y) e same f h = subst (Refuses Q) (sym same) (Refuses-if P Q e f h)
 
 -- the refusal of an entry, as one of its file
-pub Refuses-source : {A B : Type 0} (e : EntryRefusal) → (B → A) → entries.Refuses A e → Refuses B (source_refusal e)
-Refuses-source (Wrong w) f h = λ b. h (f b)
-Refuses-source (refusals.OutOfMemory e) f h = tt
+pub Refuses-source : (P Q : Place → Type 0) (e : EntryRefusal) → ((place : Place) → P place → Q place) → Names P e → Refuses Q (source_refusal e)
+Refuses-source P Q (Wrong w) f h = f _ (h w refl)
+Refuses-source P Q (refusals.OutOfMemory e) f h = tt
 
-pub entry_handed_on : {T A B : Type 0} (r : Result T SourceRefusal) (e : EntryRefusal) → IsErrAnd r (λ y. y ≡ source_refusal e) → (B → A) → entries.Refuses A e → IfErr r (Refuses B)
-entry_handed_on (Ok v) e same f h = absurd same
-entry_handed_on {B} (Err y) e same f h = subst (Refuses B) (sym same) (Refuses-source e f h)
+pub entry_handed_on : {T : Type 0} (P Q : Place → Type 0) (r : Result T SourceRefusal) (e : EntryRefusal) → IsErrAnd r (λ y. y ≡ source_refusal e) → ((place : Place) → P place → Q place) → Names P e → IfErr r (Refuses Q)
+entry_handed_on P Q (Ok v) e same f h = absurd same
+entry_handed_on P Q (Err y) e same f h = subst (Refuses Q) (sym same) (Refuses-source P Q e f h)
 
 -- the same of what a call returned
 pub OnOk-if : {T E : Type 0} {A B : Type 0} (r : Result T E) → (A → B) → OnOk r A → OnOk r B
 OnOk-if (Ok v) f h = f h
 OnOk-if (Err e) f h = tt
 
-pub Refused-if : {T A B : Type 0} (r : Result T SourceRefusal) → (B → A) → IfErr r (Refuses A) → IfErr r (Refuses B)
-Refused-if (Ok v) f h = tt
-Refused-if (Err e) f h = Refuses-if e f h
-
--- what is out of memory or wrong whatever holds is refused where the fact does not hold
-pub Refuses-no : {A : Type 0} (r : SourceRefusal) → Refuses ⊥ r → (A → ⊥) → Refuses A r
-Refuses-no (WrongValue w) h refuted = refuted
-Refuses-no (OutOfMemory e) h refuted = tt
-Refuses-no (NotJson e) h refuted = absurd h
-Refuses-no (NotToml e line) h refuted = absurd h
+pub Refused-if : {T : Type 0} (P Q : Place → Type 0) (r : Result T SourceRefusal) → ((place : Place) → P place → Q place) → IfErr r (Refuses P) → IfErr r (Refuses Q)
+Refused-if P Q (Ok v) f h = tt
+Refused-if P Q (Err e) f h = Refuses-if P Q e f h

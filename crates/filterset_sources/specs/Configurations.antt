@@ -1,17 +1,21 @@
 -- What nextest's configuration says of filtersets and groups.
-use Rattle.std.specs.Prelude.{◌≡◌, ◌++◌, ℕ, suc, List, [], ◌∷◌, None, Some, MatchOption, codes, decimal, map, string_bytes}
-use Rattle.toml.specs.Data.{Data, string, array, table, Items, no_items, item, Members, no_members, member, get}
+use Rattle.std.specs.Prelude.{◌≡◌, ◌+◌, ◌++◌, ◌==◌, ◌⊎◌, ℕ, suc, List, [], ◌∷◌, None, Some, MatchOption, Option, Result, Ok, Err, codes, count_by, map, string_bytes, take}
+use Rattle.toml.specs.Data.{Data, table, Items, no_items, item, Members, no_members, member, as_array, as_str, as_table, get}
+use Rattle.toml.specs.Errors.{span_start}
 use Rattle.toml.specs.Parse.{parse_document}
 use Rattle.filterset_faults.specs.declared.kind.FiltersetKind.{FiltersetKind}
 use Rattle.filterset_faults.specs.declared.kind.FiltersetKind.TheVariants.{DefaultFilter, OverrideFilter}
 use Rattle.filterset_json.specs.Paths.{key_text}
+use Rattle.filterset_json.specs.Places.{Place}
 use Rattle.filterset_json.specs.Shape.{Text}
+use Rattle.filterset_sources.specs.Refusals.{Refuses}
+use Rattle.filterset_sources.specs.Shape.{item_path}
 use Rattle.filterset_sources.specs.declared.configuration.Configuration.{Configuration}
 use Rattle.filterset_sources.specs.declared.configuration.ConfiguredFilterset.{ConfiguredFilterset}
 use Rattle.filterset_sources.specs.declared.configuration.ProfileSection.{ProfileSection}
 use Rattle.filterset_sources.specs.declared.configuration.ProfileSection.TheVariants.{Override, Script}
 use Rattle.filterset_sources.specs.declared.refusal.SourceRefusal.{SourceRefusal}
-use Rattle.filterset_sources.specs.declared.refusal.SourceRefusal.TheVariants.{NotJson, NotToml, WrongValue, OutOfMemory}
+use Rattle.filterset_sources.specs.declared.refusal.SourceRefusal.TheVariants.{NotToml, OutOfMemory}
 
 -- where a filterset stands, what it is to be, and its text
 pub record ConfiguredRow : Type 0 where
@@ -29,104 +33,98 @@ configured_row filterset =
 abbrev pub configured_rows : List ConfiguredFilterset → Rows
 configured_rows filtersets = map configured_row filtersets
 
--- the value is a table
-abbrev pub IsTable : Data → Type 0
-IsTable d = (ms : Members) × (d ≡ table ms)
-
--- the path to what stands under a key of what stands at a path, and to the item at a position of it
+-- the path to what stands under a key of what stands at a path
 abbrev pub below : Text → Text → Text
 below path key = path ++ (codes "." ++ key)
 
-abbrev pub item_path : Text → ℕ → Text
-item_path path at = path ++ (codes "[" ++ (decimal at ++ codes "]"))
+-- P holds of what the value is seen as, or it is nothing of that kind and the place is wrong
+abbrev pub As : {A B : Type 0} → Option A → Place → (A → Result (List B) Place → Type 0) → Result (List B) Place → Type 0
+As seen place P outcome = MatchOption seen (outcome ≡ Err place) (λ x. P x outcome)
 
--- the value is this filterset
-abbrev pub IsFilter : Text → FiltersetKind → Data → Rows → Type 0
-IsFilter path kind d rows =
-    (text : Text) × (d ≡ string text) × (rows ≡ record { path = path; kind = kind; text = text } ∷ [])
+-- nothing is read where nothing stands under the key, and else P holds of what does
+abbrev pub Under : {B : Type 0} → Text → Data → (Data → Result (List B) Place → Type 0) → Result (List B) Place → Type 0
+Under key d P outcome = MatchOption (get key d) (outcome ≡ Ok []) (λ e. P e outcome)
 
--- there are none where nothing stands under the key, and else P holds of what does
-abbrev pub Under : Text → Data → (Data → Rows → Type 0) → Rows → Type 0
-Under key d P rows = MatchOption (get key d) (rows ≡ []) (λ e. P e rows)
+-- P is read, and then Q; where P is wrong, Q is not read
+abbrev pub Then : (Result Rows Place → Type 0) → (Result Rows Place → Type 0) → Result Rows Place → Type 0
+Then P Q (Ok rows) = (front : Rows) × (rest : Rows) × (rows ≡ front ++ rest) × P (Ok front) × Q (Ok rest)
+Then P Q (Err place) = P (Err place) ⊎ (((rows : Rows) × P (Ok rows)) × Q (Err place))
 
 -- the filterset under a key of what stands at a path
-abbrev pub FilterUnder : Text → Text → FiltersetKind → Data → Rows → Type 0
-FilterUnder path key kind d rows = Under key d (IsFilter (below path key) kind) rows
+abbrev pub FilterUnder : Text → Text → FiltersetKind → Data → Result Rows Place → Type 0
+FilterUnder path key kind d = Under key d (λ e. As (as_str e) (below path key, codes "a text")
+    (λ text outcome. outcome ≡ Ok (record { path = below path key; kind = kind; text = text } ∷ [])))
 
--- the filtersets of an override: its own default filter, and the filter that says which tests it is for
-abbrev pub OverrideRows : Text → Data → Rows → Type 0
-OverrideRows path d rows =
-    (front : Rows) × (rest : Rows) × (rows ≡ front ++ rest)
-    × FilterUnder path (codes "default-filter") DefaultFilter d front
-    × FilterUnder path (codes "filter") OverrideFilter d rest
-
--- the filtersets of an override or of what says when scripts run
-abbrev pub SectionRows : ProfileSection → Text → Data → Rows → Type 0
-SectionRows Override path d rows = IsTable d × OverrideRows path d rows
-SectionRows Script path d rows = IsTable d × FilterUnder path (codes "filter") OverrideFilter d rows
+-- the filtersets of an override or a script: of the first its own default filter too; `filter` says which tests it is for
+abbrev pub SectionRows : ProfileSection → Text → Data → Result Rows Place → Type 0
+SectionRows Override path d = As (as_table d) (path, codes "a table") (λ ms.
+    Then (FilterUnder path (codes "default-filter") DefaultFilter d) (FilterUnder path (codes "filter") OverrideFilter d))
+SectionRows Script path d =
+    As (as_table d) (path, codes "a table") (λ ms. FilterUnder path (codes "filter") OverrideFilter d)
 
 -- the filtersets of sections, of which the first has this position
-abbrev pub ItemRows : ProfileSection → Text → ℕ → Items → Rows → Type 0
-ItemRows section path at no_items rows = rows ≡ []
-ItemRows section path at (item d ds) rows =
-    (front : Rows) × (rest : Rows) × (rows ≡ front ++ rest)
-    × SectionRows section (item_path path at) d front × ItemRows section path (suc at) ds rest
+abbrev pub ItemRows : ProfileSection → Text → ℕ → Items → Result Rows Place → Type 0
+ItemRows section path at no_items outcome = outcome ≡ Ok []
+ItemRows section path at (item d ds) outcome =
+    Then (SectionRows section (item_path path at) d) (ItemRows section path (suc at) ds) outcome
 
--- the value is a list of sections
-abbrev pub ListRows : ProfileSection → Text → Data → Rows → Type 0
-ListRows section path d rows = (ds : Items) × (d ≡ array ds) × ItemRows section path 0 ds rows
-
-abbrev pub SectionsUnder : Text → Text → ProfileSection → Data → Rows → Type 0
-SectionsUnder path key section d rows = Under key d (ListRows section (below path key)) rows
+-- the filtersets of the list of sections under a key
+abbrev pub SectionsUnder : Text → Text → ProfileSection → Data → Result Rows Place → Type 0
+SectionsUnder path key section d = Under key d (λ e. As (as_array e) (below path key, codes "a list")
+    (λ ds. ItemRows section (below path key) 0 ds))
 
 -- the filtersets of a profile
-abbrev pub ProfileRows : Text → Data → Rows → Type 0
-ProfileRows path d rows =
-    IsTable d × (own : Rows) × (overrides : Rows) × (scripts : Rows) × (rows ≡ own ++ (overrides ++ scripts))
-    × FilterUnder path (codes "default-filter") DefaultFilter d own
-    × SectionsUnder path (codes "overrides") Override d overrides
-    × SectionsUnder path (codes "scripts") Script d scripts
+abbrev pub ProfileRows : Text → Data → Result Rows Place → Type 0
+ProfileRows path d = As (as_table d) (path, codes "a table") (λ ms.
+    Then (FilterUnder path (codes "default-filter") DefaultFilter d)
+    (Then (SectionsUnder path (codes "overrides") Override d) (SectionsUnder path (codes "scripts") Script d)))
 
 -- the filtersets of profiles
-abbrev pub MemberRows : Members → Rows → Type 0
-MemberRows no_members rows = rows ≡ []
-MemberRows (member name d ms) rows =
-    (front : Rows) × (rest : Rows) × (rows ≡ front ++ rest)
-    × ProfileRows (below (codes "profile") (key_text name)) d front × MemberRows ms rest
+abbrev pub MemberRows : Members → Result Rows Place → Type 0
+MemberRows no_members outcome = outcome ≡ Ok []
+MemberRows (member name d ms) outcome =
+    Then (ProfileRows (below (codes "profile") (key_text name)) d) (MemberRows ms) outcome
 
-abbrev pub TableRows : Data → Rows → Type 0
-TableRows d rows = (ms : Members) × (d ≡ table ms) × MemberRows ms rows
+-- the filtersets of a file
+abbrev pub FileRows : Data → Result Rows Place → Type 0
+FileRows d = Under (codes "profile") d (λ e. As (as_table e) (codes "profile", codes "a table") MemberRows)
 
 -- the keys, in their order
 abbrev pub keys_of : Members → List Text
 keys_of no_members = []
 keys_of (member key d ms) = key ∷ keys_of ms
 
-abbrev pub HasKeys : Data → List Text → Type 0
-HasKeys d keys = (ms : Members) × (d ≡ table ms) × (keys ≡ keys_of ms)
-
 -- the names of the groups of tests
-abbrev pub GroupsUnder : Data → List Text → Type 0
-GroupsUnder d names = MatchOption (get (codes "test-groups") d) (names ≡ []) (λ e. HasKeys e names)
+abbrev pub GroupsUnder : Data → Result (List Text) Place → Type 0
+GroupsUnder d = Under (codes "test-groups") d
+    (λ e. As (as_table e) (codes "test-groups", codes "a table") (λ ms outcome. outcome ≡ Ok (keys_of ms)))
 
 -- the file has these filtersets, in its order but with profiles by their names, and these groups
 abbrev pub IsConfigured : Data → Configuration → Type 0
 IsConfigured d configuration =
-    Under (codes "profile") d TableRows (configured_rows configuration.filtersets.items)
-    × GroupsUnder d (map (λ s. string_bytes s) configuration.groups.items)
+    FileRows d (Ok (configured_rows configuration.filtersets.items))
+    × GroupsUnder d (Ok (map (λ s. string_bytes s) configuration.groups.items))
+
+-- the first place of the file that is wrong, filtersets first
+abbrev pub WrongConfiguration : Data → Place → Type 0
+WrongConfiguration d place = FileRows d (Err place) ⊎ (((rows : Rows) × FileRows d (Ok rows)) × GroupsUnder d (Err place))
 
 -- the text is a file that is this configuration
 abbrev pub IsConfiguration : Text → Configuration → Type 0
 IsConfiguration text configuration =
     (ms : Members) × (parse_document text ≡ Some ms) × IsConfigured (table ms) configuration
 
--- the text is no TOML, or it is no configuration; or it is out of memory
-abbrev pub RefusesConfiguration : Text → SourceRefusal → Type 0
-RefusesConfiguration text (NotToml error line) = parse_document text ≡ None
-RefusesConfiguration text (WrongValue wrong) = ¬ ((configuration : Configuration) × IsConfiguration text configuration)
-RefusesConfiguration text (OutOfMemory error) = Unit {0}
-RefusesConfiguration text (NotJson error) = ⊥
+-- the line of an offset, from 1
+abbrev pub line_at : Text → ℕ → ℕ
+line_at text at = count_by (λ b. b == 10) (take at text) + 1
 
--- the rows of which P holds were added
-abbrev pub Adds : Rows → Rows → (Rows → Type 0) → Type 0
-Adds old new P = (rows : Rows) × (new ≡ old ++ rows) × P rows
+-- the text is no TOML, from this line on; or it is no configuration, and this is its first wrong place; or it is out of memory
+abbrev pub RefusesConfiguration : Text → SourceRefusal → Type 0
+RefusesConfiguration text (NotToml error line) = (parse_document text ≡ None) × (line ≡ line_at text (span_start error))
+RefusesConfiguration text (OutOfMemory error) = Unit {0}
+RefusesConfiguration text refusal =
+    (ms : Members) × (parse_document text ≡ Some ms) × Refuses (WrongConfiguration (table ms)) refusal
+
+-- the rows that are read as P says were added
+abbrev pub Adds : Rows → Rows → (Result Rows Place → Type 0) → Type 0
+Adds old new P = (rows : Rows) × (new ≡ old ++ rows) × P (Ok rows)

@@ -1,17 +1,17 @@
 -- What cargo writes of packages.
-use Rattle.std.specs.Prelude.{◌≡◌, ◌↔◌, ◌⊎◌, ℕ, List, [], ◌∷◌, All, Contains, IsSome, IsTrue, String, Vec, codes, map, string_bytes}
+use Rattle.std.specs.Prelude.{◌≡◌, ◌↔◌, ◌⊎◌, ◌++◌, ℕ, List, [], ◌∷◌, All, Contains, IsSome, IsTrue, String, Vec, codes, decimal, map, string_bytes}
 use Rattle.std.specs.BTreeMap.{BTreeMap}
 use Rattle.std.specs.Global.{Global}
-use Rattle.serde_json.specs.Data.{Data, Items, array}
+use Rattle.serde_json.specs.Data.{Data, Items, array, no_items, null}
 use Rattle.filterset_graph.specs.Index.{index_of}
-use Rattle.filterset_graph.specs.Packages.{ids, AllDiffer}
+use Rattle.filterset_graph.specs.Packages.{ids, AllDiffer, IsFirstRepeat}
 use Rattle.filterset_graph.specs.declared.package.BuildTarget.{BuildTarget}
 use Rattle.filterset_graph.specs.declared.package.BuildTargetId.{BuildTargetId}
 use Rattle.filterset_graph.specs.declared.package.BuildTargetId.TheVariants.{Library, Binary, Example, Test, Benchmark, BuildScript}
 use Rattle.filterset_graph.specs.declared.package.PackageMetadata.{PackageMetadata}
-use Rattle.filterset_sources.specs.Refusals.{Refuses}
+use Rattle.filterset_json.specs.Places.{First, IsFirstNot, Itself, Place, WrongList, keyed, keyed_list, keyed_text}
 use Rattle.filterset_json.specs.Shape.{Text, IsText, Each, IsListOf, Required}
-use Rattle.filterset_sources.specs.declared.refusal.SourceRefusal.{SourceRefusal}
+use Rattle.filterset_sources.specs.Shape.{item_path}
 use Rattle.filterset_sources.specs.declared.metadata.parts.Dependency.{Dependency}
 use Rattle.filterset_sources.specs.declared.metadata.parts.Node.{Node}
 use Rattle.filterset_sources.specs.declared.metadata.parts.Parts.{Parts}
@@ -78,9 +78,9 @@ links_of node = map (λ dependency. dependency.package) node.dependencies.items
 abbrev pub node_ids : List Node → List Text
 node_ids nodes = map (λ node. node.id) nodes
 
--- all that a node names are packages
-abbrev pub NamesPackages : List Text → Node → Type 0
-NamesPackages known node = Contains known node.id × All (Contains known) (links_of node)
+-- P holds of all ids that a node names
+abbrev pub NamesOnly : (Text → Type 0) → Node → Type 0
+NamesOnly P node = P node.id × All P (links_of node)
 
 -- no id stands twice where it may stand once, and all that is named are packages
 abbrev pub IsWhole : Parts → Type 0
@@ -89,7 +89,7 @@ IsWhole parts =
     × AllDiffer parts.members.items
     × AllDiffer (node_ids parts.resolve.nodes.items)
     × All (Contains (ids parts.packages.items)) parts.members.items
-    × All (NamesPackages (ids parts.packages.items)) parts.resolve.nodes.items
+    × All (NamesOnly (Contains (ids parts.packages.items))) parts.resolve.nodes.items
 
 -- the links of the package with this id: those of its node, none where it has no node
 abbrev pub HasLinksOf : List Node → Text → List Text → Type 0
@@ -115,18 +115,78 @@ IsGraphOf parts packages =
 abbrev pub IsMetadata : Data → List PackageMetadata → Type 0
 IsMetadata d packages = (parts : Parts) × IsParts d parts × IsWhole parts × IsGraphOf parts packages
 
--- the file has not these parts, or they are not whole; or it is out of memory
-abbrev pub RefusesMetadata : Data → SourceRefusal → Type 0
-RefusesMetadata d refusal =
-    Refuses ((parts : Parts) × IsParts d parts) refusal
-    ⊎ ((parts : Parts) × IsParts d parts × Refuses (IsWhole parts) refusal)
+-- the first place of a target, of a package and so on that is wrong
+abbrev pub WrongKind : Data → Place → Type 0
+WrongKind d place = WrongList IsText (Itself IsText (codes "a text")) d place
+    ⊎ ((d ≡ array no_items) × (place ≡ ([], codes "a list of at least one text")))
+
+abbrev pub WrongTarget : Data → Place → Type 0
+WrongTarget d = First (keyed (codes "kind") IsTargetKind WrongKind d ∷ keyed_text (codes "name") d ∷ [])
+
+abbrev pub WrongPackage : Data → Place → Type 0
+WrongPackage d = First (keyed_text (codes "id") d ∷ keyed_text (codes "name") d
+    ∷ keyed_list (codes "targets") IsTarget WrongTarget d ∷ [])
+
+abbrev pub WrongNode : Data → Place → Type 0
+WrongNode d = First (keyed_text (codes "id") d
+    ∷ keyed_list (codes "deps") IsDependency (λ e. First (keyed_text (codes "pkg") e ∷ [])) d ∷ [])
+
+abbrev pub WrongResolve : Data → Place → Type 0
+WrongResolve d = First ((
+  ¬ (d ≡ null),
+  λ place. (d ≡ null) × (place ≡ ([], codes "an object: `cargo metadata` writes it without `--no-deps`")),
+)
+    ∷ keyed_list (codes "nodes") IsNode WrongNode d ∷ [])
+
+abbrev pub WrongParts : Data → Place → Type 0
+WrongParts d = First (keyed_list (codes "packages") IsPackage WrongPackage d
+    ∷ keyed_list (codes "workspace_members") IsText (Itself IsText (codes "a text")) d
+    ∷ keyed (codes "resolve") IsResolve WrongResolve d ∷ [])
+
+-- the first id that stands at an earlier position too, by the paths of positions
+abbrev pub Repeats : (ℕ → Text) → List Text → Place → Type 0
+Repeats path names place =
+    (at : ℕ) × IsFirstRepeat names at × (place ≡ (path at, codes "an id that no package before it has"))
+
+-- the first id of which P does not hold
+abbrev pub Unknown : (Text → Type 0) → (ℕ → Text) → List Text → Place → Type 0
+Unknown P path names place = (at : ℕ) × (id : Text) × IsFirstNot P names at id
+    × (place ≡ (path at, codes "the id of one of the packages"))
+
+-- the paths to the id of a node, and to that of a dependency of it
+abbrev pub node_path : ℕ → Text
+node_path node = item_path (codes "resolve.nodes") node ++ codes ".id"
+
+abbrev pub link_path : ℕ → ℕ → Text
+link_path node link = item_path (codes "resolve.nodes[" ++ (decimal node ++ codes "].deps")) link ++ codes ".pkg"
+
+-- the first id that the node at a position names of which P does not hold, its own first
+abbrev pub UnknownIn : (Text → Type 0) → ℕ → Node → Place → Type 0
+UnknownIn P at node place = ((place ≡ (node_path at, codes "the id of one of the packages")) × ¬ P node.id)
+    ⊎ (P node.id × Unknown P (link_path at) (links_of node) place)
+
+-- the same of the first node that names such an id
+abbrev pub UnknownNode : (Text → Type 0) → List Node → Place → Type 0
+UnknownNode P nodes place =
+    (at : ℕ) × (node : Node) × IsFirstNot (NamesOnly P) nodes at node × UnknownIn P at node place
+
+-- the first place where parts are not whole
+abbrev pub WrongWhole : List Text → List Text → List Node → Place → Type 0
+WrongWhole known members nodes = First (
+    (AllDiffer known, Repeats (λ at. item_path (codes "packages") at ++ codes ".id") known)
+    ∷ (All (Contains known) members, Unknown (Contains known) (item_path (codes "workspace_members")) members)
+    ∷ (All (NamesOnly (Contains known)) nodes, UnknownNode (Contains known) nodes)
+    ∷ (AllDiffer members, Repeats (item_path (codes "workspace_members")) members)
+    ∷ (AllDiffer (node_ids nodes), Repeats node_path (node_ids nodes)) ∷ [])
+
+-- the first place of the file that is wrong: parts first
+abbrev pub WrongMetadata : Data → Place → Type 0
+WrongMetadata d place = WrongParts d place ⊎ ((parts : Parts) × IsParts d parts
+    × WrongWhole (ids parts.packages.items) parts.members.items parts.resolve.nodes.items place)
 
 -- the id has a position
 abbrev pub IsKnown : BTreeMap Text ℕ → Text → Type 0
 IsKnown known id = IsSome (index_of known id)
-
-abbrev pub NamesKnown : BTreeMap Text ℕ → Node → Type 0
-NamesKnown known node = IsKnown known node.id × All (λ dependency. IsKnown known dependency.package) node.dependencies.items
 
 -- the same packages, each with its links, and in the workspace where its id is known as a member
 abbrev pub IsLinkedAs : BTreeMap Text ℕ → List Node → PackageMetadata → Type 0

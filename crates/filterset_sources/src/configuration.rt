@@ -1,13 +1,10 @@
 //! Reads the filtersets and test groups of nextest's configuration.
-ghost use Rattle.std.specs.Prelude.{◌≡◌, IfErr, IfOk, List, OnOk, codes, map, string_bytes};
-ghost use Rattle.toml.specs.Data.{table};
+ghost use Rattle.std.specs.Prelude.{◌≡◌, ◌==◌, ◌≤◌, IfErr, IfOk, IsSome, OnOk, codes, count_by, length, map, string_bytes, take};
+ghost use Rattle.toml.specs.Data.{as_table};
 ghost use Rattle.toml.specs.Parse.{parse_document};
 ghost use Rattle.toml.specs.View.{items_view, table_view, view};
-ghost use Rattle.filterset_faults.specs.declared.kind.FiltersetKind.TheVariants as kinds;
-ghost use Rattle.filterset_sources.specs.Configurations.{Adds, FilterUnder, GroupsUnder, HasKeys, IsConfiguration, IsConfigured, IsTable, ItemRows, MemberRows, OverrideRows, ProfileRows, RefusesConfiguration, Rows, SectionRows, SectionsUnder, Under, TableRows, configured_rows};
+ghost use Rattle.filterset_sources.specs.Configurations.{Adds, FileRows, FilterUnder, GroupsUnder, IsConfiguration, IsConfigured, ItemRows, MemberRows, ProfileRows, RefusesConfiguration, SectionRows, SectionsUnder, Then, WrongConfiguration, configured_rows, keys_of, line_at};
 ghost use Rattle.filterset_sources.specs.Refusals.{Refuses};
-ghost use Rattle.filterset_json.specs.Shape.{Text};
-ghost use Rattle.filterset_sources.specs.declared.configuration.Configuration as configurations;
 
 use crate::refusal::SourceRefusal;
 use filterset_faults::FiltersetKind;
@@ -48,8 +45,9 @@ const TABLE: &str = "a table";
 
 /// Refuses the value at `path` unless it is a table.
 fn check_table(alloc: Global, path: &str, value: &Value) -> Result<(), SourceRefusal>
-    ensures ok { OnOk result (IsTable (view value.now)) }
-    ensures refused { IfErr result (Refuses (IsTable (view value.now))) }
+    ensures ok { OnOk result (IsSome (as_table (view value.now))) }
+    ensures refused { IfErr result (Refuses (λ place. (as_table (view value.now) ≡ None)
+        × (place ≡ (path.now, codes "a table")))) }
 {
     if value.is_table() {
         return Ok(());
@@ -68,7 +66,7 @@ fn push_filter(
 ) -> Result<(), SourceRefusal>
     ensures read { OnOk result (Adds (configured_rows output.old.items) (configured_rows output.new.items)
         (FilterUnder path.now key.now kind (view value.now))) }
-    ensures refused { IfErr result (Refuses ((rows : Rows) × FilterUnder path.now key.now kind (view value.now) rows)) }
+    ensures refused { IfErr result (Refuses (λ place. FilterUnder path.now key.now kind (view value.now) (Err place))) }
 {
     let Some(found) = value.get(key) else {
         return Ok(());
@@ -90,8 +88,11 @@ fn push_override(
     value: &Value,
 ) -> Result<(), SourceRefusal>
     ensures read { OnOk result (Adds (configured_rows output.old.items) (configured_rows output.new.items)
-        (OverrideRows path.now (view value.now))) }
-    ensures refused { IfErr result (Refuses ((rows : Rows) × OverrideRows path.now (view value.now) rows)) }
+        (Then (FilterUnder path.now (codes "default-filter") FiltersetKind.DefaultFilter (view value.now))
+        (FilterUnder path.now (codes "filter") FiltersetKind.OverrideFilter (view value.now)))) }
+    ensures refused { IfErr result (Refuses (λ place.
+        Then (FilterUnder path.now (codes "default-filter") FiltersetKind.DefaultFilter (view value.now))
+        (FilterUnder path.now (codes "filter") FiltersetKind.OverrideFilter (view value.now)) (Err place))) }
 {
     push_filter(
         output,
@@ -121,7 +122,7 @@ fn push_section(
 ) -> Result<(), SourceRefusal>
     ensures read { OnOk result (Adds (configured_rows output.old.items) (configured_rows output.new.items)
         (SectionRows section path.now (view value.now))) }
-    ensures refused { IfErr result (Refuses ((rows : Rows) × SectionRows section path.now (view value.now) rows)) }
+    ensures refused { IfErr result (Refuses (λ place. SectionRows section path.now (view value.now) (Err place))) }
 {
     check_table(alloc, path, value)?;
     match section {
@@ -149,7 +150,7 @@ fn push_items(
 ) -> Result<(), SourceRefusal>
     ensures read { OnOk result (Adds (configured_rows output.old.items) (configured_rows output.new.items)
         (ItemRows section path.now 0 (items_view values.now))) }
-    ensures refused { IfErr result (Refuses ((rows : Rows) × ItemRows section path.now 0 (items_view values.now) rows)) }
+    ensures refused { IfErr result (Refuses (λ place. ItemRows section path.now 0 (items_view values.now) (Err place))) }
 {
     for (at, value) in values.iter().enumerate() {
         let path = format!(in alloc; "{path}[{at}]")?;
@@ -169,8 +170,7 @@ fn push_sections(
 ) -> Result<(), SourceRefusal>
     ensures read { OnOk result (Adds (configured_rows output.old.items) (configured_rows output.new.items)
         (SectionsUnder path.now key.now section (view value.now))) }
-    ensures refused { IfErr result (Refuses ((rows : Rows)
-        × SectionsUnder path.now key.now section (view value.now) rows)) }
+    ensures refused { IfErr result (Refuses (λ place. SectionsUnder path.now key.now section (view value.now) (Err place))) }
 {
     let Some(found) = value.get(key) else {
         return Ok(());
@@ -191,7 +191,7 @@ fn push_profile(
 ) -> Result<(), SourceRefusal>
     ensures read { OnOk result (Adds (configured_rows output.old.items) (configured_rows output.new.items)
         (ProfileRows path.now (view value.now))) }
-    ensures refused { IfErr result (Refuses ((rows : Rows) × ProfileRows path.now (view value.now) rows)) }
+    ensures refused { IfErr result (Refuses (λ place. ProfileRows path.now (view value.now) (Err place))) }
 {
     check_table(alloc, path, value)?;
     push_filter(
@@ -228,7 +228,7 @@ fn push_profiles(
 ) -> Result<(), SourceRefusal>
     ensures read { OnOk result (Adds (configured_rows output.old.items) (configured_rows output.new.items)
         (MemberRows (table_view profiles.now))) }
-    ensures refused { IfErr result (Refuses ((rows : Rows) × MemberRows (table_view profiles.now) rows)) }
+    ensures refused { IfErr result (Refuses (λ place. MemberRows (table_view profiles.now) (Err place))) }
 {
     for (name, value) in profiles.iter() {
         let name = step_text(alloc, Step::Key(name.as_str()))?;
@@ -241,8 +241,8 @@ fn push_profiles(
 /// Reads the filtersets of a file.
 fn filtersets_of(alloc: Global, file: &Value) -> Result<Vec<ConfiguredFilterset>, SourceRefusal>
     ensures read { IfOk result (λ filtersets.
-        Under (codes "profile") (view file.now) TableRows (configured_rows filtersets.items)) }
-    ensures refused { IfErr result (Refuses ((rows : Rows) × Under (codes "profile") (view file.now) TableRows rows)) }
+        FileRows (view file.now) (Ok (configured_rows filtersets.items))) }
+    ensures refused { IfErr result (Refuses (λ place. FileRows (view file.now) (Err place))) }
 {
     let mut filtersets = Vec::new(alloc);
     let Some(found) = file.get("profile") else {
@@ -257,7 +257,7 @@ fn filtersets_of(alloc: Global, file: &Value) -> Result<Vec<ConfiguredFilterset>
 
 /// Copies the keys of a table.
 fn keys_of(alloc: Global, entries: &Table) -> Result<Vec<String>, AllocError>
-    ensures { IfOk result (λ keys. HasKeys (table (table_view entries.now)) (map (λ s. string_bytes s) keys.items)) }
+    ensures { IfOk result (λ keys. map (λ s. string_bytes s) keys.items ≡ keys_of (table_view entries.now)) }
 {
     let mut keys = Vec::with_capacity(alloc, entries.len())?;
     for key in entries.keys() {
@@ -268,8 +268,8 @@ fn keys_of(alloc: Global, entries: &Table) -> Result<Vec<String>, AllocError>
 
 /// Reads the names of the test groups of a file.
 fn groups_of(alloc: Global, file: &Value) -> Result<Vec<String>, SourceRefusal>
-    ensures read { IfOk result (λ names. GroupsUnder (view file.now) (map (λ s. string_bytes s) names.items)) }
-    ensures refused { IfErr result (Refuses ((names : List Text) × GroupsUnder (view file.now) names)) }
+    ensures read { IfOk result (λ names. GroupsUnder (view file.now) (Ok (map (λ s. string_bytes s) names.items))) }
+    ensures refused { IfErr result (Refuses (λ place. GroupsUnder (view file.now) (Err place))) }
 {
     let Some(found) = file.get("test-groups") else {
         return Ok(Vec::new(alloc));
@@ -283,7 +283,7 @@ fn groups_of(alloc: Global, file: &Value) -> Result<Vec<String>, SourceRefusal>
 /// Reads the filtersets and test groups of a file.
 fn read_tables(alloc: Global, file: &Value) -> Result<Configuration, SourceRefusal>
     ensures read { IfOk result (IsConfigured (view file.now)) }
-    ensures refused { IfErr result (Refuses ((all : configurations.Configuration) × IsConfigured (view file.now) all)) }
+    ensures refused { IfErr result (Refuses (WrongConfiguration (view file.now))) }
 {
     Ok(Configuration {
         filtersets: filtersets_of(alloc, file)?,
@@ -291,10 +291,21 @@ fn read_tables(alloc: Global, file: &Value) -> Result<Configuration, SourceRefus
     })
 }
 
+/// Returns how many line feeds are before the byte offset `at`.
+fn feed_count(text: &str, at: usize) -> usize
+    ensures value { result ≡ count_by (λ b. b == 10) (take at text.now) }
+    ensures bound { result ≤ length text.now }
+{
+    let bytes = text.as_bytes();
+    let (before, _) = bytes.split_at(at.min(bytes.len()));
+    before.iter().filter(|b| **b == b'\n').count()
+}
+
 /// Returns the line of `text` that has the byte offset `at`, counted from 1.
-fn line_of(text: &str, at: usize) -> usize {
-    let before = text.bytes().take(at);
-    before.filter(|b| *b == b'\n').count().saturating_add(1)
+fn line_of(text: &str, at: usize) -> usize
+    ensures { result ≡ line_at text.now at }
+{
+    feed_count(text, at) + 1
 }
 
 /// Parses a text as TOML.

@@ -1,10 +1,10 @@
 //! Reads what `cargo nextest list --message-format json` writes.
-ghost use Rattle.std.specs.Prelude.{◌≡◌, All, IfErr, IfOk, OnOk};
+ghost use Rattle.std.specs.Prelude.{◌≡◌, All, IfErr, IfOk, OnOk, codes};
 ghost use Rattle.serde_json.specs.View.{view};
 ghost use Rattle.filterset_graph.specs.Packages.{ids};
+ghost use Rattle.filterset_json.specs.Paths.{joined, key_text};
 ghost use Rattle.filterset_sources.specs.Refusals.{Refuses};
-ghost use Rattle.filterset_sources.specs.Suites.{IsOfPackage, IsTestList};
-ghost use Rattle.filterset_sources.specs.declared.list.TestList as lists;
+ghost use Rattle.filterset_sources.specs.Suites.{IsOfPackage, IsTestList, WrongPackages, WrongTestList};
 
 use crate::refusal::SourceRefusal;
 use filterset_graph::{
@@ -47,10 +47,10 @@ pub struct TestList {
 }
 
 /// Reads the test binaries of what `cargo nextest list --message-format json` writes. Ignores keys that it has no use for.
+/// Refuses a suite whose key is not the id of its binary.
 pub fn read_test_list(alloc: Global, value: &Value) -> Result<TestList, SourceRefusal>
     ensures read { IfOk result (λ list. IsTestList (view value.now) list.suites.items) }
-    ensures refused { IfErr result (Refuses ((list : lists.TestList)
-        × IsTestList (view value.now) list.suites.items)) }
+    ensures refused { IfErr result (Refuses (WrongTestList (view value.now))) }
 {
     let Suites(suites) = required(alloc, value, "rust-suites")?;
     Ok(TestList { suites })
@@ -58,7 +58,10 @@ pub fn read_test_list(alloc: Global, value: &Value) -> Result<TestList, SourceRe
 
 /// Refuses a suite whose package is not known.
 fn unknown_package(alloc: Global, suite: &Suite) -> SourceRefusal
-    ensures { Refuses ⊥ result }
+    ensures { Refuses (λ place. place ≡ (
+      joined (codes "rust-suites") (joined (key_text suite.now.binary_id) (codes "package-id")),
+      codes "the id of a package of cargo's metadata",
+    )) result }
 {
     let wrong = EntryRefusal::wrong(alloc, "the id of a package of cargo's metadata")
         .after(alloc, Step::Key("package-id"))
@@ -67,14 +70,15 @@ fn unknown_package(alloc: Global, suite: &Suite) -> SourceRefusal
     SourceRefusal::from(wrong)
 }
 
-/// Refuses a list with a suite whose package is not in the graph.
+/// Refuses a list with a suite whose package is not in the graph. Names the first such suite by the id of its binary, which
+/// is its key in the file.
 pub fn check_packages(
     alloc: Global,
     list: &TestList,
     graph: &PackageGraph,
 ) -> Result<(), SourceRefusal>
     ensures ok { OnOk result (All (IsOfPackage (ids graph.now)) list.now.suites.items) }
-    ensures refused { IfErr result (Refuses (All (IsOfPackage (ids graph.now)) list.now.suites.items)) }
+    ensures refused { IfErr result (Refuses (WrongPackages (ids graph.now) list.now.suites.items)) }
 {
     for suite in &list.suites {
         if graph.metadata(&suite.package_id).is_none() {

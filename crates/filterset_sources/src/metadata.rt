@@ -1,10 +1,11 @@
 //! Reads what `cargo metadata --format-version 1` writes.
-ghost use Rattle.std.specs.Prelude.{◌≡◌, All, IfErr, IfOk, OnOk, is_some};
+ghost use Rattle.std.specs.Prelude.{◌≡◌, ◌++◌, All, IfErr, IfOk, OnOk, codes, is_some, map};
 ghost use Rattle.serde_json.specs.View.{view};
 ghost use Rattle.filterset_graph.specs.Index.{PositionsAre, index_of};
 ghost use Rattle.filterset_graph.specs.Packages.{AllDiffer, LinksKnown, ids};
-ghost use Rattle.filterset_sources.specs.Metadata.{AreLinked, HasLinksOf, IsGraphOf, IsKnown, IsMetadata, IsWhole, NamesKnown, RefusesMetadata, links_of, node_ids};
+ghost use Rattle.filterset_sources.specs.Metadata.{AreLinked, HasLinksOf, IsGraphOf, IsKnown, IsMetadata, IsWhole, NamesOnly, Repeats, Unknown, UnknownIn, UnknownNode, WrongMetadata, WrongWhole, link_path, links_of, node_ids};
 ghost use Rattle.filterset_sources.specs.Refusals.{Refuses};
+ghost use Rattle.filterset_sources.specs.Shape.{item_path};
 
 use crate::refusal::SourceRefusal;
 use filterset_graph::{GraphRefusal, PackageGraph, PackageId, PackageMetadata};
@@ -17,22 +18,6 @@ mod parts;
 
 use parts::{Dependency, Node, Parts};
 
-/// What goes after "must be" at an id that is there twice.
-const OWN_ID: &str = "an id that no package before it has";
-
-/// What goes after "must be" at an id of no package.
-const PACKAGE_ID: &str = "the id of one of the packages";
-
-/// Refuses the value at a path.
-fn wrong(path: Result<String, AllocError>, expected: &'static str) -> SourceRefusal
-    ensures { Refuses ⊥ result }
-{
-    match path {
-        Ok(path) => SourceRefusal::WrongValue(WrongValue { path, expected }),
-        Err(refused) => SourceRefusal::OutOfMemory(refused),
-    }
-}
-
 /// Refuses an item of a list, or the value under `key` of the item.
 fn wrong_item(
     alloc: Global,
@@ -41,17 +26,42 @@ fn wrong_item(
     key: &str,
     expected: &'static str,
 ) -> SourceRefusal
-    ensures { Refuses ⊥ result }
+    ensures { Refuses (λ place. place ≡ (item_path list.now at ++ key.now, expected.now)) result }
 {
-    wrong(format!(in alloc; "{list}[{at}]{key}"), expected)
+    match format!(in alloc; "{list}[{at}]{key}") {
+        Ok(path) => SourceRefusal::WrongValue(WrongValue { path, expected }),
+        Err(refused) => SourceRefusal::OutOfMemory(refused),
+    }
 }
 
-/// Refuses a dependency of a node.
-fn wrong_link(alloc: Global, node: usize, link: usize) -> SourceRefusal
-    ensures { Refuses ⊥ result }
+/// Refuses the id of an item of a list that an item before it has too.
+fn repeated_id(alloc: Global, list: &str, at: usize, key: &str) -> SourceRefusal
+    ensures { Refuses (λ place. place ≡ (
+      item_path list.now at ++ key.now,
+      codes "an id that no package before it has",
+    )) result }
 {
-    let path = format!(in alloc; "resolve.nodes[{node}].deps[{link}].pkg");
-    wrong(path, PACKAGE_ID)
+    wrong_item(alloc, list, at, key, "an id that no package before it has")
+}
+
+/// Refuses the id of an item of a list that no package has.
+fn unknown_id(alloc: Global, list: &str, at: usize, key: &str) -> SourceRefusal
+    ensures { Refuses (λ place. place ≡ (
+      item_path list.now at ++ key.now,
+      codes "the id of one of the packages",
+    )) result }
+{
+    wrong_item(alloc, list, at, key, "the id of one of the packages")
+}
+
+/// Refuses a dependency of a node that is no package.
+fn unknown_link(alloc: Global, node: usize, link: usize) -> SourceRefusal
+    ensures { Refuses (λ place. place ≡ (link_path node link, codes "the id of one of the packages")) result }
+{
+    match format!(in alloc; "resolve.nodes[{node}].deps") {
+        Ok(list) => unknown_id(alloc, list.as_str(), link, ".pkg"),
+        Err(refused) => SourceRefusal::OutOfMemory(refused),
+    }
 }
 
 /// Returns the position of each id. Refuses an id that is there twice, as the value under `key` of an item of `list`.
@@ -62,13 +72,13 @@ fn positions_of(
     key: &str,
 ) -> Result<BTreeMap<PackageId, usize>, SourceRefusal>
     ensures ok { IfOk result (λ positions. PositionsAre positions ids.now) }
-    ensures refused { IfErr result (Refuses (AllDiffer ids.now)) }
+    ensures refused { IfErr result (Refuses (Repeats (λ at. item_path list.now at ++ key.now) ids.now)) }
 {
     let mut positions = BTreeMap::new(alloc);
     for (at, id) in ids.iter().enumerate() {
         let earlier = positions.insert(id.try_clone(alloc)?, at)?;
         if earlier.is_some() {
-            return Err(wrong_item(alloc, list, at, key, OWN_ID));
+            return Err(repeated_id(alloc, list, at, key));
         }
     }
     Ok(positions)
@@ -128,11 +138,12 @@ fn check_members(
     members: &[PackageId],
 ) -> Result<(), SourceRefusal>
     ensures ok { OnOk result (All (IsKnown known.now) members.now) }
-    ensures refused { IfErr result (Refuses (All (IsKnown known.now) members.now)) }
+    ensures refused { IfErr result
+        (Refuses (Unknown (IsKnown known.now) (item_path (codes "workspace_members")) members.now)) }
 {
     for (at, member) in members.iter().enumerate() {
         if !is_known(known, member) {
-            return Err(wrong_item(alloc, "workspace_members", at, "", PACKAGE_ID));
+            return Err(unknown_id(alloc, "workspace_members", at, ""));
         }
     }
     Ok(())
@@ -145,12 +156,13 @@ fn check_dependencies(
     at: usize,
     dependencies: &[Dependency],
 ) -> Result<(), SourceRefusal>
-    ensures ok { OnOk result (All (λ d. IsKnown known.now d.package) dependencies.now) }
-    ensures refused { IfErr result (Refuses (All (λ d. IsKnown known.now d.package) dependencies.now)) }
+    ensures ok { OnOk result (All (IsKnown known.now) (map (λ d. d.package) dependencies.now)) }
+    ensures refused { IfErr result
+        (Refuses (Unknown (IsKnown known.now) (link_path at) (map (λ d. d.package) dependencies.now))) }
 {
     for (link, dependency) in dependencies.iter().enumerate() {
         if !is_known(known, &dependency.package) {
-            return Err(wrong_link(alloc, at, link));
+            return Err(unknown_link(alloc, at, link));
         }
     }
     Ok(())
@@ -163,11 +175,11 @@ fn check_node(
     at: usize,
     node: &Node,
 ) -> Result<(), SourceRefusal>
-    ensures ok { OnOk result (NamesKnown known.now node.now) }
-    ensures refused { IfErr result (Refuses (NamesKnown known.now node.now)) }
+    ensures ok { OnOk result (NamesOnly (IsKnown known.now) node.now) }
+    ensures refused { IfErr result (Refuses (UnknownIn (IsKnown known.now) at node.now)) }
 {
     if !is_known(known, &node.id) {
-        return Err(wrong_item(alloc, "resolve.nodes", at, ".id", PACKAGE_ID));
+        return Err(unknown_id(alloc, "resolve.nodes", at, ".id"));
     }
     check_dependencies(alloc, known, at, node.dependencies.as_slice())
 }
@@ -178,8 +190,8 @@ fn check_nodes(
     known: &BTreeMap<PackageId, usize>,
     nodes: &[Node],
 ) -> Result<(), SourceRefusal>
-    ensures ok { OnOk result (All (NamesKnown known.now) nodes.now) }
-    ensures refused { IfErr result (Refuses (All (NamesKnown known.now) nodes.now)) }
+    ensures ok { OnOk result (All (NamesOnly (IsKnown known.now)) nodes.now) }
+    ensures refused { IfErr result (Refuses (UnknownNode (IsKnown known.now) nodes.now)) }
 {
     for (at, node) in nodes.iter().enumerate() {
         check_node(alloc, known, at, node)?;
@@ -228,16 +240,15 @@ fn link(
 /// Makes the graph of packages.
 fn graph_of(alloc: Global, packages: Vec<PackageMetadata>) -> Result<PackageGraph, SourceRefusal>
     ensures ok { IfOk result (λ graph. graph ≡ packages.items) }
-    ensures refused { IfErr result (Refuses (AllDiffer (ids packages.items) × LinksKnown packages.items)) }
+    ensures refused { AllDiffer (ids packages.items) → LinksKnown packages.items
+        → IfErr result (Refuses (λ place. ⊥)) }
 {
     match PackageGraph::new(alloc, packages) {
         Ok(graph) => Ok(graph),
         Err(GraphRefusal::OutOfMemory(refused)) => Err(SourceRefusal::OutOfMemory(refused)),
-        Err(GraphRefusal::RepeatedId { at }) => {
-            Err(wrong_item(alloc, "packages", at, ".id", OWN_ID))
-        }
+        Err(GraphRefusal::RepeatedId { at }) => { Err(repeated_id(alloc, "packages", at, ".id")) }
         Err(GraphRefusal::UnknownLink { package, link }) => {
-            Err(wrong_link(alloc, package, link))
+            Err(unknown_link(alloc, package, link))
         }
     }
 }
@@ -245,7 +256,7 @@ fn graph_of(alloc: Global, packages: Vec<PackageMetadata>) -> Result<PackageGrap
 /// Makes the graph of the packages of a file.
 fn join(alloc: Global, parts: Parts) -> Result<PackageGraph, SourceRefusal>
     ensures ok { IfOk result (λ graph. IsWhole parts × IsGraphOf parts graph) }
-    ensures refused { IfErr result (Refuses (IsWhole parts)) }
+    ensures refused { IfErr result (Refuses (WrongWhole (ids parts.packages.items) parts.members.items parts.resolve.nodes.items)) }
 {
     let Parts {
         packages,
@@ -270,7 +281,7 @@ fn join(alloc: Global, parts: Parts) -> Result<PackageGraph, SourceRefusal>
 /// Refuses what cargo writes with `--no-deps`: without the dependencies, `deps` and `rdeps` would give wrong answers.
 pub fn read_metadata(alloc: Global, value: &Value) -> Result<PackageGraph, SourceRefusal>
     ensures read { IfOk result (IsMetadata (view value.now)) }
-    ensures refused { IfErr result (RefusesMetadata (view value.now)) }
+    ensures refused { IfErr result (Refuses (WrongMetadata (view value.now))) }
 {
     let parts = Parts::read(alloc, value)?;
     join(alloc, parts)

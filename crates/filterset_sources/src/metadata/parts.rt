@@ -28,13 +28,15 @@ fn target_of(kind: &str) -> BuildTargetId
 /// Only libraries have several kinds.
 impl Entry for TargetKind {
     ghost use Rattle.filterset_graph.specs.declared.package.BuildTargetId.{BuildTargetId};
-    ghost use Rattle.filterset_sources.specs.Metadata.{IsTargetKind};
+    ghost use Rattle.filterset_sources.specs.Metadata.{IsTargetKind, WrongKind};
 
     ghost Row = { BuildTargetId };
 
     ghost row_of = { λ kind. kind.0 };
 
     ghost stands_for = { IsTargetKind };
+
+    ghost is_wrong = { WrongKind };
 
     const EXPECTED: &'static str = "a list of at least one text";
 
@@ -54,13 +56,15 @@ struct TargetEntry(BuildTarget);
 
 impl Entry for TargetEntry {
     ghost use Rattle.filterset_graph.specs.declared.package.BuildTarget.{BuildTarget};
-    ghost use Rattle.filterset_sources.specs.Metadata.{IsTarget};
+    ghost use Rattle.filterset_sources.specs.Metadata.{IsTarget, WrongTarget};
 
     ghost Row = { BuildTarget };
 
     ghost row_of = { λ target. target.0 };
 
     ghost stands_for = { IsTarget };
+
+    ghost is_wrong = { WrongTarget };
 
     const EXPECTED: &'static str = "an object";
 
@@ -85,13 +89,15 @@ struct PackageEntry(PackageMetadata);
 
 impl Entry for PackageEntry {
     ghost use Rattle.filterset_graph.specs.declared.package.PackageMetadata.{PackageMetadata};
-    ghost use Rattle.filterset_sources.specs.Metadata.{IsPackage};
+    ghost use Rattle.filterset_sources.specs.Metadata.{IsPackage, WrongPackage};
 
     ghost Row = { PackageMetadata };
 
     ghost row_of = { λ p. p.0 };
 
     ghost stands_for = { IsPackage };
+
+    ghost is_wrong = { WrongPackage };
 
     const EXPECTED: &'static str = "an object";
 
@@ -123,6 +129,8 @@ pub struct Dependency {
 }
 
 impl Entry for Dependency {
+    ghost use Rattle.std.specs.Prelude.{◌∷◌, [], codes};
+    ghost use Rattle.filterset_json.specs.Places.{First, keyed_text};
     ghost use Rattle.filterset_sources.specs.Metadata.{IsDependency};
     ghost use Rattle.filterset_sources.specs.declared.metadata.parts.Dependency as dependencies;
 
@@ -131,6 +139,8 @@ impl Entry for Dependency {
     ghost row_of = { λ dependency. dependency };
 
     ghost stands_for = { IsDependency };
+
+    ghost is_wrong = { λ d. First (keyed_text (codes "pkg") d ∷ []) };
 
     const EXPECTED: &'static str = "an object";
 
@@ -149,7 +159,7 @@ pub struct Node {
 }
 
 impl Entry for Node {
-    ghost use Rattle.filterset_sources.specs.Metadata.{IsNode};
+    ghost use Rattle.filterset_sources.specs.Metadata.{IsNode, WrongNode};
     ghost use Rattle.filterset_sources.specs.declared.metadata.parts.Node as nodes;
 
     ghost Row = { nodes.Node };
@@ -157,6 +167,8 @@ impl Entry for Node {
     ghost row_of = { λ node. node };
 
     ghost stands_for = { IsNode };
+
+    ghost is_wrong = { WrongNode };
 
     const EXPECTED: &'static str = "an object";
 
@@ -176,7 +188,7 @@ pub struct Resolve {
 }
 
 impl Entry for Resolve {
-    ghost use Rattle.filterset_sources.specs.Metadata.{IsResolve};
+    ghost use Rattle.filterset_sources.specs.Metadata.{IsResolve, WrongResolve};
     ghost use Rattle.filterset_sources.specs.declared.metadata.parts.Resolve as resolves;
 
     ghost Row = { resolves.Resolve };
@@ -184,6 +196,8 @@ impl Entry for Resolve {
     ghost row_of = { λ resolve. resolve };
 
     ghost stands_for = { IsResolve };
+
+    ghost is_wrong = { WrongResolve };
 
     const EXPECTED: &'static str = "an object: `cargo metadata` writes it without `--no-deps`";
 
@@ -208,7 +222,7 @@ pub struct Parts {
 }
 
 impl Entry for Parts {
-    ghost use Rattle.filterset_sources.specs.Metadata.{IsParts};
+    ghost use Rattle.filterset_sources.specs.Metadata.{IsParts, WrongParts};
     ghost use Rattle.filterset_sources.specs.declared.metadata.parts.Parts as parts;
 
     ghost Row = { parts.Parts };
@@ -216,6 +230,8 @@ impl Entry for Parts {
     ghost row_of = { λ parts. parts };
 
     ghost stands_for = { IsParts };
+
+    ghost is_wrong = { WrongParts };
 
     const EXPECTED: &'static str = "an object";
 

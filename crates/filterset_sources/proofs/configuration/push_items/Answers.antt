@@ -1,8 +1,10 @@
-use Rattle.std.proofs.Common.{rules, arith, ◌≡◌, ◌<◌, ◌+◌, [], ◌∷◌, ◌++◌, length, get_or, take, ap, subst, sym, ◌∙◌}
+use Rattle.std.proofs.Common.{rules, arith, ◌≡◌, ◌<◌, ◌+◌, [], ◌∷◌, ◌++◌, length, get_or, take, ap, subst, sym, ◌∙◌, Ok, Err}
 use Rattle.std.proofs.lemmas.List.{take_more, length-take-le}
 use Rattle.toml.specs.View.{items_view, view}
-use Rattle.filterset_sources.specs.Configurations.{ItemRows, SectionRows, item_path}
-use Rattle.filterset_sources.proofs.ConfigurationLemmas.{Adds-then, ItemRows-at, ItemRows-push}
+use Rattle.filterset_sources.specs.Configurations.{ItemRows, SectionRows}
+use Rattle.filterset_json.specs.Places.{Place}
+use Rattle.filterset_sources.specs.Shape.{item_path}
+use Rattle.filterset_sources.proofs.ConfigurationLemmas.{Adds-then, ItemRows-push, ItemRows-wrong}
 use Rattle.filterset_sources.proofs.ShapeLemmas.{handed_on}
 use Rattle.filterset_sources.proofs.configuration.push_items.Goals as goal
 
@@ -16,11 +18,10 @@ returns-in_err-push_section-clause-refused c =
     let is : item ≡ get_or values i item = c.index-values-at.is in
     let zero : 0 + i ≡ i = omega arith in
     let here : c.as_str.result.now ≡ item_path path i = search (rules, c.as_str.ensures.value, c.in_ok-path.ensures) in
-    let at : item_path path (0 + i) ≡ c.as_str.result.now = ap (item_path path) zero ∙ sym here in
-    handed_on c.from_residual-in_err-push_section.result c.in_err-push_section.field-0.0 c.from_residual-in_err-push_section.ensures.1
-    (λ fact.
-    let found = ItemRows-at section path 0 values i item fact.0 c.loop-at-test.true fact.1 in
-    (found.0, subst (λ p. SectionRows section p (view item) found.0) at (subst (λ v. SectionRows section (item_path path (0 + i)) (view v) found.0) (sym is) found.1)))
+    let at : c.as_str.result.now ≡ item_path path (0 + i) = here ∙ ap (item_path path) (sym zero) in
+    handed_on (λ (place : Place). SectionRows section c.as_str.result.now (view item) (Err place)) (λ (place : Place). ItemRows section path 0 (items_view values) (Err place)) c.from_residual-in_err-push_section.result c.in_err-push_section.field-0.0 c.from_residual-in_err-push_section.ensures.1
+    (λ place wrong. ItemRows-wrong section path 0 values i item c.loop-at.invariant.0 place c.loop-at-test.true c.loop-at.invariant.2
+    (subst (λ v. SectionRows section (item_path path (0 + i)) (view v) (Err place)) is (subst (λ p. SectionRows section p (view item) (Err place)) at wrong)))
     c.in_err-push_section.ensures.refused
 
 pub loop-at-preserved : goal.loop-at-preserved
@@ -37,5 +38,5 @@ loop-at-preserved c =
     let next : i ≡ 0 + length (take i values) = omega (arith, long) in
     let at : c.as_str.result.now ≡ item_path path (0 + length (take i values)) = here ∙ ap (item_path path) next in
     let more : take (i + 1) values ≡ take i values ++ item ∷ [] = take_more values i item lt ∙ ap (λ x. take i values ++ x ∷ []) (sym is) in
-    Adds-then {R = ItemRows section path 0 (items_view (take (i + 1) values))} _ _ _ c.loop-at.invariant c.in_ok-push_section.ensures.read
-    (λ front rest p q. rw more (ItemRows-push section path 0 (take i values) item front rest p (subst (λ t. SectionRows section t (view item) rest) at q)))
+    Adds-then (ItemRows section path 0 (items_view (take i values))) (SectionRows section c.as_str.result.now (view item)) (ItemRows section path 0 (items_view (take (i + 1) values))) _ _ _ c.loop-at.invariant c.in_ok-push_section.ensures.read
+    (λ front rest p q. rw more (ItemRows-push section path 0 (take i values) item front rest p (subst (λ t. SectionRows section t (view item) (Ok rest)) at q)))

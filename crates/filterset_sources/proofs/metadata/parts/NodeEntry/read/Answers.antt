@@ -1,0 +1,13 @@
+use Rattle.std.proofs.Common.{inl, inr}
+use Rattle.std.proofs.lemmas.Result.{err_from_is_err_and}
+use Rattle.filterset_sources.proofs.metadata.parts.NodeEntry.read.Goals as goal
+
+pub returns-in_err-required-clause-place : goal.returns-in_err-required-clause-place
+returns-in_err-required-clause-place c =
+    let p = err_from_is_err_and c.from_residual.result c.from_residual.ensures.1 in
+    rw (p.1, p.2) (λ wrong same. inl (c.in_err-required.ensures.place wrong same))
+
+pub returns-in_err-required-2-clause-place : goal.returns-in_err-required-2-clause-place
+returns-in_err-required-2-clause-place c =
+    let p = err_from_is_err_and c.from_residual-in_err-required-2.result c.from_residual-in_err-required-2.ensures.1 in
+    rw (p.1, p.2) (λ wrong same. inr ((_, c.in_ok-required.ensures.read), inl (c.in_err-required-2.ensures.place wrong same)))
