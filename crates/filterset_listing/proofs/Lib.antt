@@ -1,6 +1,8 @@
 pub mod ListingLemmas
 pub mod MeaningLemmas
 pub mod PicksLemmas
+pub mod PickerLemmas
+pub mod DifferenceLemmas
 pub mod UnionLemmas
 pub mod SelectionLemmas
 pub mod MarkingLemmas

@@ -6,6 +6,8 @@ use Rattle.filterset_faults.specs.declared.span.SourceSpan.{SourceSpan}
 use Rattle.filterset_graph.specs.declared.package.PackageMetadata.{PackageMetadata}
 use Rattle.filterset_grammar.specs.Tree.{Tree}
 use Rattle.filterset_expression.specs.declared.logic.Connective.TheVariants.{Conjunction, Disjunction}
+use Rattle.filterset_expression.specs.BinaryMeaning.{PossibleOfTree}
+use Rattle.filterset_expression.specs.Expression.{Possible}
 use Rattle.filterset_expression.specs.Formula.{Compound, Formula}
 use Rattle.filterset_expression.specs.Meaning.{IsCompiled}
 use Rattle.filterset_expression.specs.Values.{CanBe, TrueUnder, occurrences}
@@ -15,16 +17,21 @@ use Rattle.filterset_expression.proofs.BinaryMeanings.{tells_the_same}
 use Rattle.filterset_expression.proofs.Exact.{back_length, compound_can_be, front_length}
 use Rattle.filterset_listing.specs.Asking.{ExprCanPick, TreeCanPick}
 
--- a compiled tree can pick a test of a binary exactly if the tree can
-pub compiled_can_pick : (packages : List PackageMetadata) (binary : BinaryQuery) (default : CompiledExpr) (tree : Tree SourceSpan) (expr : CompiledExpr) → IsCompiled packages tree expr
-    → ExprCanPick default expr binary ↔ TreeCanPick packages default tree binary
-compiled_can_pick packages binary default tree expr is =
+-- a compiled tree can have a value for a binary exactly if the tree can
+pub compiled_can_be : (packages : List PackageMetadata) (binary : BinaryQuery) (default : CompiledExpr) (tree : Tree SourceSpan) (expr : CompiledExpr) → IsCompiled packages tree expr
+    → (value : Bool) → Possible expr binary default value ↔ PossibleOfTree tree packages binary default value
+compiled_can_be packages binary default tree expr is value =
     let same = tells_the_same packages tree expr is in
     let counted = same.counted default in
     let alike = same.alike binary default in (
       λ can. (can.0, can.1 ∙ counted, (λ yes. (alike can.0).0 (can.2.0 yes), λ under. can.2.1 ((alike can.0).1 under))),
       λ can. (can.0, can.1 ∙ sym counted, (λ yes. (alike can.0).1 (can.2.0 yes), λ under. can.2.1 ((alike can.0).0 under))),
     )
+
+-- so it can pick a test of the binary exactly if the tree can
+pub compiled_can_pick : (packages : List PackageMetadata) (binary : BinaryQuery) (default : CompiledExpr) (tree : Tree SourceSpan) (expr : CompiledExpr) → IsCompiled packages tree expr
+    → ExprCanPick default expr binary ↔ TreeCanPick packages default tree binary
+compiled_can_pick packages binary default tree expr is = compiled_can_be packages binary default tree expr is true
 
 module _ {A : Type 0} (is_asked : A → Bool) (holds : A → Type 0) where
   -- a conjunction can be true exactly if both operands can

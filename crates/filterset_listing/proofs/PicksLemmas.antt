@@ -1,13 +1,12 @@
--- Two filtersets that pick the same tests have the same picks and the same differences.
+-- Two filtersets that pick the same tests have the same picks, and their tests are divided alike.
 use Rattle.std.proofs.Common.{◌↔◌, Bool, List, [], ◌∷◌}
 use Rattle.std.specs.List.{AllZip}
 use Rattle.filterset_expression.specs.declared.query.BinaryQuery.{BinaryQuery}
 use Rattle.filterset_expression.specs.declared.query.TestQuery.{TestQuery}
 use Rattle.filterset_listing.specs.Asking.{Tells, Text}
-use Rattle.filterset_listing.specs.Comparing.{Divides, IsBinaryDifference}
+use Rattle.filterset_listing.specs.Comparing.{Divides}
 use Rattle.filterset_listing.specs.Listing.{IsBinaryPicks, Picked, asked, left_out, tests_of}
 use Rattle.filterset_listing.specs.declared.binary.AskedBinary.{AskedBinary}
-use Rattle.filterset_listing.specs.declared.comparing.BinaryDifference.{BinaryDifference}
 use Rattle.filterset_listing.specs.declared.listing.BinaryPicks.{BinaryPicks}
 
 -- what holds of each pair, and gives something else of it, gives that of each
@@ -43,15 +42,7 @@ module _ (One Other : TestQuery → Type 0) (CanOne CanOther : BinaryQuery → T
   all_picks_alike = AllZip-weaker (IsBinaryPicks One CanOne) (IsBinaryPicks Other CanOther) picks_alike
 
 module _ (A B C D : Text → Bool → Type 0) (first : (test : Text) (answer : Bool) → A test answer → B test answer) (second : (test : Text) (answer : Bool) → C test answer → D test answer) where
-  divides_alike : (tests x y z : List Text) → Divides A C tests x y z → Divides B D tests x y z
+  pub divides_alike : (tests x y z : List Text) → Divides A C tests x y z → Divides B D tests x y z
   divides_alike [] x y z none = none
   divides_alike (test ∷ tests) x y z (a, b, f, s, t, one, other, firsts, seconds, boths, are) =
       (a, b, f, s, t, first test a one, second test b other, firsts, seconds, boths, divides_alike tests f s t are)
-
-module _ (A B C D : TestQuery → Type 0) (first : (test : TestQuery) → A test ↔ B test) (second : (test : TestQuery) → C test ↔ D test) where
-  difference_alike : (binary : AskedBinary) (difference : BinaryDifference) → IsBinaryDifference A C binary difference → IsBinaryDifference B D binary difference
-  difference_alike binary difference (is, divides) =
-      (is, divides_alike (Tells A binary.query) (Tells B binary.query) (Tells C binary.query) (Tells D binary.query) (tells_alike A B first binary.query) (tells_alike C D second binary.query) binary.tests.now _ _ _ divides)
-
-  pub all_differences_alike : (binaries : List AskedBinary) (all : List BinaryDifference) → AllZip (IsBinaryDifference A C) binaries all → AllZip (IsBinaryDifference B D) binaries all
-  all_differences_alike = AllZip-weaker (IsBinaryDifference A C) (IsBinaryDifference B D) difference_alike

@@ -1,7 +1,9 @@
 -- How two filtersets differ, as text.
-use Rattle.std.specs.Prelude.{ℕ, ◌==◌, ◌||◌, Bool, true, false, not, List, [], ◌++◌, length, codes, decimal, map}
+use Rattle.std.specs.Prelude.{ℕ, ◌==◌, ◌||◌, Bool, not, List, [], ◌++◌, length, codes, decimal, map, if◌then◌else◌}
 use Rattle.std.specs.List.{flat_map, sum_by}
 use Rattle.filterset_listing.specs.Asking.{Text}
+use Rattle.filterset_listing.specs.SkippedText.{is_unsettled, skipped_text}
+use Rattle.filterset_listing.specs.declared.comparing.skipped.SkippedPart.TheVariants as skipped
 use Rattle.filterset_listing.specs.declared.comparing.BinaryDifference.{BinaryDifference}
 use Rattle.filterset_listing.specs.declared.comparing.text.Part.{Part}
 use Rattle.filterset_listing.specs.declared.comparing.text.Part.TheVariants.{OnlyFirst, OnlySecond, Both}
@@ -28,20 +30,19 @@ named_line id test = codes "    " ++ (id ++ (codes " " ++ (test ++ codes "\n")))
 abbrev pub named_lines : Part → BinaryDifference → Text
 named_lines part difference = flat_map (named_line difference.binary.query.binary_id.now) (tests_in part difference)
 
--- the names, where they are asked for
-abbrev pub names_if : Bool → Part → List BinaryDifference → Text
-names_if true part all = flat_map (named_lines part) all
-names_if false part all = []
-
--- how many tests are picked so, and which
+-- how many tests are picked so, and which, if the names are asked for
 abbrev pub part_text : Bool → Part → List BinaryDifference → Text
 part_text has_names part all =
-    (part_heading part ++ (codes ": " ++ (decimal (part_count part all) ++ codes "\n"))) ++ names_if has_names part all
+    (part_heading part ++ (codes ": " ++ (decimal (part_count part all) ++ codes "\n")))
+    ++ (if has_names then flat_map (named_lines part) all else [])
 
+-- the tests, and below them the binaries that nextest skipped
 abbrev pub comparison_text : Bool → List BinaryDifference → Text
 comparison_text has_names all =
-    part_text has_names OnlyFirst all ++ (part_text has_names OnlySecond all ++ part_text has_names Both all)
+    part_text has_names OnlyFirst all ++ (part_text has_names OnlySecond all ++ (part_text has_names Both all
+    ++ (skipped_text has_names skipped.OnlyFirst all ++ (skipped_text has_names skipped.OnlySecond all
+    ++ skipped_text has_names skipped.NotCompared all))))
 
--- one filterset picks a test of the binary that the other does not
+-- one filterset picks a test of the binary that the other does not, or may pick one that nextest did not list
 abbrev pub differs : BinaryDifference → Bool
-differs difference = not (length difference.first.items == 0) || not (length difference.second.items == 0)
+differs d = (not (length d.first.items == 0) || not (length d.second.items == 0)) || is_unsettled d

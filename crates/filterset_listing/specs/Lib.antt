@@ -4,7 +4,9 @@ pub mod ListText
 pub mod ListJson
 pub mod Union
 pub mod Selection
+pub mod Pickers
 pub mod Comparing
+pub mod SkippedText
 pub mod ComparisonText
 pub mod Nodes
 pub mod Operands

@@ -8,10 +8,11 @@ ghost use Rattle.filterset_expression.specs.declared.expression.CompiledExpr.{Co
 ghost use Rattle.filterset_faults.specs.declared.span.SourceSpan.{SourceSpan};
 ghost use Rattle.filterset_graph.specs.declared.package.PackageMetadata.{PackageMetadata};
 ghost use Rattle.filterset_grammar.specs.Tree.{Tree};
-ghost use Rattle.filterset_listing.specs.Asking.{ExprPicks, TreePicks};
 ghost use Rattle.filterset_listing.specs.Comparing.{IsBinaryDifference};
 ghost use Rattle.filterset_listing.specs.Listing.{one_of};
+ghost use Rattle.filterset_listing.specs.Pickers.{expr_picker, tree_picker};
 
+mod skipped;
 pub mod text;
 
 use crate::asking::picks;
@@ -21,10 +22,15 @@ use filterset_expression::{CompiledExpr, EvalContext, FlatExpr};
 use filterset_graph::TestCaseName;
 use std::alloc::{AllocError, Global};
 
-/// How two filtersets differ on a binary: the tests that either picks, in the order of the list.
+/// How two filtersets differ on a binary: their answers about it, and the tests that either picks, in the order of the
+/// list.
 #[derive(Debug, Drop)]
 pub struct BinaryDifference<'s> {
     pub binary: AskedBinary<'s>,
+    /// The first filterset's answer about the binary, or `None` if its answers about tests depend on the tests.
+    pub first_answer: Option<bool>,
+    /// The second filterset's answer about the binary.
+    pub second_answer: Option<bool>,
     /// The tests that only the first filterset picks.
     pub first: Vec<&'s TestCaseName>,
     /// The tests that only the second filterset picks.
@@ -42,6 +48,8 @@ impl<'s> BinaryDifference<'s> {
         is_second: bool,
     ) -> Result<(), AllocError>
         ensures binary { self.new.binary ≡ self.old.binary }
+        ensures first_answer { self.new.first_answer ≡ self.old.first_answer }
+        ensures second_answer { self.new.second_answer ≡ self.old.second_answer }
         ensures first { OnOk result (map (λ t. t.now) self.new.first.items
             ≡ map (λ t. t.now) self.old.first.items ++ one_of (is_first && not is_second) test.entry.now) }
         ensures second { OnOk result (map (λ t. t.now) self.new.second.items
@@ -68,7 +76,7 @@ fn divide<'s>(
 ) -> Result<BinaryDifference<'s>, AllocError>
     ensures { IfOk result (λ difference. (one other default : CompiledExpr) → IsFlat first.now one default
         → IsFlat second.now other default
-        → IsBinaryDifference (ExprPicks default one) (ExprPicks default other) binary.now difference) }
+        → IsBinaryDifference (expr_picker default one) (expr_picker default other) binary.now difference) }
 {
     let lookup = GlobalLookup;
     let query = &binary.query;
@@ -76,6 +84,8 @@ fn divide<'s>(
     let second_answer = second.matches_binary(alloc, query)?;
     let mut difference = BinaryDifference {
         binary: *binary,
+        first_answer,
+        second_answer,
         first: Vec::new(alloc),
         second: Vec::new(alloc),
         both: Vec::new(alloc),
@@ -97,7 +107,7 @@ fn differences_of<'s>(
 ) -> Result<Vec<BinaryDifference<'s>>, AllocError>
     ensures { IfOk result (λ all. (one other default : CompiledExpr) → IsFlat first.now one default
         → IsFlat second.now other default
-        → AllZip (IsBinaryDifference (ExprPicks default one) (ExprPicks default other)) binaries.now all.items) }
+        → AllZip (IsBinaryDifference (expr_picker default one) (expr_picker default other)) binaries.now all.items) }
 {
     let mut all = Vec::with_capacity(alloc, binaries.len())?;
     for binary in binaries {
@@ -106,7 +116,9 @@ fn differences_of<'s>(
     Ok(all)
 }
 
-/// Compares two filtersets on each binary. Returns an error only if out of memory.
+/// Compares two filtersets on each binary, also if nextest skipped it: then by their answers about the binary.
+///
+/// Returns an error only if out of memory.
 pub fn compare<'s>(
     alloc: Global,
     first: &CompiledExpr,
@@ -115,13 +127,13 @@ pub fn compare<'s>(
     binaries: &[AskedBinary<'s>],
 ) -> Result<Vec<BinaryDifference<'s>>, AllocError>
     ensures picks { let default = default_of context.now in IfOk result (λ all.
-        AllZip (IsBinaryDifference (ExprPicks default first.now) (ExprPicks default second.now))
+        AllZip (IsBinaryDifference (expr_picker default first.now) (expr_picker default second.now))
         binaries.now all.items) }
 
-    // If both expressions are compiled trees, the parts are those of what the trees pick.
+    // If both expressions are compiled trees, the answers and the parts are those of the trees.
     ensures meaning { let default = default_of context.now in IfOk result (λ all. (packages : List PackageMetadata)
         (one other : Tree SourceSpan) → IsCompiled packages one first.now → IsCompiled packages other second.now
-        → AllZip (IsBinaryDifference (TreePicks packages default one) (TreePicks packages default other))
+        → AllZip (IsBinaryDifference (tree_picker packages default one) (tree_picker packages default other))
         binaries.now all.items) }
 {
     let first = FlatExpr::new(alloc, first, context)?;

@@ -1,9 +1,17 @@
 //! How two filtersets differ on a list, as text.
-ghost use Rattle.std.specs.Prelude.{◌≡◌, ◌++◌, IfOk, OnOk, map, string_bytes};
-ghost use Rattle.std.specs.List.{flat_map, list_any};
+ghost use Rattle.std.specs.Prelude.{◌≡◌, ◌++◌, IfOk, List, OnOk, map, string_bytes};
+ghost use Rattle.std.specs.List.{AllZip, flat_map, list_any};
+ghost use Rattle.filterset_expression.specs.declared.expression.CompiledExpr.{CompiledExpr};
+ghost use Rattle.filterset_faults.specs.declared.span.SourceSpan.{SourceSpan};
+ghost use Rattle.filterset_graph.specs.declared.package.PackageMetadata.{PackageMetadata};
+ghost use Rattle.filterset_grammar.specs.Tree.{Tree};
+ghost use Rattle.filterset_listing.specs.Comparing.{IsBinaryDifference, TellsDifference};
+ghost use Rattle.filterset_listing.specs.Pickers.{expr_picker, tree_picker};
+ghost use Rattle.filterset_listing.specs.declared.binary.AskedBinary.{AskedBinary};
 ghost use Rattle.filterset_listing.specs.ComparisonText.{comparison_text, differs, named_line, named_lines, part_count, part_heading, part_text, tests_in};
 
 use crate::comparing::BinaryDifference;
+use crate::comparing::skipped::{SkippedPart, push_skipped};
 use crate::counting::add_count;
 use filterset_graph::{RustBinaryId, TestCaseName};
 use std::alloc::{AllocError, Global};
@@ -42,11 +50,11 @@ impl<'s> BinaryDifference<'s> {
         }
     }
 
-    /// Returns whether one filterset picks a test that the other does not.
+    /// Returns whether one filterset picks a test that the other does not, or may pick one that nextest did not list.
     fn differs(&self) -> bool
         ensures { result ≡ differs self.now }
     {
-        !self.first.is_empty() || !self.second.is_empty()
+        !self.first.is_empty() || !self.second.is_empty() || self.is_unsettled()
     }
 }
 
@@ -119,6 +127,10 @@ fn push_part(
 /// Writes how many tests only the first filterset picks, how many only the second, and how many both. With `has_names`
 /// it writes the tests under each number, a line each, after the id of their binary.
 ///
+/// Below this it writes how many binaries that nextest skipped only the first filterset picks, how many only the second,
+/// and how many were not compared, because one of the filtersets does not decide them. It leaves out a number that is 0.
+/// With `has_names` it writes the ids of the binaries under each number.
+///
 /// Returns an error only if out of memory.
 pub fn comparison_text(
     alloc: Global,
@@ -131,12 +143,31 @@ pub fn comparison_text(
     push_part(&mut text, all, Part::OnlyFirst, has_names)?;
     push_part(&mut text, all, Part::OnlySecond, has_names)?;
     push_part(&mut text, all, Part::Both, has_names)?;
+    push_skipped(&mut text, all, SkippedPart::OnlyFirst, has_names)?;
+    push_skipped(&mut text, all, SkippedPart::OnlySecond, has_names)?;
+    push_skipped(&mut text, all, SkippedPart::NotCompared, has_names)?;
     Ok(text)
 }
 
-/// Returns whether one of the two filtersets picks a test that the other does not.
-pub fn differ(all: &[BinaryDifference<'_>]) -> bool
+/// Returns whether the filtersets differ on one of the binaries.
+fn any_differs(all: &[BinaryDifference<'_>]) -> bool
     ensures { result ≡ list_any differs all.now }
 {
     all.iter().any(|difference| difference.differs())
+}
+
+/// Returns whether one of the two filtersets picks a test that the other does not, or may pick one that nextest did not
+/// list: they do not decide a skipped binary alike.
+pub fn differ(all: &[BinaryDifference<'_>]) -> bool
+    ensures value { result ≡ list_any differs all.now }
+    ensures picks { (one other default : CompiledExpr) (binaries : List AskedBinary)
+        → AllZip (IsBinaryDifference (expr_picker default one) (expr_picker default other)) binaries all.now
+        → TellsDifference (expr_picker default one) (expr_picker default other) binaries result }
+    ensures meaning { (packages : List PackageMetadata) (default : CompiledExpr) (one other : Tree SourceSpan)
+        (binaries : List AskedBinary)
+        → AllZip (IsBinaryDifference (tree_picker packages default one) (tree_picker packages default other))
+        binaries all.now
+        → TellsDifference (tree_picker packages default one) (tree_picker packages default other) binaries result }
+{
+    any_differs(all)
 }

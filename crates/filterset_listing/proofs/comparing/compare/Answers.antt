@@ -1,8 +1,7 @@
 use Rattle.std.proofs.lemmas.Result.{IfOk-weaker}
 use Rattle.filterset_expression.specs.Contexts.{default_of}
-use Rattle.filterset_expression.proofs.Meanings.{compiled_means}
-use Rattle.filterset_listing.specs.Asking.{ExprPicks, TreePicks, in_global}
-use Rattle.filterset_listing.proofs.PicksLemmas.{all_differences_alike}
+use Rattle.filterset_listing.specs.Pickers.{expr_picker, tree_picker}
+use Rattle.filterset_listing.proofs.PickerLemmas.{all_differences_alike, compiled_alike}
 use Rattle.filterset_listing.proofs.comparing.compare.Goals as goal
 
 pub returns-clause-picks : goal.returns-clause-picks
@@ -15,6 +14,6 @@ returns-clause-meaning c =
     let first = c.args.first.now in
     let second = c.args.second.now in
     IfOk-weaker c.differences_of.result _ _ (λ all are packages one other is_one is_other.
-    all_differences_alike (ExprPicks default first) (TreePicks packages default one) (ExprPicks default second) (TreePicks packages default other)
-    (λ test. compiled_means packages test default in_global one first is_one) (λ test. compiled_means packages test default in_global other second is_other) _ _
+    all_differences_alike (expr_picker default first) (tree_picker packages default one) (expr_picker default second) (tree_picker packages default other)
+    (compiled_alike packages default one first is_one) (compiled_alike packages default other second is_other) _ _
     (are first second default c.in_ok-first.ensures.flat c.in_ok-second.ensures.flat)) c.differences_of.ensures

@@ -1,7 +1,7 @@
 use Rattle.std.proofs.Common.{rules, arith, ◌≡◌, ◌<◌, length, get_or, take}
 use Rattle.std.proofs.lemmas.List.{take_all}
-use Rattle.filterset_listing.specs.Asking.{ExprPicks}
 use Rattle.filterset_listing.specs.Comparing.{IsBinaryDifference}
+use Rattle.filterset_listing.specs.Pickers.{expr_picker}
 use Rattle.filterset_listing.proofs.ListingLemmas.{AllZip-push, one_more}
 use Rattle.filterset_listing.proofs.comparing.differences_of.Goals as goal
 
@@ -17,4 +17,4 @@ loop-binary-preserved c one other default is_one is_other =
     let binary = c.binary-item.result in
     let lt : i < length binaries = omega (arith, c.loop-binary-test.true) in
     let at : get_or binaries i binary ≡ binary = search (rules, c.binary-item.is) in
-    rw (c.in_ok-push.ensures.items, one_more binaries i binary lt at) (AllZip-push (IsBinaryDifference (ExprPicks default one) (ExprPicks default other)) (take i binaries) _ binary _ (c.loop-binary.invariant one other default is_one is_other) (c.in_ok-divide.ensures one other default is_one is_other))
+    rw (c.in_ok-push.ensures.items, one_more binaries i binary lt at) (AllZip-push (IsBinaryDifference (expr_picker default one) (expr_picker default other)) (take i binaries) _ binary _ (c.loop-binary.invariant one other default is_one is_other) (c.in_ok-divide.ensures one other default is_one is_other))

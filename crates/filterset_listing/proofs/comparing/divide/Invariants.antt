@@ -5,10 +5,10 @@ use Rattle.filterset_listing.specs.Asking.{ExprPicks, Tells}
 use Rattle.filterset_listing.specs.Comparing.{Divides}
 use Rattle.filterset_listing.proofs.comparing.divide.Given as goal
 
--- the tests so far are divided
+-- the answers are kept, and the tests so far are divided
 abbrev pub invariant-loop-test : goal.invariant-loop-test
 invariant-loop-test l =
-    (l.difference.binary ≡ l.binary)
+    (l.difference.binary ≡ l.binary) × (l.difference.first_answer ≡ l.first_answer) × (l.difference.second_answer ≡ l.second_answer)
     × ((one other default : CompiledExpr) → IsFlat l.first one default → IsFlat l.second other default
     → Divides (Tells (ExprPicks default one) l.binary.query) (Tells (ExprPicks default other) l.binary.query) (take l.test-index l.binary.tests.now)
     (map (λ t. t.now) l.difference.first.items) (map (λ t. t.now) l.difference.second.items) (map (λ t. t.now) l.difference.both.items))
