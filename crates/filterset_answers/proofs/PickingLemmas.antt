@@ -1,5 +1,5 @@
 -- What the texts of a question are as filtersets.
-use Rattle.std.proofs.Common.{◌≡◌, List, [], ◌∷◌, map, subst}
+use Rattle.std.proofs.Common.{◌≡◌, List, [], ◌∷◌, arith, get_or, length, map, subst}
 use Rattle.std.specs.List.{AllZip}
 use Rattle.std.proofs.lemmas.Slice.Zip.{AllZip-long}
 use Rattle.filterset_expression.specs.Meaning.{IsCompiled}
@@ -38,3 +38,10 @@ compiled_trees packages groups [] (f ∷ filters) are = absurd are
 compiled_trees packages groups (row ∷ rows) [] are = absurd are
 compiled_trees packages groups (row ∷ rows) (f ∷ filters) (is, are) =
     (is.compiled, compiled_trees packages groups rows filters are)
+
+-- a list of two elements
+pub two_of : {A : Type 0} (xs : List A) (x y : A) → length xs ≡ 2 → get_or xs 0 x ≡ x → get_or xs 1 y ≡ y → xs ≡ x ∷ y ∷ []
+two_of [] x y long first second = absurd (omega (arith, long))
+two_of (a ∷ []) x y long first second = absurd (omega (arith, long))
+two_of (a ∷ b ∷ []) x y long first second = let left : a ≡ x = first in let right : b ≡ y = second in cc
+two_of (a ∷ b ∷ c ∷ xs) x y long first second = absurd (omega (arith, long))

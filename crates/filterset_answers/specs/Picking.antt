@@ -10,12 +10,12 @@ use Rattle.filterset_faults.specs.declared.span.SourceSpan.{SourceSpan}
 use Rattle.filterset_graph.specs.declared.package.PackageMetadata.{PackageMetadata}
 use Rattle.filterset_grammar.specs.Tree.{Tree}
 use Rattle.filterset_language.specs.Views.{tree_of}
-use Rattle.filterset_listing.specs.Asking.{ExprPicks}
-use Rattle.filterset_listing.specs.Comparing.{IsBinaryDifference}
+use Rattle.filterset_listing.specs.Comparing.{IsBinaryDifference, TellsDifference}
 use Rattle.filterset_listing.specs.ComparisonText.{comparison_text, differs}
 use Rattle.filterset_listing.specs.ListJson.{IsListJson}
 use Rattle.filterset_listing.specs.ListText.{list_text}
 use Rattle.filterset_listing.specs.Listing.{IsBinaryPicks}
+use Rattle.filterset_listing.specs.Pickers.{Picker, tree_picker}
 use Rattle.filterset_listing.specs.Selection.{RunCanPick, RunPicks}
 use Rattle.filterset_listing.specs.declared.binary.AskedBinary.{AskedBinary}
 use Rattle.filterset_listing.specs.declared.comparing.BinaryDifference.{BinaryDifference}
@@ -73,12 +73,18 @@ Lists packages ignores_default default filters kept binaries ending text =
     (all : List BinaryPicks) × ArePicks packages ignores_default default filters binaries all
     × WritesList kept all text × (ending ≡ Fine)
 
--- The answer is how two filtersets differ.
-abbrev pub Compares : Bool → CompiledExpr → List CompiledExpr → List AskedBinary → Ending → Text → Type 0
-Compares has_names default filters binaries ending text =
-    (one : CompiledExpr) × (other : CompiledExpr) × (all : List BinaryDifference) × (filters ≡ one ∷ other ∷ [])
-    × AllZip (IsBinaryDifference (ExprPicks default one) (ExprPicks default other)) binaries all
+-- the filterset's tree, for these packages and this default filter
+abbrev pub picker_of : List PackageMetadata → Filterset → Filterset → Picker
+picker_of packages default filterset = tree_picker packages default.compiled (parsed_of filterset)
+
+-- the answer is how the trees of two filtersets differ, and ends by whether they may differ on one of the binaries
+abbrev pub Compares :
+    Bool → List PackageMetadata → Filterset → List Filterset → List AskedBinary → Ending → Text → Type 0
+Compares has_names packages default filters binaries ending text =
+    (one : Filterset) × (other : Filterset) × (all : List BinaryDifference) × (filters ≡ one ∷ other ∷ [])
+    × AllZip (IsBinaryDifference (picker_of packages default one) (picker_of packages default other)) binaries all
     × (text ≡ comparison_text has_names all) × (ending ≡ differing_ending (list_any differs all))
+    × TellsDifference (picker_of packages default one) (picker_of packages default other) binaries (list_any differs all)
 
 -- what is answered where all texts are filtersets
 abbrev pub Tells :
@@ -87,7 +93,7 @@ abbrev pub Tells :
 Tells packages (questions.List texts ignores_default) default filters kept binaries ending text =
     Lists packages ignores_default default filters kept binaries ending text
 Tells packages (questions.Compare first second has_names) default filters kept binaries ending text =
-    Compares has_names default.compiled (map compiled_of filters) binaries ending text
+    Compares has_names packages default filters binaries ending text
 
 -- what texts are answered: their faults, where any has some; else what they are as filtersets
 abbrev pub AnswersRows :

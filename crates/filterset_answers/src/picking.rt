@@ -105,8 +105,9 @@ fn answer_compare(
     has_names: bool,
 ) -> Result<Answer, AllocError>
     requires { length filters.now ≡ 2 }
-    ensures { IfOk result (λ answer. Compares has_names (default_of context.now) (map compiled_of filters.now)
-        binaries.now answer.ending (string_bytes answer.text)) }
+    ensures { IfOk result (λ answer. (packages : List PackageMetadata) (default : declared.Filterset)
+        → default.compiled ≡ default_of context.now → AreCompiledTrees packages default filters.now
+        → Compares has_names packages default filters.now binaries.now answer.ending (string_bytes answer.text)) }
 {
     let (first, second) = (&filters[0].compiled, &filters[1].compiled);
     let all = compare(alloc, first, second, context, binaries)?;

@@ -8,7 +8,7 @@ pub enum Question<'t> {
         filters: &'t [&'t str],
         ignores_default: bool,
     },
-    /// How two filtersets differ, with the names of the tests or without.
+    /// How two filtersets differ, with the names of tests and the ids of skipped binaries or without.
     Compare {
         first: &'t str,
         second: &'t str,

@@ -19,7 +19,7 @@ pub enum Ending {
     Fine,
     /// Some filtersets have faults.
     Faulty,
-    /// The two filtersets that were compared differ.
+    /// The two filtersets that were compared differ, or may differ on a binary that nextest skipped.
     Differing,
 }
 

@@ -17,4 +17,4 @@ returns-in-Compare c =
     let made = c.args.filtersets in
     IfOk-weaker c.answer_compare.result _ _ (λ answer compares packages are.
     subst (λ question. Tells packages question made.default made.filters.items (option_map view c.args.kept) c.args.binaries.now answer.ending (string_bytes answer.text)) (sym c.in-Compare.is)
-    (rw (c.new-context.ensures, c.as_slice.ensures.value) at compares)) c.answer_compare.ensures
+    (let own = rw c.as_slice.ensures.value at compares in own packages made.default (sym c.new-context.ensures) are)) c.answer_compare.ensures
