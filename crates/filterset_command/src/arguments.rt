@@ -157,7 +157,7 @@ fn tests<'a>(alloc: Global) -> Arg<'a> {
     Arg::new(alloc, "tests")
         .long("tests")
         .action(ArgAction::SetTrue)
-        .help("writes the tests by name")
+        .help("writes the tests by name, and skipped binaries by id")
 }
 
 /// Makes a required argument, given by its place.
