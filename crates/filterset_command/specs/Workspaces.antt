@@ -9,7 +9,7 @@ use Rattle.filterset_graph.specs.Packages.{ids}
 use Rattle.filterset_graph.specs.declared.package.PackageMetadata.{PackageMetadata}
 use Rattle.filterset_sources.specs.Metadata.{IsMetadata, RefusesMetadata}
 use Rattle.filterset_sources.specs.Refusals.{Refuses, RefusesJson}
-use Rattle.filterset_sources.specs.Suites.{IsOfPackage, IsTestList}
+use Rattle.filterset_sources.specs.Suites.{IsOfPackage, IsTestList, WrongPackages, WrongTestList}
 use Rattle.filterset_sources.specs.declared.list.Suite.{Suite}
 use Rattle.filterset_sources.specs.declared.list.TestList.{TestList}
 use Rattle.filterset_sources.specs.declared.refusal.SourceRefusal.{SourceRefusal}
@@ -44,12 +44,10 @@ abbrev pub RefusesValue : (Data → SourceRefusal → Type 0) → Text → Sourc
 RefusesValue refuses text refusal =
     RefusesJson text refusal ⊎ ((d : Data) × (read text ≡ Some d) × refuses d refusal)
 
--- the value is no list of test binaries, or one of these is of none of the packages
+-- a value of the list is wrong, the first one; or the package of a test binary, the first one that is none of the packages
 abbrev pub RefusesList : List PackageMetadata → Data → SourceRefusal → Type 0
-RefusesList packages d refusal =
-    Refuses ((list : TestList) × IsTestList d list.suites.items) refusal
-    ⊎ ((list : TestList) × IsTestList d list.suites.items
-    × Refuses (All (IsOfPackage (ids packages)) list.suites.items) refusal)
+RefusesList packages d refusal = Refuses (WrongTestList d) refusal
+    ⊎ ((list : TestList) × IsTestList d list.suites.items × Refuses (WrongPackages (ids packages) list.suites.items) refusal)
 
 -- one of the files at the paths is not used: the one of the packages, or the list of their tests
 abbrev pub IsWorkspaceFault : (Text → Option Text) → (Text → Error → Type 0) → WorkspacePaths → CommandFault → Type 0

@@ -59,14 +59,12 @@ FilterUnder path key kind d = Under key d (λ e. As (as_str e) (below path key, 
 abbrev pub SectionRows : ProfileSection → Text → Data → Result Rows Place → Type 0
 SectionRows Override path d = As (as_table d) (path, codes "a table") (λ ms.
     Then (FilterUnder path (codes "default-filter") DefaultFilter d) (FilterUnder path (codes "filter") OverrideFilter d))
-SectionRows Script path d =
-    As (as_table d) (path, codes "a table") (λ ms. FilterUnder path (codes "filter") OverrideFilter d)
+SectionRows Script path d = As (as_table d) (path, codes "a table") (λ ms. FilterUnder path (codes "filter") OverrideFilter d)
 
 -- the filtersets of sections, of which the first has this position
 abbrev pub ItemRows : ProfileSection → Text → ℕ → Items → Result Rows Place → Type 0
-ItemRows section path at no_items outcome = outcome ≡ Ok []
-ItemRows section path at (item d ds) outcome =
-    Then (SectionRows section (item_path path at) d) (ItemRows section path (suc at) ds) outcome
+ItemRows section path at no_items = λ outcome. outcome ≡ Ok []
+ItemRows section path at (item d ds) = Then (SectionRows section (item_path path at) d) (ItemRows section path (suc at) ds)
 
 -- the filtersets of the list of sections under a key
 abbrev pub SectionsUnder : Text → Text → ProfileSection → Data → Result Rows Place → Type 0
@@ -81,9 +79,8 @@ ProfileRows path d = As (as_table d) (path, codes "a table") (λ ms.
 
 -- the filtersets of profiles
 abbrev pub MemberRows : Members → Result Rows Place → Type 0
-MemberRows no_members outcome = outcome ≡ Ok []
-MemberRows (member name d ms) outcome =
-    Then (ProfileRows (below (codes "profile") (key_text name)) d) (MemberRows ms) outcome
+MemberRows no_members = λ outcome. outcome ≡ Ok []
+MemberRows (member name d ms) = Then (ProfileRows (below (codes "profile") (key_text name)) d) (MemberRows ms)
 
 -- the filtersets of a file
 abbrev pub FileRows : Data → Result Rows Place → Type 0
@@ -122,8 +119,7 @@ line_at text at = count_by (λ b. b == 10) (take at text) + 1
 abbrev pub RefusesConfiguration : Text → SourceRefusal → Type 0
 RefusesConfiguration text (NotToml error line) = (parse_document text ≡ None) × (line ≡ line_at text (span_start error))
 RefusesConfiguration text (OutOfMemory error) = Unit {0}
-RefusesConfiguration text refusal =
-    (ms : Members) × (parse_document text ≡ Some ms) × Refuses (WrongConfiguration (table ms)) refusal
+RefusesConfiguration text refusal = (ms : Members) × (parse_document text ≡ Some ms) × Refuses (WrongConfiguration (table ms)) refusal
 
 -- the rows that are read as P says were added
 abbrev pub Adds : Rows → Rows → (Result Rows Place → Type 0) → Type 0

@@ -9,9 +9,11 @@ use Rattle.filterset_graph.specs.declared.package.BuildTarget.{BuildTarget}
 use Rattle.filterset_graph.specs.declared.package.BuildTargetId.{BuildTargetId}
 use Rattle.filterset_graph.specs.declared.package.BuildTargetId.TheVariants.{Library, Binary, Example, Test, Benchmark, BuildScript}
 use Rattle.filterset_graph.specs.declared.package.PackageMetadata.{PackageMetadata}
-use Rattle.filterset_json.specs.Places.{First, IsFirstNot, Itself, Place, WrongList, keyed, keyed_list, keyed_text}
+use Rattle.filterset_json.specs.Places.{First, IsFirstNot, Itself, Place, WrongList, WrongMember, keyed, keyed_list, keyed_text}
 use Rattle.filterset_json.specs.Shape.{Text, IsText, Each, IsListOf, Required}
+use Rattle.filterset_sources.specs.Refusals.{Refuses}
 use Rattle.filterset_sources.specs.Shape.{item_path}
+use Rattle.filterset_sources.specs.declared.refusal.SourceRefusal.{SourceRefusal}
 use Rattle.filterset_sources.specs.declared.metadata.parts.Dependency.{Dependency}
 use Rattle.filterset_sources.specs.declared.metadata.parts.Node.{Node}
 use Rattle.filterset_sources.specs.declared.metadata.parts.Parts.{Parts}
@@ -124,19 +126,16 @@ abbrev pub WrongTarget : Data → Place → Type 0
 WrongTarget d = First (keyed (codes "kind") IsTargetKind WrongKind d ∷ keyed_text (codes "name") d ∷ [])
 
 abbrev pub WrongPackage : Data → Place → Type 0
-WrongPackage d = First (keyed_text (codes "id") d ∷ keyed_text (codes "name") d
-    ∷ keyed_list (codes "targets") IsTarget WrongTarget d ∷ [])
+WrongPackage d = First (keyed_text (codes "id") d ∷ keyed_text (codes "name") d ∷ keyed_list (codes "targets") IsTarget WrongTarget d ∷ [])
 
 abbrev pub WrongNode : Data → Place → Type 0
 WrongNode d = First (keyed_text (codes "id") d
     ∷ keyed_list (codes "deps") IsDependency (λ e. First (keyed_text (codes "pkg") e ∷ [])) d ∷ [])
 
 abbrev pub WrongResolve : Data → Place → Type 0
-WrongResolve d = First ((
-  ¬ (d ≡ null),
-  λ place. (d ≡ null) × (place ≡ ([], codes "an object: `cargo metadata` writes it without `--no-deps`")),
-)
-    ∷ keyed_list (codes "nodes") IsNode WrongNode d ∷ [])
+WrongResolve d place =
+    ((d ≡ null) × (place ≡ ([], codes "an object: `cargo metadata` writes it without `--no-deps`")))
+    ⊎ ((¬ (d ≡ null)) × WrongMember (codes "nodes") (WrongList IsNode WrongNode) d place)
 
 abbrev pub WrongParts : Data → Place → Type 0
 WrongParts d = First (keyed_list (codes "packages") IsPackage WrongPackage d
@@ -145,8 +144,7 @@ WrongParts d = First (keyed_list (codes "packages") IsPackage WrongPackage d
 
 -- the first id that stands at an earlier position too, by the paths of positions
 abbrev pub Repeats : (ℕ → Text) → List Text → Place → Type 0
-Repeats path names place =
-    (at : ℕ) × IsFirstRepeat names at × (place ≡ (path at, codes "an id that no package before it has"))
+Repeats path names place = (at : ℕ) × IsFirstRepeat names at × (place ≡ (path at, codes "an id that no package before it has"))
 
 -- the first id of which P does not hold
 abbrev pub Unknown : (Text → Type 0) → (ℕ → Text) → List Text → Place → Type 0
@@ -167,22 +165,20 @@ UnknownIn P at node place = ((place ≡ (node_path at, codes "the id of one of t
 
 -- the same of the first node that names such an id
 abbrev pub UnknownNode : (Text → Type 0) → List Node → Place → Type 0
-UnknownNode P nodes place =
-    (at : ℕ) × (node : Node) × IsFirstNot (NamesOnly P) nodes at node × UnknownIn P at node place
+UnknownNode P nodes place = (at : ℕ) × (node : Node) × IsFirstNot (NamesOnly P) nodes at node × UnknownIn P at node place
 
 -- the first place where parts are not whole
 abbrev pub WrongWhole : List Text → List Text → List Node → Place → Type 0
-WrongWhole known members nodes = First (
-    (AllDiffer known, Repeats (λ at. item_path (codes "packages") at ++ codes ".id") known)
+WrongWhole known members nodes = First ((AllDiffer known, Repeats (λ at. item_path (codes "packages") at ++ codes ".id") known)
     ∷ (All (Contains known) members, Unknown (Contains known) (item_path (codes "workspace_members")) members)
     ∷ (All (NamesOnly (Contains known)) nodes, UnknownNode (Contains known) nodes)
     ∷ (AllDiffer members, Repeats (item_path (codes "workspace_members")) members)
     ∷ (AllDiffer (node_ids nodes), Repeats node_path (node_ids nodes)) ∷ [])
 
--- the first place of the file that is wrong: parts first
-abbrev pub WrongMetadata : Data → Place → Type 0
-WrongMetadata d place = WrongParts d place ⊎ ((parts : Parts) × IsParts d parts
-    × WrongWhole (ids parts.packages.items) parts.members.items parts.resolve.nodes.items place)
+-- a value of the file is wrong, the first one: of its parts, or else where they are not whole; or it is out of memory
+abbrev pub RefusesMetadata : Data → SourceRefusal → Type 0
+RefusesMetadata d = Refuses (λ place. WrongParts d place ⊎ ((parts : Parts) × IsParts d parts
+    × WrongWhole (ids parts.packages.items) parts.members.items parts.resolve.nodes.items place))
 
 -- the id has a position
 abbrev pub IsKnown : BTreeMap Text ℕ → Text → Type 0

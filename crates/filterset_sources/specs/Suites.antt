@@ -39,14 +39,13 @@ abbrev pub IsOfPackage : List Text → Suite → Type 0
 IsOfPackage known suite = Contains known suite.package_id
 
 -- the first part of a suite that is wrong
+abbrev pub WrongStatus : Data → Place → Type 0
+WrongStatus = Itself IsStatus (codes "`listed`, `skipped` or `skipped-default-filter`")
+
 abbrev pub WrongSuite : Data → Place → Type 0
-WrongSuite d = First (keyed_text (codes "package-id") d ∷ keyed_text (codes "binary-id") d
-    ∷ keyed_text (codes "binary-name") d ∷ keyed_text (codes "kind") d
-    ∷ keyed (codes "build-platform") IsPlatform (Itself IsPlatform (codes "`target` or `host`")) d
-    ∷ (
-      (status : SuiteStatus) × Optional (codes "status") IsStatus Listed d status,
-      WrongIfGiven (codes "status") (Itself IsStatus (codes "`listed`, `skipped` or `skipped-default-filter`")) d,
-    )
+WrongSuite d = First (keyed_text (codes "package-id") d ∷ keyed_text (codes "binary-id") d ∷ keyed_text (codes "binary-name") d
+    ∷ keyed_text (codes "kind") d ∷ keyed (codes "build-platform") IsPlatform (Itself IsPlatform (codes "`target` or `host`")) d
+    ∷ ((s : SuiteStatus) × Optional (codes "status") IsStatus Listed d s, WrongIfGiven (codes "status") WrongStatus d)
     ∷ keyed (codes "testcases") HasKeys (Itself HasKeys (codes "an object")) d ∷ [])
 
 -- the first part of a suite under a key that is wrong, its own parts first
@@ -68,7 +67,5 @@ WrongTestList d = WrongMember (codes "rust-suites")
 -- the package of the first suite whose package is none of those with these ids
 abbrev pub WrongPackages : List Text → List Suite → Place → Type 0
 WrongPackages known suites place = (at : ℕ) × (suite : Suite) × IsFirstNot (IsOfPackage known) suites at suite
-    × (place ≡ (
-      joined (codes "rust-suites") (joined (key_text suite.binary_id) (codes "package-id")),
-      codes "the id of a package of cargo's metadata",
-    ))
+    × (place.0 ≡ joined (codes "rust-suites") (joined (key_text suite.binary_id) (codes "package-id")))
+    × (place.1 ≡ codes "the id of a package of cargo's metadata")

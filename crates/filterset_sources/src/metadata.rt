@@ -3,7 +3,7 @@ ghost use Rattle.std.specs.Prelude.{◌≡◌, ◌++◌, All, IfErr, IfOk, OnOk,
 ghost use Rattle.serde_json.specs.View.{view};
 ghost use Rattle.filterset_graph.specs.Index.{PositionsAre, index_of};
 ghost use Rattle.filterset_graph.specs.Packages.{AllDiffer, LinksKnown, ids};
-ghost use Rattle.filterset_sources.specs.Metadata.{AreLinked, HasLinksOf, IsGraphOf, IsKnown, IsMetadata, IsWhole, NamesOnly, Repeats, Unknown, UnknownIn, UnknownNode, WrongMetadata, WrongWhole, link_path, links_of, node_ids};
+ghost use Rattle.filterset_sources.specs.Metadata.{AreLinked, HasLinksOf, IsGraphOf, IsKnown, IsMetadata, IsWhole, NamesOnly, RefusesMetadata, Repeats, Unknown, UnknownIn, UnknownNode, WrongWhole, link_path, links_of, node_ids};
 ghost use Rattle.filterset_sources.specs.Refusals.{Refuses};
 ghost use Rattle.filterset_sources.specs.Shape.{item_path};
 
@@ -281,7 +281,7 @@ fn join(alloc: Global, parts: Parts) -> Result<PackageGraph, SourceRefusal>
 /// Refuses what cargo writes with `--no-deps`: without the dependencies, `deps` and `rdeps` would give wrong answers.
 pub fn read_metadata(alloc: Global, value: &Value) -> Result<PackageGraph, SourceRefusal>
     ensures read { IfOk result (IsMetadata (view value.now)) }
-    ensures refused { IfErr result (Refuses (WrongMetadata (view value.now))) }
+    ensures refused { IfErr result (RefusesMetadata (view value.now)) }
 {
     let parts = Parts::read(alloc, value)?;
     join(alloc, parts)

@@ -14,9 +14,7 @@ use serde_json::{Map, Value};
 use std::alloc::{AllocError, Global};
 
 impl Entry for SuiteStatus {
-    ghost use Rattle.std.specs.Prelude.{codes};
-    ghost use Rattle.filterset_json.specs.Places.{Itself};
-    ghost use Rattle.filterset_sources.specs.Suites.{IsStatus};
+    ghost use Rattle.filterset_sources.specs.Suites.{IsStatus, WrongStatus};
     ghost use Rattle.filterset_sources.specs.declared.list.SuiteStatus as statuses;
 
     ghost Row = { statuses.SuiteStatus };
@@ -25,7 +23,7 @@ impl Entry for SuiteStatus {
 
     ghost stands_for = { IsStatus };
 
-    ghost is_wrong = { Itself IsStatus (codes "`listed`, `skipped` or `skipped-default-filter`") };
+    ghost is_wrong = { WrongStatus };
 
     const EXPECTED: &'static str = "`listed`, `skipped` or `skipped-default-filter`";
 

@@ -1,4 +1,4 @@
-use Rattle.std.proofs.Common.{◌≡◌, arith}
+use Rattle.std.proofs.Common.{◌≡◌, ap, arith}
 use Rattle.std.specs.Prelude.{codes}
 use Rattle.filterset_graph.specs.Packages.{ids}
 use Rattle.filterset_json.specs.Paths.{joined, key_text}
@@ -13,7 +13,7 @@ returns-then-is_none-clause-refused c =
     let first = first_not (IsOfPackage (ids c.args.graph.now)) c.args.list.now.suites.items c.loop-suite.suite-index c.suite-item.result (rw c.deref-suite-items.ensures.value at c.loop-suite-test.true) (rw c.deref-suite-items.ensures.value at c.suite-item.is) c.loop-suite.invariant
     (missing_says c.metadata.result _ _ c.is_none.result c.metadata.ensures c.is_none.ensures c.if-is_none.true) in
     Refuses-if (λ (place : Place). place ≡ (joined (codes "rust-suites") (joined (key_text c.suite-item.result.binary_id) (codes "package-id")), codes "the id of a package of cargo's metadata")) (WrongPackages (ids c.args.graph.now) c.args.list.now.suites.items)
-    c.unknown_package.result (λ place is. (c.loop-suite.suite-index, c.suite-item.result, first, is)) c.unknown_package.ensures
+    c.unknown_package.result (λ place is. (c.loop-suite.suite-index, c.suite-item.result, first, ap (λ (q : Place). q.0) is, ap (λ (q : Place). q.1) is)) c.unknown_package.ensures
 
 pub loop-suite-preserved : goal.loop-suite-preserved
 loop-suite-preserved c =
