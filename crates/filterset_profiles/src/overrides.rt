@@ -1,0 +1,132 @@
+//! Reads the overrides of profiles.
+ghost use Rattle.std.specs.Prelude.{◌≡◌, List, IfErr, IfOk, codes, is_some, map, not};
+ghost use Rattle.toml.specs.View.{items_view, view};
+ghost use Rattle.filterset_profiles.specs.Profiles.{AreOverrides, HasPlatforms, HasSettings, IsOverride, OverrideRow, OverridesUnder, PlatformUnder, Platforms, filter_row, is_allowed, override_row};
+ghost use Rattle.filterset_profiles.specs.Refusals.{Refuses};
+
+use crate::refusal::ProfileRefusal;
+use crate::values::{read_platform, read_text, wrong_at, wrong_under};
+use filterset_platforms::PlatformFilter;
+use std::alloc::Global;
+use toml::Value;
+
+/// An override of a profile.
+#[derive(Debug, Drop)]
+pub struct Override {
+    /// The platforms that it is for.
+    pub platform: PlatformFilter,
+    /// The filterset of the tests that it is for.
+    pub filter: Option<String>,
+    /// The default filter that it sets.
+    pub default_filter: Option<String>,
+    /// The group that it puts its tests in.
+    pub test_group: Option<String>,
+}
+
+/// Reads the parts of a table of platforms.
+fn read_parts(alloc: Global, path: &str, value: &Value) -> Result<PlatformFilter, ProfileRefusal>
+    ensures read { IfOk result (λ filter. PlatformUnder (codes "host") (view value.now) (filter_row filter).host
+        × PlatformUnder (codes "target") (view value.now) (filter_row filter).target) }
+    ensures refused { IfErr result (Refuses ((p : Platforms)
+        × PlatformUnder (codes "host") (view value.now) p.host
+        × PlatformUnder (codes "target") (view value.now) p.target)) }
+{
+    let path = format!(in alloc; "{path}.platform")?;
+    Ok(PlatformFilter {
+        host: read_platform(alloc, path.as_str(), value, "host")?,
+        target: read_platform(alloc, path.as_str(), value, "target")?,
+    })
+}
+
+/// Reads the platforms of an override: a text is the target's, and a table may have both.
+fn read_platforms(
+    alloc: Global,
+    path: &str,
+    value: &Value,
+) -> Result<PlatformFilter, ProfileRefusal>
+    ensures read { IfOk result (λ filter. HasPlatforms (view value.now) (filter_row filter)) }
+    ensures refused { IfErr result (Refuses ((p : Platforms) × HasPlatforms (view value.now) p)) }
+{
+    let host = None;
+    let Some(found) = value.get("platform") else {
+        return Ok(PlatformFilter { host, target: None });
+    };
+    if found.is_table() {
+        return read_parts(alloc, path, found);
+    }
+    let target = read_platform(alloc, path, value, "platform")?;
+    Ok(PlatformFilter { host, target })
+}
+
+/// Reads what an override sets.
+fn read_settings(alloc: Global, path: &str, value: &Value) -> Result<Override, ProfileRefusal>
+    ensures read { IfOk result (λ o. HasSettings (view value.now) (override_row o)) }
+    ensures refused { IfErr result (Refuses ((o : OverrideRow) × HasSettings (view value.now) o)) }
+{
+    Ok(Override {
+        platform: read_platforms(alloc, path, value)?,
+        filter: read_text(alloc, path, value, "filter")?,
+        default_filter: read_text(alloc, path, value, "default-filter")?,
+        test_group: read_text(alloc, path, value, "test-group")?,
+    })
+}
+
+/// Returns what an override must be that may not be so.
+fn fault_of(read: &Override) -> Option<&'static str>
+    ensures { is_some result ≡ not (is_allowed (override_row read.now)) }
+{
+    let picks = read.filter.is_some();
+    if picks && read.default_filter.is_some() {
+        return Some("an override without `filter` or without `default-filter`");
+    }
+    if picks || read.platform.host.is_some() || read.platform.target.is_some() {
+        return None;
+    }
+    Some("an override with `filter` or `platform`")
+}
+
+/// Reads an override.
+fn read_override(alloc: Global, path: &str, value: &Value) -> Result<Override, ProfileRefusal>
+    ensures read { IfOk result (λ o. IsOverride (view value.now) (override_row o)) }
+    ensures refused { IfErr result (Refuses ((o : OverrideRow) × IsOverride (view value.now) o)) }
+{
+    if !value.is_table() {
+        return Err(wrong_at(alloc, path, "a table")?);
+    }
+    let read = read_settings(alloc, path, value)?;
+    match fault_of(&read) {
+        Some(expected) => Err(wrong_at(alloc, path, expected)?),
+        None => Ok(read),
+    }
+}
+
+/// Reads each override of a list.
+fn read_items(alloc: Global, path: &str, values: &[Value]) -> Result<Vec<Override>, ProfileRefusal>
+    ensures read { IfOk result (λ v. AreOverrides (items_view values.now) (map override_row v.items)) }
+    ensures refused { IfErr result (Refuses ((os : List OverrideRow) × AreOverrides (items_view values.now) os)) }
+{
+    let mut overrides = Vec::with_capacity(alloc, values.len())?;
+    for (at, value) in values.iter().enumerate() {
+        let path = format!(in alloc; "{path}.overrides[{at}]")?;
+        overrides.push(read_override(alloc, path.as_str(), value)?)?;
+    }
+    Ok(overrides)
+}
+
+/// Reads the overrides of the profile at `path`.
+pub(crate) fn read_overrides(
+    alloc: Global,
+    path: &str,
+    value: &Value,
+) -> Result<Vec<Override>, ProfileRefusal>
+    ensures read { IfOk result (λ v. OverridesUnder (view value.now) (map override_row v.items)) }
+    ensures refused { IfErr result (Refuses ((os : List OverrideRow) × OverridesUnder (view value.now) os)) }
+{
+    let Some(found) = value.get("overrides") else {
+        return Ok(Vec::new(alloc));
+    };
+    match found.as_array() {
+        Some(values) => read_items(alloc, path, values.as_slice()),
+        None => Err(wrong_under(alloc, path, "overrides", "a list")?),
+    }
+}

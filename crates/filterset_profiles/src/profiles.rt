@@ -1,0 +1,91 @@
+//! Reads profiles.
+ghost use Rattle.std.specs.Prelude.{◌≡◌, List, Some, IfErr, IfOk, map};
+ghost use Rattle.toml.specs.Parse.{parse_document};
+ghost use Rattle.toml.specs.View.{table_view, view};
+ghost use Rattle.filterset_profiles.specs.Profiles.{AreProfiles, HasProfiles, IsProfile, ProfileRow, ProfilesUnder, profile_row};
+ghost use Rattle.filterset_profiles.specs.Refusals.{Refuses, RefusesText};
+
+use crate::overrides::{Override, read_overrides};
+use crate::refusal::ProfileRefusal;
+use crate::values::{read_text, wrong_at};
+use std::alloc::{AllocError, Global};
+use toml::{Table, Value};
+
+/// A profile.
+#[derive(Debug, Drop)]
+pub struct Profile {
+    pub name: String,
+    /// The profile that it falls back on, in place of `default`.
+    pub inherits: Option<String>,
+    pub default_filter: Option<String>,
+    /// The overrides, in the order of the file.
+    pub overrides: Vec<Override>,
+}
+
+/// Reads a profile.
+fn read_profile(alloc: Global, name: &str, value: &Value) -> Result<Profile, ProfileRefusal>
+    ensures read { IfOk result (λ p. IsProfile name.now (view value.now) (profile_row p)) }
+    ensures refused { IfErr result (Refuses ((p : ProfileRow) × IsProfile name.now (view value.now) p)) }
+{
+    let path = format!(in alloc; "profile.{name}")?;
+    let path = path.as_str();
+    if !value.is_table() {
+        return Err(wrong_at(alloc, path, "a table")?);
+    }
+    Ok(Profile {
+        name: String::from_str(alloc, name)?,
+        inherits: read_text(alloc, path, value, "inherits")?,
+        default_filter: read_text(alloc, path, value, "default-filter")?,
+        overrides: read_overrides(alloc, path, value)?,
+    })
+}
+
+/// Reads each profile of a table.
+fn read_members(alloc: Global, table: &Table) -> Result<Vec<Profile>, ProfileRefusal>
+    ensures read { IfOk result (λ v. AreProfiles (table_view table.now) (map profile_row v.items)) }
+    ensures refused { IfErr result (Refuses ((ps : List ProfileRow) × AreProfiles (table_view table.now) ps)) }
+{
+    let mut profiles = Vec::with_capacity(alloc, table.len())?;
+    for (name, value) in table.iter() {
+        profiles.push(read_profile(alloc, name.as_str(), value)?)?;
+    }
+    Ok(profiles)
+}
+
+/// Reads the profiles of a file.
+fn read_file(alloc: Global, file: &Value) -> Result<Vec<Profile>, ProfileRefusal>
+    ensures read { IfOk result (λ v. ProfilesUnder (view file.now) (map profile_row v.items)) }
+    ensures refused { IfErr result (Refuses ((ps : List ProfileRow) × ProfilesUnder (view file.now) ps)) }
+{
+    let Some(found) = file.get("profile") else {
+        return Ok(Vec::new(alloc));
+    };
+    match found.as_table() {
+        Some(table) => read_members(alloc, table),
+        None => Err(wrong_at(alloc, "profile", "a table")?),
+    }
+}
+
+/// Parses a text as TOML.
+fn read_toml(alloc: Global, text: &str) -> Result<Table, ProfileRefusal>
+    ensures read { IfOk result (λ file. parse_document text.now ≡ Some (table_view file)) }
+    ensures refused { IfErr result (RefusesText text.now) }
+{
+    match toml::table_from_str(alloc, text) {
+        Ok(file) => Ok(file),
+        Err(error) => match error.span() {
+            Some(_) => Err(ProfileRefusal::NotToml(error)),
+            None => Err(ProfileRefusal::OutOfMemory(AllocError)),
+        },
+    }
+}
+
+/// Reads the profiles of a configuration, as `.config/nextest.toml` has them, by the order of their names. Ignores all
+/// other keys.
+pub fn read_profiles(alloc: Global, text: &str) -> Result<Vec<Profile>, ProfileRefusal>
+    ensures read { IfOk result (λ v. HasProfiles text.now (map profile_row v.items)) }
+    ensures refused { IfErr result (RefusesText text.now) }
+{
+    let file = Value::Table(read_toml(alloc, text)?);
+    read_file(alloc, &file)
+}
