@@ -44,4 +44,6 @@ places-all file rows (Err e) literals made others filtersets apart is says all a
 places-all file rows (Ok places) literals made others filtersets apart is says all among = λ at place found.
     let P : Text → Type 0 = λ t. IsConfiguration t others in
     let Q : List ConfiguredFilterset → Type 0 = λ fs. PlaceAt file literals rows (configured_rows fs) at place in
-    (literals, apart, others, subst P is says, subst Q all (among at place found))
+    let (row, other, here, there, read, numbered_as) = subst Q all (among at place found) in
+    let (number, among_literals, path, text, differs) = numbered_as in
+    (row, literals, number, others, other, here, read, apart, among_literals, subst P is says, there, path, text, differs)

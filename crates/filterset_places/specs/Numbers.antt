@@ -3,17 +3,14 @@ use Rattle.std.specs.Prelude.{◌≤◌, ◌++◌, ◌-◌, ℕ, suc, List, [], 
 use Rattle.filterset_json.specs.Shape.{Text}
 use Rattle.filterset_places.specs.declared.stretch.Stretch.{Stretch}
 
--- a number as a string of a file
-abbrev pub number_string : ℕ → Text
-number_string number = codes "'" ++ (decimal number ++ codes "'")
-
 -- The rest of a file from the offset `at` on, with its number in place of each of these stretches, of which the first has this
 -- number.
 abbrev pub numbered_from : ℕ → ℕ → Text → List Stretch → Text
 numbered_from at number rest [] = rest
 numbered_from at number rest (s ∷ ss) =
     take (s.from - at) rest
-    ++ (number_string number ++ numbered_from s.to (suc number) (drop (s.to - s.from) (drop (s.from - at) rest)) ss)
+    ++ (codes "'" ++ (decimal number ++ (codes "'"
+    ++ numbered_from s.to (suc number) (drop (s.to - s.from) (drop (s.from - at) rest)) ss)))
 
 -- the file with its number in place of each of these stretches
 abbrev pub numbered : Text → List Stretch → Text

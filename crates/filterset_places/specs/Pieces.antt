@@ -15,6 +15,17 @@ read_piece delimiter rest =
     if is_plain delimiter.byte delimiter.is_multi (first rest) then Some (Some (first rest ∷ []), drop 1 rest)
     else special delimiter.byte delimiter.is_multi rest
 
+-- From the offset `at` of the file on, the grammar reads this text, each of its bytes from the piece at its origin, up to the
+-- closing delimiter at `end`, which `after` follows.
+pub data IsReadFrom (delimiter : Delimiter) (file after : Text) (end : ℕ) : ℕ → Text → List Stretch → Type 0 where
+  no_piece : read_piece delimiter (drop end file) ≡ Some (None, after) → IsReadFrom delimiter file after end end [] []
+  next_piece : {at to : ℕ} {bytes text : Text} {origins : List Stretch}
+      → read_piece delimiter (drop at file) ≡ Some (Some bytes, drop to file) → IsReadFrom delimiter file after end to text origins
+      → IsReadFrom delimiter file after end at (bytes ++ text)
+      (replicate (length bytes) (record { from = at; to = to }) ++ origins)
+
+-- ---- the same by a list of pieces, as the code finds them
+
 -- a piece of a string: where it is in the file, and the bytes of the text that it stands for
 pub record Piece : Type 0 where
   pub stretch : Stretch

@@ -3,9 +3,19 @@ use Rattle.std.specs.Prelude.{◌≡◌, ◌==◌, ◌&&◌, ◌+◌, ℕ, Bool,
 use Rattle.toml_parser.specs.Lexical.{first}
 use Rattle.toml_parser.specs.Strings.{quoted}
 use Rattle.filterset_json.specs.Shape.{Text}
-use Rattle.filterset_places.specs.Pieces.{IsContent}
+use Rattle.filterset_places.specs.Pieces.{IsReadFrom}
 use Rattle.filterset_places.specs.declared.content.Delimiter.{Delimiter}
 use Rattle.filterset_places.specs.declared.place.Place.{Place}
+
+-- At the place's literal in the file, the grammar reads a string as this text. Behind its opening delimiter, from `start` on,
+-- each byte of the text is read from the piece that is its origin, up to the closing delimiter at the place's end.
+abbrev pub IsPlaceOf : Text → Text → Place → Type 0
+IsPlaceOf file text place =
+    (delimiter : Delimiter) × (start : ℕ) × (after : Text) × (quoted (drop place.literal.from file) ≡ Some (text, after))
+    × (length after + place.literal.to ≡ length file)
+    × IsReadFrom delimiter file after place.end start text place.origins.items
+
+-- ---- what the code looks at
 
 -- a string has three delimiters at its front
 abbrev pub is_multi_line : Text → Bool
@@ -21,15 +31,3 @@ opening_length string =
     then if slice_index string 3 == 10 then 4
     else if slice_index string 3 == 13 && slice_index string 4 == 10 then 5 else 3
     else 1
-
--- the grammar reads the string at the front as this text, and `after` follows it
-abbrev pub IsReadAs : Text → Text → Text → Type 0
-IsReadAs string text after = quoted string ≡ Some (text, after)
-
--- At the place's literal in the file, the grammar reads a string as this text. Each byte of the text has as its origin the piece
--- of the string that it was read from, and the string's closing delimiter is at the place's end.
-abbrev pub IsPlaceOf : Text → Text → Place → Type 0
-IsPlaceOf file text place =
-    let string = drop place.literal.from file in
-    (after : Text) × IsReadAs string text after × (length after + place.literal.to ≡ length file)
-    × IsContent (delimiter_of string) file (place.literal.from + opening_length string) after text place.origins.items place.end

@@ -16,8 +16,7 @@ pub struct Place {
 }
 
 impl Place {
-    ghost use Rattle.filterset_faults.specs.Span.{offset_of};
-    ghost use Rattle.filterset_places.specs.Places.{origin_at, span_end};
+    ghost use Rattle.filterset_places.specs.Places.{file_span, origin_at};
 
     /// Returns what the byte at an offset of the filterset was read from. At the filterset's end or behind it, this is the
     /// empty stretch before the closing delimiter.
@@ -38,16 +37,15 @@ impl Place {
         self.origin_of(offset).from
     }
 
-    /// Returns the stretch of the file that a span of the filterset was read from.
-    pub fn stretch_of(&self, span: SourceSpan) -> Stretch
-        ensures from { result.from ≡ (origin_at self.now (offset_of span)).from }
-        ensures to { result.to ≡ span_end self.now span }
+    /// Returns the span of the file that a span of the filterset was read from.
+    pub fn file_span(&self, span: SourceSpan) -> SourceSpan
+        ensures { result ≡ file_span self.now span }
     {
         let from = self.position_of(span.offset());
         let to = match span.len() {
             0 => from,
             length => self.origin_of(span.offset().saturating_add(length - 1)).to,
         };
-        Stretch { from, to }
+        SourceSpan::new(from, to.saturating_sub(from))
     }
 }

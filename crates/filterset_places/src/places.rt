@@ -1,7 +1,7 @@
 //! The places of a configuration's filtersets.
-ghost use Rattle.std.specs.Prelude.{◌≡◌, IfOk, IfSome, Some, slice_get};
+ghost use Rattle.std.specs.Prelude.{◌≡◌, IfOk, IfSome, Some, option_map, slice_get};
 ghost use Rattle.filterset_sources.specs.Configurations.{IsConfiguration, configured_row, configured_rows};
-ghost use Rattle.filterset_places.specs.Places.{ArePlaces, ArePlacesAmong, IsNumbered, PlaceAt};
+ghost use Rattle.filterset_places.specs.Places.{ArePlaces, ArePlacesAmong, IsNumbered, PlaceAt, place_at};
 
 use crate::numbering::{number_of, numbered};
 use crate::place::Place;
@@ -38,7 +38,7 @@ impl Places {
 
     /// Returns the place of the filterset at this position of the configuration, if it was found.
     pub fn get(&self, position: usize) -> Option<&Place>
-        ensures { IfSome result (λ place. slice_get self.now.places.items position ≡ Some (Some place.now)) }
+        ensures { option_map (λ p. p.now) result ≡ place_at self.now.places.items position }
     {
         match self.places.get(position) {
             Some(Some(place)) => Some(place),

@@ -1,9 +1,9 @@
 //! Reads a string of a file as a text.
-ghost use Rattle.std.specs.Prelude.{◌≡◌, ◌≢◌, ◌+◌, ◌≤◌, IfOk, IfSome, length, true};
+ghost use Rattle.std.specs.Prelude.{◌≡◌, ◌≢◌, ◌+◌, ◌≤◌, IfOk, IfSome, Some, length, true};
 ghost use Rattle.std.specs.Bool.{OnFalse, OnTrue};
-ghost use Rattle.toml_parser.specs.Strings.{starts_string};
+ghost use Rattle.toml_parser.specs.Strings.{quoted, starts_string};
 ghost use Rattle.filterset_json.specs.Shape.{Text};
-ghost use Rattle.filterset_places.specs.Strings.{IsPlaceOf, IsReadAs, delimiter_of, is_multi_line, opening_length};
+ghost use Rattle.filterset_places.specs.Strings.{IsPlaceOf, delimiter_of, is_multi_line, opening_length};
 
 use crate::content::{Delimiter, read_content};
 use crate::place::Place;
@@ -55,7 +55,7 @@ fn opening_length(string: &str) -> usize
 
 /// Returns whether the string at the front is read as `text`, and so many bytes are behind it.
 fn is_read_as(alloc: Global, string: &str, text: &str, behind: usize) -> Result<bool, AllocError>
-    ensures { IfOk result (λ is. OnTrue is ((after : Text) × IsReadAs string.now text.now after
+    ensures { IfOk result (λ is. OnTrue is ((after : Text) × (quoted string.now ≡ Some (text.now, after))
         × (length after ≡ behind))) }
 {
     if !starts_string(string) {
