@@ -1,6 +1,6 @@
 //! How texts are written in workflow commands.
 ghost use Rattle.std.specs.Prelude.{◌≡◌, ◌++◌, OnOk, string_bytes};
-ghost use Rattle.filterset_annotations.specs.Annotations.{escaped, escaped_char};
+ghost use Rattle.filterset_annotations.specs.Annotations.{escaped, written_in};
 
 use std::alloc::AllocError;
 
@@ -14,7 +14,7 @@ pub(crate) enum Part {
 
 /// Writes a character.
 fn push_char(output: &mut String, part: Part, c: char) -> Result<(), AllocError>
-    ensures { OnOk result (string_bytes output.new ≡ string_bytes output.old ++ escaped_char part c) }
+    ensures { OnOk result (string_bytes output.new ≡ string_bytes output.old ++ written_in part c) }
 {
     match (part, c) {
         (_, '%') => output.push_str("%25"),
@@ -28,7 +28,7 @@ fn push_char(output: &mut String, part: Part, c: char) -> Result<(), AllocError>
 
 /// Writes a text, with escapes for the characters that have a meaning.
 pub(crate) fn push_escaped(output: &mut String, part: Part, text: &str) -> Result<(), AllocError>
-    ensures { OnOk result (string_bytes output.new ≡ string_bytes output.old ++ escaped part text.now) }
+    ensures { OnOk result (string_bytes output.new ≡ string_bytes output.old ++ escaped (written_in part) text.now) }
 {
     for c in text.chars() {
         push_char(output, part, c)?;

@@ -7,6 +7,7 @@ use Rattle.serde_json.specs.Data.{Data}
 use Rattle.serde_json.specs.Written.{has_float}
 use Rattle.filterset_drawing.specs.Columns.{Text}
 use Rattle.filterset_drawing.specs.Json.{number_data, text_data, FaultData}
+use Rattle.filterset_drawing.specs.declared.source.FileSpan.{FileSpan}
 use Rattle.std.specs.Prelude.{Option, Some, None}
 use Rattle.std.specs.List.{AllZip}
 use Rattle.filterset_language.specs.Views.{tree_of}
@@ -18,13 +19,15 @@ use Rattle.nextest_filtering.specs.declared.filterset.ParseRefusal.{ParseRefusal
 use Rattle.nextest_filtering.specs.declared.filterset.ParseRefusal.TheVariants.{Faults}
 use Rattle.filterset_faults.specs.declared.parse_errors.FiltersetParseErrors.{FiltersetParseErrors}
 use Rattle.nextest_filtering.specs.declared.compile.context.KnownGroups.{KnownGroups}
+use Rattle.filterset_faults.specs.Faults.{span_of}
 use Rattle.filterset_faults.specs.declared.error.ParseSingleError.{ParseSingleError}
 use Rattle.filterset_answers.specs.Answers.{FaultsOf, no_texts, next_text, FormatsTexts, FormattedLine, FormattedLines, FormattedPart, TextFaults, has_some}
 use Rattle.filterset_answers.specs.Checked.{HasReadingFaults, TextRow}
 use Rattle.filterset_answers.specs.Compiled.{HasRefusal, IsFiltersetFor, IsParsedAs, those_of}
 use mir.Val.{bool_byte}
 use Rattle.filterset_answers.specs.Counts.{one_if}
-use Rattle.filterset_answers.specs.Forms.{FaultPiece, FaultPieces}
+use Rattle.filterset_answers.specs.Forms.{FaultPieces, WrittenIn}
+use Rattle.filterset_answers.specs.Placements.{Placement, file_part}
 use Rattle.filterset_answers.specs.declared.form.Form.{Form}
 
 -- the faults of one more text
@@ -63,8 +66,9 @@ text_data-has_float : (t : Option Text) → has_float (text_data t) ≡ false
 text_data-has_float None = refl
 text_data-has_float (Some t) = refl
 
-pub fault_has_no_float : (origin text : Text) (number : ℕ) (fault : ParseSingleError) (d : Data) → FaultData origin text number fault d → has_float d ≡ false
-fault_has_no_float origin text number fault d (place, at, is) =
+pub fault_has_no_float : (origin text : Text) (part : Option FileSpan) (number : ℕ) (fault : ParseSingleError) (d : Data)
+    → FaultData origin text part number fault d → has_float d ≡ false
+fault_has_no_float origin text part number fault d (here, there, at, in_file, is) =
     ap has_float is
     ∙ simp (number_data-has_float, text_data-has_float) refl
 
@@ -77,11 +81,13 @@ pub next_number_of : {A B : Type 0} (first : ℕ) (f : A → B) (xs : List A) (i
 next_number_of first f xs i lt = omega (arith, length-map (take i xs) f, length-take-le i xs (omega arith))
 
 -- the next fault
-pub FaultPieces-next : (form : Form) (origin text : Text) (number : ℕ) (faults : List ParseSingleError) (i : ℕ) (d : ParseSingleError) (pieces piece : Text)
-    → i < length faults → FaultPieces form origin text number (take i faults) pieces → FaultPiece form origin text number (get_or faults i d) piece
-    → FaultPieces form origin text number (take (i + 1) faults) (pieces ++ piece)
-FaultPieces-next form origin text number faults i d pieces piece lt are is =
-    rw (take_more faults i d lt) (Pieces-push (FaultPiece form origin text number) (take i faults) (get_or faults i d) pieces piece are is)
+pub FaultPieces-next : (form : Form) (origin text : Text) (place : Option Placement) (number : ℕ) (faults : List ParseSingleError) (i : ℕ) (d : ParseSingleError) (pieces piece : Text)
+    → i < length faults → FaultPieces form origin text place number (take i faults) pieces
+    → WrittenIn (file_part place (span_of (get_or faults i d))) form origin text number (get_or faults i d) piece
+    → FaultPieces form origin text place number (take (i + 1) faults) (pieces ++ piece)
+FaultPieces-next form origin text place number faults i d pieces piece lt are is =
+    let Writes : ParseSingleError → Text → Type 0 = λ fault. WrittenIn (file_part place (span_of fault)) form origin text number fault in
+    rw (take_more faults i d lt) (Pieces-push Writes (take i faults) (get_or faults i d) pieces piece are is)
 
 -- the line of the next text, as long as none has faults
 pub FormattedLines-next : (rows : List TextRow) (row : TextRow) (lines line : Text) (faulty : ℕ) (has : Bool)
@@ -104,12 +110,12 @@ some_is [] none = absurd (none refl)
 some_is (fault ∷ faults) some = refl
 
 -- the same faults of the same text
-pub FaultPieces-of : (form : Form) (number : ℕ) (piece origin origin' text text' : Text) (faults faults' : List ParseSingleError)
-    → origin ≡ origin' → text ≡ text' → faults ≡ faults' → FaultPieces form origin text number faults piece → FaultPieces form origin' text' number faults' piece
-FaultPieces-of form number piece origin origin' text text' faults faults' same_origin same_text same_faults pieces =
-    subst (λ o. FaultPieces form o text' number faults' piece) same_origin
-    (subst (λ t. FaultPieces form origin t number faults' piece) same_text
-    (subst (λ fs. FaultPieces form origin text number fs piece) same_faults pieces))
+pub FaultPieces-of : (form : Form) (number : ℕ) (place : Option Placement) (piece origin origin' text text' : Text) (faults faults' : List ParseSingleError)
+    → origin ≡ origin' → text ≡ text' → faults ≡ faults' → FaultPieces form origin text place number faults piece → FaultPieces form origin' text' place number faults' piece
+FaultPieces-of form number place piece origin origin' text text' faults faults' same_origin same_text same_faults pieces =
+    subst (λ o. FaultPieces form o text' place number faults' piece) same_origin
+    (subst (λ t. FaultPieces form origin t place number faults' piece) same_text
+    (subst (λ fs. FaultPieces form origin text place number fs piece) same_faults pieces))
 
 -- one more pair
 pub AllZip-push : {A B : Type 0} (R : A → B → Type 0) (xs : List A) (ys : List B) (x : A) (y : B) → AllZip R xs ys → R x y → AllZip R (xs ++ x ∷ []) (ys ++ y ∷ [])

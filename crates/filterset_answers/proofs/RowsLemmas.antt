@@ -8,7 +8,9 @@ use Rattle.filterset_drawing.specs.Columns.{Text}
 use Rattle.filterset_faults.specs.declared.kind.FiltersetKind.{FiltersetKind}
 use Rattle.filterset_answers.specs.Checked.{TextRow, text_row}
 use Rattle.filterset_answers.specs.declared.text.TextEntry.{TextEntry}
-use Rattle.filterset_answers.specs.Entries.{numbered_row, numbered_rows}
+use Rattle.filterset_answers.specs.Entries.{numbered_row, numbered_rows, placed_row}
+use Rattle.filterset_answers.specs.declared.entries.ConfiguredTexts.{ConfiguredTexts}
+use Rattle.filterset_sources.specs.declared.configuration.ConfiguredFilterset.{ConfiguredFilterset}
 
 -- one more element, with the number behind those of the others
 enumerate_from-push : {A : Type 0} (n : ℕ) (xs : List A) (x : A)
@@ -58,3 +60,18 @@ given_entry word kind texts i d entries entry lt are is =
     let next : i + 1 ≡ 1 + length (map (λ (t : Bor Text). t.now) (take i texts)) = omega (arith, length-map (take i texts) (λ (t : Bor Text). t.now), length-take-le i texts (omega arith)) in
     rw (take_more texts i d lt, map-append (λ (t : Bor Text). t.now) (take i texts) (get_or texts i d ∷ []))
     (numbered_entry word kind (map (λ (t : Bor Text). t.now) (take i texts)) entries (i + 1) (get_or texts i d).now entry are next is)
+
+-- the entry of the next filterset of a configuration
+pub placed_entry : (texts : ConfiguredTexts) (filtersets : List ConfiguredFilterset) (i : ℕ) (x : ConfiguredFilterset) (entries : List TextEntry) (entry : TextEntry)
+    → i < length filtersets → get_or filtersets i x ≡ x → map text_row entries ≡ map (placed_row texts) (enumerate_from 0 (take i filtersets))
+    → text_row entry ≡ placed_row texts (i, x)
+    → map text_row (entries ++ entry ∷ []) ≡ map (placed_row texts) (enumerate_from 0 (take (i + 1) filtersets))
+placed_entry texts filtersets i x entries entry lt at are is =
+    let before = take i filtersets in
+    let row : ℕ × ConfiguredFilterset → TextRow = placed_row texts in
+    let count : i ≡ 0 + length before = omega (arith, length-take-le i filtersets (omega arith)) in
+    map-append text_row entries (entry ∷ [])
+    ∙ ap (λ rows. rows ++ text_row entry ∷ []) are
+    ∙ ap (λ one. map row (enumerate_from 0 before) ++ one ∷ []) (is ∙ ap (λ n. row (n, x)) count)
+    ∙ sym (ap (map row) (enumerate_from-push 0 before x) ∙ map-append row (enumerate_from 0 before) ((0 + length before, x) ∷ []))
+    ∙ ap (λ fs. map row (enumerate_from 0 fs)) (sym (take_more filtersets i x lt ∙ ap (λ y. before ++ y ∷ []) at))

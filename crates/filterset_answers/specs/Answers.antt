@@ -11,7 +11,7 @@ use Rattle.filterset_answers.specs.Checked.{HasFaults, HasReadingFaults, TextRow
 use Rattle.filterset_answers.specs.Counts.{one_if}
 use Rattle.filterset_answers.specs.Forms.{FaultPieces}
 use Rattle.filterset_answers.specs.declared.form.Form.{Form}
-use Rattle.filterset_answers.specs.declared.form.Form.TheVariants.{Drawn, Json}
+use Rattle.filterset_answers.specs.declared.form.Form.TheVariants.{Drawn, Github, Json}
 use Rattle.filterset_answers.specs.declared.names.Names.{Names}
 
 -- ---- faults
@@ -24,7 +24,7 @@ has_some (fault ∷ faults) = true
 abbrev pub TextFaults : (TextRow → List ParseSingleError → Type 0) → Form → ℕ → TextRow → Bool → Text → Type 0
 TextFaults Has form number row has piece =
     (faults : List ParseSingleError) × Has row faults × (has ≡ has_some faults)
-    × FaultPieces form row.origin row.text number faults piece
+    × FaultPieces form row.origin row.text row.place number faults piece
 
 -- what is written of the faults of texts, of which the first has this number, and how many of them have any
 pub data FaultsOf (Has : TextRow → List ParseSingleError → Type 0) (form : Form) :
@@ -55,6 +55,7 @@ counts_text names count faulty =
 abbrev pub summary : Form → Names → ℕ → ℕ → Text
 summary (Drawn color) names count faulty = counts_text names count faulty
 summary Json names count faulty = []
+summary Github names count faulty = []
 
 -- what checking texts answers
 abbrev pub ChecksTexts : Names → Form → List TextRow → ℕ → Text → Type 0

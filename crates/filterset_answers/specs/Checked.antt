@@ -1,5 +1,5 @@
 -- Which faults a text has.
-use Rattle.std.specs.Prelude.{◌≡◌, ◌⊎◌, List, [], filter, string_bytes}
+use Rattle.std.specs.Prelude.{◌≡◌, ◌⊎◌, List, [], Option, None, filter, option_map, string_bytes}
 use Rattle.filterset_drawing.specs.Columns.{Text}
 use Rattle.filterset_faults.specs.declared.error.ParseSingleError.{ParseSingleError}
 use Rattle.filterset_faults.specs.declared.kind.FiltersetKind.{FiltersetKind}
@@ -8,17 +8,24 @@ use Rattle.filterset_grammar.specs.Tree.{Tree}
 use Rattle.filterset_language.specs.Parsed.{IsUnreadWith, Reads}
 use Rattle.nextest_filtering.specs.Compiling.{IsFiltersetOf, IsRefusedWith, packages_of}
 use Rattle.filterset_answers.specs.Names.{is_judged}
+use Rattle.filterset_answers.specs.Placements.{Placement, placement_of}
 use Rattle.filterset_answers.specs.declared.names.Names.{Names}
 use Rattle.filterset_answers.specs.declared.text.TextEntry.{TextEntry}
 
--- a filterset's text, what it is to be, and where it stands
+-- a filterset's text, what it is to be, and where it stands, also in a file
 pub record TextRow : Type 0 where
   pub origin : Text
   pub kind : FiltersetKind
   pub text : Text
+  pub place : Option Placement
+
+-- a text that is in no file
+abbrev pub row_of : Text → FiltersetKind → Text → TextRow
+row_of origin kind text = record { origin = origin; kind = kind; text = text; place = None }
 
 abbrev pub text_row : TextEntry → TextRow
-text_row entry = record { origin = string_bytes entry.origin; kind = entry.kind; text = entry.text.now }
+text_row entry =
+    record (row_of (string_bytes entry.origin) entry.kind entry.text.now) { place = option_map placement_of entry.place }
 
 -- The faults of a text, as far as names are known: none where it is a filterset of its kind over the packages and
 -- groups, and else those that refuse it, without those that are about names of which not enough is known.

@@ -41,7 +41,7 @@ abbrev pub IsParsedAs :
 IsParsedAs packages groups form number row (Some made) piece = (piece ≡ []) × IsFiltersetFor packages groups row made
 IsParsedAs packages groups form number row None piece =
     (faults : List ParseSingleError) × IsRefusedWith row.text row.kind packages groups faults
-    × FaultPieces form row.origin row.text number faults piece
+    × FaultPieces form row.origin row.text row.place number faults piece
 
 -- the value, if there is one
 abbrev pub those_of : {A : Type 0} → Option A → List A

@@ -1,16 +1,16 @@
 -- Which texts commands check, format or ask, as rows: where a text comes from, what it has to be, and the text.
-use Rattle.std.specs.Prelude.{ℕ, ◌++◌, List, [], ◌∷◌, codes, decimal, map, string_bytes}
+use Rattle.std.specs.Prelude.{ℕ, ◌++◌, List, [], ◌∷◌, Option, codes, decimal, map, option_map, string_bytes}
 use Rattle.std.specs.List.{enumerate_from}
 use Rattle.filterset_drawing.specs.Columns.{Text}
 use Rattle.filterset_faults.specs.declared.kind.FiltersetKind.{FiltersetKind}
 use Rattle.filterset_faults.specs.declared.kind.FiltersetKind.TheVariants as kinds
 use Rattle.filterset_sources.specs.declared.configuration.ConfiguredFilterset.{ConfiguredFilterset}
-use Rattle.filterset_answers.specs.Checked.{TextRow}
+use Rattle.filterset_places.specs.Places.{place_at}
+use Rattle.filterset_answers.specs.Checked.{TextRow, row_of}
+use Rattle.filterset_answers.specs.Placements.{Placement}
+use Rattle.filterset_answers.specs.declared.entries.ConfiguredTexts.{ConfiguredTexts}
 use Rattle.filterset_answers.specs.declared.question.Question.{Question}
 use Rattle.filterset_answers.specs.declared.question.Question.TheVariants as questions
-
-abbrev pub row_of : Text → FiltersetKind → Text → TextRow
-row_of origin kind text = record { origin = origin; kind = kind; text = text }
 
 -- the row of a text that is called by a word and a number, as `argument 2`
 abbrev pub numbered_row : Text → FiltersetKind → ℕ → Text → TextRow
@@ -22,11 +22,21 @@ numbered_rows word kind texts =
     map (λ (numbered : ℕ × Text). numbered_row word kind numbered.0 numbered.1) (enumerate_from 1 texts)
 
 -- a filterset of a configuration is called by its path
-abbrev pub file_row : ConfiguredFilterset → TextRow
-file_row filterset = row_of (string_bytes filterset.path) filterset.kind (string_bytes filterset.text)
+abbrev pub file_row : Option Placement → ConfiguredFilterset → TextRow
+file_row place filterset =
+    record (row_of (string_bytes filterset.path) filterset.kind (string_bytes filterset.text)) { place = place }
 
-abbrev pub file_rows : List ConfiguredFilterset → List TextRow
-file_rows filtersets = map file_row filtersets
+-- where the filterset at this position is in the file, if it was found there
+abbrev pub placement_at : ConfiguredTexts → ℕ → Option Placement
+placement_at texts at =
+    option_map (λ p. record { file = texts.file; place = p }) (place_at texts.places.now.places.items at)
+
+abbrev pub placed_row : ConfiguredTexts → ℕ × ConfiguredFilterset → TextRow
+placed_row texts numbered = file_row (placement_at texts numbered.0) numbered.1
+
+-- the rows of a configuration's filtersets
+abbrev pub rows_in : ConfiguredTexts → List TextRow
+rows_in texts = map (placed_row texts) (enumerate_from 0 texts.filtersets.now)
 
 -- filtersets of a question have to be ones of tests
 abbrev pub test_row : Text → Text → TextRow

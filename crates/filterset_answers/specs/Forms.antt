@@ -1,29 +1,44 @@
 -- How faults are written.
-use Rattle.std.specs.Prelude.{◌≡◌, ◌++◌, ℕ, List, codes}
+use Rattle.std.specs.Prelude.{◌≡◌, ◌++◌, ℕ, List, Option, Some, None, codes}
 use Rattle.serde_json.specs.Data.{Data}
 use Rattle.serde_json.specs.Written.{compact_text}
+use Rattle.filterset_annotations.specs.Annotations.{annotation}
+use Rattle.filterset_annotations.specs.declared.annotation.Region.{Region}
 use Rattle.filterset_drawing.specs.Columns.{Text}
 use Rattle.filterset_drawing.specs.Drawings.{Drawing}
 use Rattle.filterset_drawing.specs.Json.{FaultData}
 use Rattle.filterset_drawing.specs.declared.color.Color.{Color}
-use Rattle.filterset_drawing.specs.declared.color.Color.TheVariants.{Never}
+use Rattle.filterset_drawing.specs.declared.source.FileSpan.{FileSpan}
+use Rattle.filterset_faults.specs.Faults.{code_of, message_of, span_of}
 use Rattle.filterset_faults.specs.declared.error.ParseSingleError.{ParseSingleError}
 use Rattle.filterset_io.specs.Pieces.{Pieces}
+use Rattle.filterset_answers.specs.Placements.{IsRegionOf, Placement, file_part}
 use Rattle.filterset_answers.specs.declared.form.Form.{Form}
-use Rattle.filterset_answers.specs.declared.form.Form.TheVariants.{Drawn, Json}
+use Rattle.filterset_answers.specs.declared.form.Form.TheVariants.{Drawn, Github, Json}
 
-abbrev pub color_of : Form → Color
-color_of (Drawn color) = color
-color_of Json = Never
+-- a drawing of a fault under its text, or, if the fault is in a file, under this, with a note that has the text's name
+abbrev pub IsDrawnIn : Option FileSpan → Color → Text → Text → ParseSingleError → Text → Type 0
+IsDrawnIn None color origin text fault drawing = Drawing color origin text (span_of fault) None fault drawing
+IsDrawnIn (Some part) color origin text fault drawing =
+    Drawing color part.file.now.origin.now part.file.now.text.now (Some part.span) (Some (codes "in " ++ origin)) fault drawing
 
--- What is written of a fault of the text with this number, which stands where `origin` says: a drawing and an empty
--- line, or a JSON object in a line.
-abbrev pub FaultPiece : Form → Text → Text → ℕ → ParseSingleError → Text → Type 0
-FaultPiece (Drawn color) origin text number fault piece =
-    (drawing : Text) × Drawing color origin text fault drawing × (piece ≡ drawing ++ codes "\n")
-FaultPiece Json origin text number fault piece =
-    (d : Data) × FaultData origin text number fault d × (piece ≡ compact_text d ++ codes "\n")
+-- an annotation of a fault in a region of a file, or, if it is in no file, with the text's name
+abbrev pub IsAnnotatedIn : Option FileSpan → Text → ParseSingleError → Text → Type 0
+IsAnnotatedIn None origin fault line =
+    line ≡ annotation None (code_of fault) (origin ++ (codes ": " ++ message_of fault))
+IsAnnotatedIn (Some part) origin fault line =
+    (region : Region) × IsRegionOf part region × (line ≡ annotation (Some region) (code_of fault) (message_of fault))
+
+-- What is written of a fault of the text with this number, which is in this part of a file, if it is in one: a drawing
+-- and an empty line, a JSON object in a line, or an annotation.
+abbrev pub WrittenIn : Option FileSpan → Form → Text → Text → ℕ → ParseSingleError → Text → Type 0
+WrittenIn part (Drawn color) origin text number fault piece =
+    (drawing : Text) × IsDrawnIn part color origin text fault drawing × (piece ≡ drawing ++ codes "\n")
+WrittenIn part Json origin text number fault piece =
+    (d : Data) × FaultData origin text part number fault d × (piece ≡ compact_text d ++ codes "\n")
+WrittenIn part Github origin text number fault piece = IsAnnotatedIn part origin fault piece
 
 -- what is written of faults, one after the other
-abbrev pub FaultPieces : Form → Text → Text → ℕ → List ParseSingleError → Text → Type 0
-FaultPieces form origin text number = Pieces (FaultPiece form origin text number)
+abbrev pub FaultPieces : Form → Text → Text → Option Placement → ℕ → List ParseSingleError → Text → Type 0
+FaultPieces form origin text place number =
+    Pieces (λ fault. WrittenIn (file_part place (span_of fault)) form origin text number fault)

@@ -1,6 +1,7 @@
 pub mod Counts
 pub mod Endings
 pub mod Names
+pub mod Placements
 pub mod Checked
 pub mod Forms
 pub mod Answers

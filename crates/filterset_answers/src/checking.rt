@@ -7,14 +7,13 @@ ghost use Rattle.filterset_answers.specs.Answers.{ChecksTexts, FaultsOf, TextFau
 ghost use Rattle.filterset_answers.specs.Answers.{counts_text, summary, unchecked_groups, unchecked_packages};
 ghost use Rattle.filterset_answers.specs.Checked.{HasFaults, text_row};
 ghost use Rattle.filterset_answers.specs.Endings.{ending_of};
-ghost use Rattle.filterset_answers.specs.Entries.{file_rows};
+ghost use Rattle.filterset_answers.specs.Entries.{rows_in};
 
-use crate::entries::configured_entries;
+use crate::entries::{ConfiguredTexts, configured_entries};
 use crate::faults::faults_of;
 use crate::form::{Form, has_some, push_faults};
 use crate::names::Names;
 use crate::text::{Answer, TextEntry, ending_of};
-use filterset_sources::ConfiguredFilterset;
 use std::alloc::{AllocError, Global};
 use std::fmt::Write;
 
@@ -32,15 +31,7 @@ fn push_text(
         × TextFaults (HasFaults names.now) form number (text_row entry.now) has piece) }
 {
     let faults = faults_of(alloc, names, entry)?;
-    push_faults(
-        output,
-        alloc,
-        form,
-        entry.origin.as_str(),
-        entry.text,
-        number,
-        faults.as_slice(),
-    )?;
+    push_faults(output, alloc, form, entry, number, faults.as_slice())?;
     Ok(has_some(faults.as_slice()))
 }
 
@@ -96,7 +87,7 @@ fn push_summary(
 {
     match form {
         Form::Drawn(_) => push_counts(output, names, count, faulty),
-        Form::Json => Ok(()),
+        Form::Json | Form::Github => Ok(()),
     }
 }
 
@@ -153,13 +144,14 @@ pub fn check(
 /// Makes the entries of a configuration's filtersets, and after them those of other texts.
 fn all_entries<'t>(
     alloc: Global,
-    filtersets: &'t [ConfiguredFilterset],
+    configured: ConfiguredTexts<'t>,
     given: Vec<TextEntry<'t>>,
 ) -> Result<Vec<TextEntry<'t>>, AllocError>
-    ensures { IfOk result (λ all. map text_row all.items ≡ file_rows filtersets.now ++ map text_row given.entry.items) }
+    ensures { IfOk result (λ all.
+        map text_row all.items ≡ rows_in configured.entry ++ map text_row given.entry.items) }
 {
     let mut given = given;
-    let mut all = configured_entries(alloc, filtersets)?;
+    let mut all = configured_entries(alloc, configured)?;
     all.append(&mut given)?;
     Ok(all)
 }
@@ -171,14 +163,14 @@ pub fn check_configured<'t>(
     alloc: Global,
     names: &Names<'_>,
     form: Form,
-    filtersets: &'t [ConfiguredFilterset],
+    configured: ConfiguredTexts<'t>,
     given: Vec<TextEntry<'t>>,
 ) -> Result<Answer, AllocError>
     requires { IsKnown names.now.known_groups }
     ensures { IfOk result (λ answer. (faulty : ℕ) × ChecksTexts names.now form
-        (file_rows filtersets.now ++ map text_row given.entry.items) faulty (string_bytes answer.text)
+        (rows_in configured.entry ++ map text_row given.entry.items) faulty (string_bytes answer.text)
         × (answer.ending ≡ ending_of faulty)) }
 {
-    let entries = all_entries(alloc, filtersets, given)?;
+    let entries = all_entries(alloc, configured, given)?;
     check(alloc, names, form, entries.as_slice())
 }

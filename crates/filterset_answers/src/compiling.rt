@@ -49,8 +49,14 @@ pub fn parse_entry(
         Ok(filterset) => Ok(Some(filterset)),
         Err(refusal) => {
             let refused = refusal.into_faults()?;
-            let (origin, faults) = (entry.origin.as_str(), refused.errors.as_slice());
-            push_faults(output, alloc, form, origin, entry.text, number, faults)?;
+            push_faults(
+                output,
+                alloc,
+                form,
+                entry,
+                number,
+                refused.errors.as_slice(),
+            )?;
             Ok(None)
         }
     }

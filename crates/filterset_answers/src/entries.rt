@@ -1,12 +1,16 @@
 //! The texts that commands are about, each with where it comes from.
-ghost use Rattle.std.specs.Prelude.{◌≡◌, ◌∷◌, [], IfOk, codes, map};
+ghost use Rattle.std.specs.Prelude.{◌≡◌, ◌∷◌, [], IfOk, codes, map, option_map};
 ghost use Rattle.std.specs.Str.Lines.{lines};
-ghost use Rattle.filterset_answers.specs.Checked.{text_row};
-ghost use Rattle.filterset_answers.specs.Entries.{default_row, file_row, file_rows, numbered_row, numbered_rows};
-ghost use Rattle.filterset_answers.specs.Entries.{question_rows, row_of, test_row};
+ghost use Rattle.filterset_answers.specs.Checked.{row_of, text_row};
+ghost use Rattle.filterset_answers.specs.Entries.{default_row, file_row, numbered_row, numbered_rows};
+ghost use Rattle.filterset_answers.specs.Entries.{placement_at, question_rows, rows_in, test_row};
+ghost use Rattle.filterset_answers.specs.Placements.{placement_of};
 
+use crate::place::FilePlace;
 use crate::question::Question;
 use crate::text::TextEntry;
+use filterset_drawing::Source;
+use filterset_places::Places;
 use filterset_sources::ConfiguredFilterset;
 use nextest_filtering::FiltersetKind;
 use std::alloc::{AllocError, Global};
@@ -25,6 +29,7 @@ fn numbered_entry<'t>(
         origin: format!(in alloc; "{word} {number}")?,
         kind,
         text,
+        place: None,
     })
 }
 
@@ -74,33 +79,59 @@ pub fn entry_of<'t>(
         origin: String::from_str(alloc, origin)?,
         kind,
         text,
+        place: None,
     })
 }
 
+/// The filtersets of a configuration, its file, and where they are in it.
+#[derive(Clone, Copy, Debug)]
+pub struct ConfiguredTexts<'t> {
+    pub file: &'t Source<'t>,
+    pub filtersets: &'t [ConfiguredFilterset],
+    pub places: &'t Places,
+}
+
+/// Returns the place of the filterset at a position of a configuration, if it was found.
+fn place_at<'t>(configured: ConfiguredTexts<'t>, position: usize) -> Option<FilePlace<'t>>
+    ensures { option_map placement_of result ≡ placement_at configured.entry position }
+{
+    match configured.places.get(position) {
+        Some(place) => Some(FilePlace {
+            file: configured.file,
+            place,
+        }),
+        None => None,
+    }
+}
+
 /// Makes an entry of a filterset of a configuration, called by its path.
-fn configured_entry(
+fn configured_entry<'t>(
     alloc: Global,
-    filterset: &ConfiguredFilterset,
-) -> Result<TextEntry<'_>, AllocError>
-    ensures { IfOk result (λ entry. text_row entry ≡ file_row filterset.now) }
+    filterset: &'t ConfiguredFilterset,
+    place: Option<FilePlace<'t>>,
+) -> Result<TextEntry<'t>, AllocError>
+    ensures { IfOk result (λ entry.
+        text_row entry ≡ file_row (option_map placement_of place.entry) filterset.entry.now) }
 {
     Ok(TextEntry {
         origin: String::from_str(alloc, filterset.path.as_str())?,
         kind: filterset.kind,
         text: filterset.text.as_str(),
+        place,
     })
 }
 
 /// Makes an entry of each filterset of a configuration.
-pub fn configured_entries(
+pub fn configured_entries<'t>(
     alloc: Global,
-    filtersets: &[ConfiguredFilterset],
-) -> Result<Vec<TextEntry<'_>>, AllocError>
-    ensures { IfOk result (λ entries. map text_row entries.items ≡ file_rows filtersets.now) }
+    configured: ConfiguredTexts<'t>,
+) -> Result<Vec<TextEntry<'t>>, AllocError>
+    ensures { IfOk result (λ entries. map text_row entries.items ≡ rows_in configured.entry) }
 {
-    let mut entries = Vec::with_capacity(alloc, filtersets.len())?;
-    for filterset in filtersets {
-        entries.push(configured_entry(alloc, filterset)?)?;
+    let mut entries = Vec::with_capacity(alloc, configured.filtersets.len())?;
+    for (i, filterset) in configured.filtersets.iter().enumerate() {
+        let place = place_at(configured, i);
+        entries.push(configured_entry(alloc, filterset, place)?)?;
     }
     Ok(entries)
 }

@@ -1,14 +1,19 @@
 //! How faults are written.
-ghost use Rattle.std.specs.Prelude.{◌≡◌, ◌++◌, IfOk, OnOk, codes, string_bytes};
+ghost use Rattle.std.specs.Prelude.{◌≡◌, ◌++◌, IfOk, OnOk, Some, codes, option_map, string_bytes};
 ghost use Rattle.serde_json.specs.Data.{Data};
 ghost use Rattle.serde_json.specs.Written.{compact_text};
 ghost use Rattle.filterset_drawing.specs.Columns.{Text};
 ghost use Rattle.filterset_drawing.specs.Drawings.{Drawing};
 ghost use Rattle.filterset_drawing.specs.Json.{FaultData};
 ghost use Rattle.filterset_answers.specs.Answers.{has_some};
-ghost use Rattle.filterset_answers.specs.Forms.{FaultPiece, FaultPieces, color_of};
+ghost use Rattle.filterset_answers.specs.Checked.{text_row};
+ghost use Rattle.filterset_answers.specs.Forms.{FaultPieces, IsAnnotatedIn, IsDrawnIn, WrittenIn};
+ghost use Rattle.filterset_answers.specs.Placements.{placement_of};
 
-use filterset_drawing::{Color, Source, draw, fault_json};
+use crate::place::{FilePlace, file_part, region_of};
+use crate::text::TextEntry;
+use filterset_annotations::push_annotation;
+use filterset_drawing::{Color, FileSpan, Source, draw, draw_at, fault_json};
 use nextest_filtering::ParseSingleError;
 use std::alloc::{AllocError, Global};
 
@@ -19,17 +24,52 @@ pub enum Form {
     Drawn(Color),
     /// As JSON, one object a line.
     Json,
+    /// As commands of a GitHub workflow, one a line.
+    Github,
 }
 
-impl Form {
-    /// Returns whether drawings have colours.
-    fn color(self) -> Color
-        ensures { result ≡ color_of self }
-    {
-        match self {
-            Form::Drawn(color) => color,
-            Form::Json => Color::Never,
-        }
+/// Draws a fault in the file that its text was read from, with a note that has the text's name.
+fn draw_in_file(
+    output: &mut String,
+    alloc: Global,
+    color: Color,
+    name: &str,
+    part: FileSpan<'_>,
+    fault: &ParseSingleError,
+) -> Result<(), AllocError>
+    ensures { let file = part.entry.file.now in OnOk result ((drawing : Text)
+        × (string_bytes output.new ≡ string_bytes output.old ++ drawing)
+        × Drawing color file.origin.now file.text.now (Some part.entry.span) (Some (codes "in " ++ name.now))
+        fault.now drawing) }
+{
+    let note = format!(in alloc; "in {name}")?;
+    draw_at(
+        output,
+        alloc,
+        color,
+        part.file,
+        Some(part.span),
+        Some(note.as_str()),
+        fault,
+    )
+}
+
+/// Draws a fault under its text, or in its file, if it is in one.
+fn draw_fault(
+    output: &mut String,
+    alloc: Global,
+    color: Color,
+    source: &Source<'_>,
+    part: Option<FileSpan<'_>>,
+    fault: &ParseSingleError,
+) -> Result<(), AllocError>
+    ensures { let source = source.now in OnOk result ((drawing : Text)
+        × (string_bytes output.new ≡ string_bytes output.old ++ drawing)
+        × IsDrawnIn part.entry color source.origin.now source.text.now fault.now drawing) }
+{
+    match part {
+        None => draw(output, alloc, color, source, fault),
+        Some(part) => draw_in_file(output, alloc, color, source.origin, part, fault),
     }
 }
 
@@ -37,32 +77,16 @@ impl Form {
 fn push_drawing(
     output: &mut String,
     alloc: Global,
+    color: Color,
     source: &Source<'_>,
+    part: Option<FileSpan<'_>>,
     fault: &ParseSingleError,
 ) -> Result<(), AllocError>
     ensures { let source = source.now in OnOk result ((drawing : Text)
         × (string_bytes output.new ≡ string_bytes output.old ++ (drawing ++ codes "\n"))
-        × Drawing source.color source.origin.now source.text.now fault.now drawing) }
+        × IsDrawnIn part.entry color source.origin.now source.text.now fault.now drawing) }
 {
-    draw(output, alloc, source, fault)?;
-    output.push_str("\n")?;
-    Ok(())
-}
-
-/// Writes a fault as a JSON object in a line.
-fn push_object(
-    output: &mut String,
-    alloc: Global,
-    source: &Source<'_>,
-    number: usize,
-    fault: &ParseSingleError,
-) -> Result<(), AllocError>
-    ensures { let source = source.now in OnOk result ((d : Data)
-        × (string_bytes output.new ≡ string_bytes output.old ++ (compact_text d ++ codes "\n"))
-        × FaultData source.origin.now source.text.now number fault.now d) }
-{
-    let object = object_of(alloc, source, number, fault)?;
-    output.push_str(object.as_str())?;
+    draw_fault(output, alloc, color, source, part, fault)?;
     output.push_str("\n")?;
     Ok(())
 }
@@ -71,33 +95,78 @@ fn push_object(
 fn object_of(
     alloc: Global,
     source: &Source<'_>,
+    part: Option<FileSpan<'_>>,
     number: usize,
     fault: &ParseSingleError,
 ) -> Result<String, AllocError>
     ensures { let source = source.now in IfOk result (λ text. (d : Data) × (string_bytes text ≡ compact_text d)
-        × FaultData source.origin.now source.text.now number fault.now d) }
+        × FaultData source.origin.now source.text.now part.entry number fault.now d) }
 {
-    let object = fault_json(alloc, source, number, fault)?;
+    let object = fault_json(alloc, source, number, fault, part)?;
     Ok(object.to_string(alloc)?)
 }
 
-/// Writes a fault of the text with this number.
+/// Writes a fault as a JSON object in a line.
+fn push_object(
+    output: &mut String,
+    alloc: Global,
+    source: &Source<'_>,
+    part: Option<FileSpan<'_>>,
+    number: usize,
+    fault: &ParseSingleError,
+) -> Result<(), AllocError>
+    ensures { let source = source.now in OnOk result ((d : Data)
+        × (string_bytes output.new ≡ string_bytes output.old ++ (compact_text d ++ codes "\n"))
+        × FaultData source.origin.now source.text.now part.entry number fault.now d) }
+{
+    let object = object_of(alloc, source, part, number, fault)?;
+    output.push_str(object.as_str())?;
+    output.push_str("\n")?;
+    Ok(())
+}
+
+/// Writes a fault as a command of a workflow.
+fn push_command(
+    output: &mut String,
+    alloc: Global,
+    name: &str,
+    part: Option<FileSpan<'_>>,
+    fault: &ParseSingleError,
+) -> Result<(), AllocError>
+    ensures { OnOk result ((line : Text) × (string_bytes output.new ≡ string_bytes output.old ++ line)
+        × IsAnnotatedIn part.entry name.now fault.now line) }
+{
+    match part {
+        None => {
+            let message = format!(in alloc; "{name}: {fault}")?;
+            push_annotation(output, None, fault.code(), message.as_str())
+        }
+        Some(part) => {
+            let region = region_of(part);
+            let message = format!(in alloc; "{fault}")?;
+            push_annotation(output, Some(&region), fault.code(), message.as_str())
+        }
+    }
+}
+
+/// Writes a fault of the text with this number, which is in this part of a file, if it is in one.
 fn push_fault(
     output: &mut String,
     alloc: Global,
     form: Form,
     source: &Source<'_>,
+    part: Option<FileSpan<'_>>,
     number: usize,
     fault: &ParseSingleError,
 ) -> Result<(), AllocError>
-    requires { source.now.color ≡ color_of form }
     ensures { let source = source.now in OnOk result ((piece : Text)
         × (string_bytes output.new ≡ string_bytes output.old ++ piece)
-        × FaultPiece form source.origin.now source.text.now number fault.now piece) }
+        × WrittenIn part.entry form source.origin.now source.text.now number fault.now piece) }
 {
     match form {
-        Form::Drawn(_) => push_drawing(output, alloc, source, fault),
-        Form::Json => push_object(output, alloc, source, number, fault),
+        Form::Drawn(color) => push_drawing(output, alloc, color, source, part, fault),
+        Form::Json => push_object(output, alloc, source, part, number, fault),
+        Form::Github => push_command(output, alloc, source.origin, part, fault),
     }
 }
 
@@ -106,34 +175,35 @@ pub fn push_faults(
     output: &mut String,
     alloc: Global,
     form: Form,
-    origin: &str,
-    text: &str,
+    entry: &TextEntry<'_>,
     number: usize,
     faults: &[ParseSingleError],
 ) -> Result<(), AllocError>
-    ensures { OnOk result ((piece : Text) × (string_bytes output.new ≡ string_bytes output.old ++ piece)
-        × FaultPieces form origin.now text.now number faults.now piece) }
+    ensures { let row = text_row entry.now in OnOk result ((piece : Text)
+        × (string_bytes output.new ≡ string_bytes output.old ++ piece)
+        × FaultPieces form row.origin row.text row.place number faults.now piece) }
 {
-    let source = Source::new(alloc, origin, text, form.color())?;
-    push_faults_of(output, alloc, form, &source, number, faults)
+    let source = Source::new(alloc, entry.origin.as_str(), entry.text)?;
+    push_faults_of(output, alloc, form, &source, entry.place, number, faults)
 }
 
-/// Writes the faults of the text with this number.
+/// Writes the faults of the text with this number, which is at this place of a file, if it is in one.
 fn push_faults_of(
     output: &mut String,
     alloc: Global,
     form: Form,
     source: &Source<'_>,
+    place: Option<FilePlace<'_>>,
     number: usize,
     faults: &[ParseSingleError],
 ) -> Result<(), AllocError>
-    requires { source.now.color ≡ color_of form }
     ensures { let source = source.now in OnOk result ((piece : Text)
         × (string_bytes output.new ≡ string_bytes output.old ++ piece)
-        × FaultPieces form source.origin.now source.text.now number faults.now piece) }
+        × FaultPieces form source.origin.now source.text.now (option_map placement_of place.entry) number faults.now piece) }
 {
     for fault in faults {
-        push_fault(output, alloc, form, source, number, fault)?;
+        let part = file_part(place, fault.span());
+        push_fault(output, alloc, form, source, part, number, fault)?;
     }
     Ok(())
 }

@@ -47,14 +47,13 @@ fn push_text(
         × FormattedPart has (text_row entry.now) line
         × TextFaults HasReadingFaults form number (text_row entry.now) has piece) }
 {
-    let (origin, text) = (entry.origin.as_str(), entry.text);
-    match parse_text(alloc, text)? {
+    match parse_text(alloc, entry.text)? {
         ParsedText::Tree(tree) => {
             writeln!(formatted, "{tree}")?;
             Ok(false)
         }
         ParsedText::Faults(faults) => {
-            push_faults(output, alloc, form, origin, text, number, faults.as_slice())?;
+            push_faults(output, alloc, form, entry, number, faults.as_slice())?;
             Ok(true)
         }
     }

@@ -2,6 +2,7 @@
 ghost use Rattle.std.specs.Prelude.{◌≡◌};
 ghost use Rattle.filterset_answers.specs.Endings.{differing_ending, ending_of};
 
+use crate::place::FilePlace;
 use nextest_filtering::FiltersetKind;
 
 /// A filterset's text, the kind of filterset that it has to be, and where it comes from, for people.
@@ -10,6 +11,8 @@ pub struct TextEntry<'t> {
     pub origin: String,
     pub kind: FiltersetKind,
     pub text: &'t str,
+    /// Where the text is in a file, if that is known.
+    pub place: Option<FilePlace<'t>>,
 }
 
 /// How a command ends.

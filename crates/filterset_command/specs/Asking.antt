@@ -6,7 +6,7 @@ use Rattle.serde_json.specs.View.{view}
 use Rattle.filterset_answers.specs.Binaries.{IsAsked}
 use Rattle.filterset_answers.specs.Picking.{AnswersQuestion}
 use Rattle.filterset_answers.specs.declared.form.Form.{Form}
-use Rattle.filterset_answers.specs.declared.form.Form.TheVariants.{Drawn, Json}
+use Rattle.filterset_answers.specs.declared.form.Form.TheVariants.{Json}
 use Rattle.filterset_answers.specs.declared.text.Ending.{Ending}
 use Rattle.filterset_drawing.specs.Columns.{Text}
 use Rattle.filterset_listing.specs.declared.binary.AskedBinary.{AskedBinary}
@@ -17,7 +17,7 @@ use Rattle.filterset_command.specs.declared.workspace.Workspace.{Workspace}
 -- what nextest wrote of the list, where an answer of this form is in its shape
 abbrev pub kept_of : Form → Data → Option Data
 kept_of Json list = Some list
-kept_of (Drawn color) list = None
+kept_of form list = None
 
 -- what is answered of the workspace that the files describe
 abbrev pub AnswersAsked : (Text → Option Text) → WorkspaceQuestion → Ending → Text → Type 0

@@ -11,6 +11,9 @@ const KINDS: [&str; 4] = ["test", "default", "override", "archive"];
 /// The values of `--message-format`.
 const FORMATS: [&str; 2] = ["human", "json"];
 
+/// The values of `--message-format` of `check`.
+const CHECK_FORMATS: [&str; 3] = ["human", "json", "github"];
+
 /// The values of `--color`.
 const COLORS: [&str; 2] = ["never", "always"];
 
@@ -33,12 +36,12 @@ fn color<'a>(alloc: Global) -> Arg<'a> {
         .help("whether the output has colours")
 }
 
-/// Makes the option of the output's form.
-fn message_format<'a>(alloc: Global) -> Arg<'a> {
+/// Makes the option of the output's form, one of these.
+fn message_format<'a>(alloc: Global, formats: &'a [&'a str]) -> Arg<'a> {
     Arg::new(alloc, "format")
         .long("message-format")
         .value_name("FORMAT")
-        .value_parser(FORMATS.as_slice())
+        .value_parser(formats)
         .default_value("human")
 }
 
@@ -76,7 +79,9 @@ fn check<'a>(alloc: Global) -> Result<Command<'a>, AllocError> {
         .arg(config(alloc))?
         .arg(metadata(alloc))?
         .arg(kind(alloc))?
-        .arg(message_format(alloc).help("how the faults are written"))?
+        .arg(message_format(alloc, CHECK_FORMATS.as_slice()).help(
+            "how the faults are written; `github` is for a workflow, which shows them in the diff",
+        ))?
         .arg(color(alloc))?;
     with_argument(command, texts(alloc).required_unless_present("config"))
 }
@@ -146,7 +151,7 @@ fn list<'a>(alloc: Global) -> Result<Command<'a>, AllocError> {
         )?;
     with_workspace(alloc, command)?
         .arg(ignore_default_filter(alloc))?
-        .arg(message_format(alloc).help(
+        .arg(message_format(alloc, FORMATS.as_slice()).help(
             "how the tests are written; `json` is nextest's own shape",
         ))?
         .arg(color(alloc))

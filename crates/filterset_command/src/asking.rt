@@ -28,7 +28,7 @@ fn kept_of(form: Form, list: Value) -> Option<Value>
 {
     match form {
         Form::Json => Some(list),
-        Form::Drawn(_) => None,
+        Form::Drawn(_) | Form::Github => None,
     }
 }
 

@@ -147,10 +147,11 @@ fn paths_of<'w>(matches: &ArgMatches<'w>) -> Result<WorkspacePaths<'w>, CommandF
     })
 }
 
-/// Returns the form of the answer: for people or as JSON.
+/// Returns the form of the answer: for people, as JSON or as commands of a workflow.
 fn form_of(matches: &ArgMatches<'_>) -> Form {
     match matches.get_str("format") {
         Some("json") => Form::Json,
+        Some("github") => Form::Github,
         _ => Form::Drawn(color_of(matches)),
     }
 }

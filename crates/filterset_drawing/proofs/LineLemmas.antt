@@ -8,7 +8,7 @@ use Rattle.std.proofs.lemmas.List.Sums.{sum_by-cons, sum_by_more}
 use Rattle.filterset_drawing.specs.Columns.{Text}
 use Rattle.filterset_drawing.specs.Cutting.{line_row, lines_of, numbered, reaches}
 use Rattle.filterset_drawing.specs.Lines.{IsLine, LineRow, column_of, pieces}
-use Rattle.filterset_drawing.specs.Locations.{StandsAt}
+use Rattle.filterset_drawing.specs.Locations.{StandsIn}
 use Rattle.filterset_drawing.specs.declared.line.Line.{Line}
 use Rattle.filterset_drawing.specs.declared.source.Location.{Location}
 
@@ -104,8 +104,8 @@ is-line text lines k d cut lt =
     subst (IsLine text) (sym (line-at text lines k d cut lt)) (row-is_line text k (omega (arith, length-lines text lines cut)))
 
 -- the first line that reaches a position is the one in which it stands
-pub stands : (text : Text) (lines : List Line) (k from : ℕ) (d : Line) (location : Location) → map line_row lines ≡ lines_of text → k < length lines → extent (take k (pieces text)) ≤ from → reaches from (line_row (get_or lines k d)) ≡ true → location.line ≡ (get_or lines k d).number → location.column ≡ column_of (line_row (get_or lines k d)) from + 1 → StandsAt text from location
-stands text lines k from d location cut lt passed reached number_is column_is =
+pub stands : (text : Text) (lines : List Line) (k from position : ℕ) (d : Line) (location : Location) → map line_row lines ≡ lines_of text → k < length lines → extent (take k (pieces text)) ≤ from → reaches from (line_row (get_or lines k d)) ≡ true → location.line ≡ (get_or lines k d).number → location.column ≡ column_of (line_row (get_or lines k d)) position + 1 → StandsIn text from position location
+stands text lines k from position d location cut lt passed reached number_is column_is =
     let line = get_or lines k d in
     let start : line.start ≡ extent (take k (pieces text)) = ap (λ l. l.start) (line-at text lines k d cut lt) in
     let end : from ≤ line.start + length line.text.now = leb-true from (line.start + length line.text.now) reached in

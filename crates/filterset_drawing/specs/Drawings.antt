@@ -1,7 +1,7 @@
 -- What `draw` writes about a fault.
 use Rattle.std.specs.Prelude.{◌≡◌, ℕ, ◌-◌, ◌++◌, List, [], Option, Some, None, codes, decimal, length, replicate}
 use Rattle.std.specs.List.{flat_map}
-use Rattle.filterset_faults.specs.Faults.{code_of, message_of, span_of, label_of, help_of}
+use Rattle.filterset_faults.specs.Faults.{code_of, message_of, label_of, help_of}
 use Rattle.filterset_faults.specs.declared.span.SourceSpan.{SourceSpan}
 use Rattle.filterset_faults.specs.declared.error.ParseSingleError.{ParseSingleError}
 use Rattle.filterset_drawing.specs.declared.color.Color.{Color}
@@ -65,15 +65,17 @@ abbrev pub label_part : Color → Option Text → Text
 label_part color None = []
 label_part color (Some label) = codes " " ++ (red_of color ++ (drawn label ++ plain_of color))
 
-abbrev pub help_part : Margin → Option Text → Text
-help_part margin None = []
-help_part margin (Some help) =
-    margin_line margin ++ (codes " =" ++ (plain_of margin.color ++ (codes " help: " ++ drawn help)))
+-- a remark below the lines of a drawing, after the word for its kind
+abbrev pub remark_part : Margin → Text → Option Text → Text
+remark_part margin word None = []
+remark_part margin word (Some remark) =
+    margin_line margin ++ (codes " =" ++ (plain_of margin.color ++ (codes " " ++ (word ++ (codes ": " ++ drawn remark)))))
 
--- A drawing of a fault under a text that stands where `origin` says.
-abbrev pub Drawing : Color → Text → Text → ParseSingleError → Text → Type 0
-Drawing color origin text fault drawing =
-    (part : Text) × DrawnSpan (margin_of color text) origin text (span_of fault) part
+-- A drawing of a fault at a span of a text that stands where `origin` says, with a note or without.
+abbrev pub Drawing : Color → Text → Text → Option SourceSpan → Option Text → ParseSingleError → Text → Type 0
+Drawing color origin text span note fault drawing =
+    (part : Text) × DrawnSpan (margin_of color text) origin text span part
     × (drawing ≡ header color fault
     ++ (part ++ (label_part color (label_of fault)
-    ++ (help_part (margin_of color text) (help_of fault) ++ codes "\n"))))
+    ++ (remark_part (margin_of color text) (codes "note") note
+    ++ (remark_part (margin_of color text) (codes "help") (help_of fault) ++ codes "\n")))))

@@ -1,11 +1,18 @@
 -- In which line and column a position of a text stands.
-use Rattle.std.specs.Prelude.{◌≡◌, ℕ, ◌+◌}
+use Rattle.std.specs.Prelude.{◌≡◌, ℕ, ◌+◌, ◌-◌, max}
 use Rattle.filterset_drawing.specs.declared.source.Location.{Location}
 use Rattle.filterset_drawing.specs.Columns.{Text}
 use Rattle.filterset_drawing.specs.Lines.{LineRow, IsIn, IsLine, column_of}
 
--- The position of the text that this many bytes stand before is in this line and this column. Both count from 1 on.
+-- The location of a position of the text, by the line that has the position `at`. Lines and columns count from 1 on.
+abbrev pub StandsIn : Text → ℕ → ℕ → Location → Type 0
+StandsIn text at position location =
+    (line : LineRow) × IsLine text line × IsIn line at
+    × (location.line ≡ line.number) × (location.column ≡ column_of line position + 1)
+
 abbrev pub StandsAt : Text → ℕ → Location → Type 0
-StandsAt text from location =
-    (line : LineRow) × IsLine text line × IsIn line from
-    × (location.line ≡ line.number) × (location.column ≡ column_of line from + 1)
+StandsAt text from location = StandsIn text from from location
+
+-- a stretch of the text ends in the line of its last byte
+abbrev pub EndsAt : Text → ℕ → ℕ → Location → Type 0
+EndsAt text from to location = StandsIn text (max from (to - 1)) to location

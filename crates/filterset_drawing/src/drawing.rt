@@ -1,8 +1,9 @@
 //! Faults drawn under their text.
-ghost use Rattle.std.specs.Prelude.{◌≡◌, ◌++◌, IfOk, OnOk, filter, map, option_map, string_bytes};
+ghost use Rattle.std.specs.Prelude.{◌≡◌, ◌++◌, IfOk, OnOk, None, codes, filter, map, option_map, string_bytes};
+ghost use Rattle.filterset_faults.specs.Faults.{span_of};
 ghost use Rattle.filterset_faults.specs.Label.{label_text, help_text};
 ghost use Rattle.filterset_drawing.specs.Columns.{Text};
-ghost use Rattle.filterset_drawing.specs.Drawings.{Drawing, DrawnSpan, bar, caret_line, header, help_part, label_part, location_part, margin_line, margin_of, marked_lines, text_line};
+ghost use Rattle.filterset_drawing.specs.Drawings.{Drawing, DrawnSpan, bar, caret_line, header, label_part, location_part, margin_line, margin_of, marked_lines, remark_part, text_line};
 ghost use Rattle.filterset_drawing.specs.Cutting.{is_touched, line_row};
 
 use crate::color::Color;
@@ -27,30 +28,50 @@ struct Margin {
 pub fn draw(
     drawing: &mut String,
     alloc: Global,
+    color: Color,
     source: &Source<'_>,
     fault: &ParseSingleError,
 ) -> Result<(), AllocError>
     ensures { let source = source.now in OnOk result ((piece : Text)
         × (string_bytes drawing.new ≡ string_bytes drawing.old ++ piece)
-        × Drawing source.color source.origin.now source.text.now fault.now piece) }
+        × Drawing color source.origin.now source.text.now (span_of fault.now) None fault.now piece) }
 {
-    let margin = margin_of(alloc, source)?;
-    push_header(drawing, alloc, margin.color, fault)?;
-    push_span(drawing, alloc, margin, source, fault.span())?;
-    push_label(drawing, alloc, margin.color, fault.label())?;
+    draw_at(drawing, alloc, color, source, fault.span(), None, fault)
+}
+
+/// Draws a fault as [`draw`] does, but under another text, such as the file that the fault's text was read from: at this
+/// span of it, and with a note before the help.
+///
+/// Returns an error only if out of memory.
+pub fn draw_at(
+    drawing: &mut String,
+    alloc: Global,
+    color: Color,
+    source: &Source<'_>,
+    span: Option<SourceSpan>,
+    note: Option<&str>,
+    fault: &ParseSingleError,
+) -> Result<(), AllocError>
+    ensures { let source = source.now in OnOk result ((piece : Text)
+        × (string_bytes drawing.new ≡ string_bytes drawing.old ++ piece)
+        × Drawing color source.origin.now source.text.now span (option_map (λ n. n.now) note.entry) fault.now piece) }
+{
+    let margin = margin_of(alloc, color, source)?;
+    push_header(drawing, alloc, color, fault)?;
+    push_span(drawing, alloc, margin, source, span)?;
+    push_label(drawing, alloc, color, fault.label())?;
+    push_remark(drawing, margin, "note", note)?;
     push_help(drawing, alloc, margin, fault.help())?;
     drawing.push_str("\n")
 }
 
 /// Returns the margin of a text. Its last line has the longest number.
-fn margin_of(alloc: Global, source: &Source<'_>) -> Result<Margin, AllocError>
-    ensures { IfOk result (λ margin. margin ≡ margin_of source.now.color source.now.text.now) }
+fn margin_of(alloc: Global, color: Color, source: &Source<'_>) -> Result<Margin, AllocError>
+    ensures { IfOk result (λ margin. margin ≡ margin_of color source.now.text.now) }
 {
     let count = source.lines.len();
-    Ok(Margin {
-        width: format!(in alloc; "{count}")?.len(),
-        color: source.color,
-    })
+    let width = format!(in alloc; "{count}")?.len();
+    Ok(Margin { width, color })
 }
 
 /// Writes the code and the message of a fault, on one line.
@@ -206,6 +227,25 @@ fn push_label(
     drawing.push_str(color.plain())
 }
 
+/// Writes a remark below the lines, after the word for its kind.
+fn push_remark(
+    drawing: &mut String,
+    margin: Margin,
+    word: &str,
+    remark: Option<&str>,
+) -> Result<(), AllocError>
+    ensures { OnOk result (string_bytes drawing.new
+        ≡ string_bytes drawing.old ++ remark_part margin word.now (option_map (λ r. r.now) remark.entry)) }
+{
+    let Some(remark) = remark else {
+        return Ok(());
+    };
+    let plain = margin.color.plain();
+    push_margin(drawing, margin)?;
+    write!(drawing, " ={plain} {word}: ")?;
+    push_drawn(drawing, remark)
+}
+
 /// Writes a help.
 fn push_help(
     drawing: &mut String,
@@ -214,14 +254,11 @@ fn push_help(
     help: Option<Help>,
 ) -> Result<(), AllocError>
     ensures { OnOk result (string_bytes drawing.new
-        ≡ string_bytes drawing.old ++ help_part margin (option_map help_text help)) }
+        ≡ string_bytes drawing.old ++ remark_part margin (codes "help") (option_map help_text help)) }
 {
     let Some(help) = help else {
         return Ok(());
     };
-    let plain = margin.color.plain();
     let help = format!(in alloc; "{help}")?;
-    push_margin(drawing, margin)?;
-    write!(drawing, " ={plain} help: ")?;
-    push_drawn(drawing, help.as_str())
+    push_remark(drawing, margin, "help", Some(help.as_str()))
 }

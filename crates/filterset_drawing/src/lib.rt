@@ -9,6 +9,6 @@ mod line;
 mod source;
 
 pub use color::Color;
-pub use drawing::draw;
+pub use drawing::{draw, draw_at};
 pub use json::fault_json;
-pub use source::{Location, Source};
+pub use source::{FileSpan, Location, Source};

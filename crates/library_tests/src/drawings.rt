@@ -6,9 +6,9 @@ use std::test::Fail;
 
 /// Draws a fault under `all()`.
 fn drawing(alloc: Global, fault: &ParseSingleError) -> Result<String, AllocError> {
-    let source = Source::new(alloc, "here", "all()", Color::Never)?;
+    let source = Source::new(alloc, "here", "all()")?;
     let mut drawing = String::new(alloc);
-    draw(&mut drawing, alloc, &source, fault)?;
+    draw(&mut drawing, alloc, Color::Never, &source, fault)?;
     Ok(drawing)
 }
 
@@ -55,11 +55,12 @@ fn draws_faults_of_no_text(rt: HostRuntime) -> Result<(), Fail> {
         let drawing = drawing(rt.alloc(), &fault)?;
         assert!(rt; drawing.as_str() == wanted, "{drawing}");
     }
-    let source = Source::new(rt.alloc(), "here", "x", Color::Never)?;
-    let json = fault_json(rt.alloc(), &source, 7, &ParseSingleError::Unknown)?;
+    let source = Source::new(rt.alloc(), "here", "x")?;
+    let json = fault_json(rt.alloc(), &source, 7, &ParseSingleError::Unknown, None)?;
     let json = json.to_string(rt.alloc())?;
     let wanted =
-        "{\"code\":\"Unknown\",\"column\":null,\"help\":null,\"label\":null,\"length\":null,\"line\":null,\
+        "{\"code\":\"Unknown\",\"column\":null,\"file\":null,\"file_column\":null,\"file_length\":null,\
+        \"file_line\":null,\"file_offset\":null,\"help\":null,\"label\":null,\"length\":null,\"line\":null,\
         \"offset\":null,\"origin\":\"here\",\"text\":7}";
     assert!(rt; json.as_str() == wanted, "{json}");
     Ok(())

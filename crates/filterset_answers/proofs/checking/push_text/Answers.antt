@@ -12,6 +12,6 @@ returns c =
         c.in_ok-faults.faults.items,
         c.in_ok-faults.ensures,
         c.has_some.ensures ∙ ap has_some c.as_slice-2.ensures.value,
-        FaultPieces-of c.args.form c.args.number piece.0 _ _ _ _ _ _ c.as_str.ensures.value refl c.as_slice.ensures.value piece.2,
+        FaultPieces-of c.args.form c.args.number _ piece.0 _ _ _ _ _ _ refl refl c.as_slice.ensures.value piece.2,
       ),
     )

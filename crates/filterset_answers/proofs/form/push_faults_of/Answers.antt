@@ -14,10 +14,11 @@ pub loop-fault-preserved : goal.loop-fault-preserved
 loop-fault-preserved c =
     let before = c.loop-fault.invariant in
     let piece = c.in_ok-push_fault.ensures in
+    let written = rw (c.file_part-part.ensures, c.span.ensures) at piece.2 in
     let lt : c.loop-fault.fault-index < length c.args.faults.now = omega (arith, c.loop-fault-test.true) in (
       before.0 ++ piece.0,
       added_twice _ _ _ _ _ before.1 piece.1,
-      FaultPieces-next _ _ _ _ c.args.faults.now c.loop-fault.fault-index _ _ _ lt before.2 piece.2,
+      FaultPieces-next _ _ _ _ _ c.args.faults.now c.loop-fault.fault-index _ _ _ lt before.2 written,
     )
 
 pub loop-fault-init : goal.loop-fault-init
