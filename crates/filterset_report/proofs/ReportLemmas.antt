@@ -9,8 +9,11 @@ use Rattle.filterset_json.specs.declared.refusal.EntryRefusal.{EntryRefusal}
 use Rattle.filterset_json.specs.declared.refusal.EntryRefusal.TheVariants.{Wrong, OutOfMemory}
 use Rattle.filterset_json.specs.declared.refusal.WrongValue.{WrongValue}
 use Rattle.filterset_report.specs.Library.{Background}
-use Rattle.filterset_report.specs.Report.{IsBackgroundOf, MakeGraph, RecordReport, Section, Sections, no_sections, next_section, outcome_of}
-use Rattle.filterset_report.specs.Record.{FiltersetRow, RecordRow}
+use Rattle.filterset_expression.specs.declared.expression.CompiledExpr.{CompiledExpr}
+use Rattle.filterset_graph.specs.declared.package.PackageMetadata.{PackageMetadata}
+use Rattle.nextest_filtering.specs.declared.compile.context.KnownGroups.{KnownGroups}
+use Rattle.filterset_report.specs.Report.{Account, RecordReport, Section, Sections, no_sections, next_section, outcome_of}
+use Rattle.filterset_report.specs.Record.{BinaryRow, FiltersetRow, RecordRow}
 use Rattle.filterset_report.specs.declared.record.commands.Command.{Command}
 use Rattle.filterset_report.specs.declared.outcome.ReportOutcome.{ReportOutcome}
 use Rattle.std.proofs.Math.Bool.{and_assoc, and-true}
@@ -62,10 +65,18 @@ number_is_position xs n p lt at =
     ap (λ q. q.0) (at ∙ get_or-enumerate_from 0 xs n p below) ∙ zero-add n
 
 -- a report of filtersets, with the outcome that says whether all of them are accepted
-pub reported : (row : RecordRow) (background : Background) (text : Text) (outcome : ReportOutcome) (all : Bool) → MakeGraph row.packages → IsBackgroundOf row background →
-    Sections row.command background 0 row.filtersets all text → outcome ≡ outcome_of all → RecordReport row text outcome
-reported row background text outcome true graph is sections says = subst (RecordReport row text) (sym says) (background, graph, is, sections)
-reported row background text outcome false graph is sections says = subst (RecordReport row text) (sym says) (background, graph, is, sections)
+as_outcome : (row : RecordRow) (text : Text) (all : Bool) → Account row text all → RecordReport row text (outcome_of all)
+as_outcome row text true account = account
+as_outcome row text false account = account
+
+pub reported : (row : RecordRow) (packages : List PackageMetadata) (groups : KnownGroups) (default : CompiledExpr) (binaries : List BinaryRow) (text : Text) (outcome : ReportOutcome) (all : Bool) →
+    packages ≡ row.packages → binaries ≡ row.binaries →
+    ((output : Text) (all : Bool) → Sections row.command (record { packages = row.packages; groups = groups; default = default; binaries = row.binaries }) 0 row.filtersets all output → Account row output all) →
+    Sections row.command (record { packages = packages; groups = groups; default = default; binaries = binaries }) 0 row.filtersets all text → outcome ≡ outcome_of all → RecordReport row text outcome
+reported row packages groups default binaries text outcome all of_packages of_binaries account sections says =
+    let over_packages = subst (λ (ps : List PackageMetadata). Sections row.command (record { packages = ps; groups = groups; default = default; binaries = binaries }) 0 row.filtersets all text) of_packages sections in
+    let over_both = subst (λ (bs : List BinaryRow). Sections row.command (record { packages = row.packages; groups = groups; default = default; binaries = bs }) 0 row.filtersets all text) of_binaries over_packages in
+    subst (RecordReport row text) (sym says) (as_outcome row text all (account text all over_both))
 
 -- what a value is refused for as wrong does not hold
 pub no_entry : {A : Type 0} (r : EntryRefusal) (w : WrongValue) → r ≡ Wrong w → Refuses A r → A → ⊥

@@ -1,5 +1,5 @@
 -- The record of the program, and which JSON values stand for it.
-use Rattle.std.specs.Prelude.{◌≡◌, ◌⊎◌, true, List, [], ◌∷◌, codes, string_bytes}
+use Rattle.std.specs.Prelude.{◌≡◌, ◌⊎◌, true, List, [], ◌∷◌, codes, map, string_bytes}
 use Rattle.serde_json.specs.Data.{Data}
 use Rattle.filterset_faults.specs.Texts.{kind_text}
 use Rattle.filterset_faults.specs.declared.kind.FiltersetKind.{FiltersetKind}
@@ -46,19 +46,14 @@ target_kind Test = codes "test"
 target_kind Benchmark = codes "bench"
 target_kind BuildScript = codes "build"
 
--- the value is what the kind is called
-abbrev pub IsTargetKind : Data → BuildTargetId → Type 0
-IsTargetKind d id = IsText d (target_kind id)
-
 abbrev pub IsTarget : Data → BuildTarget → Type 0
-IsTarget d target = IsObjectWith (codes "kind" ∷ codes "name" ∷ []) d
-    × Required (codes "kind") IsTargetKind d target.id
+IsTarget d target = IsObjectWith (map codes ("kind" ∷ "name" ∷ [])) d
+    × Required (codes "kind") IsText d (target_kind target.id)
     × Required (codes "name") IsText d (string_bytes target.name)
 
 -- a package, which belongs to the workspace where nothing else is said
 abbrev pub IsPackage : Data → PackageMetadata → Type 0
-IsPackage d p =
-    IsObjectWith (codes "id" ∷ codes "name" ∷ codes "workspace" ∷ codes "targets" ∷ codes "links" ∷ []) d
+IsPackage d p = IsObjectWith (map codes ("id" ∷ "name" ∷ "workspace" ∷ "targets" ∷ "links" ∷ [])) d
     × Required (codes "id") IsText d p.id
     × Required (codes "name") IsText d (string_bytes p.name)
     × Optional (codes "workspace") IsBoolean true d p.in_workspace
@@ -67,14 +62,12 @@ IsPackage d p =
 
 -- a test, which is in the global group where nothing else is said
 abbrev pub IsTest : Data → TestRow → Type 0
-IsTest d test = IsObjectWith (codes "name" ∷ codes "group" ∷ []) d
+IsTest d test = IsObjectWith (map codes ("name" ∷ "group" ∷ [])) d
     × Required (codes "name") IsText d test.name
     × Optional (codes "group") IsText (codes "@global") d test.group
 
 abbrev pub IsBinary : Data → BinaryRow → Type 0
-IsBinary d binary =
-    IsObjectWith
-    (codes "package" ∷ codes "id" ∷ codes "name" ∷ codes "kind" ∷ codes "platform" ∷ codes "tests" ∷ []) d
+IsBinary d binary = IsObjectWith (map codes ("package" ∷ "id" ∷ "name" ∷ "kind" ∷ "platform" ∷ "tests" ∷ [])) d
     × Required (codes "package") IsText d binary.package_id
     × Required (codes "id") IsText d binary.id
     × Required (codes "name") IsText d binary.name
@@ -82,39 +75,39 @@ IsBinary d binary =
     × Required (codes "platform") IsPlatform d binary.platform
     × Optional (codes "tests") (IsListOf IsTest) [] d binary.tests
 
--- the value is what the kind of filtersets is called
-abbrev pub IsFiltersetKind : Data → FiltersetKind → Type 0
-IsFiltersetKind d kind = IsText d (kind_text kind)
-
--- an object with a text and a kind
-abbrev pub IsFiltersetObject : Data → FiltersetRow → Type 0
-IsFiltersetObject d filterset = IsObjectWith (codes "text" ∷ codes "kind" ∷ []) d
-    × Required (codes "text") IsText d filterset.text
-    × Required (codes "kind") IsFiltersetKind d filterset.kind
-
--- a filterset: a text alone, of kind test, or an object
+-- a filterset: a text alone, of kind test, or an object with a text and a kind
 abbrev pub IsFilterset : Data → FiltersetRow → Type 0
-IsFilterset d filterset =
-    (IsText d filterset.text × (filterset.kind ≡ kinds.Test)) ⊎ IsFiltersetObject d filterset
+IsFilterset d filterset = (IsText d filterset.text × (filterset.kind ≡ kinds.Test))
+    ⊎ (IsObjectWith (map codes ("text" ∷ "kind" ∷ [])) d
+    × Required (codes "text") IsText d filterset.text
+    × Required (codes "kind") IsText d (kind_text filterset.kind))
 
 -- what each command is called
 abbrev pub command_text : Command → Text
 command_text Report = codes "report"
 command_text Format = codes "format"
 
--- the value is what the command is called
-abbrev pub IsCommand : Data → Command → Type 0
-IsCommand d command = IsText d (command_text command)
-
 -- a record, whose default filter holds every test, and which asks for a report, where nothing else is said
 abbrev pub IsRecord : Data → RecordRow → Type 0
 IsRecord d row =
-    IsObjectWith
-    (codes "filtersets" ∷ codes "packages" ∷ codes "groups" ∷ codes "default" ∷ codes "binaries"
-    ∷ codes "command" ∷ []) d
+    IsObjectWith (map codes ("filtersets" ∷ "packages" ∷ "groups" ∷ "default" ∷ "binaries" ∷ "command" ∷ [])) d
     × Required (codes "filtersets") (IsListOf IsFilterset) d row.filtersets
     × Optional (codes "packages") (IsListOf IsPackage) [] d row.packages
     × Optional (codes "groups") (IsListOf IsText) [] d row.groups
     × Optional (codes "default") IsText (codes "all()") d row.default_filter
     × Optional (codes "binaries") (IsListOf IsBinary) [] d row.binaries
-    × Optional (codes "command") IsCommand Report d row.command
+    × Optional (codes "command") (λ e command. IsText e (command_text command)) Report d row.command
+
+-- ---- parts that are read by themselves
+
+-- the value is what the kind of build targets is called
+abbrev pub IsTargetKind : Data → BuildTargetId → Type 0
+IsTargetKind d id = IsText d (target_kind id)
+
+-- the value is what the kind of filtersets is called
+abbrev pub IsFiltersetKind : Data → FiltersetKind → Type 0
+IsFiltersetKind d kind = IsText d (kind_text kind)
+
+-- the value is what the command is called
+abbrev pub IsCommand : Data → Command → Type 0
+IsCommand d command = IsText d (command_text command)

@@ -1,6 +1,7 @@
 -- Which reports, and which outcomes, a record may have.
-use Rattle.std.specs.Prelude.{◌≡◌, ◌⊎◌, ◌++◌, ◌&&◌, Bool, true, false, ℕ, suc, List, [], ◌∷◌, length, Option, Some, None, codes, decimal}
+use Rattle.std.specs.Prelude.{◌≡◌, ◌⊎◌, ◌↔◌, ◌++◌, ◌&&◌, Bool, true, false, IsTrue, ℕ, suc, List, [], ◌∷◌, length, Option, Some, None, codes, decimal}
 use Rattle.std.specs.List.{flat_map}
+use Rattle.std.specs.Option.{option_map_or}
 use Rattle.std.specs.Str.{IsUtf8}
 use Rattle.serde_json.specs.Data.{Data}
 use Rattle.serde_json.specs.Read.{read}
@@ -20,7 +21,12 @@ use Rattle.nextest_filtering.specs.Compiling.{IsFiltersetOf, IsRefusedWith}
 use Rattle.nextest_filtering.specs.Formatting.{PrintsFilterset}
 use Rattle.nextest_filtering.specs.declared.compile.context.KnownGroups.{KnownGroups}
 use Rattle.nextest_filtering.specs.Groups.{AreGroups}
-use Rattle.filterset_report.specs.Library.{Background, IsDefaultFilter, Tells, TellsOfBinary}
+use Rattle.filterset_expression.specs.Meaning.{IsCompiled, Meaning}
+use Rattle.filterset_expression.specs.declared.expression.CompiledExpr.{CompiledExpr}
+use Rattle.filterset_expression.specs.declared.query.BinaryQuery.{BinaryQuery}
+use Rattle.filterset_expression.specs.declared.query.TestQuery.{TestQuery}
+use Rattle.filterset_report.specs.Library.{Background, IsAboutBinary, TellsOfBinary}
+use Rattle.filterset_report.specs.Lookup.{matches_recorded_group}
 use Rattle.filterset_report.specs.declared.record.commands.Command.{Command}
 use Rattle.filterset_report.specs.declared.record.commands.Command.TheVariants as commands
 use Rattle.filterset_report.specs.declared.outcome.ReportOutcome.{ReportOutcome}
@@ -28,96 +34,71 @@ use Rattle.filterset_report.specs.declared.outcome.ReportOutcome.TheVariants.{Al
 
 -- ---- an accepted filterset
 
-abbrev pub answer_text : Bool → Text
-answer_text true = codes "yes"
-answer_text false = codes "no"
+-- whether it is so, where None is that it depends on the test
+abbrev pub answer_text : Option Bool → Text
+answer_text (Some true) = codes "yes"
+answer_text (Some false) = codes "no"
+answer_text None = codes "unknown"
 
-abbrev pub binary_answer_text : Option Bool → Text
-binary_answer_text (Some answer) = answer_text answer
-binary_answer_text None = codes "unknown"
-
--- the line of a test
+-- the line of a test, which says whether the tree is true of it
 abbrev pub TestLine : Background → Tree SourceSpan → BinaryRow → TestRow → Text → Type 0
-TestLine background tree binary test line = (answer : Bool) × Tells background tree binary test answer
+TestLine background tree binary test line = (query : TestQuery) × (answer : Bool)
+    × IsAboutBinary query.binary_query binary × (query.test_name.now ≡ test.name)
+    × (IsTrue answer ↔ Meaning tree background.packages query background.default
+    (matches_recorded_group background.binaries))
     × (line ≡ codes "  test " ++ (binary.id ++ (codes " "
-    ++ (test.name ++ (codes ": " ++ (answer_text answer ++ codes "\n"))))))
-
--- the line of a binary
-abbrev pub BinaryLine : Background → Tree SourceSpan → BinaryRow → Text → Type 0
-BinaryLine background tree binary line = (answer : Option Bool) × TellsOfBinary background tree binary answer
-    × (line ≡ codes "  binary " ++ (binary.id ++ (codes ": " ++ (binary_answer_text answer ++ codes "\n"))))
+    ++ (test.name ++ (codes ": " ++ (answer_text (Some answer) ++ codes "\n"))))))
 
 -- the line of a binary, and after it those of its tests
-pub data BinaryLines (background : Background) (tree : Tree SourceSpan) (binary : BinaryRow) : Text → Type 0 where
-  lines_of_binary : {own tests : Text}
-      → BinaryLine background tree binary own → Pieces (TestLine background tree binary) binary.tests tests
-      → BinaryLines background tree binary (own ++ tests)
+abbrev pub BinaryLines : Background → Tree SourceSpan → BinaryRow → Text → Type 0
+BinaryLines background tree binary lines = (query : BinaryQuery) × (answer : Option Bool) × (tests : Text)
+    × IsAboutBinary query binary × TellsOfBinary background tree query answer
+    × Pieces (TestLine background tree binary) binary.tests tests
+    × (lines ≡ (codes "  binary " ++ (binary.id ++ (codes ": " ++ (answer_text answer ++ codes "\n")))) ++ tests)
 
--- the lines of all binaries
-abbrev pub AnswerLines : Background → Tree SourceSpan → Text → Type 0
-AnswerLines background tree = Pieces (BinaryLines background tree) background.binaries
-
--- the line of one with which this was done
+-- the line of a filterset with which this was done
 abbrev pub printed_line : Text → ℕ → Tree SourceSpan → Text
 printed_line done index tree =
     codes "filterset " ++ (decimal index ++ (codes " " ++ (done ++ (codes ": " ++ (printed tree ++ codes "\n")))))
-
-abbrev pub accepted_line : ℕ → Tree SourceSpan → Text
-accepted_line = printed_line (codes "accepted")
-
-abbrev pub formatted_line : ℕ → Tree SourceSpan → Text
-formatted_line = printed_line (codes "formatted")
 
 -- What is written of an accepted filterset with this tree. For a report it is that it is accepted, and what it says of
 -- the binaries and their tests. To format it, it is its text as the tree prints alone; and that text is a filterset of
 -- the same kind, by the same tree.
 abbrev pub Accepted : Command → Background → ℕ → FiltersetRow → Tree SourceSpan → Text → Type 0
 Accepted commands.Report background index filterset tree section =
-    (lines : Text) × (section ≡ accepted_line index tree ++ lines) × AnswerLines background tree lines
+    (lines : Text) × (section ≡ printed_line (codes "accepted") index tree ++ lines)
+    × Pieces (BinaryLines background tree) background.binaries lines
 Accepted commands.Format background index filterset tree section =
-    (section ≡ formatted_line index tree)
+    (section ≡ printed_line (codes "formatted") index tree)
     × PrintsFilterset filterset.kind background.packages background.groups tree
 
 -- ---- a refused filterset
 
 -- offset and length
-abbrev pub span_text : Option SourceSpan → Text
-span_text None = []
-span_text (Some span) = decimal (offset_of span) ++ (codes " " ++ (decimal (length_of span) ++ codes " "))
+abbrev pub span_text : SourceSpan → Text
+span_text span = decimal (offset_of span) ++ (codes " " ++ (decimal (length_of span) ++ codes " "))
 
-abbrev pub label_text : Option Text → Text
-label_text None = []
-label_text (Some label) = codes ": " ++ label
-
-abbrev pub help_line : Option Text → Text
-help_line None = []
-help_line (Some help) = codes "  help: " ++ (help ++ codes "\n")
-
--- the lines of a fault
+-- the lines of a fault, with its span, label and help if it has them
 abbrev pub fault_lines : ParseSingleError → Text
 fault_lines fault =
-    codes "  fault " ++ (span_text (span_of fault) ++ (code_of fault
-    ++ (label_text (label_of fault) ++ (codes "\n" ++ help_line (help_of fault)))))
+    codes "  fault " ++ (option_map_or span_text (span_of fault) [] ++ (code_of fault
+    ++ (option_map_or (λ label. codes ": " ++ label) (label_of fault) [] ++ (codes "\n"
+    ++ option_map_or (λ help. codes "  help: " ++ (help ++ codes "\n")) (help_of fault) []))))
 
 -- how many faults there are, and their lines
 abbrev pub faults_text : List ParseSingleError → Text
 faults_text faults = decimal (length faults) ++ (codes "\n" ++ flat_map fault_lines faults)
 
-abbrev pub refused_text : ℕ → List ParseSingleError → Text
-refused_text index faults = codes "filterset " ++ (decimal index ++ (codes " refused: " ++ faults_text faults))
-
 -- ---- all filtersets
 
 -- what is written of the filterset at this position, and whether it is accepted
 abbrev pub Section : Command → Background → ℕ → FiltersetRow → Bool → Text → Type 0
-Section command background index filterset true section =
-    (tree : Tree SourceSpan)
+Section command background index filterset true section = (tree : Tree SourceSpan)
     × IsFiltersetOf filterset.text filterset.kind background.packages background.groups tree
     × Accepted command background index filterset tree section
-Section command background index filterset false section =
-    (faults : List ParseSingleError)
+Section command background index filterset false section = (faults : List ParseSingleError)
     × IsRefusedWith filterset.text filterset.kind background.packages background.groups faults
-    × (section ≡ refused_text index faults)
+    × (section ≡ codes "filterset " ++ (decimal index ++ (codes " refused: " ++ faults_text faults)))
 
 -- what is written of filtersets, of which the first has this position, and whether all of them are accepted
 pub data Sections (command : Command) (background : Background) : ℕ → List FiltersetRow → Bool → Text → Type 0 where
@@ -134,47 +115,34 @@ pub data Sections (command : Command) (background : Background) : ℕ → List F
 abbrev pub IsJson : Text → Data → Type 0
 IsJson input d = IsUtf8 input × (read input ≡ Some d)
 
--- the lines that refuse packages
-abbrev pub repeated_line : ℕ → Text
-repeated_line at = codes "record refused: repeated package id at " ++ (decimal at ++ codes "\n")
-
-abbrev pub unknown_line : ℕ → ℕ → Text
-unknown_line owner link =
-    codes "record refused: unknown link " ++ (decimal link ++ (codes " of package " ++ (decimal owner ++ codes "\n")))
-
 -- The line that refuses these packages. It names the first position whose id is at an earlier position too; or, where
 -- no id is repeated, the first position of a package, and in it the first position of a link, that names no package.
 abbrev pub PackagesLine : List PackageMetadata → Text → Type 0
 PackagesLine packages output =
-    ((at : ℕ) × IsFirstRepeat (ids packages) at × (output ≡ repeated_line at))
+    ((at : ℕ) × IsFirstRepeat (ids packages) at
+    × (output ≡ codes "record refused: repeated package id at " ++ (decimal at ++ codes "\n")))
     ⊎ ((owner : ℕ) × (link : ℕ) × AllDiffer (ids packages) × IsFirstUnknownLink packages owner link
-    × (output ≡ unknown_line owner link))
-
--- the ids of the packages differ, and each link names one of them
-abbrev pub MakeGraph : List PackageMetadata → Type 0
-MakeGraph packages = AllDiffer (ids packages) × LinksKnown packages
+    × (output ≡ codes "record refused: unknown link "
+    ++ (decimal link ++ (codes " of package " ++ (decimal owner ++ codes "\n")))))
 
 -- the lines that refuse the default filter, over packages that make a graph
 abbrev pub DefaultLines : RecordRow → Text → Type 0
-DefaultLines row output =
-    (groups : KnownGroups) × (faults : List ParseSingleError)
-    × MakeGraph row.packages × AreGroups row.groups groups
+DefaultLines row output = (groups : KnownGroups) × (faults : List ParseSingleError)
+    × AllDiffer (ids row.packages) × LinksKnown row.packages × AreGroups row.groups groups
     × IsRefusedWith row.default_filter kinds.DefaultFilter row.packages groups faults
     × (output ≡ codes "default refused: " ++ faults_text faults)
 
--- the record's filtersets are read against this, and asked with it
-pub record IsBackgroundOf (row : RecordRow) (background : Background) : Type 0 where
-  pub packages : background.packages ≡ row.packages
-  pub groups : AreGroups row.groups background.groups
-  pub default : IsDefaultFilter background.packages background.groups row.default_filter background.default
-  pub binaries : background.binaries ≡ row.binaries
-
--- The packages make a graph, and the default filter is one. This is written of the filtersets, and tells whether all of
--- them are accepted.
+-- The packages make a graph, and the default filter is a filterset by this tree. This is written of the filtersets, and
+-- tells whether all of them are accepted: they are read against the packages and groups, and asked about the binaries
+-- with what the tree is compiled to.
 abbrev pub Account : RecordRow → Text → Bool → Type 0
-Account row output all =
-    (background : Background) × MakeGraph row.packages × IsBackgroundOf row background
-    × Sections row.command background 0 row.filtersets all output
+Account row output all = (groups : KnownGroups) × (tree : Tree SourceSpan) × (default : CompiledExpr)
+    × AllDiffer (ids row.packages) × LinksKnown row.packages × AreGroups row.groups groups
+    × IsFiltersetOf row.default_filter kinds.DefaultFilter row.packages groups tree
+    × IsCompiled row.packages tree default
+    × Sections row.command
+    (record { packages = row.packages; groups = groups; default = default; binaries = row.binaries })
+    0 row.filtersets all output
 
 -- how a run ends whose filtersets were read
 abbrev pub outcome_of : Bool → ReportOutcome

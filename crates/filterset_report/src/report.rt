@@ -1,11 +1,12 @@
 //! Writes the report of a record.
 ghost use Rattle.std.specs.Prelude.{◌≡◌, ◌++◌, Bool, IfOk, List, codes, map, string_bytes};
+ghost use Rattle.filterset_graph.specs.Packages.{AllDiffer, LinksKnown, ids};
 ghost use Rattle.filterset_graph.specs.Refusals.{IsRefusalOf};
 ghost use Rattle.filterset_graph.specs.declared.package.PackageMetadata.{PackageMetadata};
 ghost use Rattle.nextest_filtering.specs.Groups.{AreGroups, IsKnown};
 ghost use Rattle.filterset_report.specs.Library.{background_of};
 ghost use Rattle.filterset_json.specs.Shape.{Text};
-ghost use Rattle.filterset_report.specs.Report.{MakeGraph, PackagesLine, RecordReport, Report, Sections, faults_text, outcome_of};
+ghost use Rattle.filterset_report.specs.Report.{PackagesLine, RecordReport, Report, Sections, faults_text, outcome_of};
 ghost use Rattle.filterset_report.specs.Rows.{binary_row, filterset_row, record_row};
 
 use crate::lookup::RecordLookup;
@@ -122,7 +123,7 @@ fn report_filtersets(
     binaries: &[BinaryEntry],
     command: Command,
 ) -> Result<(String, ReportOutcome), AllocError>
-    requires graph { MakeGraph graph.now }
+    requires graph { AllDiffer (ids graph.now) × LinksKnown graph.now }
     requires known { IsKnown known_groups }
     ensures { IfOk result (λ made. (names : List Text) → AreGroups names known_groups → RecordReport (record {
       filtersets = map filterset_row filtersets.items;

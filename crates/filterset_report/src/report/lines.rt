@@ -1,11 +1,13 @@
 //! Writes the lines of a binary and of a test.
-ghost use Rattle.std.specs.Prelude.{◌≡◌, ◌++◌, IfOk, OnOk, codes, string_bytes};
+ghost use Rattle.std.specs.Prelude.{◌≡◌, ◌↔◌, ◌++◌, IfOk, IsTrue, OnOk, Some, codes, string_bytes};
 ghost use Rattle.filterset_expression.specs.FlatExpressions.{IsTold};
+ghost use Rattle.filterset_expression.specs.Meaning.{Meaning};
 ghost use Rattle.filterset_report.specs.Record.{BinaryRow, TestRow};
 ghost use Rattle.filterset_json.specs.Shape.{Text};
 ghost use Rattle.filterset_report.specs.Asking.{ForItsTree, IsLookupOf};
-ghost use Rattle.filterset_report.specs.Library.{IsAbout, Tells};
-ghost use Rattle.filterset_report.specs.Report.{TestLine, answer_text, binary_answer_text};
+ghost use Rattle.filterset_report.specs.Library.{IsAboutBinary};
+ghost use Rattle.filterset_report.specs.Lookup.{matches_recorded_group};
+ghost use Rattle.filterset_report.specs.Report.{TestLine, answer_text};
 
 use crate::lookup::RecordLookup;
 use crate::record::BinaryEntry;
@@ -20,7 +22,7 @@ pub fn push_binary_line(
     told: Option<bool>,
 ) -> Result<(), AllocError>
     ensures { OnOk result (string_bytes lines.new ≡ string_bytes lines.old ++ (codes "  binary "
-        ++ (binary.now.id ++ (codes ": " ++ (binary_answer_text told ++ codes "\n"))))) }
+        ++ (binary.now.id ++ (codes ": " ++ (answer_text told ++ codes "\n"))))) }
 {
     let answer = match told {
         Some(true) => "yes",
@@ -41,15 +43,15 @@ fn holds_of_test(
 ) -> Result<bool, AllocError>
     requires { IsTold flat.now query.now.binary_query told }
     ensures { IfOk result (λ answer. ForItsTree flat.now (λ background tree.
-        IsLookupOf background.binaries lookup.now → (row : BinaryRow) (test : TestRow) → IsAbout query.now row test
-        → Tells background tree row test answer)) }
+        IsLookupOf background.binaries lookup.now → IsTrue answer
+        ↔ Meaning tree background.packages query.now background.default (matches_recorded_group background.binaries))) }
 {
     flat.matches_test_of_told(alloc, told, query, lookup)
 }
 
 /// Returns the end of a test's line.
 fn line_end(holds: bool) -> &'static str
-    ensures { result.now ≡ codes ": " ++ (answer_text holds ++ codes "\n") }
+    ensures { result.now ≡ codes ": " ++ (answer_text (Some holds) ++ codes "\n") }
 {
     if holds { ": yes\n" } else { ": no\n" }
 }
@@ -66,7 +68,8 @@ pub fn push_test_line(
     requires { IsTold flat.now query.now.binary_query told }
     ensures { OnOk result ((line : Text) × (string_bytes lines.new ≡ string_bytes lines.old ++ line)
         × ForItsTree flat.now (λ background tree. IsLookupOf background.binaries lookup.now
-        → (row : BinaryRow) (test : TestRow) → IsAbout query.now row test → TestLine background tree row test line)) }
+        → (row : BinaryRow) (test : TestRow) → IsAboutBinary query.now.binary_query row
+        → query.now.test_name.now ≡ test.name → TestLine background tree row test line)) }
 {
     let holds = holds_of_test(alloc, flat, lookup, told, query)?;
     lines.push_str("  test ")?;

@@ -1,5 +1,5 @@
 //! Writes what a report says about each filterset.
-ghost use Rattle.std.specs.Prelude.{◌≡◌, ◌++◌, IfOk, List, OnOk, map, string_bytes};
+ghost use Rattle.std.specs.Prelude.{◌≡◌, ◌++◌, IfOk, List, OnOk, codes, decimal, map, string_bytes};
 ghost use Rattle.filterset_language.specs.Views.{tree_of};
 ghost use Rattle.filterset_faults.specs.declared.kind.FiltersetKind.{FiltersetKind};
 ghost use Rattle.filterset_graph.specs.declared.package.PackageMetadata.{PackageMetadata};
@@ -8,10 +8,11 @@ ghost use Rattle.nextest_filtering.specs.Formatting.{PrintsFilterset};
 ghost use Rattle.nextest_filtering.specs.Groups.{IsKnown};
 ghost use Rattle.nextest_filtering.specs.declared.compile.context.KnownGroups.{KnownGroups};
 ghost use Rattle.filterset_expression.specs.Meaning.{IsCompiled};
+ghost use Rattle.filterset_io.specs.Pieces.{Pieces};
 ghost use Rattle.filterset_report.specs.Asking.{ForItsTree, IsLookupOf};
 ghost use Rattle.filterset_report.specs.Library.{background_of};
 ghost use Rattle.filterset_report.specs.Record.{FiltersetRow};
-ghost use Rattle.filterset_report.specs.Report.{Accepted, AnswerLines, BinaryLines, Section, Sections, accepted_line, formatted_line, printed_line, refused_text};
+ghost use Rattle.filterset_report.specs.Report.{Accepted, BinaryLines, Section, Sections, faults_text, printed_line};
 ghost use Rattle.filterset_report.specs.Rows.{binary_row, filterset_row};
 ghost use Rattle.filterset_json.specs.Shape.{Text};
 
@@ -60,7 +61,7 @@ fn push_answers(
 ) -> Result<(), AllocError>
     ensures { OnOk result ((text : Text) × (string_bytes lines.new ≡ string_bytes lines.old ++ text)
         × ForItsTree flat.now (λ background tree. IsLookupOf background.binaries lookup.now
-        → AnswerLines background tree text)) }
+        → Pieces (BinaryLines background tree) background.binaries text)) }
 {
     for binary in lookup.binaries {
         push_binary(lines, alloc, flat, lookup, binary)?;
@@ -78,7 +79,8 @@ fn push_asked(
     requires { let background = background_of setting.now in
         IsCompiled background.packages (tree_of filterset.now.parsed) filterset.now.compiled }
     ensures { let tree = tree_of filterset.now.parsed in
-        OnOk result ((text : Text) × AnswerLines (background_of setting.now) tree text
+        let background = background_of setting.now in
+        OnOk result ((text : Text) × Pieces (BinaryLines background tree) background.binaries text
         × (string_bytes lines.new ≡ string_bytes lines.old ++ text)) }
 {
     let binaries = setting.lookup.binaries;
@@ -114,8 +116,9 @@ fn push_accepted(
     requires { let background = background_of setting.now in
         IsCompiled background.packages (tree_of filterset.now.parsed) filterset.now.compiled }
     ensures { let tree = tree_of filterset.now.parsed in
-        OnOk result ((text : Text) × AnswerLines (background_of setting.now) tree text
-        × (string_bytes lines.new ≡ string_bytes lines.old ++ (accepted_line index tree ++ text))) }
+        let background = background_of setting.now in
+        OnOk result ((text : Text) × Pieces (BinaryLines background tree) background.binaries text
+        × (string_bytes lines.new ≡ string_bytes lines.old ++ (printed_line (codes "accepted") index tree ++ text))) }
 {
     push_printed(lines, index, "accepted", filterset)?;
     push_asked(lines, alloc, setting, filterset)
@@ -124,7 +127,7 @@ fn push_accepted(
 /// Adds an accepted filterset as it prints. The printed text is a filterset of the same kind, with the same tree.
 fn push_formatted(lines: &mut String, index: usize, filterset: &Filterset) -> Result<(), AllocError>
     ensures line { OnOk result (string_bytes lines.new
-        ≡ string_bytes lines.old ++ formatted_line index (tree_of filterset.now.parsed)) }
+        ≡ string_bytes lines.old ++ printed_line (codes "formatted") index (tree_of filterset.now.parsed)) }
     ensures again { (text : Text) (kind : FiltersetKind) (packages : List PackageMetadata) (groups : KnownGroups)
         → IsFiltersetOf text kind packages groups (tree_of filterset.now.parsed)
         → PrintsFilterset kind packages groups (tree_of filterset.now.parsed) }
@@ -161,7 +164,8 @@ fn push_refused(
     index: usize,
     faults: &[ParseSingleError],
 ) -> Result<(), AllocError>
-    ensures { OnOk result (string_bytes lines.new ≡ string_bytes lines.old ++ refused_text index faults.now) }
+    ensures { OnOk result (string_bytes lines.new ≡ string_bytes lines.old
+        ++ (codes "filterset " ++ (decimal index ++ (codes " refused: " ++ faults_text faults.now)))) }
 {
     write!(lines, "filterset {index} refused: ")?;
     push_faults(lines, faults)

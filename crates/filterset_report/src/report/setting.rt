@@ -1,8 +1,7 @@
 //! What the filtersets of a record are parsed and evaluated with.
 ghost use Rattle.std.specs.Prelude.{◌≡◌};
-ghost use Rattle.filterset_report.specs.Record.{BinaryRow};
-ghost use Rattle.filterset_report.specs.Rows.{binary_row, test_row};
-ghost use Rattle.filterset_report.specs.Library.{IsAbout, IsAboutBinary};
+ghost use Rattle.filterset_report.specs.Rows.{binary_row};
+ghost use Rattle.filterset_report.specs.Library.{IsAboutBinary};
 
 use crate::lookup::RecordLookup;
 use crate::record::{BinaryEntry, Command, TestEntry};
@@ -34,7 +33,7 @@ pub fn query_of(binary: &BinaryEntry) -> BinaryQuery<'_>
 /// Returns the query about a test of the binary that `binary` is about.
 pub fn test_query_of<'a>(binary: &BinaryQuery<'a>, test: &'a TestEntry) -> TestQuery<'a>
     ensures binary { result.binary_query ≡ binary.now }
-    ensures about { (row : BinaryRow) → IsAboutBinary binary.now row → IsAbout result row (test_row test.now) }
+    ensures test { result.test_name.now ≡ test.now.name }
 {
     TestQuery {
         binary_query: *binary,

@@ -1,8 +1,9 @@
 use Rattle.std.proofs.Common.{List, inl, map, string_bytes, subst, sym}
 use Rattle.std.proofs.lemmas.Result.{IfOk-weaker}
+use Rattle.filterset_graph.specs.Packages.{AllDiffer, LinksKnown, ids}
 use Rattle.filterset_graph.specs.declared.package.PackageMetadata.{PackageMetadata}
 use Rattle.filterset_report.specs.Record.{RecordRow}
-use Rattle.filterset_report.specs.Report.{MakeGraph, RecordReport}
+use Rattle.filterset_report.specs.Report.{RecordReport}
 use Rattle.filterset_report.specs.Rows.{binary_row, filterset_row}
 use Rattle.filterset_report.specs.declared.record.binaries.BinaryEntry.{BinaryEntry}
 use Rattle.filterset_report.proofs.report.report_record.Goals as goal
@@ -11,7 +12,7 @@ pub returns-in-Err : goal.returns-in-Err
 returns-in-Err c = inl (c.in_ok-packages_line-in-Err.ensures c.args.entries.packages.items c.in-Err.ensures.refused)
 
 pub report_filtersets-requires-clause-graph : goal.report_filtersets-requires-clause-graph
-report_filtersets-requires-clause-graph c = subst (λ (packages : List PackageMetadata). MakeGraph packages) (sym c.in-Ok.ensures.ok) c.in-Ok.ensures.sound
+report_filtersets-requires-clause-graph c = subst (λ (packages : List PackageMetadata). AllDiffer (ids packages) × LinksKnown packages) (sym c.in-Ok.ensures.ok) c.in-Ok.ensures.sound
 
 pub returns : goal.returns
 returns c =

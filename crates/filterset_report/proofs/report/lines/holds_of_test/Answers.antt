@@ -20,9 +20,6 @@ returns c =
     let recorded = subst (λ (lookup : Lookup). IfOk told (λ answer. (packages : List PackageMetadata) (e : Tree SourceSpan) (default : CompiledExpr)
     → IsFlatOfTree flat packages e default → IsTrue answer ↔ Meaning e packages query default lookup))
     (reads-GroupLookup-matches_group-1-1 _ c.args.lookup) c.matches_test_of_told.ensures.meaning in
-    IfOk-weaker told _ _ (λ answer means background tree is of_binaries row test about. record {
-      query = query;
-      about = about;
-      says = subst (λ (binaries : List BinaryRow). IsTrue answer ↔ Meaning tree background.packages query background.default (matches_recorded_group binaries))
-          (sym of_binaries) (means background.packages tree background.default is);
-    }) recorded
+    IfOk-weaker told _ _ (λ answer means background tree is of_binaries.
+    subst (λ (binaries : List BinaryRow). IsTrue answer ↔ Meaning tree background.packages query background.default (matches_recorded_group binaries))
+    (sym of_binaries) (means background.packages tree background.default is)) recorded

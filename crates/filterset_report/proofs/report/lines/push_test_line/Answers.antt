@@ -1,4 +1,4 @@
-use Rattle.std.proofs.Common.{rules, ◌≡◌, ◌++◌, Err, List, Ok, OnOk, Result, append_assoc, cond, codes, is_ok, refl, string_bytes, ◌∙◌, ℕ}
+use Rattle.std.proofs.Common.{rules, ◌≡◌, ◌++◌, Err, List, Ok, Some, OnOk, Result, append_assoc, cond, codes, is_ok, refl, string_bytes, ◌∙◌, ℕ}
 use Rattle.filterset_report.specs.Report.{answer_text}
 use Rattle.filterset_report.proofs.report.lines.push_test_line.Goals as goal
 
@@ -17,12 +17,12 @@ pub returns : goal.returns
 returns c =
     let query = c.args.query.now in
     let holds = c.in_ok-holds.holds in
-    let line = codes "  test " ++ (query.binary_query.binary_id.now ++ (codes " " ++ (query.test_name.now ++ (codes ": " ++ (answer_text holds ++ codes "\n"))))) in
+    let line = codes "  test " ++ (query.binary_query.binary_id.now ++ (codes " " ++ (query.test_name.now ++ (codes ": " ++ (answer_text (Some holds) ++ codes "\n"))))) in
     where_written c.push_str-5.result _ _ _ c.push_str-5.ensures.bytes (λ last. (
       line,
-      (let chain : string_bytes c.push_str-5.new.self ≡ ((((string_bytes c.args.lines.now ++ codes "  test ") ++ query.binary_query.binary_id.now) ++ codes " ") ++ query.test_name.now) ++ (codes ": " ++ (answer_text holds ++ codes "\n")) =
+      (let chain : string_bytes c.push_str-5.new.self ≡ ((((string_bytes c.args.lines.now ++ codes "  test ") ++ query.binary_query.binary_id.now) ++ codes " ") ++ query.test_name.now) ++ (codes ": " ++ (answer_text (Some holds) ++ codes "\n")) =
           search (rules, last, c.in_ok-push_str.ensures.bytes, c.in_ok-push_str-2.ensures.bytes, c.in_ok-push_str-3.ensures.bytes, c.in_ok-push_str-4.ensures.bytes, c.as_str.ensures, c.as_str-2.ensures, c.line_end.ensures) in
-          chain ∙ in_a_row (string_bytes c.args.lines.now) (codes "  test ") query.binary_query.binary_id.now (codes " ") query.test_name.now (codes ": " ++ (answer_text holds ++ codes "\n"))),
-      λ background tree is of_binaries row test about.
-          (holds, c.in_ok-holds.ensures background tree is of_binaries row test about, rw (about.of_binary.binary_id, about.test_name) refl),
+          chain ∙ in_a_row (string_bytes c.args.lines.now) (codes "  test ") query.binary_query.binary_id.now (codes " ") query.test_name.now (codes ": " ++ (answer_text (Some holds) ++ codes "\n"))),
+      λ background tree is of_binaries row test about named.
+          (query, holds, about, named, c.in_ok-holds.ensures background tree is of_binaries, rw (about.binary_id, named) refl),
     ))

@@ -5,26 +5,22 @@ use Rattle.filterset_expression.specs.BinaryMeaning.{IsDefiniteTree, IsUndecided
 use Rattle.filterset_expression.specs.declared.query.BinaryQuery.{BinaryQuery}
 use Rattle.filterset_faults.specs.declared.span.SourceSpan.{SourceSpan}
 use Rattle.filterset_grammar.specs.Tree.{Tree}
-use Rattle.filterset_report.specs.Record.{BinaryRow, TestRow}
+use Rattle.filterset_report.specs.Record.{TestRow}
 use Rattle.filterset_report.specs.declared.record.binaries.TestEntry.{TestEntry}
 use Rattle.filterset_report.specs.Library.{Background, IsAboutBinary, TellsOfBinary}
 use Rattle.filterset_io.specs.Pieces.{Pieces, no_pieces}
-use Rattle.filterset_report.specs.Report.{TestLine, binary_answer_text, lines_of_binary}
+use Rattle.filterset_report.specs.Report.{TestLine, answer_text}
 use Rattle.filterset_report.specs.Rows.{binary_row, test_row}
 use Rattle.filterset_io.proofs.PieceLemmas.{Pieces-more, added_twice}
 use Rattle.filterset_report.proofs.ReportLemmas.{taken_all}
 use Rattle.filterset_report.proofs.report.sections.push_binary.Goals as goal
 
 -- what the library tells of the binary that the question is about
-told_of_binary : (background : Background) (tree : Tree SourceSpan) (row : BinaryRow) (query : BinaryQuery) (told : Option Bool) → IsAboutBinary query row →
+told_of_binary : (background : Background) (tree : Tree SourceSpan) (query : BinaryQuery) (told : Option Bool) →
     ((b : Bool) → (told ≡ Some b) ↔ IsDefiniteTree tree background.packages query background.default b) →
-    ((told ≡ None) ↔ IsUndecidedTree tree background.packages query background.default) → TellsOfBinary background tree row told
-told_of_binary background tree row query told about definite undecided = record {
-  query = query;
-  about = about;
-  definite = definite;
-  undecided = undecided;
-}
+    ((told ≡ None) ↔ IsUndecidedTree tree background.packages query background.default) → TellsOfBinary background tree query told
+told_of_binary background tree query (Some b) definite undecided = (definite b).0 refl
+told_of_binary background tree query None definite undecided = undecided.0 refl
 
 -- a list without a first element is empty
 none_first : (tests : List TestEntry) → None ≡ slice_get tests 0 → map test_row tests ≡ []
@@ -35,37 +31,43 @@ pub returns : goal.returns
 returns c =
     let told = c.in_ok-told.told in
     let row = binary_row c.args.binary.now in
-    let own = codes "  binary " ++ (c.args.binary.now.id ++ (codes ": " ++ (binary_answer_text told ++ codes "\n"))) in
+    let own = codes "  binary " ++ (c.args.binary.now.id ++ (codes ": " ++ (answer_text told ++ codes "\n"))) in
     let others = c.loop-test.invariant in
     let tests = c.args.binary.now.tests.items in
     let end : c.loop-test.test-index ≡ length tests = omega (arith, c.loop-test-test.false, c.loop-test.auto.test-index-end) in
     let all = taken_all test_row tests c.loop-test.test-index end in (
       own ++ others.0,
       added_twice _ _ _ _ _ c.in_ok-push_binary_line.ensures others.1,
-      λ background tree is of_binaries. lines_of_binary (
+      λ background tree is of_binaries. (
+        c.query_of-asked.result,
         told,
-        told_of_binary background tree row c.query_of-asked.result told c.query_of-asked.ensures
+        others.0,
+        c.query_of-asked.ensures,
+        told_of_binary background tree c.query_of-asked.result told
             (c.in_ok-told.ensures.meaning background.packages tree background.default is) (c.in_ok-told.ensures.unknown background.packages tree background.default is),
+        subst (λ (rows : List TestRow). Pieces (TestLine background tree row) rows others.0) all (others.2 background tree is of_binaries),
         refl,
-      )
-          (subst (λ (rows : List TestRow). Pieces (TestLine background tree (binary_row c.args.binary.now)) rows others.0) all (others.2 background tree is of_binaries)),
+      ),
     )
 
 pub returns-in_default : goal.returns-in_default
 returns-in_default c =
     let told = c.in_ok-told.told in
     let row = binary_row c.args.binary.now in
-    let own = codes "  binary " ++ (c.args.binary.now.id ++ (codes ": " ++ (binary_answer_text told ++ codes "\n"))) in
+    let own = codes "  binary " ++ (c.args.binary.now.id ++ (codes ": " ++ (answer_text told ++ codes "\n"))) in
     let none : map test_row c.args.binary.now.tests.items ≡ [] = none_first c.args.binary.now.tests.items (rw c.deref.ensures.value at c.in_default.ensures.value) in (
       own ++ [],
       c.in_ok-push_binary_line.ensures ∙ ap (λ text. string_bytes c.args.lines.now ++ text) (sym (append-nil own)),
-      λ background tree is of_binaries. lines_of_binary (
+      λ background tree is of_binaries. (
+        c.query_of-asked.result,
         told,
-        told_of_binary background tree row c.query_of-asked.result told c.query_of-asked.ensures
+        [],
+        c.query_of-asked.ensures,
+        told_of_binary background tree c.query_of-asked.result told
             (c.in_ok-told.ensures.meaning background.packages tree background.default is) (c.in_ok-told.ensures.unknown background.packages tree background.default is),
+        subst (λ (rows : List TestRow). Pieces (TestLine background tree row) rows []) (sym none) no_pieces,
         refl,
-      )
-          (subst (λ (rows : List TestRow). Pieces (TestLine background tree row) rows []) (sym none) no_pieces),
+      ),
     )
 
 pub push_test_line-requires : goal.push_test_line-requires
@@ -89,6 +91,6 @@ loop-test-preserved c =
       before.0 ++ line.0,
       added_twice _ _ _ _ _ before.1 line.1,
       λ background tree is of_binaries. Pieces-more (TestLine background tree row) test_row tests i test _ _ lt at (before.2 background tree is of_binaries)
-          (line.2 background tree is of_binaries row (test_row test) (record { of_binary = asked; test_name = refl })),
+          (line.2 background tree is of_binaries row (test_row test) asked refl),
       before.3,
     )

@@ -1,8 +1,8 @@
-use Rattle.std.proofs.Common.{rules, ◌≡◌, ◌++◌, refl, subst}
+use Rattle.std.proofs.Common.{rules, ◌≡◌, ◌++◌, codes, refl, subst}
 use Rattle.std.proofs.lemmas.Result.{on_ok_weaker}
 use Rattle.filterset_language.specs.Views.{tree_of}
 use Rattle.filterset_report.specs.Library.{background_of}
-use Rattle.filterset_report.specs.Report.{Accepted, accepted_line, formatted_line}
+use Rattle.filterset_report.specs.Report.{Accepted, printed_line}
 use Rattle.filterset_report.specs.declared.record.commands.Command.{Command}
 use Rattle.filterset_report.specs.declared.record.commands.Command.TheVariants as commands
 use Rattle.filterset_report.proofs.report.sections.push_by_command.Goals as goal
@@ -12,10 +12,11 @@ returns-in-Report c =
     let tree = tree_of c.args.filterset.now.parsed in
     let background = background_of c.args.setting.now in
     let is : commands.Report ≡ c.args.setting.now.command = search rules in
+    let line = printed_line (codes "accepted") c.args.index tree in
     on_ok_weaker c.push_accepted.result (λ (text, answers, added). (
-      accepted_line c.args.index tree ++ text,
+      line ++ text,
       added,
-      λ row _. subst (λ (command : Command). Accepted command background c.args.index row tree (accepted_line c.args.index tree ++ text)) is (text, refl, answers),
+      λ row _. subst (λ (command : Command). Accepted command background c.args.index row tree (line ++ text)) is (text, refl, answers),
     )) c.push_accepted.ensures
 
 pub returns-in-Format : goal.returns-in-Format
@@ -23,9 +24,10 @@ returns-in-Format c =
     let tree = tree_of c.args.filterset.now.parsed in
     let background = background_of c.args.setting.now in
     let is : commands.Format ≡ c.args.setting.now.command = search rules in
+    let line = printed_line (codes "formatted") c.args.index tree in
     on_ok_weaker c.push_formatted.result (λ added. (
-      formatted_line c.args.index tree,
+      line,
       added,
-      λ row accepted. subst (λ (command : Command). Accepted command background c.args.index row tree (formatted_line c.args.index tree)) is
+      λ row accepted. subst (λ (command : Command). Accepted command background c.args.index row tree line) is
           (refl, c.push_formatted.ensures.again row.text row.kind background.packages background.groups accepted),
     )) c.push_formatted.ensures.line
