@@ -163,10 +163,14 @@ def is_row(cells, wanted):
 
 def check_stored(check):
     runs = {path: text_of(path).rstrip("\n") for path in tracked("crates/*/stdout")}
-    for block in blocks(""):
-        for path, run in runs.items():
-            if "\n" in run and block.text.partition("\n")[0] == run.partition("\n")[0]:
-                check.found(block.text == run, block.place, f"it is not {path}")
+    shown = [block for block in blocks("") if "\n" in block.text]
+    for path, run in runs.items():
+        for block in shown:
+            if block.text.partition("\n")[0] == run.partition("\n")[0]:
+                # a page may show a run in parts
+                page = block.place.partition(":")[0]
+                parts = [it.text for it in shown if it.place.partition(":")[0] == page and f"\n{it.text}\n" in f"\n{run}\n"]
+                check.found("\n".join(parts) == run, block.place, f"with its other parts it is not {path}")
 
 
 def main(arguments):

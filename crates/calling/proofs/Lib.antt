@@ -1,2 +1,3 @@
 pub mod AnswersOfTests
 pub mod ComingBack
+pub mod FirstOverride

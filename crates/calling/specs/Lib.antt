@@ -1,3 +1,5 @@
 pub mod Formatting
+pub mod Groups
+pub mod Planning
 pub mod Selecting
 pub mod Underlining

@@ -1,5 +1,5 @@
 //! An example of a caller: reads filtersets, asks each about some tests, underlines the faults of those that are refused,
-//! and formats texts. `docs/CALLING.md` walks through it.
+//! and formats texts; then does what a test runner does. `docs/CALLING.md` walks through it.
 #![tactic(auto)]
 
 ghost use Rattle.std.specs.Prelude.{All, string_bytes};
@@ -7,6 +7,7 @@ ghost use Rattle.calling.specs.Selecting.{CanBeUnderlined};
 ghost use Rattle.calling.specs.Underlining.{LiesWithin};
 
 mod formatting;
+mod runner;
 mod selecting;
 mod underlining;
 
@@ -22,7 +23,7 @@ use std::io;
 use underlining::underline;
 
 /// The filtersets that are asked. The third needs groups, and those after it are refused.
-const FILTERSETS: [&str; 7] = [
+static FILTERSETS: [&str; 7] = [
     "test(parse) and not test(slow) or test(=net::get)",
     "test(#parse::*) - test(/_list$/)",
     "group(=@global) and kind(lib)",
@@ -33,7 +34,7 @@ const FILTERSETS: [&str; 7] = [
 ];
 
 /// The texts that are formatted. The last has a fault.
-const UNFORMATTED: [&str; 4] = [" all ( ) ", "not!all()", "not  test  ( foo)", "and"];
+static UNFORMATTED: [&str; 4] = [" all ( ) ", "not!all()", "not  test  ( foo)", "and"];
 
 /// Prints a filterset and its answer for each test.
 fn print_answers(
@@ -124,14 +125,19 @@ fn print_formatted(rt: &impl Print, alloc: Global) -> io::Result<()> {
     Ok(())
 }
 
+/// Returns whether what the tree prints reads back to it.
+fn reads_back(alloc: Global, made: &ParsedExpr<()>) -> Result<bool, AllocError> {
+    let parsed = read_back(alloc, made)?;
+    match &parsed.tree {
+        Some(tree) => print_alike(alloc, made, tree),
+        None => Ok(false),
+    }
+}
+
 /// Prints a tree that is made without spans, and whether what it prints reads back to it.
 fn print_made(rt: &impl Print, alloc: Global) -> io::Result<()> {
     let made: ParsedExpr<()> = ParsedExpr::Set(ParsedLeaf::Default(()));
-    let parsed = read_back(alloc, &made)?;
-    let is_back = match &parsed.tree {
-        Some(tree) => print_alike(alloc, &made, tree)?,
-        None => false,
-    };
+    let is_back = reads_back(alloc, &made)?;
     let answer = if is_back { "reads back" } else { "is lost" };
     println!(rt; "`{made}` {answer}")
 }
@@ -180,8 +186,8 @@ fn tests_of<'a>(binary_query: BinaryQuery<'a>, names: &'a [TestCaseName; 3]) -> 
     ]
 }
 
-fn main(rt: HostRuntime) -> io::Result<()> {
-    let alloc = rt.alloc();
+/// Makes the tests and prints the answers about them.
+fn answer_about_tests(rt: &impl Print, alloc: Global) -> io::Result<()> {
     let package_id = PackageId::new(String::from_str(alloc, "text 0.1.0")?);
     let binary_id = RustBinaryId::new(alloc, "text")?;
     let binary_query = BinaryQuery {
@@ -192,8 +198,14 @@ fn main(rt: HostRuntime) -> io::Result<()> {
         platform: BuildPlatform::Target,
     };
     let names = test_names(alloc)?;
-    answer_all(&rt, alloc, &tests_of(binary_query, &names))?;
+    answer_all(rt, alloc, &tests_of(binary_query, &names))
+}
+
+fn main(rt: HostRuntime) -> io::Result<()> {
+    let alloc = rt.alloc();
+    answer_about_tests(&rt, alloc)?;
     print_formatted(&rt, alloc)?;
     print_made(&rt, alloc)?;
-    print_negation(&rt, alloc)
+    print_negation(&rt, alloc)?;
+    runner::run(&rt, alloc)
 }

@@ -1,2 +1,0 @@
-pub mod FirstOverride
-pub mod AnswersOfAll
