@@ -1,10 +1,7 @@
 -- What the library says of the program's filtersets, binaries and tests.
-use Rattle.std.specs.Prelude.{◌≡◌, Bool, Option, Some, None, List, map}
-use Rattle.filterset_expression.specs.BinaryMeaning.{IsDefiniteTree, IsUndecidedTree}
+use Rattle.std.specs.Prelude.{◌≡◌, List, map}
 use Rattle.nextest_filtering.specs.Compiling.{packages_of}
 use Rattle.filterset_expression.specs.Contexts.{default_of}
-use Rattle.filterset_grammar.specs.Tree.{Tree}
-use Rattle.filterset_faults.specs.declared.span.SourceSpan.{SourceSpan}
 use Rattle.filterset_graph.specs.declared.package.PackageMetadata.{PackageMetadata}
 use Rattle.nextest_filtering.specs.declared.compile.context.KnownGroups.{KnownGroups}
 use Rattle.filterset_expression.specs.declared.expression.CompiledExpr.{CompiledExpr}
@@ -39,8 +36,3 @@ pub record IsAboutBinary (query : BinaryQuery) (binary : BinaryRow) : Type 0 whe
   pub binary_name : query.binary_name.now ≡ binary.name
   pub kind : query.kind.now ≡ binary.kind
   pub platform : query.platform ≡ binary.platform
-
--- the answer tells what the tree says of the binary: the one value that it takes, or that it takes both
-abbrev pub TellsOfBinary : Background → Tree SourceSpan → BinaryQuery → Option Bool → Type 0
-TellsOfBinary background tree query (Some b) = IsDefiniteTree tree background.packages query background.default b
-TellsOfBinary background tree query None = IsUndecidedTree tree background.packages query background.default

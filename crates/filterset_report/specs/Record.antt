@@ -1,13 +1,13 @@
 -- The record of the program, and which JSON values stand for it.
-use Rattle.std.specs.Prelude.{◌≡◌, ◌⊎◌, true, List, [], ◌∷◌, codes, map, string_bytes}
+use Rattle.std.specs.Prelude.{◌≡◌, ◌⊎◌, true, List, [], ◌∷◌, codes, map, string_bytes, unwrap_or}
 use Rattle.serde_json.specs.Data.{Data}
 use Rattle.filterset_faults.specs.Texts.{kind_text}
 use Rattle.filterset_faults.specs.declared.kind.FiltersetKind.{FiltersetKind}
 use Rattle.filterset_faults.specs.declared.kind.FiltersetKind.TheVariants as kinds
+use Rattle.filterset_graph.specs.Binaries.{kind_of}
 use Rattle.filterset_graph.specs.declared.package.BuildPlatform.{BuildPlatform}
 use Rattle.filterset_graph.specs.declared.package.BuildTarget.{BuildTarget}
 use Rattle.filterset_graph.specs.declared.package.BuildTargetId.{BuildTargetId}
-use Rattle.filterset_graph.specs.declared.package.BuildTargetId.TheVariants.{Library, Binary, Example, Test, Benchmark, BuildScript}
 use Rattle.filterset_graph.specs.declared.package.PackageMetadata.{PackageMetadata}
 use Rattle.filterset_json.specs.Shape.{Text, IsPlatform, IsText, IsBoolean, IsListOf, IsObjectWith, Required, Optional}
 use Rattle.filterset_report.specs.declared.record.commands.Command.{Command}
@@ -37,14 +37,9 @@ pub record RecordRow : Type 0 where
   pub binaries : List BinaryRow
   pub command : Command
 
--- what each kind of build targets is called
+-- what a kind of build targets is called: as the test binary that is made of one, or `build` for a build script
 abbrev pub target_kind : BuildTargetId → Text
-target_kind Library = codes "lib"
-target_kind Binary = codes "bin"
-target_kind Example = codes "example"
-target_kind Test = codes "test"
-target_kind Benchmark = codes "bench"
-target_kind BuildScript = codes "build"
+target_kind id = unwrap_or (kind_of id) (codes "build")
 
 abbrev pub IsTarget : Data → BuildTarget → Type 0
 IsTarget d target = IsObjectWith (map codes ("kind" ∷ "name" ∷ [])) d

@@ -1,5 +1,5 @@
 -- Which reports, and which outcomes, a record may have.
-use Rattle.std.specs.Prelude.{◌≡◌, ◌⊎◌, ◌↔◌, ◌++◌, ◌&&◌, Bool, true, false, IsTrue, ℕ, suc, List, [], ◌∷◌, length, Option, Some, None, codes, decimal}
+use Rattle.std.specs.Prelude.{◌≡◌, ◌⊎◌, ◌↔◌, ◌++◌, ◌&&◌, Bool, true, false, IsTrue, ℕ, suc, List, [], ◌∷◌, length, Option, Some, None, MatchOption, codes, decimal}
 use Rattle.std.specs.List.{flat_map}
 use Rattle.std.specs.Option.{option_map_or}
 use Rattle.std.specs.Str.{IsUtf8}
@@ -21,11 +21,12 @@ use Rattle.nextest_filtering.specs.Compiling.{IsFiltersetOf, IsRefusedWith}
 use Rattle.nextest_filtering.specs.Formatting.{PrintsFilterset}
 use Rattle.nextest_filtering.specs.declared.compile.context.KnownGroups.{KnownGroups}
 use Rattle.nextest_filtering.specs.Groups.{AreGroups}
+use Rattle.filterset_expression.specs.BinaryMeaning.{IsDefiniteTree, IsUndecidedTree}
 use Rattle.filterset_expression.specs.Meaning.{IsCompiled, Meaning}
 use Rattle.filterset_expression.specs.declared.expression.CompiledExpr.{CompiledExpr}
 use Rattle.filterset_expression.specs.declared.query.BinaryQuery.{BinaryQuery}
 use Rattle.filterset_expression.specs.declared.query.TestQuery.{TestQuery}
-use Rattle.filterset_report.specs.Library.{Background, IsAboutBinary, TellsOfBinary}
+use Rattle.filterset_report.specs.Library.{Background, IsAboutBinary}
 use Rattle.filterset_report.specs.Lookup.{matches_recorded_group}
 use Rattle.filterset_report.specs.declared.record.commands.Command.{Command}
 use Rattle.filterset_report.specs.declared.record.commands.Command.TheVariants as commands
@@ -49,11 +50,13 @@ TestLine background tree binary test line = (query : TestQuery) × (answer : Boo
     × (line ≡ codes "  test " ++ (binary.id ++ (codes " "
     ++ (test.name ++ (codes ": " ++ (answer_text (Some answer) ++ codes "\n"))))))
 
--- the line of a binary, and after it those of its tests
+-- The line of a binary, which says the one value that the tree takes for it, or that it takes both; and after it the
+-- lines of its tests.
 abbrev pub BinaryLines : Background → Tree SourceSpan → BinaryRow → Text → Type 0
 BinaryLines background tree binary lines = (query : BinaryQuery) × (answer : Option Bool) × (tests : Text)
-    × IsAboutBinary query binary × TellsOfBinary background tree query answer
-    × Pieces (TestLine background tree binary) binary.tests tests
+    × IsAboutBinary query binary × Pieces (TestLine background tree binary) binary.tests tests
+    × MatchOption answer (IsUndecidedTree tree background.packages query background.default)
+    (IsDefiniteTree tree background.packages query background.default)
     × (lines ≡ (codes "  binary " ++ (binary.id ++ (codes ": " ++ (answer_text answer ++ codes "\n")))) ++ tests)
 
 -- the line of a filterset with which this was done

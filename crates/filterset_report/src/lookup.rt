@@ -1,11 +1,11 @@
 //! Looks up the groups of a record's tests.
-ghost use Rattle.std.specs.Prelude.{◌≡◌, IfOk, MatchOption, map, option_map};
+ghost use Rattle.std.specs.Prelude.{◌≡◌, ◌↔◌, IfOk, MatchOption, map, option_map};
 ghost use Rattle.std.specs.List.{find};
 ghost use Rattle.std.specs.Str.{bytes_eq};
+ghost use Rattle.filterset_matchers.specs.Matcher.{Matcher, MatchesName};
 ghost use Rattle.filterset_report.specs.Index.{HasFirsts, IsIndexOf};
-ghost use Rattle.filterset_report.specs.Lookup.{IsInGroup, matches_recorded_group};
+ghost use Rattle.filterset_report.specs.Lookup.{matches_recorded_group};
 ghost use Rattle.filterset_report.specs.Rows.{binary_row};
-ghost use Rattle.filterset_json.specs.Shape.{Text};
 
 use crate::record::{BinaryEntry, TestEntry};
 use nextest_filtering::{GroupLookup, NameMatcher, RustBinaryId, TestCaseName, TestQuery};
@@ -122,8 +122,9 @@ impl<'a> RecordLookup<'a> {
     /// Looks up the group of a test. Returns `None` if the record does not have the test.
     fn group_of(&self, test: &TestQuery<'_>) -> Option<&str>
         ensures { MatchOption result
-            ((group : Text) → ¬ IsInGroup (map binary_row self.now.binaries.now) test.now group)
-            (λ group. IsInGroup (map binary_row self.now.binaries.now) test.now group.now) }
+            ((matcher : Matcher) → ¬ matches_recorded_group (map binary_row self.now.binaries.now) test.now matcher)
+            (λ group. (matcher : Matcher) → MatchesName matcher group.now
+            ↔ matches_recorded_group (map binary_row self.now.binaries.now) test.now matcher) }
     {
         let binary = self.binary_with(test.binary_query.binary_id)?;
         let entry = binary.test_with(test.test_name)?;

@@ -1,12 +1,13 @@
-use Rattle.std.proofs.Common.{◌≡◌, None, Some, map, subst, sym}
+use Rattle.std.proofs.Common.{◌≡◌, ◌↔◌, None, Some, map, subst, sym}
 use Rattle.std.specs.List.{find}
 use Rattle.std.specs.Str.{bytes_eq}
 use Rattle.filterset_json.specs.Shape.{Text}
-use Rattle.filterset_report.specs.Lookup.{IsInGroup}
+use Rattle.filterset_matchers.specs.Matcher.{MatchesName}
+use Rattle.filterset_report.specs.Lookup.{matches_recorded_group}
 use Rattle.filterset_report.specs.Rows.{binary_row, test_row}
 use Rattle.filterset_report.specs.declared.record.binaries.BinaryEntry.{BinaryEntry}
 use Rattle.filterset_report.specs.declared.record.binaries.TestEntry.{TestEntry}
-use Rattle.filterset_report.proofs.LookupLemmas.{first_binary, first_test, has_group, no_binary, no_test}
+use Rattle.filterset_report.proofs.LookupLemmas.{first_binary, first_test, no_binary, no_test, of_test}
 use Rattle.filterset_report.proofs.lookup.RecordLookup.group_of.Goals as goal
 
 pub returns-in_err-binary : goal.returns-in_err-binary
@@ -14,7 +15,7 @@ returns-in_err-binary c =
     let query = c.args.test.now in
     let binaries = c.args.self.now.binaries.now in
     let nothing : find (λ (b : BinaryEntry). bytes_eq b.id query.binary_query.binary_id.now) binaries ≡ None = sym c.in_err-binary.ensures in
-    rw c.from_residual.ensures (λ group. no_binary (map binary_row binaries) query group (first_binary query.binary_query.binary_id.now binaries None nothing))
+    rw c.from_residual.ensures (λ matcher. no_binary (map binary_row binaries) query matcher (first_binary query.binary_query.binary_id.now binaries None nothing))
 
 pub returns-in_err-entry : goal.returns-in_err-entry
 returns-in_err-entry c =
@@ -24,7 +25,7 @@ returns-in_err-entry c =
     let found = first_binary query.binary_query.binary_id.now binaries (Some binary) (sym c.in_ok-binary.ensures) in
     let nothing : find (λ (t : TestEntry). bytes_eq t.name query.test_name.now) binary.tests.items ≡ None = sym c.in_err-entry.ensures in
     rw c.from_residual-in_err-entry.ensures
-    (λ group. no_test (map binary_row binaries) query (binary_row binary) group found (first_test query.test_name.now binary.tests.items None nothing))
+    (λ matcher. no_test (map binary_row binaries) query matcher (binary_row binary) found (first_test query.test_name.now binary.tests.items None nothing))
 
 pub returns : goal.returns
 returns c =
@@ -35,5 +36,5 @@ returns c =
     let found = first_binary query.binary_query.binary_id.now binaries (Some binary) (sym c.in_ok-binary.ensures) in
     let something : find (λ (t : TestEntry). bytes_eq t.name query.test_name.now) binary.tests.items ≡ Some test = sym c.in_ok-entry.ensures in
     let named = first_test query.test_name.now binary.tests.items (Some test) something in
-    subst (λ (group : Text). IsInGroup (map binary_row binaries) query group) (sym c.as_str.ensures.value)
-    (has_group (map binary_row binaries) query (binary_row binary) (test_row test) found named)
+    λ matcher. subst (λ (group : Text). MatchesName matcher group ↔ matches_recorded_group (map binary_row binaries) query matcher) (sym c.as_str.ensures.value)
+    (of_test (map binary_row binaries) query matcher (binary_row binary) (test_row test) found named)

@@ -1,3 +1,4 @@
+use Rattle.std.specs.Prelude.{MatchOption}
 use Rattle.std.proofs.Common.{rules, arith, ◌≡◌, ◌↔◌, ◌<◌, ◌++◌, Bool, Option, Some, None, List, ap, ◌∙◌, codes, length, get_or, map, refl, slice_get, string_bytes, subst, sym, [], ◌∷◌}
 use Rattle.std.proofs.lemmas.List.{append-nil}
 use Rattle.filterset_expression.specs.FlatExpressions.{IsTold}
@@ -7,7 +8,7 @@ use Rattle.filterset_faults.specs.declared.span.SourceSpan.{SourceSpan}
 use Rattle.filterset_grammar.specs.Tree.{Tree}
 use Rattle.filterset_report.specs.Record.{TestRow}
 use Rattle.filterset_report.specs.declared.record.binaries.TestEntry.{TestEntry}
-use Rattle.filterset_report.specs.Library.{Background, IsAboutBinary, TellsOfBinary}
+use Rattle.filterset_report.specs.Library.{Background, IsAboutBinary}
 use Rattle.filterset_io.specs.Pieces.{Pieces, no_pieces}
 use Rattle.filterset_report.specs.Report.{TestLine, answer_text}
 use Rattle.filterset_report.specs.Rows.{binary_row, test_row}
@@ -18,7 +19,8 @@ use Rattle.filterset_report.proofs.report.sections.push_binary.Goals as goal
 -- what the library tells of the binary that the question is about
 told_of_binary : (background : Background) (tree : Tree SourceSpan) (query : BinaryQuery) (told : Option Bool) →
     ((b : Bool) → (told ≡ Some b) ↔ IsDefiniteTree tree background.packages query background.default b) →
-    ((told ≡ None) ↔ IsUndecidedTree tree background.packages query background.default) → TellsOfBinary background tree query told
+    ((told ≡ None) ↔ IsUndecidedTree tree background.packages query background.default) →
+    MatchOption told (IsUndecidedTree tree background.packages query background.default) (IsDefiniteTree tree background.packages query background.default)
 told_of_binary background tree query (Some b) definite undecided = (definite b).0 refl
 told_of_binary background tree query None definite undecided = undecided.0 refl
 
@@ -43,9 +45,9 @@ returns c =
         told,
         others.0,
         c.query_of-asked.ensures,
+        subst (λ (rows : List TestRow). Pieces (TestLine background tree row) rows others.0) all (others.2 background tree is of_binaries),
         told_of_binary background tree c.query_of-asked.result told
             (c.in_ok-told.ensures.meaning background.packages tree background.default is) (c.in_ok-told.ensures.unknown background.packages tree background.default is),
-        subst (λ (rows : List TestRow). Pieces (TestLine background tree row) rows others.0) all (others.2 background tree is of_binaries),
         refl,
       ),
     )
@@ -63,9 +65,9 @@ returns-in_default c =
         told,
         [],
         c.query_of-asked.ensures,
+        subst (λ (rows : List TestRow). Pieces (TestLine background tree row) rows []) (sym none) no_pieces,
         told_of_binary background tree c.query_of-asked.result told
             (c.in_ok-told.ensures.meaning background.packages tree background.default is) (c.in_ok-told.ensures.unknown background.packages tree background.default is),
-        subst (λ (rows : List TestRow). Pieces (TestLine background tree row) rows []) (sym none) no_pieces,
         refl,
       ),
     )
