@@ -15,6 +15,10 @@ mod matchers;
 #[cfg(test)]
 mod places;
 #[cfg(test)]
+mod platforms;
+#[cfg(test)]
+mod profiles;
+#[cfg(test)]
 mod support;
 #[cfg(test)]
 mod trees;
