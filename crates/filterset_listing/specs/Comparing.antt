@@ -23,8 +23,7 @@ Divides One Other (test ∷ tests) first second both =
 
 -- how the two filtersets differ on the binary
 abbrev pub IsBinaryDifference : Picker → Picker → AskedBinary → BinaryDifference → Type 0
-IsBinaryDifference one other binary difference =
-    (difference.binary ≡ binary)
+IsBinaryDifference one other binary difference = (difference.binary ≡ binary)
     × Answers one binary.query difference.first_answer × Answers other binary.query difference.second_answer
     × Divides (Tells one.Picks binary.query) (Tells other.Picks binary.query) binary.tests.now
     (map (λ t. t.now) difference.first.items) (map (λ t. t.now) difference.second.items)

@@ -1,5 +1,5 @@
 -- How two filtersets differ, as text.
-use Rattle.std.specs.Prelude.{ℕ, ◌==◌, ◌||◌, Bool, not, List, [], ◌++◌, length, codes, decimal, map, if◌then◌else◌}
+use Rattle.std.specs.Prelude.{◌==◌, ◌||◌, Bool, not, List, [], ◌++◌, length, codes, decimal, map, if◌then◌else◌}
 use Rattle.std.specs.List.{flat_map, sum_by}
 use Rattle.filterset_listing.specs.Asking.{Text}
 use Rattle.filterset_listing.specs.SkippedText.{is_unsettled, skipped_text}
@@ -19,9 +19,6 @@ tests_in OnlyFirst difference = map (λ t. t.now) difference.first.items
 tests_in OnlySecond difference = map (λ t. t.now) difference.second.items
 tests_in Both difference = map (λ t. t.now) difference.both.items
 
-abbrev pub part_count : Part → List BinaryDifference → ℕ
-part_count part all = sum_by (λ difference. length (tests_in part difference)) all
-
 -- a test after the id of its binary, in a line
 abbrev pub named_line : Text → Text → Text
 named_line id test = codes "    " ++ (id ++ (codes " " ++ (test ++ codes "\n")))
@@ -33,7 +30,7 @@ named_lines part difference = flat_map (named_line difference.binary.query.binar
 -- how many tests are picked so, and which, if the names are asked for
 abbrev pub part_text : Bool → Part → List BinaryDifference → Text
 part_text has_names part all =
-    (part_heading part ++ (codes ": " ++ (decimal (part_count part all) ++ codes "\n")))
+    (part_heading part ++ (codes ": " ++ (decimal (sum_by (λ d. length (tests_in part d)) all) ++ codes "\n")))
     ++ (if has_names then flat_map (named_lines part) all else [])
 
 -- the tests, and below them the binaries that nextest skipped

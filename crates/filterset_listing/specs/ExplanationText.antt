@@ -28,13 +28,10 @@ others_text zero = []
 others_text (suc n) = codes " and " ++ (decimal (suc n) ++ codes " more")
 
 -- the packages that a predicate stands for
-abbrev pub packages_text : NamedPackages → Text
-packages_text packages =
-    codes " (packages: " ++ (join_by (λ n. n.now) (codes ", ") packages.names.items ++ (others_text packages.others ++ codes ")"))
-
 abbrev pub packages_part : Option NamedPackages → Text
-packages_part (Some packages) = packages_text packages
 packages_part None = []
+packages_part (Some packages) =
+    codes " (packages: " ++ (join_by (λ n. n.now) (codes ", ") packages.names.items ++ (others_text packages.others ++ codes ")"))
 
 -- What stands before a node of this depth, which is that much deeper than can be shown by blanks alone: two blanks for
 -- each operator above it, and in brackets how many operators there are where there are more than 32.
@@ -42,11 +39,7 @@ abbrev pub indented_by : ℕ → ℕ → Text
 indented_by depth zero = repeat depth (codes "  ")
 indented_by depth (suc more) = repeat 32 (codes "  ") ++ (codes "[" ++ (decimal depth ++ codes "] "))
 
-abbrev pub indentation : ℕ → Text
-indentation depth = indented_by depth (depth - 32)
-
 -- the line of a node: its indentation, the node, its value, and its packages
 abbrev pub explained_line : ExplainedNode → Text
-explained_line explained =
-    indentation explained.depth ++ (head (tree_of explained.node.now) ++ (codes ": "
-    ++ (value_text explained.value ++ (packages_part explained.packages ++ codes "\n"))))
+explained_line explained = indented_by explained.depth (explained.depth - 32) ++ (head (tree_of explained.node.now)
+    ++ (codes ": " ++ (value_text explained.value ++ (packages_part explained.packages ++ codes "\n"))))

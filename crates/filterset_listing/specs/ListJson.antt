@@ -38,15 +38,12 @@ pub data MarksAt (key : Text) (Marks : Data → Data → Type 0) : Members → M
 abbrev pub AreNames : List Text → BTreeSet (Bor Text) → Type 0
 AreNames tests names = (name : Bor Text) → IsTrue (contains (λ a b. slice_cmp nat_cmp a.now b.now) names name) ↔ Contains tests name.now
 
--- a test says whether it is picked
-abbrev pub MarksTest : Bool → Members → Members → Type 0
-MarksTest is_picked before after = after ≡ put (codes "filter-match") (match_data is_picked) before
-
 -- each test says whether it is one of those that are picked
 pub data MarksTests (picked : List Text) : Members → Members → Type 0 where
   no_tests : MarksTests picked no_members no_members
   next_test : {name : Text} {before after : Data} {members others : Members} (is_picked : Bool)
-      → (IsTrue is_picked ↔ Contains picked name) → MarksObject (MarksTest is_picked) before after
+      → (IsTrue is_picked ↔ Contains picked name)
+      → MarksObject (λ old new. new ≡ put (codes "filter-match") (match_data is_picked) old) before after
       → MarksTests picked members others
       → MarksTests picked (member name before members) (member name after others)
 

@@ -48,7 +48,6 @@ stands_for_packages e = false
 
 -- a predicate of packages names the packages that it matches, and no other node names any
 abbrev pub NamesPackages : List PackageMetadata → Tree SourceSpan → Option NamedPackages → Type 0
-NamesPackages packages e (Some named) =
-    (leaf : Leaf SourceSpan) × (set : List Text) × (e ≡ Set leaf) × IsCompiledLeaf packages leaf (compiled.Packages set)
-    × Names (members set packages) named
+NamesPackages packages e (Some named) = (leaf : Leaf SourceSpan) × (set : List Text) × (e ≡ Set leaf)
+    × IsCompiledLeaf packages leaf (compiled.Packages set) × Names (members set packages) named
 NamesPackages packages e None = stands_for_packages e ≡ false

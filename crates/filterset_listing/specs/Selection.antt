@@ -32,24 +32,21 @@ pub record IsSelection (ignores_default : Bool) (exprs : List CompiledExpr) (sel
 -- a runner runs the test, if the default filter and the filtersets have these trees
 abbrev pub RunPicks :
     List PackageMetadata → Bool → CompiledExpr → Tree SourceSpan → List (Tree SourceSpan) → TestQuery → Type 0
-RunPicks packages ignores_default default default_tree trees test =
-    RunDoes ignores_default (TreePicks packages default default_tree test)
-    (λ tree. TreePicks packages default tree test) trees
+RunPicks packages ignores_default default default_tree trees test = RunDoes ignores_default
+    (TreePicks packages default default_tree test) (λ tree. TreePicks packages default tree test) trees
 
 -- it can run a test of the binary
 abbrev pub RunCanPick :
     List PackageMetadata → Bool → CompiledExpr → Tree SourceSpan → List (Tree SourceSpan) → BinaryQuery → Type 0
-RunCanPick packages ignores_default default default_tree trees binary =
-    RunDoes ignores_default (TreeCanPick packages default default_tree binary)
-    (λ tree. TreeCanPick packages default tree binary) trees
+RunCanPick packages ignores_default default default_tree trees binary = RunDoes ignores_default
+    (TreeCanPick packages default default_tree binary) (λ tree. TreeCanPick packages default tree binary) trees
 
 -- If the expressions are compiled trees, and so is the default filter, in which no leaf is `default`, then the selection
 -- picks and can pick what a runner runs and can run by these trees.
 abbrev pub MeansSelection : Bool → List CompiledExpr → CompiledExpr → Type 0
-MeansSelection ignores_default exprs selection =
-    (packages : List PackageMetadata) (default : CompiledExpr) (default_tree : Tree SourceSpan)
-    (trees : List (Tree SourceSpan)) → IsCompiled packages default_tree default → has_leaf is_default default ≡ false
-    → AllZip (IsCompiled packages) trees exprs
+MeansSelection ignores_default exprs selection = (packages : List PackageMetadata) (default : CompiledExpr)
+    (default_tree : Tree SourceSpan) (trees : List (Tree SourceSpan)) → IsCompiled packages default_tree default
+    → has_leaf is_default default ≡ false → AllZip (IsCompiled packages) trees exprs
     → ((test : TestQuery)
     → ExprPicks default selection test ↔ RunPicks packages ignores_default default default_tree trees test)
     × ((binary : BinaryQuery)

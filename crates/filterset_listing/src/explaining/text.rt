@@ -1,8 +1,8 @@
 //! Explanations as text.
-ghost use Rattle.std.specs.Prelude.{◌≡◌, ◌++◌, IfOk, OnOk, codes, string_bytes};
+ghost use Rattle.std.specs.Prelude.{◌≡◌, ◌++◌, ◌-◌, IfOk, OnOk, Some, codes, string_bytes};
 ghost use Rattle.std.specs.List.{flat_map, join_by};
 ghost use Rattle.filterset_language.specs.Views.{tree_of};
-ghost use Rattle.filterset_listing.specs.ExplanationText.{explained_line, head, indentation, others_text, packages_part, packages_text, value_text};
+ghost use Rattle.filterset_listing.specs.ExplanationText.{explained_line, head, indented_by, others_text, packages_part, value_text};
 
 use crate::explaining::ExplainedNode;
 use crate::explaining::packages::NamedPackages;
@@ -55,7 +55,7 @@ fn join_names(alloc: Global, names: &[&str]) -> Result<String, AllocError>
 
 /// Writes the packages that a predicate matches.
 fn packages_text(alloc: Global, packages: &NamedPackages<'_>) -> Result<String, AllocError>
-    ensures { IfOk result (λ text. string_bytes text ≡ packages_text packages.now) }
+    ensures { IfOk result (λ text. string_bytes text ≡ packages_part (Some packages.now)) }
 {
     let names = join_names(alloc, packages.names.as_slice())?;
     let others = others_text(alloc, packages.others)?;
@@ -74,7 +74,7 @@ fn packages_part(alloc: Global, packages: &Option<NamedPackages<'_>>) -> Result<
 
 /// Writes what precedes a node.
 fn indentation(alloc: Global, depth: usize) -> Result<String, AllocError>
-    ensures { IfOk result (λ text. string_bytes text ≡ indentation depth) }
+    ensures { IfOk result (λ text. string_bytes text ≡ indented_by depth (depth - 32)) }
 {
     match depth.saturating_sub(32) {
         0 => "  ".repeat(alloc, depth),

@@ -1,12 +1,12 @@
 //! The tests of a list that a filterset picks, in the shape in which nextest wrote the list.
-ghost use Rattle.std.specs.Prelude.{◌≡◌, IfErr, IfOk, IsTrue, List, None, OnOk, drop, false, map, string_bytes};
+ghost use Rattle.std.specs.Prelude.{◌≡◌, IfErr, IfOk, IsTrue, List, None, OnOk, codes, drop, false, map, string_bytes};
 ghost use Rattle.std.specs.BTreeMap.{insert_entry};
 ghost use Rattle.std.specs.String.{string_cmp};
-ghost use Rattle.serde_json.specs.Data.{Data, object};
+ghost use Rattle.serde_json.specs.Data.{Data, object, put};
 ghost use Rattle.serde_json.specs.Find.{as_object};
 ghost use Rattle.serde_json.specs.View.{members_view, view};
 ghost use Rattle.filterset_listing.specs.Asking.{Text};
-ghost use Rattle.filterset_listing.specs.ListJson.{AreNames, IsListJson, MarksAt, MarksList, MarksObject, MarksSuite, MarksSuites, MarksTest, MarksTests, first_tests, match_data};
+ghost use Rattle.filterset_listing.specs.ListJson.{AreNames, IsListJson, MarksAt, MarksList, MarksObject, MarksSuite, MarksSuites, MarksTests, first_tests, match_data};
 
 use crate::listing::BinaryPicks;
 use filterset_graph::TestCaseName;
@@ -96,7 +96,8 @@ fn match_value(alloc: Global, is_picked: bool) -> Result<Value, AllocError>
 
 /// Marks a test as picked or not.
 fn mark_test(alloc: Global, test: Value, is_picked: bool) -> Result<Value, AllocError>
-    ensures { IfOk result (λ marked. MarksObject (MarksTest is_picked) (view test) (view marked)) }
+    ensures { IfOk result (λ marked. MarksObject (λ old new. new
+        ≡ put (codes "filter-match") (match_data is_picked) old) (view test) (view marked)) }
 {
     match members_of(test) {
         Ok(mut members) => {

@@ -1,7 +1,7 @@
 //! The tests of a list that a filterset picks, as text.
-ghost use Rattle.std.specs.Prelude.{◌≡◌, ◌++◌, IfOk, OnOk, string_bytes};
-ghost use Rattle.std.specs.List.{count_by, flat_map};
-ghost use Rattle.filterset_listing.specs.ListText.{counts_line, has_tests, is_open, left_out_count, list_text, picks_text, skipped_line, test_count, test_line, under_id};
+ghost use Rattle.std.specs.Prelude.{◌≡◌, ◌++◌, IfOk, OnOk, codes, if◌then◌else◌, length, string_bytes, []};
+ghost use Rattle.std.specs.List.{count_by, flat_map, sum_by};
+ghost use Rattle.filterset_listing.specs.ListText.{counts_line, has_tests, is_open, list_text, picks_text};
 
 use crate::counting::add_count;
 use crate::listing::BinaryPicks;
@@ -29,7 +29,7 @@ impl BinaryPicks<'_> {
 /// Writes tests, a line each.
 fn push_tests(output: &mut String, tests: &[&TestCaseName]) -> Result<(), AllocError>
     ensures { OnOk result (string_bytes output.new
-        ≡ string_bytes output.old ++ flat_map (λ t. test_line t.now) tests.now) }
+        ≡ string_bytes output.old ++ flat_map (λ t. codes "    " ++ (t.now ++ codes "\n")) tests.now) }
 {
     for test in tests {
         let test = test.as_str();
@@ -40,14 +40,16 @@ fn push_tests(output: &mut String, tests: &[&TestCaseName]) -> Result<(), AllocE
 
 /// Returns what the text writes in place of tests that the list does not have.
 fn skipped_line(is_open: bool) -> &'static str
-    ensures { result.now ≡ skipped_line is_open }
+    ensures { result.now ≡ (if is_open then codes "    (skipped)\n" else []) }
 {
     if is_open { "    (skipped)\n" } else { "" }
 }
 
 /// Writes the id of a binary, and under it the tests that the filterset picks.
 fn push_shown(output: &mut String, picks: &BinaryPicks<'_>) -> Result<(), AllocError>
-    ensures { OnOk result (string_bytes output.new ≡ string_bytes output.old ++ under_id picks.now) }
+    ensures { OnOk result (string_bytes output.new ≡ string_bytes output.old ++ ((picks.now.binary.query.binary_id.now
+        ++ (codes ":\n" ++ (if is_open picks.now then codes "    (skipped)\n" else [])))
+        ++ flat_map (λ t. codes "    " ++ (t.now ++ codes "\n")) picks.now.tests.items)) }
 {
     let id = picks.binary.query.binary_id.as_str();
     let skipped = skipped_line(picks.is_open());
@@ -78,7 +80,7 @@ fn push_all_picks(output: &mut String, all: &[BinaryPicks<'_>]) -> Result<(), Al
 
 /// Counts the tests that the filterset picks.
 fn test_count(all: &[BinaryPicks<'_>]) -> Result<usize, AllocError>
-    ensures { IfOk result (λ count. count ≡ test_count all.now) }
+    ensures { IfOk result (λ count. count ≡ sum_by (λ s. length s.tests.items) all.now) }
 {
     let mut count = 0;
     for picks in all {
@@ -96,7 +98,7 @@ fn binary_count(all: &[BinaryPicks<'_>]) -> usize
 
 /// Counts the binaries that are left out without asking about their tests.
 fn left_out_count(all: &[BinaryPicks<'_>]) -> usize
-    ensures { result ≡ left_out_count all.now }
+    ensures { result ≡ count_by (λ s. s.is_left_out) all.now }
 {
     all.iter().filter(|picks| picks.is_left_out).count()
 }

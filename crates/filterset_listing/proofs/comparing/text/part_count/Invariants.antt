@@ -1,7 +1,8 @@
-use Rattle.std.proofs.Common.{◌≡◌, take}
-use Rattle.filterset_listing.specs.ComparisonText.{part_count}
+use Rattle.std.proofs.Common.{◌≡◌, length, take}
+use Rattle.std.specs.List.{sum_by}
+use Rattle.filterset_listing.specs.ComparisonText.{tests_in}
 use Rattle.filterset_listing.proofs.comparing.text.part_count.Given as goal
 
 -- the tests of the binaries so far were counted
 abbrev pub invariant-loop-difference : goal.invariant-loop-difference
-invariant-loop-difference l = l.count ≡ part_count l.part (take l.difference-index l.all)
+invariant-loop-difference l = l.count ≡ sum_by (λ d. length (tests_in l.part d)) (take l.difference-index l.all)
