@@ -1,7 +1,8 @@
 //! What the command line asks for.
-ghost use Rattle.std.specs.Prelude.{◌≡◌, IfErr, IfOk};
-ghost use Rattle.clap.specs.Words.{first_value, found_of};
-ghost use Rattle.filterset_command.specs.Words.{IsMissingArgument, LacksArgument};
+ghost use Rattle.std.specs.Prelude.{◌≡◌, IfErr, IfOk, codes};
+ghost use Rattle.clap.specs.Words.{found_of};
+ghost use Rattle.filterset_drawing.specs.Columns.{Text};
+ghost use Rattle.filterset_command.specs.Words.{ArePathsAsked, AreTextsAsked, IsAsked, IsAskedBy, IsColorAsked, IsFormAsked, IsKindAsked, IsMissingArgument, IsQuestionAsked, IsTextAsked, LacksArgument};
 
 use crate::asking::WorkspaceQuestion;
 use crate::checking::CheckPaths;
@@ -43,6 +44,7 @@ pub enum Request<'w> {
 
 /// Returns what matched words ask for.
 pub fn request_of<'m>(matches: &'m ArgMatches<'_>) -> Result<Request<'m>, CommandFault>
+    ensures asked { IfOk result (IsAsked matches.now) }
     ensures missing { IfErr result IsMissingArgument }
 {
     match matches.subcommand() {
@@ -56,7 +58,9 @@ pub fn request_of<'m>(matches: &'m ArgMatches<'_>) -> Result<Request<'m>, Comman
 }
 
 /// Returns what `check` asks for.
-fn check_of<'m>(matches: &'m ArgMatches<'_>) -> Request<'m> {
+fn check_of<'m>(matches: &'m ArgMatches<'_>) -> Request<'m>
+    ensures { IsAskedBy (codes "check") (found_of matches.now) result }
+{
     Request::Check {
         kind: kind_of(matches),
         form: form_of(matches),
@@ -69,7 +73,9 @@ fn check_of<'m>(matches: &'m ArgMatches<'_>) -> Request<'m> {
 }
 
 /// Returns what `format` asks for.
-fn format_of<'m>(matches: &'m ArgMatches<'_>) -> Request<'m> {
+fn format_of<'m>(matches: &'m ArgMatches<'_>) -> Request<'m>
+    ensures { IsAskedBy (codes "format") (found_of matches.now) result }
+{
     Request::Format {
         form: Form::Drawn(color_of(matches)),
         texts: texts_of(matches),
@@ -78,6 +84,7 @@ fn format_of<'m>(matches: &'m ArgMatches<'_>) -> Request<'m> {
 
 /// Returns what `list` asks for.
 fn list_of<'m>(matches: &'m ArgMatches<'_>) -> Result<Request<'m>, CommandFault>
+    ensures asked { IfOk result (IsAskedBy (codes "list") (found_of matches.now)) }
     ensures missing { IfErr result (LacksArgument (found_of matches.now)) }
 {
     let question = Question::List {
@@ -89,6 +96,7 @@ fn list_of<'m>(matches: &'m ArgMatches<'_>) -> Result<Request<'m>, CommandFault>
 
 /// Returns what `compare` asks for.
 fn compare_of<'m>(matches: &'m ArgMatches<'_>) -> Result<Request<'m>, CommandFault>
+    ensures asked { IfOk result (IsAskedBy (codes "compare") (found_of matches.now)) }
     ensures missing { IfErr result (LacksArgument (found_of matches.now)) }
 {
     let question = Question::Compare {
@@ -105,6 +113,8 @@ fn ask_of<'m>(
     form: Form,
     question: Question<'m>,
 ) -> Result<Request<'m>, CommandFault>
+    ensures asked { IfOk result (λ request. (name : Text)
+        → IsQuestionAsked name (found_of matches.now) form question.entry → IsAskedBy name (found_of matches.now) request) }
     ensures missing { IfErr result (LacksArgument (found_of matches.now)) }
 {
     Ok(Request::Ask(WorkspaceQuestion {
@@ -117,6 +127,7 @@ fn ask_of<'m>(
 
 /// Returns what `explain` asks for.
 fn explain_of<'m>(matches: &'m ArgMatches<'_>) -> Result<Request<'m>, CommandFault>
+    ensures asked { IfOk result (IsAskedBy (codes "explain") (found_of matches.now)) }
     ensures missing { IfErr result (LacksArgument (found_of matches.now)) }
 {
     Ok(Request::Explain(ExplainRequest {
@@ -131,7 +142,7 @@ fn explain_of<'m>(matches: &'m ArgMatches<'_>) -> Result<Request<'m>, CommandFau
 
 /// Returns the text of a required argument.
 fn text_of<'w>(matches: &ArgMatches<'w>, id: &'static str) -> Result<&'w str, CommandFault>
-    ensures found { IfOk result (λ text. first_value (found_of matches.now) id.now ≡ Some text.now) }
+    ensures asked { IfOk result (λ text. IsTextAsked (found_of matches.now) id.now text.now) }
     ensures missing { IfErr result (LacksArgument (found_of matches.now)) }
 {
     matches.get_str(id).ok_or(CommandFault::Missing(id))
@@ -139,6 +150,7 @@ fn text_of<'w>(matches: &ArgMatches<'w>, id: &'static str) -> Result<&'w str, Co
 
 /// Returns the paths of the files that describe the workspace.
 fn paths_of<'w>(matches: &ArgMatches<'w>) -> Result<WorkspacePaths<'w>, CommandFault>
+    ensures asked { IfOk result (ArePathsAsked (found_of matches.now)) }
     ensures missing { IfErr result (LacksArgument (found_of matches.now)) }
 {
     Ok(WorkspacePaths {
@@ -148,7 +160,9 @@ fn paths_of<'w>(matches: &ArgMatches<'w>) -> Result<WorkspacePaths<'w>, CommandF
 }
 
 /// Returns the form of the answer: for people, as JSON or as commands of a workflow.
-fn form_of(matches: &ArgMatches<'_>) -> Form {
+fn form_of(matches: &ArgMatches<'_>) -> Form
+    ensures { IsFormAsked (found_of matches.now) result }
+{
     match matches.get_str("format") {
         Some("json") => Form::Json,
         Some("github") => Form::Github,
@@ -157,7 +171,9 @@ fn form_of(matches: &ArgMatches<'_>) -> Form {
 }
 
 /// Returns whether the answer has colours.
-fn color_of(matches: &ArgMatches<'_>) -> Color {
+fn color_of(matches: &ArgMatches<'_>) -> Color
+    ensures { IsColorAsked (found_of matches.now) result }
+{
     match matches.get_str("color") {
         Some("always") => Color::Always,
         _ => Color::Never,
@@ -165,7 +181,9 @@ fn color_of(matches: &ArgMatches<'_>) -> Color {
 }
 
 /// Returns the kind that the filtersets have to be.
-fn kind_of(matches: &ArgMatches<'_>) -> FiltersetKind {
+fn kind_of(matches: &ArgMatches<'_>) -> FiltersetKind
+    ensures { IsKindAsked (found_of matches.now) result }
+{
     match matches.get_str("kind") {
         Some("default") => FiltersetKind::DefaultFilter,
         Some("override") => FiltersetKind::OverrideFilter,
@@ -175,7 +193,9 @@ fn kind_of(matches: &ArgMatches<'_>) -> FiltersetKind {
 }
 
 /// Returns the filtersets: the arguments, or the lines of standard input if the only argument is `-`.
-fn texts_of<'m>(matches: &'m ArgMatches<'_>) -> Texts<'m> {
+fn texts_of<'m>(matches: &'m ArgMatches<'_>) -> Texts<'m>
+    ensures { AreTextsAsked (found_of matches.now) result }
+{
     match matches.get_strs("text").unwrap_or(&[]) {
         ["-"] => Texts::StandardInput,
         given => Texts::Given(given),

@@ -1,0 +1,38 @@
+use Rattle.std.proofs.Common.{◌≡◌, ◌∙◌, Some, ap, codes, option_map, sym}
+use Rattle.std.proofs.lemmas.Result.{IfOk-weaker}
+use Rattle.clap.specs.Simple.{subcommand_rows_of}
+use Rattle.clap.specs.Walk.{rows_of}
+use Rattle.clap.specs.Words.{found_of, subcommand_name_of}
+use Rattle.clap.specs.declared.parser.matches.ArgMatches.{ArgMatches}
+use Rattle.filterset_drawing.specs.Columns.{Text}
+use Rattle.filterset_command.specs.Words.{IsAsked, IsAskedBy}
+use Rattle.filterset_command.specs.declared.request.Request.{Request}
+use Rattle.filterset_command.proofs.request.request_of.Goals as goal
+
+-- what a command with these arguments asks for is asked by the words that matched it
+asked_by : (matches : ArgMatches) (named : Text) (own : ArgMatches) (name : Text) (request : Request) → Some named ≡ subcommand_name_of matches →
+    Some (rows_of (found_of own)) ≡ option_map (λ p. p.1) (subcommand_rows_of matches) → named ≡ name → IsAskedBy name (found_of own) request → IsAsked matches request
+asked_by matches named own name request is_named has_rows is asked = (name, found_of own, sym is_named ∙ ap (λ (t : Text). Some t) is, sym has_rows, asked)
+
+pub returns-in-Some-check-default-clause-asked : goal.returns-in-Some-check-default-clause-asked
+returns-in-Some-check-default-clause-asked c =
+    asked_by c.args.matches.now c.in-Some-check-default.field-0-0.now c.in-Some-check-default.own.now (codes "check") c.check_of.result c.in-Some-check-default.ensures.name c.in-Some-check-default.ensures.rows c.in-Some-check-default.is-check c.check_of.ensures
+
+pub returns-in-Some-format-default-clause-asked : goal.returns-in-Some-format-default-clause-asked
+returns-in-Some-format-default-clause-asked c =
+    asked_by c.args.matches.now c.in-Some-format-default.field-0-0.now c.in-Some-format-default.own.now (codes "format") c.format_of.result c.in-Some-format-default.ensures.name c.in-Some-format-default.ensures.rows c.in-Some-format-default.is-format c.format_of.ensures
+
+pub returns-in-Some-list-default-clause-asked : goal.returns-in-Some-list-default-clause-asked
+returns-in-Some-list-default-clause-asked c =
+    IfOk-weaker c.list_of.result _ _ (λ request asked.
+    asked_by c.args.matches.now c.in-Some-list-default.field-0-0.now c.in-Some-list-default.own.now (codes "list") request c.in-Some-list-default.ensures.name c.in-Some-list-default.ensures.rows c.in-Some-list-default.is-list asked) c.list_of.ensures.asked
+
+pub returns-in-Some-compare-default-clause-asked : goal.returns-in-Some-compare-default-clause-asked
+returns-in-Some-compare-default-clause-asked c =
+    IfOk-weaker c.compare_of.result _ _ (λ request asked.
+    asked_by c.args.matches.now c.in-Some-compare-default.field-0-0.now c.in-Some-compare-default.own.now (codes "compare") request c.in-Some-compare-default.ensures.name c.in-Some-compare-default.ensures.rows c.in-Some-compare-default.is-compare asked) c.compare_of.ensures.asked
+
+pub returns-in-Some-explain-default-clause-asked : goal.returns-in-Some-explain-default-clause-asked
+returns-in-Some-explain-default-clause-asked c =
+    IfOk-weaker c.explain_of.result _ _ (λ request asked.
+    asked_by c.args.matches.now c.in-Some-explain-default.field-0-0.now c.in-Some-explain-default.own.now (codes "explain") request c.in-Some-explain-default.ensures.name c.in-Some-explain-default.ensures.rows c.in-Some-explain-default.is-explain asked) c.explain_of.ensures.asked
