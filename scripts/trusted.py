@@ -181,7 +181,8 @@ class Sources:
         beside = [crate for crate in self.crates if crate in self.below(COMMAND) - record - library - {COMMAND}]
         runs = {crate: [Public(crate, path, item.name, item, {}) for path, _, item in self.items(crate)
                         if item.kind == "fn" and item.name in ("run", "status")] for crate in (PROGRAMS, COMMAND)}
-        own = [one for path, _, block in self.items(PROGRAM) if block.kind == "impl Program" for one in self.members(PROGRAM, path, block)]
+        own = [one for crate in sorted(record) for path, _, block in self.items(crate) if block.kind == "impl Program"
+               for one in self.members(crate, path, block)]
         if [len(found) for found in runs.values()] != [2, 2] or not own:
             raise LookupError("a program has not one run and one status, or no impl of Program")
         return [

@@ -3,9 +3,6 @@
 #![tactic(auto)]
 
 mod program;
-mod report;
-#[cfg(test)]
-mod tests;
 
 use filterset_io::execute;
 use program::Rows;

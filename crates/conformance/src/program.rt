@@ -1,14 +1,14 @@
 //! The program and its exit statuses.
-use crate::report::report;
 use filterset_io::Program;
 use std::alloc::{AllocError, Global};
+use suite_judges::report;
 use suite_rows::Verdict;
 
 /// The program that reports where the library differs from the rows of a suite.
 pub struct Rows;
 
 impl Program for Rows {
-    ghost use Rattle.conformance.specs.Report.{Report};
+    ghost use Rattle.suite_judges.specs.Report.{Report};
     ghost use Rattle.conformance.specs.Ending.{status_of};
 
     type Outcome = Verdict;

@@ -1,3 +1,4 @@
+pub mod Ending
 pub mod Index
 pub mod Lookup
 pub mod Library

@@ -100,7 +100,7 @@ pub fn packages_return(rt: &(impl AllocGlobal + Abort)) -> bool {
 }
 
 /// The test `x` is in the group `@global`.
-const GROUPS: OneMember = OneMember {
+static GROUPS: OneMember = OneMember {
     test: "x",
     group: "@global",
 };
@@ -170,7 +170,7 @@ pub type Wanted = ([&'static str; 5], BuildPlatform, Option<bool>, bool);
 pub const MIXED: &str =
     "binary(a) + !platform(target) + kind(bench) + (package(=a) & (!test(/foo/) | kind(bin)))";
 
-pub const OF_MIXED: [Wanted; 6] = [
+pub static OF_MIXED: [Wanted; 6] = [
     (
         ["a", "a", "a", "lib", "foo"],
         BuildPlatform::Target,
@@ -211,7 +211,7 @@ pub const OF_MIXED: [Wanted; 6] = [
 
 pub const GROUPED: &str = "group(@global)";
 
-pub const OF_GROUPED: [Wanted; 2] = [
+pub static OF_GROUPED: [Wanted; 2] = [
     (["a", "a", "a", "lib", "x"], BuildPlatform::Host, None, true),
     (
         ["a", "a", "a", "lib", "y"],

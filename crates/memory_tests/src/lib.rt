@@ -1,5 +1,6 @@
-//! Tests of calls that may run out of memory: each returns what it returns with memory, or an error that says so, and
-//! leaves what it borrows unchanged.
+//! Tests of what goes wrong: calls that may run out of memory, of which each returns what it returns with memory, or an
+//! error that says so, and leaves what it borrows unchanged; readers and writers that fail; patterns that are too large;
+//! and rows of the suite that do not hold.
 //!
 //! `scripts/refusals.sh` runs the tests whose names end in `_or_wants_memory`, refusing each request for memory in turn.
 //! Expected values follow from the rules in docs/, and none is taken from what the library returns.
@@ -15,7 +16,11 @@ mod refusals;
 #[cfg(test)]
 mod returning;
 #[cfg(test)]
+mod runs;
+#[cfg(test)]
 mod sizes;
+#[cfg(test)]
+mod suite;
 #[cfg(test)]
 mod support;
 #[cfg(test)]

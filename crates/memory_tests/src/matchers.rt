@@ -31,7 +31,7 @@ fn glob_matches(
 
 /// Globs, texts that repeat a piece so many times, and whether they match: texts of one word of bits and of several,
 /// with characters of several bytes, and globs with groups, of which each character of the text has several readings.
-const GLOBS: [(&str, &str, usize, bool); 13] = [
+static GLOBS: [(&str, &str, usize, bool); 13] = [
     ("{a/**,[b-c]}/d*", "a/x/de", 1, true),
     ("*xx?[w-y]*", "x", 63, true),
     ("**/x*", "/", 63, false),
@@ -50,9 +50,9 @@ const GLOBS: [(&str, &str, usize, bool); 13] = [
 /// Returns whether all globs returned.
 pub fn globs_return(rt: &(impl AllocGlobal + Abort)) -> bool {
     let mut all = true;
-    for (pattern, piece, count, wanted) in GLOBS {
-        let returned = glob_matches(rt.alloc(), pattern, piece, count);
-        all &= returns(rt, returned, &Some(wanted));
+    for (pattern, piece, count, wanted) in &GLOBS {
+        let returned = glob_matches(rt.alloc(), pattern, piece, *count);
+        all &= returns(rt, returned, &Some(*wanted));
     }
     all
 }

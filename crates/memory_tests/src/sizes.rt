@@ -36,7 +36,7 @@ fn outcome_of(alloc: Global, text: &str) -> Result<Outcome, AllocError> {
 /// - `abca{n}`, of which one DFA is made: three nodes, three states for `abc`, and the search.
 /// - `.a{n}`, of which a regex is made: the states of `.` take less than 1,000 bytes.
 /// - `a{n}|b`, which is no choice of few texts.
-const COUNTED: [(&str, usize, &str, Outcome); 10] = [
+static COUNTED: [(&str, usize, &str, Outcome); 10] = [
     ("^a{", 806_593, "}", Outcome::Built),
     ("^a{", 806_594, "}", Outcome::TooLarge),
     ("a{", 806_593, "}$", Outcome::Built),
@@ -51,31 +51,32 @@ const COUNTED: [(&str, usize, &str, Outcome); 10] = [
 
 #[test]
 fn patterns_past_the_limit_are_too_large(rt: HostRuntime) -> Result<(), Fail> {
-    for (front, count, back, wanted) in COUNTED {
+    for (front, count, back, wanted) in &COUNTED {
         let text = format!(in rt.alloc(); "{front}{count}{back}")?;
-        assert_eq!(rt; outcome_of(rt.alloc(), text.as_str())?, wanted, "{text}");
+        assert_eq!(rt; outcome_of(rt.alloc(), text.as_str())?, *wanted, "{text}");
     }
     Ok(())
 }
 
+/// Returns whether a pattern of so many copies of the piece is built.
+fn is_built(alloc: Global, piece: &str, count: usize) -> Result<bool, AllocError> {
+    let text = piece.repeat(alloc, count)?;
+    Ok(outcome_of(alloc, text.as_str())? == Outcome::Built)
+}
+
 /// Plain patterns of which nothing is compiled: at 13 bytes a character they would be past the limit.
-const PLAIN: [&str; 3] = ["a", "my-crate", "a\\.b"];
+static PLAIN: [&str; 3] = ["a", "my-crate", "a\\.b"];
 
 #[test]
 fn plain_patterns_have_no_limit(rt: HostRuntime) -> Result<(), Fail> {
-    for piece in PLAIN {
-        let text = piece.repeat(rt.alloc(), 1_000_000)?;
-        assert_eq!(rt;
-            outcome_of(rt.alloc(), text.as_str())?,
-            Outcome::Built,
-            "{piece}"
-        );
+    for piece in &PLAIN {
+        assert!(rt; is_built(rt.alloc(), piece, 1_000_000)?, "{piece}");
     }
     Ok(())
 }
 
 /// Pieces of small patterns that take most, and how often they fit into 1,024 bytes and 64 backslashes.
-const LARGEST: [(&str, usize); 9] = [
+static LARGEST: [(&str, usize); 9] = [
     ("\\w", 64),
     ("\\W", 64),
     ("\\pL", 64),
@@ -89,38 +90,43 @@ const LARGEST: [(&str, usize); 9] = [
 
 #[test]
 fn small_patterns_are_built(rt: HostRuntime) -> Result<(), Fail> {
-    for (piece, count) in LARGEST {
-        let text = piece.repeat(rt.alloc(), count)?;
-        assert_eq!(rt;
-            outcome_of(rt.alloc(), text.as_str())?,
-            Outcome::Built,
-            "{piece}"
-        );
+    for (piece, count) in &LARGEST {
+        assert!(rt; is_built(rt.alloc(), piece, *count)?, "{piece}");
     }
     Ok(())
+}
+
+/// Returns what becomes of the text between so many opening and closing pieces.
+fn outcome_within(
+    alloc: Global,
+    opening: &str,
+    text: &str,
+    closing: &str,
+    count: usize,
+) -> Result<Outcome, AllocError> {
+    let opened = opening.repeat(alloc, count)?;
+    let closed = closing.repeat(alloc, count)?;
+    let whole = format!(in alloc; "{opened}{text}{closed}")?;
+    outcome_of(alloc, whole.as_str())
 }
 
 #[test]
 fn nested_small_patterns_are_built(rt: HostRuntime) -> Result<(), Fail> {
-    let opening = "(".repeat(rt.alloc(), 124)?;
     let middle = "a*".repeat(rt.alloc(), 326)?;
-    let closing = ")*".repeat(rt.alloc(), 124)?;
-    let text = format!(in rt.alloc(); "{opening}{middle}{closing}")?;
-    assert_eq!(rt; outcome_of(rt.alloc(), text.as_str())?, Outcome::Built);
+    let outcome = outcome_within(rt.alloc(), "(", middle.as_str(), ")*", 124)?;
+    assert_eq!(rt; outcome, Outcome::Built);
     Ok(())
 }
 
 /// Texts that are plain, small or neither, and no patterns.
-const UNREAD: [&str; 6] = ["(", "a{", "[b-a]", "\\", "\\y", "a{2,1}"];
+static UNREAD: [&str; 6] = ["(", "a{", "[b-a]", "\\", "\\y", "a{2,1}"];
 
 #[test]
 fn texts_that_are_no_patterns_are_unread(rt: HostRuntime) -> Result<(), Fail> {
-    for text in UNREAD {
+    for text in &UNREAD {
         assert_eq!(rt; outcome_of(rt.alloc(), text)?, Outcome::Unread, "{text}");
     }
-    let deep = "(".repeat(rt.alloc(), 251)?;
-    let closed = ")".repeat(rt.alloc(), 251)?;
-    let text = format!(in rt.alloc(); "{deep}{closed}")?;
-    assert_eq!(rt; outcome_of(rt.alloc(), text.as_str())?, Outcome::Unread);
+    let outcome = outcome_within(rt.alloc(), "(", "", ")", 251)?;
+    assert_eq!(rt; outcome, Outcome::Unread);
     Ok(())
 }

@@ -30,7 +30,7 @@ pub fn returns<T: PartialEq + Debug + Drop>(
 pub type Row<'a> = (&'a str, bool, &'a [&'a str]);
 
 /// `a` and `b` depend on each other, and `c` depends on `a` through `x`, which is outside the workspace.
-pub const ROWS: [Row<'static>; 4] = [
+static ROWS: [Row<'static>; 4] = [
     ("a", true, &["b"]),
     ("b", true, &["a"]),
     ("c", true, &["x"]),

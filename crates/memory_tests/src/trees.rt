@@ -70,7 +70,7 @@ fn faults() -> [ParseSingleError; 2] {
 }
 
 /// Texts without a tree, and how many faults each has.
-const COUNTED: [(&str, usize); 2] = [
+static COUNTED: [(&str, usize); 2] = [
     (
         r"package({a) or test(\q) || deps(/(/) + platform(x, y) and kind(/a",
         8,
@@ -107,8 +107,8 @@ fn lenient_parse_returns(rt: &(impl AllocGlobal + Abort)) -> bool {
 /// Returns whether all texts without a tree were parsed.
 pub fn faulty_texts_return(rt: &(impl AllocGlobal + Abort)) -> bool {
     let mut all = lenient_parse_returns(rt);
-    for (text, count) in COUNTED {
-        all &= faults_return(rt, text, count);
+    for (text, count) in &COUNTED {
+        all &= faults_return(rt, text, *count);
     }
     all
 }

@@ -1,2 +1,3 @@
 pub mod Asking
 pub mod Kept
+pub mod Report

@@ -4,7 +4,21 @@ ghost use Rattle.suite_rows.specs.Judging.{IsClean};
 
 use filterset_faults::ParseSingleError;
 use std::alloc::{AllocError, Global};
-use suite_rows::{FaultRow, Lines, ToldRow, are_faults, show_fault, show_faults};
+use suite_rows::{FaultRow, Lines, RefusalRow, ToldRow, are_faults, show_fault, show_faults};
+
+/// Notes where the faults, or what is told of them, differ from the rows, if there are rows.
+pub fn judge_refusal(
+    alloc: Global,
+    lines: &mut Lines,
+    subject: &str,
+    found: &[ParseSingleError],
+    row: &RefusalRow,
+) -> Result<(), AllocError>
+    ensures { OnOk result (IsClean lines.new → IsClean lines.old) }
+{
+    judge_faults(alloc, lines, subject, found, &row.faults)?;
+    judge_told(alloc, lines, subject, found, &row.told)
+}
 
 /// Notes whether the codes and spans of the faults differ from the rows, if there are rows.
 pub fn judge_faults(
@@ -25,7 +39,7 @@ pub fn judge_faults(
 }
 
 /// Notes whether the messages, labels and helps of the faults differ from the rows, if there are rows.
-pub fn judge_told(
+fn judge_told(
     alloc: Global,
     lines: &mut Lines,
     subject: &str,

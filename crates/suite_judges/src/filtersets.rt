@@ -7,7 +7,7 @@ ghost use Rattle.suite_judges.specs.Kept.{HasItsSteps};
 ghost use Rattle.suite_rows.specs.Judging.{IsClean};
 
 use crate::asking::Asked;
-use crate::faults::{judge_faults, judge_told};
+use crate::faults::judge_refusal;
 use crate::showing::show_in_brackets;
 use crate::steps::show_steps;
 use nextest_filtering::{
@@ -16,8 +16,8 @@ use nextest_filtering::{
 };
 use std::alloc::{AllocError, Global};
 use suite_rows::{
-    BinariesRow, BinaryRow, FiltersetRow, Lines, PackageRow, TestRow, WorkspaceRow, packages_of,
-    show_faults, text_of,
+    AnswersRow, BinariesRow, BinaryRow, FiltersetRow, Lines, PackageRow, TestRow, WorkspaceRow,
+    packages_of, show_faults, text_of,
 };
 
 /// Notes where the library differs from rows of filtersets, with no package and no custom group.
@@ -100,13 +100,7 @@ fn judge_filterset(
     let input = String::from_str(alloc, text.as_str())?;
     match Filterset::parse(alloc, input, context, row.kind, known_groups) {
         Ok(filterset) => {
-            lines.note(row.faults.is_none(), "faults", text.as_str(), "none")?;
-            lines.compare(
-                "text",
-                text.as_str(),
-                filterset.input.as_str(),
-                text.as_str(),
-            )?;
+            judge_input(lines, row, text.as_str(), &filterset)?;
             judge_accepted(alloc, lines, context, known_groups, row, &filterset)
         }
         Err(refusal) => {
@@ -114,6 +108,19 @@ fn judge_filterset(
             judge_refused(alloc, lines, row, text.as_str(), &refused)
         }
     }
+}
+
+/// Notes whether the row wants faults of an accepted filterset, and whether that has another text.
+fn judge_input(
+    lines: &mut Lines,
+    row: &FiltersetRow,
+    text: &str,
+    filterset: &Filterset,
+) -> Result<(), AllocError>
+    ensures { OnOk result (IsClean lines.new → IsClean lines.old) }
+{
+    lines.note(row.refusal.faults.is_none(), "faults", text, "none")?;
+    lines.compare("text", text, filterset.input.as_str(), text)
 }
 
 /// Notes whether the faults of a refused filterset differ from the row. A row without faults wants none.
@@ -127,12 +134,11 @@ fn judge_refused(
     ensures { OnOk result (IsClean lines.new → IsClean lines.old) }
 {
     lines.compare("text", text, refused.input.as_str(), text)?;
-    if row.faults.is_none() {
+    if row.refusal.faults.is_none() {
         let shown = show_faults(alloc, &refused.errors)?;
         lines.note(false, "faults", text, shown.as_str())?;
     }
-    judge_faults(alloc, lines, text, &refused.errors, &row.faults)?;
-    judge_told(alloc, lines, text, &refused.errors, &row.told)
+    judge_refusal(alloc, lines, text, &refused.errors, &row.refusal)
 }
 
 /// Judges an accepted filterset under the default filter of its row.
@@ -156,19 +162,30 @@ fn judge_accepted(
     ) {
         Ok(default) => {
             let asked = Asked::new(alloc, filterset, EvalContext::new(&default.compiled))?;
-            judge_asked(alloc, lines, row, &asked)
+            judge_asked(alloc, lines, &row.answers, &asked)
         }
         Err(refusal) => {
             let refused = refusal.into_faults()?;
-            let shown = show_faults(alloc, &refused.errors)?;
-            lines.note(
-                false,
-                "default filter",
-                refused.input.as_str(),
-                shown.as_str(),
-            )
+            note_default(alloc, lines, &refused)
         }
     }
+}
+
+/// Notes that the default filter is refused.
+fn note_default(
+    alloc: Global,
+    lines: &mut Lines,
+    refused: &FiltersetParseErrors,
+) -> Result<(), AllocError>
+    ensures { OnOk result (IsClean lines.new → IsClean lines.old) }
+{
+    let shown = show_faults(alloc, &refused.errors)?;
+    lines.note(
+        false,
+        "default filter",
+        refused.input.as_str(),
+        shown.as_str(),
+    )
 }
 
 /// Returns the text of the default filter: `all()` if the row has none.
@@ -183,7 +200,7 @@ fn default_text(alloc: Global, row: &FiltersetRow) -> Result<String, AllocError>
 fn judge_asked(
     alloc: Global,
     lines: &mut Lines,
-    row: &FiltersetRow,
+    row: &AnswersRow,
     asked: &Asked<'_>,
 ) -> Result<(), AllocError>
     requires { HasItsSteps asked.now }

@@ -8,7 +8,7 @@ ghost use Rattle.suite_rows.specs.Rows.{written_text};
 use crate::tokens::{name_of, show_tokens};
 use filterset_glob::{GenericGlob, GlobConstructError, GlobRefusal};
 use std::alloc::{AllocError, Global};
-use suite_rows::{GlobRow, Lines, Written, is_answer, text_of};
+use suite_rows::{GlobAnswersRow, GlobRow, Lines, Written, is_answer, text_of};
 
 /// Notes where the library differs from rows of globs.
 pub fn judge_globs(alloc: Global, lines: &mut Lines, rows: &[GlobRow]) -> Result<(), AllocError>
@@ -53,12 +53,12 @@ fn judge_fault(
 ) -> Result<(), AllocError>
     ensures { OnOk result (IsClean lines.new → IsClean lines.old) }
 {
-    let wanted = match &row.fault {
+    let wanted = match &row.reading.fault {
         Some(wanted) => wanted.as_str(),
         None => "none",
     };
     lines.compare("fault", text, name_of(fault), wanted)?;
-    if let Some(wanted) = &row.message {
+    if let Some(wanted) = &row.reading.message {
         let found = format!(in alloc; "{fault}")?;
         lines.compare("message", text, found.as_str(), wanted.as_str())?;
     }
@@ -75,13 +75,26 @@ fn judge_read(
 ) -> Result<(), AllocError>
     ensures { OnOk result (IsClean lines.new → IsClean lines.old) }
 {
-    lines.note(row.fault.is_none(), "fault", text, "none")?;
+    lines.note(row.reading.fault.is_none(), "fault", text, "none")?;
     lines.compare("text", text, glob.as_str(), text)?;
-    if let Some(wanted) = &row.tokens {
+    if let Some(wanted) = &row.reading.tokens {
         let found = show_tokens(alloc, glob.tokens())?;
         lines.compare("tokens", text, found.as_str(), wanted.as_str())?;
     }
     judge_copy(alloc, lines, text, glob)?;
+    judge_lists(alloc, lines, &row.answers, n, glob)
+}
+
+/// Judges the globs and texts that the row lists.
+fn judge_lists(
+    alloc: Global,
+    lines: &mut Lines,
+    row: &GlobAnswersRow,
+    n: usize,
+    glob: &GenericGlob,
+) -> Result<(), AllocError>
+    ensures { OnOk result (IsClean lines.new → IsClean lines.old) }
+{
     judge_equality(alloc, lines, glob, &row.equal, n, true)?;
     judge_equality(alloc, lines, glob, &row.unequal, n, false)?;
     judge_answers(alloc, lines, glob, &row.matches, n, true)?;

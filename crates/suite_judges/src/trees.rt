@@ -37,41 +37,38 @@ pub fn show_tree(
 
 fn write_tree(text: &mut String, tree: &ParsedExpr, spans: Spans) -> Result<(), AllocError> {
     match tree {
-        ParsedExpr::Not(operator, operand) => {
-            write!(text, "Not({}, ", not_name(*operator))?;
+        ParsedExpr::Set(leaf) => write_leaf(text, leaf, spans),
+        ParsedExpr::Not(_, operand) | ParsedExpr::Parens(operand) => {
+            begin_node(text, tree)?;
             write_tree(text, operand, spans)?;
+            text.push(')')
         }
-        ParsedExpr::Union(operator, left, right) => {
-            write!(text, "Union({}, ", or_name(*operator))?;
+        ParsedExpr::Union(_, left, right)
+        | ParsedExpr::Intersection(_, left, right)
+        | ParsedExpr::Difference(_, left, right)
+        | ParsedExpr::SymmetricDifference(_, left, right) => {
+            begin_node(text, tree)?;
             write_tree(text, left, spans)?;
             text.push_str(", ")?;
             write_tree(text, right, spans)?;
+            text.push(')')
         }
-        ParsedExpr::Intersection(operator, left, right) => {
-            write!(text, "Intersection({}, ", and_name(*operator))?;
-            write_tree(text, left, spans)?;
-            text.push_str(", ")?;
-            write_tree(text, right, spans)?;
-        }
-        ParsedExpr::Difference(_, left, right) => {
-            text.push_str("Difference(Minus, ")?;
-            write_tree(text, left, spans)?;
-            text.push_str(", ")?;
-            write_tree(text, right, spans)?;
-        }
-        ParsedExpr::SymmetricDifference(_, left, right) => {
-            text.push_str("SymmetricDifference(Caret, ")?;
-            write_tree(text, left, spans)?;
-            text.push_str(", ")?;
-            write_tree(text, right, spans)?;
-        }
-        ParsedExpr::Parens(inner) => {
-            text.push_str("Parens(")?;
-            write_tree(text, inner, spans)?;
-        }
-        ParsedExpr::Set(leaf) => return write_leaf(text, leaf, spans),
     }
-    text.push(')')
+}
+
+/// Adds the name of a node and its operator, as `Union(Pipe, `. A predicate adds nothing.
+fn begin_node(text: &mut String, tree: &ParsedExpr) -> Result<(), AllocError> {
+    match tree {
+        ParsedExpr::Not(operator, _) => write!(text, "Not({}, ", not_name(*operator)),
+        ParsedExpr::Union(operator, _, _) => write!(text, "Union({}, ", or_name(*operator)),
+        ParsedExpr::Intersection(operator, _, _) => {
+            write!(text, "Intersection({}, ", and_name(*operator))
+        }
+        ParsedExpr::Difference(_, _, _) => text.push_str("Difference(Minus, "),
+        ParsedExpr::SymmetricDifference(_, _, _) => text.push_str("SymmetricDifference(Caret, "),
+        ParsedExpr::Parens(_) => text.push_str("Parens("),
+        ParsedExpr::Set(_) => Ok(()),
+    }
 }
 
 fn not_name(operator: NotOperator) -> &'static str {

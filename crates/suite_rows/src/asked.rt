@@ -31,13 +31,18 @@ impl Row for BuildPlatform {
     }
 }
 
+/// Reads the id of a binary.
+fn read_binary_id(alloc: Global, value: &Value) -> Result<RustBinaryId, EntryRefusal> {
+    let id = optional_text(alloc, value, "id", "p::bin/cli")?;
+    Ok(RustBinaryId::new(alloc, id.as_str())?)
+}
+
 /// Reads a binary from an object or from the object of a test. A missing key is that of the binary `cli` of the package
 /// `p`, built for the host; a value that is no object has no keys.
 fn read_binary(alloc: Global, value: &Value) -> Result<BinaryRow, EntryRefusal> {
-    let id = optional_text(alloc, value, "id", "p::bin/cli")?;
     Ok(BinaryRow {
         package_id: PackageId::new(optional_text(alloc, value, "package", "p")?),
-        binary_id: RustBinaryId::new(alloc, id.as_str())?,
+        binary_id: read_binary_id(alloc, value)?,
         binary_name: optional_text(alloc, value, "binary", "cli")?,
         kind: RustTestBinaryKind::new(optional_text(alloc, value, "kind", "bin")?),
         platform: given(alloc, value, "platform")?.unwrap_or(BuildPlatform::Host),
@@ -55,25 +60,25 @@ impl Row for BinaryRow {
     }
 }
 
+/// Reads a name alone, or that of an object.
+fn read_test_name(alloc: Global, value: &Value) -> Result<TestCaseName, EntryRefusal> {
+    if let Some(name) = value.as_str() {
+        return Ok(TestCaseName::new(alloc, name)?);
+    }
+    let names = [
+        "package", "id", "binary", "kind", "platform", "name", "group",
+    ];
+    check_keys(alloc, value, &names)?;
+    let name = optional_text(alloc, value, "name", "t")?;
+    Ok(TestCaseName::new(alloc, name.as_str())?)
+}
+
 /// Reads a name alone, or an object in which a missing key is that of the test `t`.
 impl Row for TestRow {
     fn read_row(alloc: Global, value: &Value) -> Result<TestRow, EntryRefusal> {
-        let name = match value.as_str() {
-            Some(name) => String::from_str(alloc, name)?,
-            None => {
-                check_keys(
-                    alloc,
-                    value,
-                    &[
-                        "package", "id", "binary", "kind", "platform", "name", "group",
-                    ],
-                )?;
-                optional_text(alloc, value, "name", "t")?
-            }
-        };
         Ok(TestRow {
+            name: read_test_name(alloc, value)?,
             binary: read_binary(alloc, value)?,
-            name: TestCaseName::new(alloc, name.as_str())?,
             group: optional_text(alloc, value, "group", GLOBAL_TEST_GROUP)?,
         })
     }

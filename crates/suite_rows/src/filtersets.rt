@@ -3,7 +3,7 @@ use crate::asked::{BinaryRow, TestRow};
 use crate::graphs::PackageRow;
 use crate::pieces::Written;
 use crate::row::{Row, given, required, rows_or_none};
-use crate::texts::{FaultRow, ToldRow};
+use crate::texts::RefusalRow;
 use filterset_faults::FiltersetKind;
 use filterset_json::{EntryRefusal, check_keys};
 use serde_json::Value;
@@ -40,19 +40,35 @@ impl Row for BinariesRow {
     }
 }
 
-/// A filterset of a kind, and its faults if it is refused. If it is accepted, its steps, and its answers for binaries
-/// and tests under a default filter.
+/// The steps of a filterset, and its answers for binaries and tests.
 #[derive(Drop)]
-pub struct FiltersetRow {
-    pub filterset: Written,
-    pub kind: FiltersetKind,
-    pub faults: Option<Vec<FaultRow>>,
-    pub told: Option<Vec<ToldRow>>,
-    pub default: Option<Written>,
+pub struct AnswersRow {
     pub steps: Option<Vec<String>>,
     pub binaries: Option<BinariesRow>,
     pub matches: Vec<TestRow>,
     pub misses: Vec<TestRow>,
+}
+
+/// Reads the four keys of an object that has others too.
+impl Row for AnswersRow {
+    fn read_row(alloc: Global, value: &Value) -> Result<AnswersRow, EntryRefusal> {
+        Ok(AnswersRow {
+            steps: given(alloc, value, "steps")?,
+            binaries: given(alloc, value, "binaries")?,
+            matches: rows_or_none(alloc, value, "matches")?,
+            misses: rows_or_none(alloc, value, "misses")?,
+        })
+    }
+}
+
+/// A filterset of a kind, and its faults if it is refused. If it is accepted, what it answers under a default filter.
+#[derive(Drop)]
+pub struct FiltersetRow {
+    pub filterset: Written,
+    pub kind: FiltersetKind,
+    pub refusal: RefusalRow,
+    pub default: Option<Written>,
+    pub answers: AnswersRow,
 }
 
 impl Row for FiltersetRow {
@@ -72,13 +88,9 @@ impl Row for FiltersetRow {
         Ok(FiltersetRow {
             filterset: required(alloc, value, "filterset")?,
             kind: given(alloc, value, "kind")?.unwrap_or(FiltersetKind::Test),
-            faults: given(alloc, value, "faults")?,
-            told: given(alloc, value, "told")?,
+            refusal: RefusalRow::read_row(alloc, value)?,
             default: given(alloc, value, "default")?,
-            steps: given(alloc, value, "steps")?,
-            binaries: given(alloc, value, "binaries")?,
-            matches: rows_or_none(alloc, value, "matches")?,
-            misses: rows_or_none(alloc, value, "misses")?,
+            answers: AnswersRow::read_row(alloc, value)?,
         })
     }
 }

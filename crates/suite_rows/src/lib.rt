@@ -16,8 +16,8 @@ mod texts;
 mod written;
 
 pub use asked::{BinaryRow, TestRow};
-pub use filtersets::{BinariesRow, FiltersetRow, WorkspaceRow};
-pub use globs::GlobRow;
+pub use filtersets::{AnswersRow, BinariesRow, FiltersetRow, WorkspaceRow};
+pub use globs::{GlobAnswersRow, GlobReadingRow, GlobRow};
 pub use graphs::{
     DependsRow, GraphRow, PackageRow, RefusedRow, SearchRow, TargetRow, package_id, packages_of,
 };
@@ -28,5 +28,5 @@ pub use pieces::{Count, Piece, Written};
 pub use row::Row;
 pub use showing::{show_fault, show_faults};
 pub use suite::Suite;
-pub use texts::{FaultRow, TextRow, ToldRow, TreeRow};
+pub use texts::{FaultRow, RefusalRow, TextRow, ToldRow, TreeRow};
 pub use written::text_of;

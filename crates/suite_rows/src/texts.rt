@@ -55,14 +55,30 @@ impl Row for TreeRow {
     }
 }
 
+/// The faults of a text or a filterset, and what is told of each.
+#[derive(Drop)]
+pub struct RefusalRow {
+    pub faults: Option<Vec<FaultRow>>,
+    pub told: Option<Vec<ToldRow>>,
+}
+
+/// Reads the two keys of an object that has others too.
+impl Row for RefusalRow {
+    fn read_row(alloc: Global, value: &Value) -> Result<RefusalRow, EntryRefusal> {
+        Ok(RefusalRow {
+            faults: given(alloc, value, "faults")?,
+            told: given(alloc, value, "told")?,
+        })
+    }
+}
+
 /// A text, its faults, and its tree.
 #[derive(Drop)]
 pub struct TextRow {
     pub text: Written,
-    pub faults: Option<Vec<FaultRow>>,
+    pub refusal: RefusalRow,
     pub tree: Option<TreeRow>,
     pub print: Option<Written>,
-    pub told: Option<Vec<ToldRow>>,
     pub test_alone: Option<Vec<String>>,
 }
 
@@ -75,10 +91,9 @@ impl Row for TextRow {
         )?;
         Ok(TextRow {
             text: required(alloc, value, "text")?,
-            faults: given(alloc, value, "faults")?,
+            refusal: RefusalRow::read_row(alloc, value)?,
             tree: given(alloc, value, "tree")?,
             print: given(alloc, value, "print")?,
-            told: given(alloc, value, "told")?,
             test_alone: given(alloc, value, "test_alone")?,
         })
     }

@@ -1,13 +1,15 @@
 //! The report of a suite.
 ghost use Rattle.std.specs.Prelude.{◌≡◌, IfOk, string_bytes};
-ghost use Rattle.conformance.specs.Report.{Report};
+ghost use Rattle.suite_judges.specs.Report.{Report};
 
+use crate::filtersets::{judge_filtersets, judge_workspaces};
+use crate::globs::judge_globs;
+use crate::graphs::judge_graphs;
+use crate::matchers::judge_matchers;
+use crate::texts::judge_texts;
 use filterset_json::EntryRefusal;
 use serde_json::Value;
 use std::alloc::{AllocError, Global};
-use suite_judges::{
-    judge_filtersets, judge_globs, judge_graphs, judge_matchers, judge_texts, judge_workspaces,
-};
 use suite_rows::{Lines, Row, Suite, Verdict};
 
 /// Returns the report of a suite, which is given as JSON, and its verdict.

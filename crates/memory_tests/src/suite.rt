@@ -1,9 +1,9 @@
 //! Rows that are wrong in one key each, and their whole report: no judge is lax. Rows that hold, values that are no
 //! rows, and refused memory.
-use crate::report::report;
 use std::alloc::AllocError;
 use std::process::Abort;
 use std::test::Fail;
+use suite_judges::report;
 use suite_rows::Verdict;
 
 const WRONG: &str = r#"{

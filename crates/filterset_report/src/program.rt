@@ -1,6 +1,7 @@
 //! The program that reports on a record of filtersets.
+use crate::outcome::ReportOutcome;
+use crate::report::report_of;
 use filterset_io::Program;
-use filterset_report::{ReportOutcome, report_of};
 use std::alloc::{AllocError, Global};
 
 /// Reports what the library says about each filterset of a record.
@@ -8,7 +9,7 @@ pub struct Filtersets;
 
 impl Program for Filtersets {
     ghost use Rattle.filterset_report.specs.Report.{Report};
-    ghost use Rattle.filterset_cli.specs.Ending.{status_of};
+    ghost use Rattle.filterset_report.specs.Ending.{status_of};
 
     type Outcome = ReportOutcome;
 
