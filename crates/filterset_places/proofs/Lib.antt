@@ -1,4 +1,3 @@
 mod PieceLemmas
 mod StringLemmas
-mod LineLemmas
 mod PlaceLemmas

@@ -2,4 +2,3 @@ pub mod Pieces
 pub mod Strings
 pub mod Numbers
 pub mod Places
-pub mod Lines

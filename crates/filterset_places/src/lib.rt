@@ -2,7 +2,6 @@
 #![tactic(auto)]
 
 mod content;
-mod lines;
 mod numbering;
 mod place;
 mod places;
@@ -10,7 +9,6 @@ mod scanning;
 mod stretch;
 mod string;
 
-pub use lines::{Lines, Position};
 pub use place::Place;
 pub use places::Places;
 pub use stretch::Stretch;

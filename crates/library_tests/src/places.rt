@@ -1,5 +1,7 @@
 //! Where filtersets are in files of each shape. That each is found is no clause of `filterset_places`: this table shows it.
-use filterset_places::{Lines, Place, Places};
+use filterset_drawing::Source;
+use filterset_faults::SourceSpan;
+use filterset_places::{Place, Places};
 use filterset_sources::{ConfiguredFilterset, read_configuration};
 use std::alloc::{AllocError, Global};
 use std::fmt::Write;
@@ -9,15 +11,15 @@ use std::test::Fail;
 /// ends.
 fn write_place(
     output: &mut String,
-    lines: &Lines<'_>,
+    source: &Source<'_>,
     filterset: &ConfiguredFilterset,
     place: &Place,
 ) -> Result<(), AllocError> {
-    let position = lines.position(place.literal.from);
+    let location = source.location(SourceSpan::new(place.literal.from, 0));
     write!(
         output,
         "{} {}:{}:",
-        filterset.path, position.line, position.column
+        filterset.path, location.line, location.column
     )?;
     for at in 0..filterset.text.len() {
         write!(output, " {}", place.position_of(at))?;
@@ -28,13 +30,13 @@ fn write_place(
 /// Writes a line for each filterset.
 fn write_places(
     output: &mut String,
-    lines: &Lines<'_>,
+    source: &Source<'_>,
     filtersets: &[ConfiguredFilterset],
     places: &Places,
 ) -> Result<(), AllocError> {
     for (at, filterset) in filtersets.iter().enumerate() {
         match places.get(at) {
-            Some(place) => write_place(output, lines, filterset, place)?,
+            Some(place) => write_place(output, source, filterset, place)?,
             None => writeln!(output, "{} is not found", filterset.path)?,
         }
     }
@@ -45,9 +47,9 @@ fn write_places(
 fn list_places(alloc: Global, file: &str) -> Result<String, Fail> {
     let configuration = read_configuration(alloc, file)?;
     let places = Places::of(alloc, file, &configuration)?;
-    let lines = Lines::of(alloc, file)?;
+    let source = Source::new(alloc, "", file)?;
     let mut output = String::new(alloc);
-    write_places(&mut output, &lines, &configuration.filtersets, &places)?;
+    write_places(&mut output, &source, &configuration.filtersets, &places)?;
     Ok(output)
 }
 
