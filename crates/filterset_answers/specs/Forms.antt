@@ -2,8 +2,8 @@
 use Rattle.std.specs.Prelude.{◌≡◌, ◌++◌, ℕ, List, Option, Some, None, codes}
 use Rattle.serde_json.specs.Data.{Data}
 use Rattle.serde_json.specs.Written.{compact_text}
-use Rattle.filterset_annotations.specs.Annotations.{annotation}
-use Rattle.filterset_annotations.specs.declared.annotation.Region.{Region}
+use Rattle.filterset_drawing.specs.Annotations.{annotation}
+use Rattle.filterset_drawing.specs.declared.annotation.Region.{Region}
 use Rattle.filterset_drawing.specs.Columns.{Text}
 use Rattle.filterset_drawing.specs.Drawings.{Drawing}
 use Rattle.filterset_drawing.specs.Json.{FaultData}

@@ -1,7 +1,7 @@
 -- Where texts are in files.
 use Rattle.std.specs.Prelude.{◌≡◌, Option, Some, None}
 use Rattle.std.specs.Borrow.{Bor}
-use Rattle.filterset_annotations.specs.declared.annotation.Region.{Region}
+use Rattle.filterset_drawing.specs.declared.annotation.Region.{Region}
 use Rattle.filterset_drawing.specs.Lines.{from_of, to_of}
 use Rattle.filterset_drawing.specs.Locations.{EndsAt, StandsAt}
 use Rattle.filterset_drawing.specs.declared.source.FileSpan.{FileSpan}

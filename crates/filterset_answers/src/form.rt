@@ -12,8 +12,7 @@ ghost use Rattle.filterset_answers.specs.Placements.{placement_of};
 
 use crate::place::{FilePlace, file_part, region_of};
 use crate::text::TextEntry;
-use filterset_annotations::push_annotation;
-use filterset_drawing::{Color, FileSpan, Source, draw, draw_at, fault_json};
+use filterset_drawing::{Color, FileSpan, Source, draw, draw_at, fault_json, push_annotation};
 use nextest_filtering::ParseSingleError;
 use std::alloc::{AllocError, Global};
 

@@ -2,8 +2,7 @@
 ghost use Rattle.std.specs.Prelude.{◌≡◌, option_map};
 ghost use Rattle.filterset_answers.specs.Placements.{IsRegionOf, file_part, placement_of};
 
-use filterset_annotations::Region;
-use filterset_drawing::{FileSpan, Source};
+use filterset_drawing::{FileSpan, Region, Source};
 use filterset_places::Place;
 use nextest_filtering::SourceSpan;
 

@@ -5,3 +5,4 @@ pub mod Cutting
 pub mod Locations
 pub mod Drawings
 pub mod Json
+pub mod Annotations

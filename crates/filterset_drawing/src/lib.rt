@@ -1,13 +1,17 @@
-//! Faults of filterset texts for people and for editors: drawn under the text, and as JSON.
+//! Faults of filterset texts for people, for editors and for workflows: drawn under the text, as JSON, and as annotations
+//! that GitHub shows in the changes of a pull request.
 #![tactic(auto)]
 
+mod annotation;
 mod color;
 mod column;
 mod drawing;
+mod escaping;
 mod json;
 mod line;
 mod source;
 
+pub use annotation::{Region, push_annotation};
 pub use color::Color;
 pub use drawing::{draw, draw_at};
 pub use json::fault_json;

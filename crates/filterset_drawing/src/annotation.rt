@@ -1,9 +1,9 @@
 //! Annotations of errors.
 ghost use Rattle.std.specs.Prelude.{◌≡◌, ◌++◌, OnOk, option_map, string_bytes};
-ghost use Rattle.filterset_annotations.specs.Annotations.{annotation, region_text};
+ghost use Rattle.filterset_drawing.specs.Annotations.{annotation, region_text};
 
 use crate::escaping::{Part, push_escaped};
-use filterset_drawing::Location;
+use crate::source::Location;
 use std::alloc::AllocError;
 use std::fmt::Write;
 

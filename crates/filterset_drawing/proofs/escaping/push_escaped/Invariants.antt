@@ -1,7 +1,7 @@
 use Rattle.std.proofs.Common.{◌≡◌, ◌++◌, string_bytes}
 use Rattle.std.specs.List.{flat_map}
-use Rattle.filterset_annotations.specs.Annotations.{written_in}
-use Rattle.filterset_annotations.proofs.escaping.push_escaped.Given as goal
+use Rattle.filterset_drawing.specs.Annotations.{written_in}
+use Rattle.filterset_drawing.proofs.escaping.push_escaped.Given as goal
 
 -- the characters so far were written
 abbrev pub invariant-loop-c : goal.invariant-loop-c

@@ -3,8 +3,8 @@ use Rattle.std.specs.List.{flat_map}
 use Rattle.std.proofs.lemmas.Iterator.{YieldsList-from_chars}
 use Rattle.std.proofs.lemmas.Iterator.Consumers.{YieldsList-end}
 use Rattle.std.proofs.lemmas.List.{map-id}
-use Rattle.filterset_annotations.specs.Annotations.{written_in}
-use Rattle.filterset_annotations.proofs.escaping.push_escaped.Goals as goal
+use Rattle.filterset_drawing.specs.Annotations.{written_in}
+use Rattle.filterset_drawing.proofs.escaping.push_escaped.Goals as goal
 
 pub returns : goal.returns
 returns c =

@@ -1,6 +1,6 @@
 //! How texts are written in workflow commands.
 ghost use Rattle.std.specs.Prelude.{◌≡◌, ◌++◌, OnOk, string_bytes};
-ghost use Rattle.filterset_annotations.specs.Annotations.{escaped, written_in};
+ghost use Rattle.filterset_drawing.specs.Annotations.{escaped, written_in};
 
 use std::alloc::AllocError;
 

@@ -2,9 +2,9 @@
 use Rattle.std.specs.Prelude.{ℕ, ◌++◌, ◌==◌, [], Option, Some, None, chars, codes, decimal, encode_utf8, if◌then◌else◌}
 use Rattle.std.specs.List.{flat_map}
 use Rattle.filterset_drawing.specs.Columns.{Text}
-use Rattle.filterset_annotations.specs.declared.annotation.Region.{Region}
-use Rattle.filterset_annotations.specs.declared.escaping.Part.{Part}
-use Rattle.filterset_annotations.specs.declared.escaping.Part.TheVariants.{Message, Property}
+use Rattle.filterset_drawing.specs.declared.annotation.Region.{Region}
+use Rattle.filterset_drawing.specs.declared.escaping.Part.{Part}
+use Rattle.filterset_drawing.specs.declared.escaping.Part.TheVariants.{Message, Property}
 
 -- what a character of a message is written as: 37 is '%', 13 a carriage return and 10 a line feed
 abbrev pub message_char : ℕ → Text
