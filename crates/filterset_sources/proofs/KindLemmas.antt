@@ -10,7 +10,7 @@ empty_kinds [] id each of = of
 empty_kinds (kind ∷ kinds) id each of = each
 
 no_kinds : (d : Data) (id : BuildTargetId) → IsListOf IsText d [] → IsTargetKind d id → ⊥
-no_kinds d id (no_items, is, none) (es, same, (kinds, each, of)) =
+no_kinds d id (no_items, is, none) (kinds, (es, same, each), of) =
     let empty : es ≡ no_items = cc in
     empty_kinds kinds id (subst (λ x. Each IsText x kinds) empty each) of
 no_kinds d id (item e es, is, none) kinds = none

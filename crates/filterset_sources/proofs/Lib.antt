@@ -2,3 +2,4 @@ pub mod ShapeLemmas
 pub mod GraphLemmas
 pub mod KindLemmas
 pub mod ConfigurationLemmas
+pub mod PlatformLemmas

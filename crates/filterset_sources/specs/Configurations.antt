@@ -27,8 +27,7 @@ abbrev pub Rows : Type 0
 Rows = List ConfiguredRow
 
 abbrev pub configured_row : ConfiguredFilterset → ConfiguredRow
-configured_row filterset =
-    record { path = string_bytes filterset.path; kind = filterset.kind; text = string_bytes filterset.text }
+configured_row f = record { path = string_bytes f.path; kind = f.kind; text = string_bytes f.text }
 
 abbrev pub configured_rows : List ConfiguredFilterset → Rows
 configured_rows filtersets = map configured_row filtersets
@@ -98,8 +97,7 @@ GroupsUnder d = Under (codes "test-groups") d
 
 -- the file has these filtersets, in its order but with profiles by their names, and these groups
 abbrev pub IsConfigured : Data → Configuration → Type 0
-IsConfigured d configuration =
-    FileRows d (Ok (configured_rows configuration.filtersets.items))
+IsConfigured d configuration = FileRows d (Ok (configured_rows configuration.filtersets.items))
     × GroupsUnder d (Ok (map (λ s. string_bytes s) configuration.groups.items))
 
 -- the first place of the file that is wrong, filtersets first
@@ -108,8 +106,7 @@ WrongConfiguration d place = FileRows d (Err place) ⊎ (((rows : Rows) × FileR
 
 -- the text is a file that is this configuration
 abbrev pub IsConfiguration : Text → Configuration → Type 0
-IsConfiguration text configuration =
-    (ms : Members) × (parse_document text ≡ Some ms) × IsConfigured (table ms) configuration
+IsConfiguration text c = (ms : Members) × (parse_document text ≡ Some ms) × IsConfigured (table ms) c
 
 -- the line of an offset, from 1
 abbrev pub line_at : Text → ℕ → ℕ

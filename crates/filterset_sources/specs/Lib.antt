@@ -3,3 +3,4 @@ pub mod Refusals
 pub mod Metadata
 pub mod Suites
 pub mod Configurations
+pub mod Platforms

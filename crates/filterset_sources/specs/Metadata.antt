@@ -2,7 +2,7 @@
 use Rattle.std.specs.Prelude.{◌≡◌, ◌↔◌, ◌⊎◌, ◌++◌, ℕ, List, [], ◌∷◌, All, Contains, IsSome, IsTrue, String, Vec, codes, decimal, map, string_bytes}
 use Rattle.std.specs.BTreeMap.{BTreeMap}
 use Rattle.std.specs.Global.{Global}
-use Rattle.serde_json.specs.Data.{Data, Items, array, no_items, null}
+use Rattle.serde_json.specs.Data.{Data, array, no_items, null}
 use Rattle.filterset_graph.specs.Index.{index_of}
 use Rattle.filterset_graph.specs.Packages.{ids, AllDiffer, IsFirstRepeat}
 use Rattle.filterset_graph.specs.declared.package.BuildTarget.{BuildTarget}
@@ -10,7 +10,7 @@ use Rattle.filterset_graph.specs.declared.package.BuildTargetId.{BuildTargetId}
 use Rattle.filterset_graph.specs.declared.package.BuildTargetId.TheVariants.{Library, Binary, Example, Test, Benchmark, BuildScript}
 use Rattle.filterset_graph.specs.declared.package.PackageMetadata.{PackageMetadata}
 use Rattle.filterset_json.specs.Places.{First, IsFirstNot, Itself, Place, WrongList, WrongMember, keyed, keyed_list, keyed_text}
-use Rattle.filterset_json.specs.Shape.{Text, IsText, Each, IsListOf, Required}
+use Rattle.filterset_json.specs.Shape.{Text, IsText, IsListOf, Required}
 use Rattle.filterset_sources.specs.Refusals.{Refuses}
 use Rattle.filterset_sources.specs.Shape.{item_path}
 use Rattle.filterset_sources.specs.declared.refusal.SourceRefusal.{SourceRefusal}
@@ -34,23 +34,16 @@ IsOfKinds [] id = ⊥
 IsOfKinds (kind ∷ []) id = IsNamed kind id ⊎ ((id ≡ Library) × ((other : BuildTargetId) → ¬ IsNamed kind other))
 IsOfKinds (kind ∷ next ∷ rest) id = id ≡ Library
 
--- the items are the kinds of such a target
-abbrev pub AreKinds : Items → BuildTargetId → Type 0
-AreKinds ds id = (kinds : List Text) × Each IsText ds kinds × IsOfKinds kinds id
-
+-- the value lists the kinds of such a target
 abbrev pub IsTargetKind : Data → BuildTargetId → Type 0
-IsTargetKind d id = (ds : Items) × (d ≡ array ds) × AreKinds ds id
+IsTargetKind d id = (kinds : List Text) × IsListOf IsText d kinds × IsOfKinds kinds id
 
 abbrev pub IsTarget : Data → BuildTarget → Type 0
-IsTarget d target =
-    Required (codes "kind") IsTargetKind d target.id
-    × Required (codes "name") IsText d (string_bytes target.name)
+IsTarget d t = Required (codes "kind") IsTargetKind d t.id × Required (codes "name") IsText d (string_bytes t.name)
 
 -- id, name and targets of a package
 abbrev pub IsPackage : Data → PackageMetadata → Type 0
-IsPackage d p =
-    Required (codes "id") IsText d p.id
-    × Required (codes "name") IsText d (string_bytes p.name)
+IsPackage d p = Required (codes "id") IsText d p.id × Required (codes "name") IsText d (string_bytes p.name)
     × Required (codes "targets") (IsListOf IsTarget) d p.build_targets.items
 
 -- a dependency on the package with this id
@@ -59,16 +52,13 @@ IsDependency d dependency = Required (codes "pkg") IsText d dependency.package
 
 -- a package of the graph of dependencies, with those that it depends on
 abbrev pub IsNode : Data → Node → Type 0
-IsNode d node =
-    Required (codes "id") IsText d node.id
-    × Required (codes "deps") (IsListOf IsDependency) d node.dependencies.items
+IsNode d n = Required (codes "id") IsText d n.id × Required (codes "deps") (IsListOf IsDependency) d n.dependencies.items
 
 abbrev pub IsResolve : Data → Resolve → Type 0
 IsResolve d resolve = Required (codes "nodes") (IsListOf IsNode) d resolve.nodes.items
 
 abbrev pub IsParts : Data → Parts → Type 0
-IsParts d parts =
-    Required (codes "packages") (IsListOf IsPackage) d parts.packages.items
+IsParts d parts = Required (codes "packages") (IsListOf IsPackage) d parts.packages.items
     × Required (codes "workspace_members") (IsListOf IsText) d parts.members.items
     × Required (codes "resolve") IsResolve d parts.resolve
 
@@ -86,17 +76,14 @@ NamesOnly P node = P node.id × All P (links_of node)
 
 -- no id stands twice where it may stand once, and all that is named are packages
 abbrev pub IsWhole : Parts → Type 0
-IsWhole parts =
-    AllDiffer (ids parts.packages.items)
-    × AllDiffer parts.members.items
+IsWhole parts = AllDiffer (ids parts.packages.items) × AllDiffer parts.members.items
     × AllDiffer (node_ids parts.resolve.nodes.items)
     × All (Contains (ids parts.packages.items)) parts.members.items
     × All (NamesOnly (Contains (ids parts.packages.items))) parts.resolve.nodes.items
 
 -- the links of the package with this id: those of its node, none where it has no node
 abbrev pub HasLinksOf : List Node → Text → List Text → Type 0
-HasLinksOf nodes id links =
-    ((node : Node) × Contains nodes node × (node.id ≡ id) × (links ≡ links_of node))
+HasLinksOf nodes id links = ((node : Node) × Contains nodes node × (node.id ≡ id) × (links ≡ links_of node))
     ⊎ ((¬ Contains (node_ids nodes) id) × (links ≡ []))
 
 -- what a package is by itself
@@ -109,8 +96,7 @@ IsPlaced members nodes p = (IsTrue p.in_workspace ↔ Contains members p.id) × 
 
 -- the same packages, each at its position
 abbrev pub IsGraphOf : Parts → List PackageMetadata → Type 0
-IsGraphOf parts packages =
-    (map itself packages ≡ map itself parts.packages.items)
+IsGraphOf parts packages = (map itself packages ≡ map itself parts.packages.items)
     × All (IsPlaced parts.members.items parts.resolve.nodes.items) packages
 
 -- the packages are what cargo's metadata say
@@ -133,8 +119,7 @@ WrongNode d = First (keyed_text (codes "id") d
     ∷ keyed_list (codes "deps") IsDependency (λ e. First (keyed_text (codes "pkg") e ∷ [])) d ∷ [])
 
 abbrev pub WrongResolve : Data → Place → Type 0
-WrongResolve d place =
-    ((d ≡ null) × (place ≡ ([], codes "an object: `cargo metadata` writes it without `--no-deps`")))
+WrongResolve d place = ((d ≡ null) × (place ≡ ([], codes "an object: `cargo metadata` writes it without `--no-deps`")))
     ⊎ ((¬ (d ≡ null)) × WrongMember (codes "nodes") (WrongList IsNode WrongNode) d place)
 
 abbrev pub WrongParts : Data → Place → Type 0

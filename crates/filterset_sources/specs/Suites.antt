@@ -17,8 +17,7 @@ IsStatus d Skipped = IsText d (codes "skipped") ⊎ IsText d (codes "skipped-def
 
 -- a test binary with the names of its tests, which was listed where nothing else is said
 abbrev pub IsSuite : Data → Suite → Type 0
-IsSuite d suite =
-    Required (codes "package-id") IsText d suite.package_id
+IsSuite d suite = Required (codes "package-id") IsText d suite.package_id
     × Required (codes "binary-id") IsText d suite.binary_id
     × Required (codes "binary-name") IsText d (string_bytes suite.binary_name)
     × Required (codes "kind") IsText d suite.kind

@@ -5,6 +5,7 @@ mod configuration;
 mod json;
 mod list;
 mod metadata;
+mod platforms;
 mod refusal;
 
 pub use configuration::{Configuration, ConfiguredFilterset, read_configuration};
@@ -12,4 +13,5 @@ pub use filterset_json::WrongValue;
 pub use json::read_json;
 pub use list::{Suite, SuiteStatus, TestList, check_packages, read_test_list};
 pub use metadata::read_metadata;
+pub use platforms::{BuildPlatforms, read_platforms};
 pub use refusal::SourceRefusal;
