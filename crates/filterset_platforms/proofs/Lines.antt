@@ -1,19 +1,25 @@
 -- The lines that rustc writes.
-use Rattle.std.proofs.Common.{◌≡◌, suc, List, [], ◌∷◌, ◌++◌, length, Option, Some, None, ◌≢◌, refl, sym, ap, ◌∙◌}
-use Rattle.std.specs.Prelude.{MatchOption}
+use Rattle.std.proofs.Common.{◌≡◌, ℕ, ◌<◌, suc, List, get_or, [], ◌∷◌, ◌++◌, length, Option, Some, None, ◌≢◌, refl, sym, ap, ◌∙◌}
+use Rattle.std.specs.Prelude.{IsSomeAnd, MatchOption}
+use Rattle.std.proofs.lemmas.Option.{slice_get-get_or}
 use Rattle.std.specs.Borrow.{Bor}
+use Rattle.std.specs.List.{AllZip, slice_get}
 use Rattle.filterset_platforms.proofs.Words.{tails}
 use Rattle.filterset_platforms.specs.Trees.{Text, Setting}
-use Rattle.filterset_platforms.specs.Grammar.{AreLines, IsLine}
+use Rattle.filterset_platforms.specs.Grammar.{IsLine}
 
 pub one_more_line : (lines : List Text) (ss : List Setting) (line : Text) (s : Setting)
-    → AreLines lines ss → IsLine line s → AreLines (lines ++ line ∷ []) (ss ++ s ∷ [])
+    → AllZip IsLine lines ss → IsLine line s → AllZip IsLine (lines ++ line ∷ []) (ss ++ s ∷ [])
 one_more_line [] [] line s h k = (k, tt)
 one_more_line [] (t ∷ ss) line s h k = absurd h
 one_more_line (l ∷ lines) [] line s h k = absurd h
 one_more_line (l ∷ lines) (t ∷ ss) line s h k = (h.0, one_more_line lines ss line s h.1 k)
 
-pub as_many : (lines : List Text) (ss : List Setting) → AreLines lines ss → length lines ≡ length ss
+-- what holds of the line at a position
+pub line_at : (all : List Text) (at : ℕ) (P : Text → Type 0) → at < length all → P (get_or all at []) → IsSomeAnd (slice_get all at) P
+line_at all at P lt h = rw (slice_get-get_or all at [] lt) h
+
+pub as_many : (lines : List Text) (ss : List Setting) → AllZip IsLine lines ss → length lines ≡ length ss
 as_many [] [] h = refl
 as_many [] (t ∷ ss) h = absurd h
 as_many (l ∷ lines) [] h = absurd h

@@ -1,13 +1,11 @@
 -- The one reading of what begins with a word.
 use Rattle.std.proofs.Common.{◌≡◌, ℕ, ◌++◌, true, false, Result, refl, sym, ap, ◌∙◌, arith, subst, ◌⊎◌, inl, inr, ⊎_elim}
-use Rattle.std.specs.Prelude.{Bool, IsTrue, cond, codes}
+use Rattle.std.specs.Prelude.{IsTrue, codes}
 use Rattle.std.specs.List.{All}
-use Rattle.std.specs.Str.{bytes_eq}
-use Rattle.std.proofs.lemmas.Bool.{false_from_ne_true, false≢true}
-use Rattle.std.proofs.lemmas.Slice.Eq.{bytes_eq-Decides}
+use Rattle.std.proofs.lemmas.Bool.{false≢true}
 use Rattle.std.specs.Borrow.{Bor}
 use Rattle.filterset_platforms.specs.Trees.{Text, name, key_value, Expr, set, literal, negated, all, any, Exprs, Spec, is_named, satisfies}
-use Rattle.filterset_platforms.specs.Grammar.{Sign, Quoted, IsKey, IsNamed, IsWhole, NoEquals, GoesOn, Inside, Expression, Spells, is_triple_byte, named}
+use Rattle.filterset_platforms.specs.Grammar.{Sign, Quoted, IsKey, IsNamed, IsWhole, GoesOn, Inside, Expression, Spells, is_triple_byte}
 use Rattle.filterset_platforms.specs.Reading.{Gives}
 use Rattle.filterset_platforms.specs.declared.fault.ReadError.{ReadError}
 use Rattle.filterset_platforms.proofs.Words.{heads, same_quoted, tails}
@@ -21,29 +19,33 @@ gives_along view o {y} {z} {r} {t} e f g =
     let Q : _ → Type 0 = λ x. Gives view o x r in
     subst P f (subst Q e g)
 
+-- no `=` comes next
+abbrev pub NoEquals : Text → Type 0
+NoEquals s = (t : Text) → ¬ Sign 61 s t
+
 -- the expressions of `all`
 pub all_phrase : (e : Expr) (s r : Text) → GoesOn e (codes "all") s r → (es : Exprs) × (e ≡ all es) × (t : Text) × Sign 40 s t × Inside es t r
-all_phrase (set (name n)) s r g = absurd (g.0.0.not_all refl)
-all_phrase (set (key_value k v)) s r g = absurd (g.1.not_all (sym g.0))
-all_phrase (literal b) s r g = absurd (g.0.0.not_all refl)
+all_phrase (set (name n)) s r g = absurd (g.0.0.0 refl)
+all_phrase (set (key_value k v)) s r g = absurd (g.1.0 (sym g.0))
+all_phrase (literal b) s r g = absurd (g.0.0.0 refl)
 all_phrase (negated e) s r g = let e : ◌≡◌ {A = ℕ} 97 110 = heads g.0 in absurd (omega arith)
 all_phrase (all es) s r g = (es, refl, g.1, g.2, g.3)
 all_phrase (any es) s r g = let e : ◌≡◌ {A = ℕ} 108 110 = heads (tails g.0) in absurd (omega arith)
 
 -- those of `any`
 pub any_phrase : (e : Expr) (s r : Text) → GoesOn e (codes "any") s r → (es : Exprs) × (e ≡ any es) × (t : Text) × Sign 40 s t × Inside es t r
-any_phrase (set (name n)) s r g = absurd (g.0.0.not_any refl)
-any_phrase (set (key_value k v)) s r g = absurd (g.1.not_any (sym g.0))
-any_phrase (literal b) s r g = absurd (g.0.0.not_any refl)
+any_phrase (set (name n)) s r g = absurd (g.0.0.1 refl)
+any_phrase (set (key_value k v)) s r g = absurd (g.1.1 (sym g.0))
+any_phrase (literal b) s r g = absurd (g.0.0.1 refl)
 any_phrase (negated e) s r g = let e : ◌≡◌ {A = ℕ} 97 110 = heads g.0 in absurd (omega arith)
 any_phrase (all es) s r g = let e : ◌≡◌ {A = ℕ} 110 108 = heads (tails g.0) in absurd (omega arith)
 any_phrase (any es) s r g = (es, refl, g.1, g.2, g.3)
 
 -- the operand of `not`
 pub not_phrase : (e : Expr) (s r : Text) → GoesOn e (codes "not") s r → (d : Expr) × (e ≡ negated d) × (t : Text) × (u : Text) × Sign 40 s t × Expression d t u × Sign 41 u r
-not_phrase (set (name n)) s r g = absurd (g.0.0.not_not refl)
-not_phrase (set (key_value k v)) s r g = absurd (g.1.not_not (sym g.0))
-not_phrase (literal b) s r g = absurd (g.0.0.not_not refl)
+not_phrase (set (name n)) s r g = absurd (g.0.0.2 refl)
+not_phrase (set (key_value k v)) s r g = absurd (g.1.2 (sym g.0))
+not_phrase (literal b) s r g = absurd (g.0.0.2 refl)
 not_phrase (negated d) s r g = (d, refl, g.1, g.2, g.3, g.4, g.5)
 not_phrase (all es) s r g = let e : ◌≡◌ {A = ℕ} 110 97 = heads g.0 in absurd (omega arith)
 not_phrase (any es) s r g = let e : ◌≡◌ {A = ℕ} 110 97 = heads g.0 in absurd (omega arith)
@@ -54,33 +56,13 @@ pub setting_phrase : (word : Text) (e : Expr) (s r : Text) → IsKey word → Go
 setting_phrase word (set (name n)) s r key g = inl g
 setting_phrase word (set (key_value k v)) s r key g = inr (v, g.2, ap (λ w. set (key_value w v)) (sym g.0), g.3, g.4)
 setting_phrase word (literal b) s r key g = inl g
-setting_phrase word (negated e) s r key g = absurd (key.not_not g.0)
-setting_phrase word (all es) s r key g = absurd (key.not_all g.0)
-setting_phrase word (any es) s r key g = absurd (key.not_any g.0)
-
--- and what a word alone reads as goes on so
-pub named_goes_on : (word : Text) (e : Expr) (s : Text) → IsNamed word e → NoEquals s → GoesOn e word s s
-named_goes_on word e s h alone =
-    let P : Expr → Type 0 = λ x. GoesOn x word s s in
-    subst P (sym h.1) (goes (bytes_eq word (codes "true")) (bytes_eq word (codes "false")) refl)
-  where
-    goes : (a b : Bool) → cond a (literal true) (cond b (literal false) (set (name word))) ≡ named word
-        → GoesOn (cond a (literal true) (cond b (literal false) (set (name word)))) word s s
-    goes true b f = ((h.0, f), alone, refl)
-    goes false true f = ((h.0, f), alone, refl)
-    goes false false f = ((h.0, f), alone, refl)
+setting_phrase word (negated e) s r key g = absurd (key.2 g.0)
+setting_phrase word (all es) s r key g = absurd (key.0 g.0)
+setting_phrase word (any es) s r key g = absurd (key.1 g.0)
 
 -- one word is one expression
 pub named_one : (word : Text) (e d : Expr) → IsNamed word e → IsNamed word d → e ≡ d
 named_one word e d h k = h.1 ∙ sym k.1
-
--- a word that is neither is a name
-pub named_name : (word : Text) → (word ≡ codes "true" → ⊥) → (word ≡ codes "false" → ⊥) → set (name word) ≡ named word
-named_name word not_true not_false =
-    rw (different word (codes "true") not_true, different word (codes "false") not_false) refl
-  where
-    different : (s t : Text) → (s ≡ t → ⊥) → bytes_eq s t ≡ false
-    different s t h = false_from_ne_true (bytes_eq s t) (λ e. h ((bytes_eq-Decides s t).0 e))
 
 -- after `=` nothing is read but a value
 pub no_value : (word text behind : Text) (e : Expr) (r : Text) → IsKey word → Sign 61 text behind

@@ -4,26 +4,10 @@ use Rattle.std.specs.Prelude.{not, IfSome, IsSome}
 use Rattle.std.specs.Option.{option_map}
 use Rattle.std.specs.Str.{bytes_eq}
 use Rattle.std.proofs.lemmas.Bool.{false≢true}
-use Rattle.filterset_platforms.specs.Trees.{Setting, Expr, set, literal, negated, all, any, Exprs, none, more, Spec, is_named, satisfies, Facts}
-use Rattle.filterset_platforms.specs.Values.{is_set, both, either, value, all_value, any_value, Extends, IsKnown, spec_value, part_value}
-
-pub both_associative : (x y z : Option Bool) → both (both x y) z ≡ both x (both y z)
-both_associative (Some false) y z = refl
-both_associative (Some true) y z = refl
-both_associative None (Some false) z = refl
-both_associative None (Some true) z = refl
-both_associative None None (Some false) = refl
-both_associative None None (Some true) = refl
-both_associative None None None = refl
-
-pub either_associative : (x y z : Option Bool) → either (either x y) z ≡ either x (either y z)
-either_associative (Some true) y z = refl
-either_associative (Some false) y z = refl
-either_associative None (Some true) z = refl
-either_associative None (Some false) z = refl
-either_associative None None (Some false) = refl
-either_associative None None (Some true) = refl
-either_associative None None None = refl
+use Rattle.filterset_platforms.specs.Trees.{Setting, Expr, set, literal, negated, all, any, Exprs, none, more, Spec, is_named, satisfies, spec_of, Facts}
+use Rattle.filterset_platforms.specs.Values.{applies, is_set, both, either, value, all_value, any_value, Extends, IsKnown, spec_value, part_value}
+use Rattle.filterset_platforms.specs.declared.filter.PlatformFilter.{PlatformFilter}
+use Rattle.filterset_platforms.specs.declared.specification.PlatformSpec.{PlatformSpec}
 
 none_some : {X : Type 0} {x : X} → None ≡ Some x → ⊥
 none_some e = cc
@@ -94,15 +78,14 @@ pub spec_sound : (facts : Facts) (s : Spec) (o : Option Bool) → o ≡ spec_val
     → IfSome o (λ b. (world : Facts) → Extends facts world → spec_value world s ≡ Some b)
 spec_sound facts s o e = if_some o _ (λ b f world h. spec_tells facts world s h b (sym e ∙ f))
 
-part_tells : (facts world : Facts) (part : Option Spec) → Extends facts world → Tells (part_value facts part) (part_value world part)
+part_tells : (facts world : Facts) (part : Option PlatformSpec) → Extends facts world → Tells (part_value facts part) (part_value world part)
 part_tells facts world None h = λ b e. e
-part_tells facts world (Some s) h = spec_tells facts world s h
+part_tells facts world (Some s) h = spec_tells facts world (spec_of s) h
 
-pub filter_sound : (host target : Facts) (of_host of_target : Option Spec) (o : Option Bool)
-    → o ≡ both (part_value host of_host) (part_value target of_target)
-    → IfSome o (λ b. (h t : Facts) → Extends host h → Extends target t → both (part_value h of_host) (part_value t of_target) ≡ Some b)
-filter_sound host target of_host of_target o e =
-    if_some o _ (λ b f h t on_host on_target. both_tells (part_value host of_host) (part_value target of_target) (part_value h of_host) (part_value t of_target) (part_tells host h of_host on_host) (part_tells target t of_target on_target) b (sym e ∙ f))
+pub filter_sound : (host target : Facts) (filter : PlatformFilter) (o : Option Bool) → o ≡ applies host target filter
+    → IfSome o (λ b. (h t : Facts) → Extends host h → Extends target t → applies h t filter ≡ Some b)
+filter_sound host target filter o e =
+    if_some o _ (λ b f h t on_host on_target. both_tells (part_value host filter.host) (part_value target filter.target) (part_value h filter.host) (part_value t filter.target) (part_tells host h filter.host on_host) (part_tells target t filter.target on_target) b (sym e ∙ f))
 
 -- where all is known, the answer is
 both_known : (x y : Option Bool) → IsSome x → IsSome y → IsSome (both x y)

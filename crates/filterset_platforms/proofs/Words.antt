@@ -2,6 +2,9 @@
 use Rattle.std.proofs.Common.{◌≡◌, ◌≢◌, ℕ, zero, suc, ◌<◌, true, false, [], ◌∷◌, ◌++◌, length, get_or, take, drop, IsUtf8, IsCharBoundary, Option, Some, None, refl, sym, ap, subst, ◌∙◌, arith, add-one, append_assoc}
 use Rattle.std.specs.Prelude.{Bool, ◌||◌, IsTrue, MatchOption, IfSome}
 use Rattle.std.specs.Borrow.{Bor}
+use Rattle.std.specs.Char.{is_ascii_digit}
+use Rattle.std.specs.List.{slice_get}
+use Rattle.std.specs.Option.{option_map_or}
 use Rattle.std.specs.Str.{IsTrimStart, trim_start}
 use Rattle.std.proofs.lemmas.Bool.{false≢true}
 use Rattle.std.proofs.lemmas.Bool.Decides.{nat_tests}
@@ -11,13 +14,16 @@ use Rattle.std.proofs.lemmas.List.Sums.{prefix_len_passes, prefix_len-le-length}
 use Rattle.std.proofs.lemmas.Str.{IsCharBoundary-after_ascii, IsCharBoundary-start}
 use Rattle.filterset_platforms.specs.Trees.{Text}
 use Rattle.filterset_platforms.specs.Reading.{IsRest}
-use Rattle.filterset_platforms.specs.Grammar.{BeginsWithWord, Quoted, Sign, Word, begins_word, is_digit, is_letter, is_word_byte, word_len}
+use Rattle.filterset_platforms.specs.Grammar.{Quoted, Sign, Word, is_letter, is_word_byte, word_len}
 
 pub heads : {a b : ℕ} {s t : Text} → a ∷ s ≡ b ∷ t → a ≡ b
 heads e = cc
 
 pub tails : {a b : ℕ} {s t : Text} → a ∷ s ≡ b ∷ t → s ≡ t
 tails e = cc
+
+abbrev pub begins_word : Text → Bool
+begins_word s = option_map_or is_letter (slice_get s 0) false
 
 word_is_ascii : (b : ℕ) → is_word_byte b ≡ true → b < 128
 word_is_ascii b e = grind (arith, nat_tests)
@@ -35,10 +41,6 @@ word_boundary t utf8 = at (word_len t) refl
         let ascii = word_is_ascii (get_or t n 0) (prefix_len_passes is_word_byte t n 0 lt) in
         rw (← add-one) (IsCharBoundary-after_ascii t n utf8 short ascii)
 
--- a text begins with one word, and is not empty then
-pub same_word : {w v s t u : Text} → BeginsWithWord w s t → BeginsWithWord v s u → (w ≡ v) × (t ≡ u)
-same_word a b = (a.longest ∙ sym b.longest, a.behind ∙ sym b.behind)
-
 or_right : (a b : Bool) → b ≡ true → (a || b) ≡ true
 or_right true b e = refl
 or_right false b e = e
@@ -46,7 +48,7 @@ or_right false b e = e
 -- a word has a letter at least
 pub word_len-some : (s : Text) → begins_word s ≡ true → 0 < word_len s
 word_len-some [] e = absurd (false≢true e)
-word_len-some (b ∷ s) e = rw (or_right (is_digit b) (is_letter b) e) (omega arith)
+word_len-some (b ∷ s) e = rw (or_right (is_ascii_digit b) (is_letter b) e) (omega arith)
 
 -- no word begins where a sign is
 pub no_word : (s : Text) {w t r : Text} → Sign 41 s r → Word w s t → ⊥

@@ -1,9 +1,9 @@
 -- What readers return.
-use Rattle.std.specs.Prelude.{◌≡◌, ◌≢◌, ◌+◌, ◌<◌, ℕ, false, List, [], ◌∷◌, ◌++◌, length, take, slice_index_or, Result, Ok, Err}
-use Rattle.std.specs.List.{All}
+use Rattle.std.specs.Prelude.{◌≡◌, ◌≢◌, ◌+◌, ◌≤◌, ℕ, false, List, [], ◌∷◌, ◌++◌, IsSomeAnd, length, drop, slice_get, take, Result, Ok, Err}
+use Rattle.std.specs.List.{All, AllZip}
 use Rattle.std.specs.Borrow.{Bor}
-use Rattle.filterset_platforms.specs.Grammar.{AreLines, BeginsWithWord, IsLine, is_triple_byte}
-use Rattle.filterset_platforms.specs.Trees.{Text, Setting, Spec, spec_of}
+use Rattle.filterset_platforms.specs.Grammar.{BeginsWithWord, IsLine, Spells, is_triple_byte}
+use Rattle.filterset_platforms.specs.Trees.{Text, Setting, Spec}
 use Rattle.filterset_platforms.specs.declared.fault.CfgRefusal.{CfgRefusal}
 use Rattle.filterset_platforms.specs.declared.fault.CfgRefusal.TheVariants as lines
 use Rattle.filterset_platforms.specs.declared.fault.Expected.{Expected}
@@ -12,7 +12,6 @@ use Rattle.filterset_platforms.specs.declared.fault.PlatformRefusal.{PlatformRef
 use Rattle.filterset_platforms.specs.declared.fault.PlatformRefusal.TheVariants as platforms
 use Rattle.filterset_platforms.specs.declared.fault.ReadError.{ReadError}
 use Rattle.filterset_platforms.specs.declared.fault.ReadError.TheVariants.{OutOfMemory, Fault}
-use Rattle.filterset_platforms.specs.declared.specification.PlatformSpec.{PlatformSpec}
 
 abbrev pub IsOutOfMemory : ReadError → Type 0
 IsOutOfMemory OutOfMemory = Unit {0}
@@ -27,12 +26,6 @@ Returns view (Err e) y = IsOutOfMemory e
 abbrev pub Gives : {X Y : Type 0} → (X → Y) → Result (X × Bor Text) ReadError → Y → Text → Type 0
 Gives view (Ok x) y r = (view x.0 ≡ y) × (x.1.now ≡ r)
 Gives view (Err e) y r = IsOutOfMemory e
-
--- the platform is parsed, unless it is out of memory
-abbrev pub IsParsed : Result PlatformSpec PlatformRefusal → Spec → Type 0
-IsParsed (Ok x) spec = spec_of x ≡ spec
-IsParsed (Err (platforms.OutOfMemory error)) spec = Unit {0}
-IsParsed (Err (platforms.Fault fault)) spec = ⊥
 
 -- the text ends in the rest
 abbrev pub IsRest : Text → Text → Type 0
@@ -58,15 +51,14 @@ abbrev pub IsPlaced : {X : Type 0} → Text → Result (X × Bor Text) ReadError
 IsPlaced text (Ok x) = IsRest text x.1.now
 IsPlaced text (Err e) = IsTrueOf text e
 
--- what is expected is lacking at this offset
+-- the text spells no platform, and what is expected is lacking at this offset
 abbrev pub FaultStands : Text → PlatformRefusal → Type 0
 FaultStands text (platforms.OutOfMemory error) = Unit {0}
 FaultStands text (platforms.Fault fault) =
-    (before : Text) × (t : Text) × (text ≡ before ++ t) × (fault.offset ≡ length before) × Lacks fault.expected t
+    ((spec : Spec) → ¬ Spells text spec) × (fault.offset ≤ length text) × Lacks fault.expected (drop fault.offset text)
 
 -- the refused line, counted from 1, is the first that is of no setting
 abbrev pub Refuses : List Text → CfgRefusal → Type 0
 Refuses all (lines.OutOfMemory error) = Unit {0}
-Refuses all (lines.Line number) =
-    (at : ℕ) × (before : List Setting) × (number ≡ at + 1) × (at < length all)
-    × AreLines (take at all) before × ((s : Setting) → IsLine (slice_index_or all at []) s → ⊥)
+Refuses all (lines.Line number) = (at : ℕ) × (ss : List Setting) × (number ≡ at + 1) × AllZip IsLine (take at all) ss
+    × IsSomeAnd (slice_get all at) (λ line. (s : Setting) → ¬ IsLine line s)

@@ -65,7 +65,5 @@ pub record Facts : Type 0 where
   pub settings : Option (List Setting)
 
 abbrev pub facts_of : PlatformFacts → Facts
-facts_of facts = record {
-  triple = option_map (λ t. string_bytes t) facts.triple;
-  settings = option_map (λ settings. map setting_of settings.items) facts.cfg;
-}
+facts_of facts =
+    record { triple = option_map (λ t. string_bytes t) facts.triple; settings = option_map (λ v. map setting_of v.items) facts.cfg }

@@ -1,9 +1,11 @@
 -- What platforms mean, as far as facts decide it.
-use Rattle.std.specs.Prelude.{◌≡◌, Bool, true, false, not, ◌&&◌, List, Option, None, Some, IsSome}
+use Rattle.std.specs.Prelude.{◌≡◌, Bool, true, false, not, ◌&&◌, List, Option, None, Some, IsSome, if◌then◌else◌, option_and_then, option_map}
 use Rattle.std.specs.List.{list_any}
-use Rattle.std.specs.Option.{option_map}
+use Rattle.std.specs.Option.{option_map_or}
 use Rattle.std.specs.Str.{bytes_eq}
-use Rattle.filterset_platforms.specs.Trees.{Setting, name, key_value, Expr, set, literal, negated, all, any, Exprs, none, more, Spec, is_named, satisfies, Facts}
+use Rattle.filterset_platforms.specs.Trees.{Setting, name, key_value, Expr, set, literal, negated, all, any, Exprs, none, more, Spec, is_named, satisfies, spec_of, Facts}
+use Rattle.filterset_platforms.specs.declared.filter.PlatformFilter.{PlatformFilter}
+use Rattle.filterset_platforms.specs.declared.specification.PlatformSpec.{PlatformSpec}
 
 abbrev pub same_setting : Setting → Setting → Bool
 same_setting (name n) (name m) = bytes_eq n m
@@ -16,16 +18,12 @@ is_set ts s = list_any (λ t. same_setting t s) ts
 
 -- Kleene's connectives: `None` is unknown, and one side may decide
 abbrev pub both : Option Bool → Option Bool → Option Bool
-both (Some false) y = Some false
-both (Some true) y = y
-both None (Some false) = Some false
-both None y = None
+both (Some b) y = if b then y else Some false
+both None y = option_and_then (λ b. if b then None else Some false) y
 
 abbrev pub either : Option Bool → Option Bool → Option Bool
-either (Some true) y = Some true
-either (Some false) y = y
-either None (Some true) = Some true
-either None y = None
+either (Some b) y = if b then Some true else y
+either None y = option_and_then (λ b. if b then Some true else None) y
 
 abbrev mutual
   -- the value of an expression where these are set, if that is known
@@ -50,9 +48,12 @@ spec_value facts (is_named t) = option_map (λ known. bytes_eq known t) facts.tr
 spec_value facts (satisfies e) = value facts.settings e
 
 -- a part of a filter that is missing asks for nothing
-abbrev pub part_value : Facts → Option Spec → Option Bool
-part_value facts None = Some true
-part_value facts (Some s) = spec_value facts s
+abbrev pub part_value : Facts → Option PlatformSpec → Option Bool
+part_value facts part = option_map_or (λ s. spec_value facts (spec_of s)) part (Some true)
+
+-- whether a filter applies to what is built for a target on a host
+abbrev pub applies : Facts → Facts → PlatformFilter → Option Bool
+applies host target filter = both (part_value host filter.host) (part_value target filter.target)
 
 -- what is known is also known there, where more may be
 pub record Extends (facts world : Facts) : Type 0 where

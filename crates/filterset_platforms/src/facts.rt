@@ -1,9 +1,10 @@
 //! What is known of a platform.
 ghost use Rattle.std.specs.Prelude.{◌≡◌, ◌≢◌, ◌++◌, IfErr, IfOk, MatchOption, codes, map};
+ghost use Rattle.std.specs.List.{AllZip};
 ghost use Rattle.std.specs.Str.{bytes_eq};
 ghost use Rattle.std.specs.Option.{option_map};
 ghost use Rattle.std.specs.Str.Lines.{lines};
-ghost use Rattle.filterset_platforms.specs.Grammar.{AreLines, IsLine};
+ghost use Rattle.filterset_platforms.specs.Grammar.{IsLine};
 ghost use Rattle.filterset_platforms.specs.Reading.{Refuses};
 ghost use Rattle.filterset_platforms.specs.Trees.{Setting, Text, facts_of, setting_of};
 ghost use Rattle.filterset_platforms.specs.Values.{is_set};
@@ -60,7 +61,7 @@ fn is_among(settings: &[Cfg], setting: &Cfg) -> bool
 ///
 /// Refuses a line that is neither a name nor a key with a value in quotes.
 pub fn read_cfg(alloc: Global, text: &str) -> Result<Vec<Cfg>, CfgRefusal>
-    ensures read { IfOk result (λ settings. AreLines (lines text.now) (map setting_of settings.items)) }
+    ensures read { IfOk result (λ settings. AllZip IsLine (lines text.now) (map setting_of settings.items)) }
     ensures refused { IfErr result (Refuses (lines text.now)) }
 {
     let mut settings = Vec::new(alloc);

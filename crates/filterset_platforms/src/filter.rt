@@ -1,8 +1,7 @@
 //! The platforms of an override.
 ghost use Rattle.std.specs.Prelude.{◌≡◌, IfSome, Some};
-ghost use Rattle.std.specs.Option.{option_map};
-ghost use Rattle.filterset_platforms.specs.Trees.{Facts, facts_of, spec_of};
-ghost use Rattle.filterset_platforms.specs.Values.{Extends, both, part_value};
+ghost use Rattle.filterset_platforms.specs.Trees.{Facts, facts_of};
+ghost use Rattle.filterset_platforms.specs.Values.{Extends, applies, part_value};
 
 use crate::evaluating::both;
 use crate::facts::PlatformFacts;
@@ -20,13 +19,10 @@ pub struct PlatformFilter {
 impl PlatformFilter {
     /// Returns whether both parts apply to platforms of which these facts are known, or `None` if they do not decide it.
     pub fn applies(&self, host: &PlatformFacts, target: &PlatformFacts) -> Option<bool>
-        ensures value { result
-            ≡ both (part_value (facts_of host.now) (option_map spec_of self.now.host))
-            (part_value (facts_of target.now) (option_map spec_of self.now.target)) }
+        ensures value { result ≡ applies (facts_of host.now) (facts_of target.now) self.now }
         ensures sound { IfSome result (λ b. (of_host of_target : Facts)
             → Extends (facts_of host.now) of_host → Extends (facts_of target.now) of_target
-            → both (part_value of_host (option_map spec_of self.now.host))
-            (part_value of_target (option_map spec_of self.now.target)) ≡ Some b) }
+            → applies of_host of_target self.now ≡ Some b) }
     {
         both(
             part_value(&self.host, host),
@@ -37,7 +33,7 @@ impl PlatformFilter {
 
 /// Returns whether a part applies.
 fn part_value(part: &Option<PlatformSpec>, facts: &PlatformFacts) -> Option<bool>
-    ensures { result ≡ part_value (facts_of facts.now) (option_map spec_of part.now) }
+    ensures { result ≡ part_value (facts_of facts.now) part.now }
 {
     match part {
         Some(spec) => spec.applies(facts),

@@ -1,7 +1,7 @@
 //! Platforms of a configuration: a triple, or an expression.
 ghost use Rattle.std.specs.Prelude.{◌≡◌, ◌≢◌, ◌<◌, ◌≤◌, ◌++◌, ℕ, codes, length, slice_index, false, Some, IfErr, IfOk, IfSome, IsSome, IsTrue};
 ghost use Rattle.filterset_platforms.specs.Grammar.{IsWhole, Spells, is_triple_byte};
-ghost use Rattle.filterset_platforms.specs.Reading.{FaultStands, IsParsed, IsTrueOf, Returns};
+ghost use Rattle.filterset_platforms.specs.Reading.{FaultStands, IsTrueOf, Returns};
 ghost use Rattle.filterset_platforms.specs.Trees.{Expr, Facts, Spec, Text, expr_of, facts_of, spec_of};
 ghost use Rattle.filterset_platforms.specs.Values.{Extends, IsKnown, spec_value};
 
@@ -38,7 +38,7 @@ impl PlatformSpec {
     /// The fault of a text that is none is the first one.
     pub fn parse(alloc: Global, text: &str) -> Result<PlatformSpec, PlatformRefusal>
         ensures read { IfOk result (λ spec. Spells text.now (spec_of spec)) }
-        ensures only { (spec : Spec) → Spells text.now spec → IsParsed result spec }
+        ensures only { (spec : Spec) → Spells text.now spec → IfOk result (λ x. spec_of x ≡ spec) }
         ensures fault { IfErr result (FaultStands text.now) }
     {
         match read_platform(alloc, text) {

@@ -1,6 +1,7 @@
 //! Reads signs, words and values.
-ghost use Rattle.std.specs.Prelude.{◌≡◌, ◌<◌, ◌≤◌, length, IfSome, MatchOption};
-ghost use Rattle.filterset_platforms.specs.Grammar.{BeginsWithWord, Quoted, Sign, Word, begins_word, is_letter, is_word_byte, word_len};
+ghost use Rattle.std.specs.Prelude.{◌≡◌, ◌<◌, ◌≤◌, false, length, slice_get, IfSome, MatchOption};
+ghost use Rattle.std.specs.Option.{option_map_or};
+ghost use Rattle.filterset_platforms.specs.Grammar.{BeginsWithWord, Quoted, Sign, Word, is_letter, is_word_byte, word_len};
 ghost use Rattle.filterset_platforms.specs.Reading.{IsRest};
 ghost use Rattle.filterset_platforms.specs.Trees.{Text};
 
@@ -39,7 +40,7 @@ pub(crate) fn split_word(text: &str) -> Option<(&str, &str)>
 
 /// Returns whether the text begins with a letter.
 fn begins_word(text: &[u8]) -> bool
-    ensures { result ≡ begins_word text.now }
+    ensures { result ≡ option_map_or is_letter (slice_get text.now 0) false }
 {
     match text {
         [] => false,

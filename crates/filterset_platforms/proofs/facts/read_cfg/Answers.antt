@@ -3,9 +3,9 @@ use Rattle.std.proofs.lemmas.Iterator.Consumers.{YieldsList-end, YieldsList-so_f
 use Rattle.std.proofs.lemmas.Iterator.Splits.{YieldsList-from_lines}
 use Rattle.std.proofs.lemmas.List.{get_or_default, length-map, map-append}
 use Rattle.std.specs.Str.Lines.{lines}
-use Rattle.filterset_platforms.specs.Trees.{Text, setting_of}
+use Rattle.filterset_platforms.specs.Trees.{Setting, Text, setting_of}
 use Rattle.filterset_platforms.specs.Grammar.{IsLine}
-use Rattle.filterset_platforms.proofs.Lines.{as_many, one_more_line}
+use Rattle.filterset_platforms.proofs.Lines.{as_many, line_at, one_more_line}
 use Rattle.filterset_platforms.proofs.facts.read_cfg.Goals as goal
 
 pub returns-in_default-clause-refused : goal.returns-in_default-clause-refused
@@ -22,7 +22,8 @@ returns-in_default-clause-refused c =
     omega (arith, many, c.len.ensures, c.loop-line.settings.ok.0, length-map c.loop-line.yielded (λ s. s.now), length-map settings setting_of) in
     let line : c.in-Some.line.now ≡ get_or all at [] = turn.1 ∙ get_or_default all at c.in-Some.line.now [] turn.0 in
     let none = rw c.in_default.is at c.in_ok-setting.ensures in
-    (at, map setting_of settings, number, turn.0, rw so_far at known, λ s is. none s (let P : Text → Type 0 = λ t. IsLine t s in subst P (sym line) is))
+    let refuted : (s : Setting) → ¬ IsLine (get_or all at []) s = λ s is. none s (let P : Text → Type 0 = λ t. IsLine t s in subst P (sym line) is) in
+    (at, map setting_of settings, number, rw so_far at known, line_at all at (λ t. (s : Setting) → ¬ IsLine t s) turn.0 refuted)
 
 pub loop-line-preserved : goal.loop-line-preserved
 loop-line-preserved c =
