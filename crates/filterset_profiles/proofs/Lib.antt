@@ -1,1 +1,6 @@
+pub mod Finds
+pub mod Zips
 pub mod Reading
+pub mod Ranks
+pub mod OverrideDefaults
+pub mod Chains

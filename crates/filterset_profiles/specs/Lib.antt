@@ -1,2 +1,5 @@
+pub mod Lineages
+pub mod Paths
 pub mod Profiles
+pub mod Ranking
 pub mod Refusals

@@ -1,116 +1,71 @@
--- What nextest's configuration says of profiles.
-use Rattle.std.specs.Prelude.{◌≡◌, Bool, true, not, ◌&&◌, ◌||◌, List, [], ◌∷◌, Option, None, Some, MatchOption, codes, is_some, map, string_bytes}
-use Rattle.std.specs.Option.{option_map}
-use Rattle.toml.specs.Data.{Data, string, array, table, Items, no_items, item, Members, no_members, member, as_table, get}
+-- What nextest's configuration says of profiles. What is missing is as if it were empty.
+use Rattle.std.specs.Prelude.{◌≡◌, ◌||◌, Bool, List, Option, None, Some, String, IsSome, IsSomeAnd, IsTrue, MatchOption, bytes_eq, codes, if◌then◌else◌, is_none, is_some, map, option_and_then, string_bytes, unwrap_or, zip}
+use Rattle.std.specs.List.{AllZip}
+use Rattle.std.specs.declared.alloc.Global.{Global}
+use Rattle.toml.specs.Data.{Data, string, array, table, no_items, Members, no_members, as_table, get}
 use Rattle.toml.specs.Parse.{parse_document}
+use Rattle.toml.specs.View.{items_of, members_of}
 use Rattle.filterset_platforms.specs.Grammar.{Spells}
-use Rattle.filterset_platforms.specs.Trees.{Spec, Text, spec_of}
+use Rattle.filterset_platforms.specs.Trees.{Text, spec_of}
 use Rattle.filterset_platforms.specs.declared.filter.PlatformFilter.{PlatformFilter}
+use Rattle.filterset_platforms.specs.declared.specification.PlatformSpec.{PlatformSpec}
 use Rattle.filterset_profiles.specs.declared.overrides.Override.{Override}
 use Rattle.filterset_profiles.specs.declared.profiles.Profile.{Profile}
 
--- the platforms of an override
-pub record Platforms : Type 0 where
-  pub host : Option Spec
-  pub target : Option Spec
+-- the value under a key is one that A says, and there is none where nothing is under the key
+abbrev pub Under : {X : Type 0} → (Data → X → Type 0) → Text → Data → Option X → Type 0
+Under A key d o = MatchOption (get key d) (o ≡ None) (λ e. IsSomeAnd o (A e))
 
-abbrev pub filter_row : PlatformFilter → Platforms
-filter_row filter = record { host = option_map spec_of filter.host; target = option_map spec_of filter.target }
+abbrev pub IsText : Data → String Global → Type 0
+IsText e s = e ≡ string (string_bytes s)
 
--- an override
-pub record OverrideRow : Type 0 where
-  pub platforms : Platforms
-  pub filter : Option Text
-  pub default_filter : Option Text
-  pub test_group : Option Text
-
-abbrev pub override_row : Override → OverrideRow
-override_row o = record {
-  platforms = filter_row o.platform;
-  filter = option_map (λ s. string_bytes s) o.filter;
-  default_filter = option_map (λ s. string_bytes s) o.default_filter;
-  test_group = option_map (λ s. string_bytes s) o.test_group;
-}
-
--- a profile
-pub record ProfileRow : Type 0 where
-  pub name : Text
-  pub inherits : Option Text
-  pub own_filter : Option Text
-  pub overrides : List OverrideRow
-
-abbrev pub profile_row : Profile → ProfileRow
-profile_row p = record {
-  name = string_bytes p.name;
-  inherits = option_map (λ s. string_bytes s) p.inherits;
-  own_filter = option_map (λ s. string_bytes s) p.default_filter;
-  overrides = map override_row p.overrides.items;
-}
-
--- the value is a table
-abbrev pub IsTable : Data → Type 0
-IsTable d = (ms : Members) × (d ≡ table ms)
-
--- the text under a key, if something is there
-abbrev pub TextUnder : Text → Data → Option Text → Type 0
-TextUnder key d o = MatchOption (get key d) (o ≡ None) (λ e. (t : Text) × (e ≡ string t) × (o ≡ Some t))
-
--- the value is a text that is this platform
-abbrev pub IsPlatform : Data → Option Spec → Type 0
-IsPlatform e o = (t : Text) × (s : Spec) × (e ≡ string t) × Spells t s × (o ≡ Some s)
-
-abbrev pub PlatformUnder : Text → Data → Option Spec → Type 0
-PlatformUnder key d o = MatchOption (get key d) (o ≡ None) (λ e. IsPlatform e o)
+-- a text that is this platform
+abbrev pub IsPlatform : Data → PlatformSpec → Type 0
+IsPlatform e spec = (t : Text) × (e ≡ string t) × Spells t (spec_of spec)
 
 -- a table has both parts, and a text is the target's
-abbrev pub ArePlatforms : Data → Platforms → Type 0
+abbrev pub ArePlatforms : Data → PlatformFilter → Type 0
 ArePlatforms e p =
-    MatchOption (as_table e) ((p.host ≡ None) × IsPlatform e p.target)
-    (λ ms. PlatformUnder (codes "host") e p.host × PlatformUnder (codes "target") e p.target)
+    MatchOption (as_table e) ((p.host ≡ None) × IsSomeAnd p.target (IsPlatform e))
+    (λ ms. Under IsPlatform (codes "host") e p.host × Under IsPlatform (codes "target") e p.target)
 
-abbrev pub HasPlatforms : Data → Platforms → Type 0
-HasPlatforms d p =
-    MatchOption (get (codes "platform") d) ((p.host ≡ None) × (p.target ≡ None)) (λ e. ArePlatforms e p)
+-- a group is `@global`, or a key of the file's `[test-groups]`
+abbrev pub is_group : Data → Text → Bool
+is_group file t = bytes_eq t (codes "@global") || is_some (option_and_then (get t) (get (codes "test-groups") file))
+
+abbrev pub IsGroup : Data → Data → String Global → Type 0
+IsGroup file e s = IsText e s × IsTrue (is_group file (string_bytes s))
+
+abbrev pub HasSettings : Data → Data → Override → Type 0
+HasSettings file d o =
+    ArePlatforms (unwrap_or (get (codes "platform") d) (table no_members)) o.platform
+    × Under IsText (codes "filter") d o.filter × Under IsText (codes "default-filter") d o.default_filter
+    × Under (IsGroup file) (codes "test-group") d o.test_group
 
 -- an override says for what it is, and a default filter is for platforms alone
-abbrev pub is_allowed : OverrideRow → Bool
-is_allowed o =
-    (is_some o.filter || (is_some o.platforms.host || is_some o.platforms.target))
-    && not (is_some o.filter && is_some o.default_filter)
+abbrev pub is_allowed : Override → Bool
+is_allowed o = if is_some o.filter then is_none o.default_filter else (is_some o.platform.host || is_some o.platform.target)
 
-abbrev pub HasSettings : Data → OverrideRow → Type 0
-HasSettings d o =
-    HasPlatforms d o.platforms × TextUnder (codes "filter") d o.filter
-    × TextUnder (codes "default-filter") d o.default_filter × TextUnder (codes "test-group") d o.test_group
+abbrev pub IsOverride : Data → Data → Override → Type 0
+IsOverride file d o = IsSome (as_table d) × HasSettings file d o × IsTrue (is_allowed o)
 
-abbrev pub IsOverride : Data → OverrideRow → Type 0
-IsOverride d o = IsTable d × HasSettings d o × (is_allowed o ≡ true)
+-- a list of these overrides, in their order
+abbrev pub AreOverrides : Data → Data → List Override → Type 0
+AreOverrides file d os = (ds : List Data) × (d ≡ array (items_of ds)) × AllZip (IsOverride file) ds os
 
--- overrides, in their order
-abbrev pub AreOverrides : Items → List OverrideRow → Type 0
-AreOverrides no_items [] = Unit {0}
-AreOverrides (item d ds) (o ∷ os) = IsOverride d o × AreOverrides ds os
-AreOverrides _ _ = ⊥
+abbrev pub IsProfile : Data → Data → Profile → Type 0
+IsProfile file d p =
+    IsSome (as_table d) × Under IsText (codes "inherits") d p.inherits
+    × Under IsText (codes "default-filter") d p.default_filter
+    × AreOverrides file (unwrap_or (get (codes "overrides") d) (array no_items)) p.overrides.items
 
-abbrev pub OverridesUnder : Data → List OverrideRow → Type 0
-OverridesUnder d os =
-    MatchOption (get (codes "overrides") d) (os ≡ []) (λ e. (ds : Items) × (e ≡ array ds) × AreOverrides ds os)
-
-abbrev pub IsProfile : Text → Data → ProfileRow → Type 0
-IsProfile name d p =
-    IsTable d × (p.name ≡ name) × TextUnder (codes "inherits") d p.inherits
-    × TextUnder (codes "default-filter") d p.own_filter × OverridesUnder d p.overrides
-
--- profiles, by the order of their names
-abbrev pub AreProfiles : Members → List ProfileRow → Type 0
-AreProfiles no_members [] = Unit {0}
-AreProfiles (member name d ms) (p ∷ ps) = IsProfile name d p × AreProfiles ms ps
-AreProfiles _ _ = ⊥
-
-abbrev pub ProfilesUnder : Data → List ProfileRow → Type 0
-ProfilesUnder d ps =
-    MatchOption (get (codes "profile") d) (ps ≡ []) (λ e. (ms : Members) × (e ≡ table ms) × AreProfiles ms ps)
+-- a table of these profiles, by the order of their names
+abbrev pub AreProfiles : Data → Data → List Profile → Type 0
+AreProfiles file d ps =
+    (ds : List Data) × (d ≡ table (members_of (zip (map (λ p. p.name) ps) ds))) × AllZip (IsProfile file) ds ps
 
 -- the text is TOML with these profiles
-abbrev pub HasProfiles : Text → List ProfileRow → Type 0
-HasProfiles text ps = (ms : Members) × (parse_document text ≡ Some ms) × ProfilesUnder (table ms) ps
+abbrev pub HasProfiles : Text → List Profile → Type 0
+HasProfiles text ps =
+    (file : Members) × (parse_document text ≡ Some file)
+    × AreProfiles (table file) (unwrap_or (get (codes "profile") (table file)) (table no_members)) ps

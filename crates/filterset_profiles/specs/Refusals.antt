@@ -2,7 +2,8 @@
 use Rattle.std.specs.Prelude.{◌≡◌, None, List}
 use Rattle.toml.specs.Parse.{parse_document}
 use Rattle.filterset_platforms.specs.Trees.{Text}
-use Rattle.filterset_profiles.specs.Profiles.{HasProfiles, ProfileRow}
+use Rattle.filterset_profiles.specs.Profiles.{HasProfiles}
+use Rattle.filterset_profiles.specs.declared.profiles.Profile.{Profile}
 use Rattle.filterset_profiles.specs.declared.refusal.ProfileRefusal.{ProfileRefusal}
 use Rattle.filterset_profiles.specs.declared.refusal.ProfileRefusal.TheVariants.{NotToml, Wrong, OutOfMemory}
 
@@ -21,5 +22,5 @@ Refuses fact (NotToml error) = ⊥
 -- the text is no TOML, or has no such profiles; or it is out of memory
 abbrev pub RefusesText : Text → ProfileRefusal → Type 0
 RefusesText text (NotToml error) = parse_document text ≡ None
-RefusesText text (Wrong path expected) = ¬ ((ps : List ProfileRow) × HasProfiles text ps)
+RefusesText text (Wrong path expected) = ¬ ((ps : List Profile) × HasProfiles text ps)
 RefusesText text (OutOfMemory error) = Unit {0}

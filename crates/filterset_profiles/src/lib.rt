@@ -5,11 +5,20 @@
 //! test if its platforms apply and its filter picks the test; a part that is missing asks for nothing.
 #![tactic(auto)]
 
+mod defaults;
+mod fault;
+mod inheritance;
 mod overrides;
+mod paths;
 mod profiles;
+mod ranking;
 mod refusal;
 mod values;
 
+pub use defaults::{DefaultFilter, default_filter};
+pub use fault::LineageFault;
+pub use inheritance::lineage;
 pub use overrides::Override;
 pub use profiles::{Profile, read_profiles};
+pub use ranking::{RankedOverride, rank_overrides};
 pub use refusal::ProfileRefusal;

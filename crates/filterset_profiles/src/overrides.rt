@@ -1,11 +1,16 @@
 //! Reads the overrides of profiles.
-ghost use Rattle.std.specs.Prelude.{◌≡◌, List, IfErr, IfOk, codes, is_some, map, not};
-ghost use Rattle.toml.specs.View.{items_view, view};
-ghost use Rattle.filterset_profiles.specs.Profiles.{AreOverrides, HasPlatforms, HasSettings, IsOverride, OverrideRow, OverridesUnder, PlatformUnder, Platforms, filter_row, is_allowed, override_row};
+ghost use Rattle.std.specs.Prelude.{◌≡◌, List, IfErr, IfOk, codes, is_some, map, not, unwrap_or};
+ghost use Rattle.std.specs.List.{AllZip};
+ghost use Rattle.toml.specs.Data.{array, get, no_items, no_members, table};
+ghost use Rattle.toml.specs.View.{view};
+ghost use Rattle.filterset_platforms.specs.declared.filter.PlatformFilter.{PlatformFilter};
+ghost use Rattle.filterset_profiles.specs.Profiles.{AreOverrides, ArePlatforms, HasSettings, IsOverride, IsPlatform, Under, is_allowed};
 ghost use Rattle.filterset_profiles.specs.Refusals.{Refuses};
+ghost use Rattle.filterset_profiles.specs.declared.overrides.Override.{Override};
 
+use crate::paths::override_path;
 use crate::refusal::ProfileRefusal;
-use crate::values::{read_platform, read_text, wrong_at, wrong_under};
+use crate::values::{read_group, read_platform, read_text, wrong_at, wrong_under};
 use filterset_platforms::PlatformFilter;
 use std::alloc::Global;
 use toml::Value;
@@ -25,11 +30,11 @@ pub struct Override {
 
 /// Reads the parts of a table of platforms.
 fn read_parts(alloc: Global, path: &str, value: &Value) -> Result<PlatformFilter, ProfileRefusal>
-    ensures read { IfOk result (λ filter. PlatformUnder (codes "host") (view value.now) (filter_row filter).host
-        × PlatformUnder (codes "target") (view value.now) (filter_row filter).target) }
-    ensures refused { IfErr result (Refuses ((p : Platforms)
-        × PlatformUnder (codes "host") (view value.now) p.host
-        × PlatformUnder (codes "target") (view value.now) p.target)) }
+    ensures read { IfOk result (λ p. Under IsPlatform (codes "host") (view value.now) p.host
+        × Under IsPlatform (codes "target") (view value.now) p.target) }
+    ensures refused { IfErr result (Refuses ((p : PlatformFilter)
+        × Under IsPlatform (codes "host") (view value.now) p.host
+        × Under IsPlatform (codes "target") (view value.now) p.target)) }
 {
     let path = format!(in alloc; "{path}.platform")?;
     Ok(PlatformFilter {
@@ -44,8 +49,9 @@ fn read_platforms(
     path: &str,
     value: &Value,
 ) -> Result<PlatformFilter, ProfileRefusal>
-    ensures read { IfOk result (λ filter. HasPlatforms (view value.now) (filter_row filter)) }
-    ensures refused { IfErr result (Refuses ((p : Platforms) × HasPlatforms (view value.now) p)) }
+    ensures read { IfOk result (ArePlatforms (unwrap_or (get (codes "platform") (view value.now)) (table no_members))) }
+    ensures refused { IfErr result (Refuses ((p : PlatformFilter)
+        × ArePlatforms (unwrap_or (get (codes "platform") (view value.now)) (table no_members)) p)) }
 {
     let host = None;
     let Some(found) = value.get("platform") else {
@@ -59,21 +65,26 @@ fn read_platforms(
 }
 
 /// Reads what an override sets.
-fn read_settings(alloc: Global, path: &str, value: &Value) -> Result<Override, ProfileRefusal>
-    ensures read { IfOk result (λ o. HasSettings (view value.now) (override_row o)) }
-    ensures refused { IfErr result (Refuses ((o : OverrideRow) × HasSettings (view value.now) o)) }
+fn read_settings(
+    alloc: Global,
+    path: &str,
+    file: &Value,
+    value: &Value,
+) -> Result<Override, ProfileRefusal>
+    ensures read { IfOk result (HasSettings (view file.now) (view value.now)) }
+    ensures refused { IfErr result (Refuses ((o : Override) × HasSettings (view file.now) (view value.now) o)) }
 {
     Ok(Override {
         platform: read_platforms(alloc, path, value)?,
         filter: read_text(alloc, path, value, "filter")?,
         default_filter: read_text(alloc, path, value, "default-filter")?,
-        test_group: read_text(alloc, path, value, "test-group")?,
+        test_group: read_group(alloc, path, file, value)?,
     })
 }
 
 /// Returns what an override must be that may not be so.
 fn fault_of(read: &Override) -> Option<&'static str>
-    ensures { is_some result ≡ not (is_allowed (override_row read.now)) }
+    ensures { is_some result ≡ not (is_allowed read.now) }
 {
     let picks = read.filter.is_some();
     if picks && read.default_filter.is_some() {
@@ -86,14 +97,19 @@ fn fault_of(read: &Override) -> Option<&'static str>
 }
 
 /// Reads an override.
-fn read_override(alloc: Global, path: &str, value: &Value) -> Result<Override, ProfileRefusal>
-    ensures read { IfOk result (λ o. IsOverride (view value.now) (override_row o)) }
-    ensures refused { IfErr result (Refuses ((o : OverrideRow) × IsOverride (view value.now) o)) }
+fn read_override(
+    alloc: Global,
+    path: &str,
+    file: &Value,
+    value: &Value,
+) -> Result<Override, ProfileRefusal>
+    ensures read { IfOk result (IsOverride (view file.now) (view value.now)) }
+    ensures refused { IfErr result (Refuses ((o : Override) × IsOverride (view file.now) (view value.now) o)) }
 {
     if !value.is_table() {
         return Err(wrong_at(alloc, path, "a table")?);
     }
-    let read = read_settings(alloc, path, value)?;
+    let read = read_settings(alloc, path, file, value)?;
     match fault_of(&read) {
         Some(expected) => Err(wrong_at(alloc, path, expected)?),
         None => Ok(read),
@@ -101,14 +117,20 @@ fn read_override(alloc: Global, path: &str, value: &Value) -> Result<Override, P
 }
 
 /// Reads each override of a list.
-fn read_items(alloc: Global, path: &str, values: &[Value]) -> Result<Vec<Override>, ProfileRefusal>
-    ensures read { IfOk result (λ v. AreOverrides (items_view values.now) (map override_row v.items)) }
-    ensures refused { IfErr result (Refuses ((os : List OverrideRow) × AreOverrides (items_view values.now) os)) }
+fn read_items(
+    alloc: Global,
+    path: &str,
+    file: &Value,
+    values: &[Value],
+) -> Result<Vec<Override>, ProfileRefusal>
+    ensures read { IfOk result (λ v. AllZip (IsOverride (view file.now)) (map view values.now) v.items) }
+    ensures refused { IfErr result (Refuses ((os : List Override)
+        × AllZip (IsOverride (view file.now)) (map view values.now) os)) }
 {
     let mut overrides = Vec::with_capacity(alloc, values.len())?;
     for (at, value) in values.iter().enumerate() {
-        let path = format!(in alloc; "{path}.overrides[{at}]")?;
-        overrides.push(read_override(alloc, path.as_str(), value)?)?;
+        let path = override_path(alloc, path, at)?;
+        overrides.push(read_override(alloc, path.as_str(), file, value)?)?;
     }
     Ok(overrides)
 }
@@ -117,16 +139,19 @@ fn read_items(alloc: Global, path: &str, values: &[Value]) -> Result<Vec<Overrid
 pub(crate) fn read_overrides(
     alloc: Global,
     path: &str,
+    file: &Value,
     value: &Value,
 ) -> Result<Vec<Override>, ProfileRefusal>
-    ensures read { IfOk result (λ v. OverridesUnder (view value.now) (map override_row v.items)) }
-    ensures refused { IfErr result (Refuses ((os : List OverrideRow) × OverridesUnder (view value.now) os)) }
+    ensures read { IfOk result (λ v. AreOverrides (view file.now)
+        (unwrap_or (get (codes "overrides") (view value.now)) (array no_items)) v.items) }
+    ensures refused { IfErr result (Refuses ((os : List Override) × AreOverrides (view file.now)
+        (unwrap_or (get (codes "overrides") (view value.now)) (array no_items)) os)) }
 {
     let Some(found) = value.get("overrides") else {
         return Ok(Vec::new(alloc));
     };
     match found.as_array() {
-        Some(values) => read_items(alloc, path, values.as_slice()),
+        Some(values) => read_items(alloc, path, file, values.as_slice()),
         None => Err(wrong_under(alloc, path, "overrides", "a list")?),
     }
 }

@@ -1,11 +1,14 @@
 //! Reads profiles.
-ghost use Rattle.std.specs.Prelude.{◌≡◌, List, Some, IfErr, IfOk, map};
+ghost use Rattle.std.specs.Prelude.{◌≡◌, List, Some, IfErr, IfOk, codes, string_bytes, unwrap_or};
+ghost use Rattle.toml.specs.Data.{get, no_members, table};
 ghost use Rattle.toml.specs.Parse.{parse_document};
 ghost use Rattle.toml.specs.View.{table_view, view};
-ghost use Rattle.filterset_profiles.specs.Profiles.{AreProfiles, HasProfiles, IsProfile, ProfileRow, ProfilesUnder, profile_row};
+ghost use Rattle.filterset_profiles.specs.Profiles.{AreProfiles, HasProfiles, IsProfile};
 ghost use Rattle.filterset_profiles.specs.Refusals.{Refuses, RefusesText};
+ghost use Rattle.filterset_profiles.specs.declared.profiles.Profile.{Profile};
 
 use crate::overrides::{Override, read_overrides};
+use crate::paths::profile_path;
 use crate::refusal::ProfileRefusal;
 use crate::values::{read_text, wrong_at};
 use std::alloc::{AllocError, Global};
@@ -23,11 +26,17 @@ pub struct Profile {
 }
 
 /// Reads a profile.
-fn read_profile(alloc: Global, name: &str, value: &Value) -> Result<Profile, ProfileRefusal>
-    ensures read { IfOk result (λ p. IsProfile name.now (view value.now) (profile_row p)) }
-    ensures refused { IfErr result (Refuses ((p : ProfileRow) × IsProfile name.now (view value.now) p)) }
+fn read_profile(
+    alloc: Global,
+    name: &str,
+    file: &Value,
+    value: &Value,
+) -> Result<Profile, ProfileRefusal>
+    ensures name { IfOk result (λ p. string_bytes p.name ≡ name.now) }
+    ensures read { IfOk result (IsProfile (view file.now) (view value.now)) }
+    ensures refused { IfErr result (Refuses ((p : Profile) × IsProfile (view file.now) (view value.now) p)) }
 {
-    let path = format!(in alloc; "profile.{name}")?;
+    let path = profile_path(alloc, name)?;
     let path = path.as_str();
     if !value.is_table() {
         return Err(wrong_at(alloc, path, "a table")?);
@@ -36,32 +45,39 @@ fn read_profile(alloc: Global, name: &str, value: &Value) -> Result<Profile, Pro
         name: String::from_str(alloc, name)?,
         inherits: read_text(alloc, path, value, "inherits")?,
         default_filter: read_text(alloc, path, value, "default-filter")?,
-        overrides: read_overrides(alloc, path, value)?,
+        overrides: read_overrides(alloc, path, file, value)?,
     })
 }
 
 /// Reads each profile of a table.
-fn read_members(alloc: Global, table: &Table) -> Result<Vec<Profile>, ProfileRefusal>
-    ensures read { IfOk result (λ v. AreProfiles (table_view table.now) (map profile_row v.items)) }
-    ensures refused { IfErr result (Refuses ((ps : List ProfileRow) × AreProfiles (table_view table.now) ps)) }
+fn read_members(
+    alloc: Global,
+    file: &Value,
+    members: &Table,
+) -> Result<Vec<Profile>, ProfileRefusal>
+    ensures read { IfOk result (λ v. AreProfiles (view file.now) (table (table_view members.now)) v.items) }
+    ensures refused { IfErr result (Refuses ((ps : List Profile)
+        × AreProfiles (view file.now) (table (table_view members.now)) ps)) }
 {
-    let mut profiles = Vec::with_capacity(alloc, table.len())?;
-    for (name, value) in table.iter() {
-        profiles.push(read_profile(alloc, name.as_str(), value)?)?;
+    let mut profiles = Vec::with_capacity(alloc, members.len())?;
+    for (name, value) in members.iter() {
+        profiles.push(read_profile(alloc, name.as_str(), file, value)?)?;
     }
     Ok(profiles)
 }
 
 /// Reads the profiles of a file.
 fn read_file(alloc: Global, file: &Value) -> Result<Vec<Profile>, ProfileRefusal>
-    ensures read { IfOk result (λ v. ProfilesUnder (view file.now) (map profile_row v.items)) }
-    ensures refused { IfErr result (Refuses ((ps : List ProfileRow) × ProfilesUnder (view file.now) ps)) }
+    ensures read { IfOk result (λ v. AreProfiles (view file.now)
+        (unwrap_or (get (codes "profile") (view file.now)) (table no_members)) v.items) }
+    ensures refused { IfErr result (Refuses ((ps : List Profile) × AreProfiles (view file.now)
+        (unwrap_or (get (codes "profile") (view file.now)) (table no_members)) ps)) }
 {
     let Some(found) = file.get("profile") else {
         return Ok(Vec::new(alloc));
     };
     match found.as_table() {
-        Some(table) => read_members(alloc, table),
+        Some(members) => read_members(alloc, file, members),
         None => Err(wrong_at(alloc, "profile", "a table")?),
     }
 }
@@ -83,7 +99,7 @@ fn read_toml(alloc: Global, text: &str) -> Result<Table, ProfileRefusal>
 /// Reads the profiles of a configuration, as `.config/nextest.toml` has them, by the order of their names. Ignores all
 /// other keys.
 pub fn read_profiles(alloc: Global, text: &str) -> Result<Vec<Profile>, ProfileRefusal>
-    ensures read { IfOk result (λ v. HasProfiles text.now (map profile_row v.items)) }
+    ensures read { IfOk result (λ v. HasProfiles text.now v.items) }
     ensures refused { IfErr result (RefusesText text.now) }
 {
     let file = Value::Table(read_toml(alloc, text)?);

@@ -1,9 +1,9 @@
 //! Reads single values.
-ghost use Rattle.std.specs.Prelude.{Option, IfErr, IfOk, string_bytes};
-ghost use Rattle.std.specs.Option.{option_map};
+ghost use Rattle.std.specs.Prelude.{◌≡◌, Option, String, IfErr, IfOk, codes};
+ghost use Rattle.std.specs.declared.alloc.Global.{Global};
 ghost use Rattle.toml.specs.View.{view};
-ghost use Rattle.filterset_platforms.specs.Trees.{Spec, Text, spec_of};
-ghost use Rattle.filterset_profiles.specs.Profiles.{PlatformUnder, TextUnder};
+ghost use Rattle.filterset_platforms.specs.declared.specification.PlatformSpec.{PlatformSpec};
+ghost use Rattle.filterset_profiles.specs.Profiles.{IsGroup, IsPlatform, IsText, Under, is_group};
 ghost use Rattle.filterset_profiles.specs.Refusals.{IsWrong, Refuses};
 
 use crate::refusal::ProfileRefusal;
@@ -43,8 +43,8 @@ pub(crate) fn read_text(
     value: &Value,
     key: &str,
 ) -> Result<Option<String>, ProfileRefusal>
-    ensures read { IfOk result (λ o. TextUnder key.now (view value.now) (option_map (λ s. string_bytes s) o)) }
-    ensures refused { IfErr result (Refuses ((o : Option Text) × TextUnder key.now (view value.now) o)) }
+    ensures read { IfOk result (Under IsText key.now (view value.now)) }
+    ensures refused { IfErr result (Refuses ((o : Option (String Global)) × Under IsText key.now (view value.now) o)) }
 {
     let Some(found) = value.get(key) else {
         return Ok(None);
@@ -55,6 +55,40 @@ pub(crate) fn read_text(
     Ok(Some(String::from_str(alloc, text)?))
 }
 
+/// Returns whether a group of tests is `@global`, or a key of the file's `[test-groups]`.
+fn is_group(file: &Value, name: &str) -> bool
+    ensures { result ≡ is_group (view file.now) name.now }
+{
+    if name == "@global" {
+        return true;
+    }
+    match file.get("test-groups") {
+        Some(groups) => groups.get(name).is_some(),
+        None => false,
+    }
+}
+
+/// Reads the group of tests that an override sets, if it sets one.
+pub(crate) fn read_group(
+    alloc: Global,
+    path: &str,
+    file: &Value,
+    value: &Value,
+) -> Result<Option<String>, ProfileRefusal>
+    ensures read { IfOk result (Under (IsGroup (view file.now)) (codes "test-group") (view value.now)) }
+    ensures refused { IfErr result (Refuses ((o : Option (String Global))
+        × Under (IsGroup (view file.now)) (codes "test-group") (view value.now) o)) }
+{
+    let Some(name) = read_text(alloc, path, value, "test-group")? else {
+        return Ok(None);
+    };
+    if is_group(file, name.as_str()) {
+        return Ok(Some(name));
+    }
+    let expected = "`@global` or a key of `[test-groups]`";
+    Err(wrong_under(alloc, path, "test-group", expected)?)
+}
+
 /// Reads the platform under a key, if there is one.
 pub(crate) fn read_platform(
     alloc: Global,
@@ -62,8 +96,8 @@ pub(crate) fn read_platform(
     value: &Value,
     key: &str,
 ) -> Result<Option<PlatformSpec>, ProfileRefusal>
-    ensures read { IfOk result (λ o. PlatformUnder key.now (view value.now) (option_map spec_of o)) }
-    ensures refused { IfErr result (Refuses ((o : Option Spec) × PlatformUnder key.now (view value.now) o)) }
+    ensures read { IfOk result (Under IsPlatform key.now (view value.now)) }
+    ensures refused { IfErr result (Refuses ((o : Option PlatformSpec) × Under IsPlatform key.now (view value.now) o)) }
 {
     let Some(found) = value.get(key) else {
         return Ok(None);

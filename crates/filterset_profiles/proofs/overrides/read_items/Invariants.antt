@@ -1,8 +1,9 @@
 use Rattle.std.proofs.Common.{map, take}
-use Rattle.toml.specs.View.{items_view}
-use Rattle.filterset_profiles.specs.Profiles.{AreOverrides, override_row}
+use Rattle.std.specs.List.{AllZip}
+use Rattle.toml.specs.View.{view}
+use Rattle.filterset_profiles.specs.Profiles.{IsOverride}
 use Rattle.filterset_profiles.proofs.overrides.read_items.Given as goal
 
 -- the overrides so far
 abbrev pub invariant-loop-at : goal.invariant-loop-at
-invariant-loop-at l = AreOverrides (items_view (take l.at-counter l.values)) (map override_row l.overrides.items)
+invariant-loop-at l = AllZip (IsOverride (view l.file)) (map view (take l.at l.values)) l.overrides.items

@@ -2,7 +2,6 @@ use Rattle.std.proofs.Common.{ap, sym, ◌∙◌}
 use Rattle.std.specs.Prelude.{not}
 use Rattle.std.proofs.lemmas.Bool.{true≢false}
 use Rattle.toml.specs.View.{view}
-use Rattle.filterset_profiles.specs.Profiles.{override_row}
 use Rattle.filterset_profiles.proofs.Reading.{allowed_same, refused_wrong}
 use Rattle.filterset_profiles.proofs.overrides.read_override.Goals as goal
 
@@ -10,5 +9,5 @@ pub returns-in_ok-wrong_at-in-Some-clause-refused : goal.returns-in_ok-wrong_at-
 returns-in_ok-wrong_at-in-Some-clause-refused c =
     refused_wrong c.in_ok-wrong_at-in-Some.field-0 c.in_ok-wrong_at-in-Some.ensures
     (λ fact.
-    let same = allowed_same (view c.args.value.now) fact.0 (override_row c.in_ok-read.read) fact.1.1 c.in_ok-read.ensures.read in
+    let same = allowed_same (view c.args.file.now) (view c.args.value.now) fact.0 c.in_ok-read.read fact.1.1 c.in_ok-read.ensures.read in
     true≢false (c.in-Some.ensures ∙ ap not (sym same ∙ fact.1.2)))

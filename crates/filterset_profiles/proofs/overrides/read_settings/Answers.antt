@@ -5,8 +5,3 @@ pub returns-in_err-read_text-2-clause-refused : goal.returns-in_err-read_text-2-
 returns-in_err-read_text-2-clause-refused c =
     handed_on c.from_residual-in_err-read_text-2.result c.in_err-read_text-2.field-0.0 c.from_residual-in_err-read_text-2.ensures.1
     (λ fact. (fact.0.default_filter, fact.1.2)) c.in_err-read_text-2.ensures.refused
-
-pub returns-in_err-read_text-3-clause-refused : goal.returns-in_err-read_text-3-clause-refused
-returns-in_err-read_text-3-clause-refused c =
-    handed_on c.from_residual-in_err-read_text-3.result c.in_err-read_text-3.field-0.0 c.from_residual-in_err-read_text-3.ensures.1
-    (λ fact. (fact.0.test_group, fact.1.3)) c.in_err-read_text-3.ensures.refused

@@ -1,0 +1,55 @@
+-- The profiles that a profile falls back on.
+use Rattle.std.specs.Prelude.{◌≡◌, ◌≢◌, List, [], ◌∷◌, ◌++◌, Option, None, Some, IfSome, bytes_eq, codes, find, if◌then◌else◌, option_and_then, option_map, string_bytes}
+use Rattle.std.specs.Option.{option_or}
+use Rattle.filterset_platforms.specs.Trees.{Text}
+use Rattle.filterset_profiles.specs.Paths.{profile_path}
+use Rattle.filterset_profiles.specs.declared.fault.LineageFault.{LineageFault}
+use Rattle.filterset_profiles.specs.declared.fault.LineageFault.TheVariants.{NoProfile, NoParent, Cycle, OutOfMemory}
+use Rattle.filterset_profiles.specs.declared.profiles.Profile.{Profile}
+
+-- the first profile of this name
+abbrev pub named : List Profile → Text → Option Profile
+named ps name = find (λ p. bytes_eq (string_bytes p.name) name) ps
+
+-- a profile falls back on the one that it inherits from, and else on `default`, which falls back on none
+abbrev pub parent : Profile → Option Text
+parent p =
+    option_or (option_map (λ s. string_bytes s) p.inherits)
+    (if bytes_eq (string_bytes p.name) (codes "default") then None else Some (codes "default"))
+
+-- the profile of the name, those that it falls back on up to the last of the chain, and the name that the last falls back on
+abbrev pub Leads : List Profile → Option Text → List Profile → Option Text → Type 0
+Leads ps name [] last = name ≡ last
+Leads ps name (p ∷ chain) last = (option_and_then (named ps) name ≡ Some p) × Leads ps (parent p) chain last
+
+-- the chain ends where nothing follows, or at `default`, if no profile has this name
+abbrev pub Lineage : List Profile → Text → List Profile → Type 0
+Lineage ps name chain =
+    (last : Option Text) × Leads ps (Some name) chain last
+    × (option_and_then (named ps) last ≡ None) × IfSome last (λ t. t ≡ codes "default")
+
+-- no profile has the name that is asked for, or that the last of a chain inherits from; or the chain comes back to a profile
+abbrev pub IsLineageFault : List Profile → Text → LineageFault → Type 0
+IsLineageFault ps name (NoProfile n) = (string_bytes n ≡ name) × (named ps name ≡ None) × (name ≢ codes "default")
+IsLineageFault ps name (NoParent path n) =
+    (chain : List Profile) × (p : Profile) × (string_bytes path ≡ profile_path (string_bytes p.name) ++ codes ".inherits")
+    × Leads ps (Some name) (chain ++ p ∷ []) (Some (string_bytes n))
+    × (named ps (string_bytes n) ≡ None) × (string_bytes n ≢ codes "default")
+IsLineageFault ps name (Cycle path) =
+    (chain circle : List Profile) × (p : Profile) × (string_bytes path ≡ profile_path (string_bytes p.name))
+    × (t : Option Text) × Leads ps (Some name) chain t × Leads ps t (p ∷ circle) t
+IsLineageFault ps name (OutOfMemory error) = Unit {0}
+
+-- the fault of a name that no profile has, which the last profile of the chain falls back on, or which is asked for
+abbrev pub IsMissing : List Profile → Text → LineageFault → Type 0
+IsMissing chain name (NoProfile n) = (chain ≡ []) × (string_bytes n ≡ name)
+IsMissing chain name (NoParent path n) =
+    (front : List Profile) × (p : Profile) × (chain ≡ front ++ p ∷ [])
+    × (string_bytes path ≡ profile_path (string_bytes p.name) ++ codes ".inherits") × (string_bytes n ≡ name)
+IsMissing chain name (Cycle path) = ⊥
+IsMissing chain name (OutOfMemory error) = ⊥
+
+-- the fault of a chain that comes back to a profile
+abbrev pub IsCycle : Profile → LineageFault → Type 0
+IsCycle p (Cycle path) = string_bytes path ≡ profile_path (string_bytes p.name)
+IsCycle p fault = ⊥
