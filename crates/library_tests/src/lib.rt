@@ -11,6 +11,8 @@ mod equality;
 #[cfg(test)]
 mod groups;
 #[cfg(test)]
+mod lineages;
+#[cfg(test)]
 mod matchers;
 #[cfg(test)]
 mod places;

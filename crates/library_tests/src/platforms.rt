@@ -55,7 +55,7 @@ windows
 ";
 
 /// Reads lines that are known to be right.
-fn settings_of(alloc: Global, lines: &str) -> Result<Option<Vec<Cfg>>, AllocError> {
+pub(crate) fn settings_of(alloc: Global, lines: &str) -> Result<Option<Vec<Cfg>>, AllocError> {
     match read_cfg(alloc, lines) {
         Ok(settings) => Ok(Some(settings)),
         Err(CfgRefusal::Line(_)) => Ok(None),

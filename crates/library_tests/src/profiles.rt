@@ -93,7 +93,7 @@ fn message(alloc: Global, text: &str) -> Result<Option<String>, AllocError> {
     }
 }
 
-static FAULTS: [(&str, &str); 9] = [
+static FAULTS: [(&str, &str); 13] = [
     ("profile = 1", "`profile` must be a table"),
     ("profile.ci = 1", "`profile.ci` must be a table"),
     (
@@ -124,7 +124,36 @@ static FAULTS: [(&str, &str); 9] = [
         "profile.ci.overrides = [{ platform = { target = 1 } }]",
         "`profile.ci.overrides[0].platform.target` must be a text",
     ),
+    (
+        "profile.ci.overrides = [{ filter = 'all()', test-group = 'serial' }]",
+        "`profile.ci.overrides[0].test-group` must be `@global` or a key of `[test-groups]`",
+    ),
+    (
+        "test-groups.serial = {}\nprofile.ci.overrides = [{ filter = 'all()', test-group = 'Serial' }]",
+        "`profile.ci.overrides[0].test-group` must be `@global` or a key of `[test-groups]`",
+    ),
+    (
+        "profile.ci.overrides = [{ filter = 'all()', test-group = 1 }]",
+        "`profile.ci.overrides[0].test-group` must be a text",
+    ),
+    (
+        "profile.'on ci'.overrides = [1]",
+        "`profile.\"on ci\".overrides[0]` must be a table",
+    ),
 ];
+
+static GROUPS: [&str; 2] = [
+    "profile.ci.overrides = [{ filter = 'all()', test-group = '@global' }]",
+    "profile.ci.overrides = [{ filter = 'all()', test-group = 'serial' }]\ntest-groups.serial = {}",
+];
+
+#[test]
+fn groups_are_known(rt: HostRuntime) -> Result<(), Fail> {
+    for text in &GROUPS {
+        assert!(rt; message(rt.alloc(), text)?.is_none(), "{text}");
+    }
+    Ok(())
+}
 
 #[test]
 fn faults_have_a_path(rt: HostRuntime) -> Result<(), Fail> {
