@@ -66,4 +66,4 @@ pub record Facts : Type 0 where
 
 abbrev pub facts_of : PlatformFacts → Facts
 facts_of facts =
-    record { triple = option_map (λ t. string_bytes t) facts.triple; settings = option_map (λ v. map setting_of v.items) facts.cfg }
+    record { triple = option_map string_bytes facts.triple; settings = option_map (λ v. map setting_of v.items) facts.cfg }

@@ -14,10 +14,10 @@ named ps name = find (λ p. bytes_eq (string_bytes p.name) name) ps
 -- a profile falls back on the one that it inherits from, and else on `default`, which falls back on none
 abbrev pub parent : Profile → Option Text
 parent p =
-    option_or (option_map (λ s. string_bytes s) p.inherits)
+    option_or (option_map string_bytes p.inherits)
     (if bytes_eq (string_bytes p.name) (codes "default") then None else Some (codes "default"))
 
--- the profile of the name, those that it falls back on up to the last of the chain, and the name that the last falls back on
+-- from a name on, each profile of the chain has the name that the one before it falls back on, up to a last name
 abbrev pub Leads : List Profile → Option Text → List Profile → Option Text → Type 0
 Leads ps name [] last = name ≡ last
 Leads ps name (p ∷ chain) last = (option_and_then (named ps) name ≡ Some p) × Leads ps (parent p) chain last
@@ -28,7 +28,7 @@ Lineage ps name chain =
     (last : Option Text) × Leads ps (Some name) chain last
     × (option_and_then (named ps) last ≡ None) × IfSome last (λ t. t ≡ codes "default")
 
--- no profile has the name that is asked for, or that the last of a chain inherits from; or the chain comes back to a profile
+-- no profile has the name, or the one that the last of a chain inherits from; or a chain comes back to where it was
 abbrev pub IsLineageFault : List Profile → Text → LineageFault → Type 0
 IsLineageFault ps name (NoProfile n) = (string_bytes n ≡ name) × (named ps name ≡ None) × (name ≢ codes "default")
 IsLineageFault ps name (NoParent path n) =

@@ -28,9 +28,9 @@ abbrev pub first_default : List RankedOverride → Option RankedOverride
 first_default ranked = find (λ r. is_some r.read.now.default_filter && unwrap_or r.for_target true) ranked
 
 abbrev pub IsSetAt : Text → Option (String Global) → String Global → Bor Text → Type 0
-IsSetAt at o path text = (string_bytes path ≡ at ++ codes ".default-filter") × (option_map (λ s. string_bytes s) o ≡ Some text.now)
+IsSetAt at o path text = (string_bytes path ≡ at ++ codes ".default-filter") × (option_map string_bytes o ≡ Some text.now)
 
--- the default filter is that override's, and unknown if its platforms are; else the first profile's that sets one; else all tests
+-- the default filter is that override's, or unknown as its platforms are; else the first profile's that sets one, or all
 abbrev pub IsDefaultFilter : List RankedOverride → List Profile → DefaultFilter → Type 0
 IsDefaultFilter ranked lineage (Set path text) =
     MatchOption (first_default ranked)

@@ -61,8 +61,8 @@ pub fn lineage<'p>(
     name: &str,
 ) -> Result<Vec<&'p Profile>, LineageFault>
     ensures read { IfOk result (λ chain. Lineage profiles.now name.now (map (λ p. p.now) chain.items)) }
-    ensures only { (chain : List Profile) → Lineage profiles.now name.now chain
-        → MatchResult result (λ found. map (λ p. p.now) found.items ≡ chain) (λ fault. fault ≡ OutOfMemory alloc_error) }
+    ensures only { (chain : List Profile) → Lineage profiles.now name.now chain → MatchResult result
+        (λ found. map (λ p. p.now) found.items ≡ chain) (λ fault. fault ≡ OutOfMemory alloc_error) }
     ensures refused { IfErr result (IsLineageFault profiles.now name.now) }
 {
     let mut is_passed = vec![in alloc; false; profiles.len()]?;

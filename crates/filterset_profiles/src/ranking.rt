@@ -61,7 +61,7 @@ fn push_overrides<'p>(
     Ok(())
 }
 
-/// Returns the overrides of a lineage in order: those of its first profile as the file has them, then those of the next.
+/// Returns the overrides of a lineage in order: those of its first profile as in the file, then those of the next.
 ///
 /// `host` and `target` are what is known of the platform that runs the build, and of the one that tests are built for.
 pub fn rank_overrides<'p>(
