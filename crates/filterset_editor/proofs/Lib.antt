@@ -1,0 +1,5 @@
+mod ChangeLemmas
+pub mod FrameLemmas
+mod HeadLemmas
+mod PositionLemmas
+mod WrittenLemmas

@@ -1,0 +1,4 @@
+pub mod Edits
+pub mod Frames
+pub mod Heads
+pub mod Positions
