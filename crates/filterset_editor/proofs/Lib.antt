@@ -1,5 +1,8 @@
 mod ChangeLemmas
 pub mod FrameLemmas
 mod HeadLemmas
+mod MessageLemmas
 mod PositionLemmas
+mod ServerLemmas
+mod SessionLemmas
 mod WrittenLemmas

@@ -1,13 +1,28 @@
-//! What a language server for filtersets needs: messages on a stream, positions in texts, and changes of documents.
+//! A language server, but for what it says of documents: messages on a stream, positions in texts, changes of documents, and
+//! the session.
 #![tactic(auto)]
 
+mod documents;
 mod edits;
+mod ending;
 mod frames;
 mod head;
 mod lines;
+mod message;
+mod phase;
 mod positions;
+mod server;
+mod serving;
+mod session;
 
+pub use documents::{Document, Revision};
 pub use edits::{Change, change_text};
+pub use ending::Ending;
 pub use frames::{FrameFault, Frames, push_frame};
 pub use lines::Lines;
+pub use message::{Asked, Incoming, Notice, read_message};
+pub use phase::Phase;
 pub use positions::{Encoding, Position, Range};
+pub use server::{Diagnose, Server};
+pub use serving::serve;
+pub use session::Session;

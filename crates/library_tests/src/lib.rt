@@ -21,6 +21,8 @@ mod platforms;
 #[cfg(test)]
 mod profiles;
 #[cfg(test)]
+mod sessions;
+#[cfg(test)]
 mod support;
 #[cfg(test)]
 mod trees;

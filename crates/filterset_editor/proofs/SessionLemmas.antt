@@ -1,0 +1,114 @@
+-- Sessions that go on.
+use Rattle.std.proofs.Common.{◌≡◌, ℕ, List, [], ◌∷◌, ◌++◌, Option, None, Some, refl, sym, ap, ◌∙◌, subst, append_assoc}
+use Rattle.std.proofs.Common.{Vec, Result, Ok, Err}
+use Rattle.std.specs.Prelude.{false, option_map}
+use Rattle.std.specs.Result.{OnOk}
+use Rattle.serde_json.specs.View.{view}
+use Rattle.serde_json.specs.Written.{compact_text, has_float}
+use Rattle.serde_json.specs.declared.value.Value.{Value}
+use Rattle.std.specs.Io.KnownBytes.{Appends, Consumes}
+use Rattle.std.specs.declared.alloc.Global.{Global}
+use Rattle.std.specs.declared.alloc.AllocError.{AllocError}
+use Rattle.std.proofs.lemmas.List.{append-nil}
+use Rattle.filterset_editor.specs.Frames.{Bytes, IsFrame, IsTaken, framed}
+use Rattle.filterset_editor.specs.Machine.{State}
+use Rattle.filterset_editor.specs.Sessions.{AddsExchange, Advances, Diagnosis, Exchange, IsEnding, IsServing, Served, Session, Splits, Writes}
+use Rattle.filterset_editor.specs.declared.ending.Ending.{Ending}
+use Rattle.filterset_editor.specs.declared.phase.Phase.TheVariants.{New}
+use Rattle.filterset_editor.specs.declared.session.Turn.{Turn}
+
+abbrev begun : State
+begun = record { phase = New; documents = [] }
+
+pub Splits-append : (messages : List Bytes) (stream more rest : Bytes) → Splits stream messages rest → Splits (stream ++ more) messages (rest ++ more)
+Splits-append [] stream more rest h = ap (λ s. s ++ more) h
+Splits-append (m ∷ ms) stream more rest (frame, behind, is, e, later) =
+    (frame, behind ++ more, is, ap (λ s. s ++ more) e ∙ append_assoc frame behind more, Splits-append ms behind more rest later)
+
+pub Splits-then : (messages others : List Bytes) (stream mid rest : Bytes) → Splits stream messages mid → Splits mid others rest
+    → Splits stream (messages ++ others) rest
+Splits-then [] others stream mid rest h more = let P : Bytes → Type 0 = λ s. Splits s others rest in subst P (sym h) more
+Splits-then (m ∷ ms) others stream mid rest (frame, behind, is, e, later) more =
+    (frame, behind, is, e, Splits-then ms others behind mid rest later more)
+
+pub Appends-then : (old mid new : Option Bytes) (front more : Bytes) → Appends old mid front → Appends mid new more → Appends old new (front ++ more)
+Appends-then None mid new front more h k = tt
+Appends-then (Some xs) None new front more h k = absurd h
+Appends-then (Some xs) (Some ys) None front more h k = absurd k
+Appends-then (Some xs) (Some ys) (Some zs) front more h k = k ∙ ap (λ bs. bs ++ more) h ∙ append_assoc xs front more
+
+pub Consumes-then : (old mid new : Option Bytes) (front more : Bytes) → Consumes old mid front → Consumes mid new more → Consumes old new (front ++ more)
+Consumes-then None mid new front more h k = tt
+Consumes-then (Some xs) None new front more h k = absurd h
+Consumes-then (Some xs) (Some ys) None front more h k = absurd k
+Consumes-then (Some xs) (Some ys) (Some zs) front more h k = h ∙ ap (λ bs. front ++ bs) k ∙ sym (append_assoc front more zs)
+
+-- messages, and then more messages
+pub Session-then : (Has : Diagnosis) (messages others : List Bytes) (old mid new : State) (written more : Bytes) → Session Has old messages written mid
+    → Session Has mid others more new → Session Has old (messages ++ others) (written ++ more) new
+Session-then Has [] others old mid new written more h k =
+    let P : State → Type 0 = λ p. Session Has p others more new in
+    let Q : Bytes → Type 0 = λ w. Session Has old others (w ++ more) new in
+    subst Q (sym h.0) (subst P h.1 k)
+Session-then Has (m ∷ ms) others old mid new written more (front, rest, next, is, first, later) k =
+    (front, rest ++ more, next, ap (λ w. w ++ more) is ∙ append_assoc front rest more, first, Session-then Has ms others next mid new rest more later k)
+
+-- nothing came, and nothing was written
+pub Advances-same : (Has : Diagnosis) (phase : State) (stream text rest grown : Bytes) → rest ≡ stream → grown ≡ text → Advances Has phase stream text phase rest grown
+Advances-same Has phase stream text rest grown e f = ([], [], sym e, (refl, refl), f ∙ sym (append-nil text))
+
+-- one message was answered
+pub Advances-one : (Has : Diagnosis) (old new : State) (stream text rest grown message written : Bytes) → Exchange Has old message written new
+    → Splits stream (message ∷ []) rest → grown ≡ text ++ written → Advances Has old stream text new rest grown
+Advances-one Has old new stream text rest grown message written exchange splits e =
+    (message ∷ [], written, splits, (written, [], new, sym (append-nil written), exchange, (refl, refl)), e)
+
+pub Advances-then : (Has : Diagnosis) (old mid new : State) (stream text between grown rest more : Bytes) → Advances Has old stream text mid between grown
+    → Advances Has mid between grown new rest more → Advances Has old stream text new rest more
+Advances-then Has old mid new stream text between grown rest more (ms, w, splits, session, e) (ns, v, splits', session', f) = (
+  ms ++ ns,
+  w ++ v,
+  Splits-then ms ns stream between rest splits splits',
+  Session-then Has ms ns old mid new w v session session',
+  f ∙ ap (λ t. t ++ v) e ∙ append_assoc text w v,
+)
+
+-- a session serves on
+pub IsServing-step : (Has : Diagnosis) (left now later taken grown more : Option Bytes) (phase new : State) (waiting rest piece written : Bytes)
+    → IsServing Has left now taken grown phase waiting → Consumes now later piece
+    → Advances Has phase (waiting ++ piece) [] new rest written → Appends grown more written
+    → IsServing Has left later taken more new rest
+IsServing-step Has left now later taken grown more phase new waiting rest piece written (read, ms, w, consumed, splits, session, appended) consumes (ns, v, splits', session', e) appends =
+    let R : Bytes → Type 0 = λ t. Appends grown more t in (
+      read ++ piece,
+      ms ++ ns,
+      w ++ v,
+      Consumes-then left now later read piece consumed consumes,
+      Splits-then ms ns (read ++ piece) (waiting ++ piece) rest (Splits-append ms read piece waiting splits) splits',
+      Session-then Has ms ns begun phase new w v session session',
+      Appends-then taken grown more w v appended (subst R e appends),
+    )
+
+-- the next message was answered
+pub Advances-taken : (Has : Diagnosis) (r : Result Turn AllocError) (old new : State) (stream text rest grown message : Bytes) (taken : Option (Vec ℕ Global)) (v : Vec ℕ Global)
+    → IsTaken stream taken rest → taken ≡ Some v → message ≡ v.items
+    → OnOk r (AddsExchange Has old message text new grown) → OnOk r (Advances Has old stream text new rest grown)
+Advances-taken Has (Err e) old new stream text rest grown message taken v is some same adds = tt
+Advances-taken Has (Ok turn) old new stream text rest grown message taken v is some same (written, exchange, e) =
+    let P : Option (Vec ℕ Global) → Type 0 = λ o. IsTaken stream o rest in
+    let (frame, framed, is_front) = subst P some is in
+    let Q : Bytes → Type 0 = λ m. IsFrame frame m in
+    Advances-one Has old new stream text rest grown message written exchange (frame, rest, subst Q (sym same) framed, is_front, refl) e
+
+-- a session that ends has served
+pub Served-ended : (Has : Diagnosis) (left now taken grown : Option Bytes) (phase : State) (rest : Bytes) (ending : Ending)
+    → IsServing Has left now taken grown phase rest → IsEnding ending phase rest → Served Has left now taken grown ending
+Served-ended Has left now taken grown phase rest ending (read, ms, w, consumed, splits, session, appended) ends =
+    (read, ms, rest, w, phase, consumed, splits, session, appended, ends)
+
+-- an answer was written
+pub Writes-some : (answer : Option Value) (value : Value) (old text shown new : Bytes) → answer ≡ Some value → old ≡ [] → shown ≡ text
+    → (has_float (view value) ≡ false → text ≡ compact_text (view value)) → new ≡ old ++ framed shown → Writes (option_map view answer) new
+Writes-some answer value old text shown new some empty same compact grown =
+    let P : Option Value → Type 0 = λ o. Writes (option_map view o) new in
+    subst P (sym some) (text, compact, grown ∙ (ap (λ t. t ++ framed shown) empty ∙ ap framed same))

@@ -1,0 +1,37 @@
+-- Documents that are open, and what notifications do to them.
+use Rattle.std.specs.Prelude.{◌≡◌, ◌++◌, ℕ, List, [], ◌∷◌, Option, None, Some, option_and_then, position, slice_get, slice_set, string_bytes}
+use Rattle.std.specs.List.{remove}
+use Rattle.std.specs.Str.{bytes_eq}
+use Rattle.filterset_editor.specs.Edits.{AreChanged}
+use Rattle.filterset_editor.specs.Positions.{Text}
+use Rattle.filterset_editor.specs.declared.documents.Document.{Document}
+use Rattle.filterset_editor.specs.declared.documents.Revision.{Revision}
+use Rattle.filterset_editor.specs.declared.positions.Encoding.{Encoding}
+
+-- where the document of this address is
+abbrev pub place_of : Text → List Document → Option ℕ
+place_of uri documents = position (λ d. bytes_eq (string_bytes d.uri) uri) documents
+
+abbrev pub document_of : Text → List Document → Option Document
+document_of uri documents = option_and_then (slice_get documents) (place_of uri documents)
+
+-- the documents with this one in place of the one at a place, or behind the others
+abbrev pub put_at : Document → List Document → Option ℕ → List Document
+put_at document documents None = documents ++ document ∷ []
+put_at document documents (Some i) = slice_set documents i document
+
+abbrev pub put_document : Document → List Document → List Document
+put_document document documents = put_at document documents (place_of (string_bytes document.uri) documents)
+
+abbrev pub without_at : List Document → Option ℕ → List Document
+without_at documents None = documents
+without_at documents (Some i) = remove documents i
+
+abbrev pub without_document : Text → List Document → List Document
+without_document uri documents = without_at documents (place_of uri documents)
+
+-- the next version of a document: its text is the one that the changes give
+abbrev pub IsRevised : Encoding → Document → Revision → Document → Type 0
+IsRevised encoding old revision new =
+    (string_bytes new.uri ≡ string_bytes old.uri) × (new.version ≡ revision.version)
+    × AreChanged encoding (string_bytes old.text) revision.changes.items (string_bytes new.text)

@@ -1,0 +1,148 @@
+-- What messages of a client say.
+use Rattle.std.specs.Prelude.{◌≡◌, ℕ, ℤ, List, [], ◌∷◌, Option, None, Some, IsSome, IsUtf8, codes, map, option_and_then, option_map, string_bytes, unwrap_or, if◌then◌else◌}
+use Rattle.std.specs.Str.{bytes_eq}
+use Rattle.serde_json.specs.Data.{Data, Items, no_items, item}
+use Rattle.serde_json.specs.Find.{as_array, as_i64, as_number, as_str, as_u64, get, pointer}
+use Rattle.serde_json.specs.Read.{read}
+use Rattle.serde_json.specs.View.{view}
+use Rattle.filterset_editor.specs.Positions.{Text}
+use Rattle.filterset_editor.specs.declared.edits.Change.{Change}
+use Rattle.filterset_editor.specs.declared.message.Incoming.{Incoming}
+use Rattle.filterset_editor.specs.declared.message.Incoming.TheVariants.{Request, Notification, Response, NotJson, NotMessage}
+use Rattle.filterset_editor.specs.declared.message.Asked.{Asked}
+use Rattle.filterset_editor.specs.declared.message.Asked.TheVariants.{Initialize, Shutdown, Unknown}
+use Rattle.filterset_editor.specs.declared.message.Notice.{Notice}
+use Rattle.filterset_editor.specs.declared.message.Notice.TheVariants as notices
+use Rattle.filterset_editor.specs.declared.positions.Encoding.{Encoding}
+use Rattle.filterset_editor.specs.declared.positions.Encoding.TheVariants.{Utf8, Utf16, Utf32}
+use Rattle.filterset_editor.specs.declared.positions.Position.{Position}
+use Rattle.filterset_editor.specs.declared.positions.Range.{Range}
+
+-- the text at a path of keys, if it is one
+abbrev pub text_at : Text → Data → Option Text
+text_at path d = option_and_then as_str (pointer path d)
+
+abbrev pub natural_at : Text → Data → Option ℕ
+natural_at path d = option_and_then (λ e. option_and_then as_u64 (as_number e)) (pointer path d)
+
+abbrev pub integer_at : Text → Data → Option ℤ
+integer_at path d = option_and_then (λ e. option_and_then as_i64 (as_number e)) (pointer path d)
+
+-- ---- changes
+
+abbrev pub position_in : Data → Option Position
+position_in d = option_and_then (λ line. option_map (λ character. record { line = line; character = character })
+    (natural_at (codes "/character") d)) (natural_at (codes "/line") d)
+
+abbrev pub position_at : Text → Data → Option Position
+position_at path d = option_and_then position_in (pointer path d)
+
+abbrev pub range_in : Data → Option Range
+range_in d = option_and_then (λ start. option_map (λ end. record { start = start; end = end }) (position_at (codes "/end") d))
+    (position_at (codes "/start") d)
+
+-- a change as the protocol has it: the range that is replaced, if not all is, and the new text
+pub record ChangeRow : Type 0 where
+  pub range : Option Range
+  pub text : Text
+
+abbrev pub change_row : Change → ChangeRow
+change_row change = record { range = change.range; text = string_bytes change.text }
+
+-- the range of a change, which may have none
+abbrev pub changed_range : Option Data → Option (Option Range)
+changed_range None = Some None
+changed_range (Some d) = option_map Some (range_in d)
+
+abbrev pub change_in : Data → Option ChangeRow
+change_in d = option_and_then (λ range. option_map (λ text. record { range = range; text = text }) (text_at (codes "/text") d))
+    (changed_range (get (codes "range") d))
+
+abbrev pub changes_in : Items → Option (List ChangeRow)
+changes_in no_items = Some []
+changes_in (item d ds) = option_and_then (λ change. option_map (λ changes. change ∷ changes) (changes_in ds)) (change_in d)
+
+-- ---- notifications
+
+-- what a notification says
+pub data Said : Type 0 where
+  exits : Said
+  opens : Text → ℤ → Text → Said
+  changes : Text → ℤ → List ChangeRow → Said
+  closes : Text → Said
+
+abbrev pub said_of : Notice → Option Said
+said_of notices.Exit = Some exits
+said_of (notices.Opened document) = Some (opens (string_bytes document.uri) document.version (string_bytes document.text))
+said_of (notices.Changed revision) =
+    Some (changes (string_bytes revision.uri) revision.version (map change_row revision.changes.items))
+said_of (notices.Closed uri) = Some (closes (string_bytes uri))
+said_of notices.Ignored = None
+
+abbrev pub uri_in : Data → Option Text
+uri_in d = text_at (codes "/params/textDocument/uri") d
+
+abbrev pub version_in : Data → Option ℤ
+version_in d = integer_at (codes "/params/textDocument/version") d
+
+abbrev pub opened_in : Data → Option Said
+opened_in d = option_and_then (λ uri. option_and_then (λ version. option_map (λ text. opens uri version text)
+    (text_at (codes "/params/textDocument/text") d)) (version_in d)) (uri_in d)
+
+abbrev pub changed_in : Data → Option Said
+changed_in d = option_and_then (λ uri. option_and_then (λ version. option_map (λ list. changes uri version list)
+    (option_and_then changes_in (option_and_then as_array (pointer (codes "/params/contentChanges") d)))) (version_in d)) (uri_in d)
+
+-- what the notification of this method says: nothing if the method is not known, or its parameters are wrong
+abbrev pub said_in : Text → Data → Option Said
+said_in method d =
+    if bytes_eq method (codes "exit") then Some exits
+    else if bytes_eq method (codes "textDocument/didOpen") then opened_in d
+    else if bytes_eq method (codes "textDocument/didChange") then changed_in d
+    else if bytes_eq method (codes "textDocument/didClose") then option_map closes (uri_in d)
+    else None
+
+-- ---- requests
+
+abbrev pub encoding_named : Text → Option Encoding
+encoding_named name =
+    if bytes_eq name (codes "utf-8") then Some Utf8
+    else if bytes_eq name (codes "utf-16") then Some Utf16
+    else if bytes_eq name (codes "utf-32") then Some Utf32
+    else None
+
+-- the first encoding of a client's list that is known, or UTF-16
+abbrev pub first_known : Items → Encoding
+first_known no_items = Utf16
+first_known (item d ds) = unwrap_or (option_and_then encoding_named (as_str d)) (first_known ds)
+
+abbrev pub encoding_in : Data → Encoding
+encoding_in d = unwrap_or (option_map first_known
+    (option_and_then as_array (pointer (codes "/params/capabilities/general/positionEncodings") d))) Utf16
+
+abbrev pub asked_in : Text → Data → Asked
+asked_in method d =
+    if bytes_eq method (codes "initialize") then Initialize (encoding_in d)
+    else if bytes_eq method (codes "shutdown") then Shutdown
+    else Unknown
+
+-- ---- messages
+
+abbrev pub method_of : Data → Option Text
+method_of d = option_and_then as_str (get (codes "method") d)
+
+-- What a message is: with a method a request, if it has an id, and a notification, if it has none; without one a response, if
+-- it has an id.
+abbrev pub IsSaid : Data → Incoming → Type 0
+IsSaid d (Request id asked) =
+    (get (codes "id") d ≡ Some (view id)) × ((method : Text) × (method_of d ≡ Some method) × (asked ≡ asked_in method d))
+IsSaid d (Notification notice) =
+    (get (codes "id") d ≡ None) × ((method : Text) × (method_of d ≡ Some method) × (said_of notice ≡ said_in method d))
+IsSaid d Response = (method_of d ≡ None) × IsSome (get (codes "id") d)
+IsSaid d NotMessage = (method_of d ≡ None) × (get (codes "id") d ≡ None)
+IsSaid d NotJson = ⊥
+
+-- what the bytes of a message say
+abbrev pub IsIncoming : List ℕ → Incoming → Type 0
+IsIncoming content NotJson = IsUtf8 content → read content ≡ None
+IsIncoming content incoming = (d : Data) × (read content ≡ Some d) × IsSaid d incoming

@@ -1,0 +1,376 @@
+//! Reads what messages of a client say.
+ghost use Rattle.std.specs.Prelude.{◌≡◌, IfOk, Some, codes, map, option_and_then, option_map};
+ghost use Rattle.std.specs.Str.{bytes_eq};
+ghost use Rattle.serde_json.specs.Find.{as_array, as_str, get, pointer};
+ghost use Rattle.serde_json.specs.View.{items_view, view};
+ghost use Rattle.filterset_editor.specs.Messages as spec;
+ghost use Rattle.filterset_editor.specs.Messages.{IsIncoming, IsSaid, change_row, said_of};
+
+use crate::documents::{Document, Revision};
+use crate::edits::Change;
+use crate::positions::{Encoding, Position, Range};
+use serde_json::Value;
+use std::alloc::{AllocError, Global};
+
+/// What a request asks for.
+#[derive(Clone, Copy, Debug, PartialEq, Eq)]
+pub enum Asked {
+    /// To begin. Columns are to be counted in this encoding.
+    Initialize(Encoding),
+    Shutdown,
+    /// What the server does not do.
+    Unknown,
+}
+
+/// What a notification says.
+#[derive(Debug, Drop)]
+pub enum Notice {
+    Exit,
+    Opened(Document),
+    Changed(Revision),
+    Closed(String),
+    /// Nothing to the server: its method is not known, or its parameters are wrong.
+    Ignored,
+}
+
+/// What a message is.
+#[derive(Debug, Drop)]
+pub enum Incoming {
+    Request { id: Value, asked: Asked },
+    Notification(Notice),
+    Response,
+    NotJson,
+    /// JSON, but no message.
+    NotMessage,
+}
+
+/// Returns the text at a path of keys.
+fn text_at<'v>(value: &'v Value, path: &str) -> Option<&'v str>
+    ensures { option_map (λ t. t.now) result ≡ spec.text_at path.now (view value.now) }
+{
+    match value.pointer(path) {
+        Some(found) => found.as_str(),
+        None => None,
+    }
+}
+
+/// Returns the natural number at a path of keys.
+fn natural_at(value: &Value, path: &str) -> Option<usize>
+    ensures { result ≡ spec.natural_at path.now (view value.now) }
+{
+    match value.pointer(path) {
+        Some(found) => match found.as_u64() {
+            Some(number) => Some(number as usize),
+            None => None,
+        },
+        None => None,
+    }
+}
+
+/// Returns the integer at a path of keys.
+fn integer_at(value: &Value, path: &str) -> Option<i64>
+    ensures { result ≡ spec.integer_at path.now (view value.now) }
+{
+    match value.pointer(path) {
+        Some(found) => found.as_i64(),
+        None => None,
+    }
+}
+
+/// Reads a position.
+fn position_in(value: &Value) -> Option<Position>
+    ensures { result ≡ spec.position_in (view value.now) }
+{
+    let line = natural_at(value, "/line")?;
+    let character = natural_at(value, "/character")?;
+    Some(Position { line, character })
+}
+
+/// Reads the position at a path of keys.
+fn position_at(value: &Value, path: &str) -> Option<Position>
+    ensures { result ≡ spec.position_at path.now (view value.now) }
+{
+    match value.pointer(path) {
+        Some(found) => position_in(found),
+        None => None,
+    }
+}
+
+/// Reads a range.
+fn range_in(value: &Value) -> Option<Range>
+    ensures { result ≡ spec.range_in (view value.now) }
+{
+    let start = position_at(value, "/start")?;
+    let end = position_at(value, "/end")?;
+    Some(Range { start, end })
+}
+
+/// Reads the range of a change, which may have none.
+fn changed_range(value: &Value) -> Option<Option<Range>>
+    ensures { result ≡ spec.changed_range (get (codes "range") (view value.now)) }
+{
+    match value.get("range") {
+        Some(found) => match range_in(found) {
+            Some(range) => Some(Some(range)),
+            None => None,
+        },
+        None => Some(None),
+    }
+}
+
+/// Reads a change.
+fn change_in(alloc: Global, value: &Value) -> Result<Option<Change>, AllocError>
+    ensures { IfOk result (λ o. option_map change_row o ≡ spec.change_in (view value.now)) }
+{
+    let Some(range) = changed_range(value) else {
+        return Ok(None);
+    };
+    let Some(text) = text_at(value, "/text") else {
+        return Ok(None);
+    };
+    Ok(Some(Change {
+        range,
+        text: String::from_str(alloc, text)?,
+    }))
+}
+
+/// Reads changes.
+fn changes_in(alloc: Global, values: &[Value]) -> Result<Option<Vec<Change>>, AllocError>
+    ensures { IfOk result (λ o. option_map (λ changes. map change_row changes.items) o ≡ spec.changes_in (items_view values.now)) }
+{
+    let mut changes = Vec::new(alloc);
+    for value in values {
+        let Some(change) = change_in(alloc, value)? else {
+            return Ok(None);
+        };
+        changes.push(change)?;
+    }
+    Ok(Some(changes))
+}
+
+/// Reads the document that is opened.
+fn opened_in(alloc: Global, message: &Value) -> Result<Notice, AllocError>
+    ensures { IfOk result (λ notice. said_of notice ≡ spec.opened_in (view message.now)) }
+{
+    let Some(uri) = text_at(message, "/params/textDocument/uri") else {
+        return Ok(Notice::Ignored);
+    };
+    let Some(version) = integer_at(message, "/params/textDocument/version") else {
+        return Ok(Notice::Ignored);
+    };
+    let Some(text) = text_at(message, "/params/textDocument/text") else {
+        return Ok(Notice::Ignored);
+    };
+    Ok(Notice::Opened(Document {
+        uri: String::from_str(alloc, uri)?,
+        version,
+        text: String::from_str(alloc, text)?,
+    }))
+}
+
+/// Returns the values of the changes of a document.
+fn change_values(message: &Value) -> Option<&Vec<Value>>
+    ensures { option_map (λ v. items_view v.now.items) result
+        ≡ option_and_then as_array (pointer (codes "/params/contentChanges") (view message.now)) }
+{
+    match message.pointer("/params/contentChanges") {
+        Some(found) => found.as_array(),
+        None => None,
+    }
+}
+
+/// Reads the changes of a document.
+fn changed_in(alloc: Global, message: &Value) -> Result<Notice, AllocError>
+    ensures { IfOk result (λ notice. said_of notice ≡ spec.changed_in (view message.now)) }
+{
+    let Some(uri) = text_at(message, "/params/textDocument/uri") else {
+        return Ok(Notice::Ignored);
+    };
+    let Some(version) = integer_at(message, "/params/textDocument/version") else {
+        return Ok(Notice::Ignored);
+    };
+    let Some(values) = change_values(message) else {
+        return Ok(Notice::Ignored);
+    };
+    let Some(changes) = changes_in(alloc, values.as_slice())? else {
+        return Ok(Notice::Ignored);
+    };
+    Ok(Notice::Changed(Revision {
+        uri: String::from_str(alloc, uri)?,
+        version,
+        changes,
+    }))
+}
+
+/// Reads which document is closed.
+fn closed_in(alloc: Global, message: &Value) -> Result<Notice, AllocError>
+    ensures { IfOk result (λ notice. said_of notice ≡ option_map spec.closes (spec.uri_in (view message.now))) }
+{
+    match text_at(message, "/params/textDocument/uri") {
+        Some(uri) => Ok(Notice::Closed(String::from_str(alloc, uri)?)),
+        None => Ok(Notice::Ignored),
+    }
+}
+
+/// Returns whether two texts are the same.
+fn is_same(a: &str, b: &str) -> bool
+    ensures { result ≡ bytes_eq a.now b.now }
+{
+    a == b
+}
+
+/// Reads what the notification of this method says.
+fn notice_in(alloc: Global, method: &str, message: &Value) -> Result<Notice, AllocError>
+    ensures { IfOk result (λ notice. said_of notice ≡ spec.said_in method.now (view message.now)) }
+{
+    if is_same(method, "exit") {
+        Ok(Notice::Exit)
+    } else if is_same(method, "textDocument/didOpen") {
+        opened_in(alloc, message)
+    } else if is_same(method, "textDocument/didChange") {
+        changed_in(alloc, message)
+    } else if is_same(method, "textDocument/didClose") {
+        closed_in(alloc, message)
+    } else {
+        Ok(Notice::Ignored)
+    }
+}
+
+/// Returns the encoding of this name.
+fn encoding_named(name: &str) -> Option<Encoding>
+    ensures { result ≡ spec.encoding_named name.now }
+{
+    if is_same(name, "utf-8") {
+        Some(Encoding::Utf8)
+    } else if is_same(name, "utf-16") {
+        Some(Encoding::Utf16)
+    } else if is_same(name, "utf-32") {
+        Some(Encoding::Utf32)
+    } else {
+        None
+    }
+}
+
+/// Returns the encoding that a value names.
+fn encoding_of(value: &Value) -> Option<Encoding>
+    ensures { result ≡ option_and_then spec.encoding_named (as_str (view value.now)) }
+{
+    match value.as_str() {
+        Some(name) => encoding_named(name),
+        None => None,
+    }
+}
+
+/// Returns the first encoding of a list that is known, or UTF-16.
+fn first_known(values: &[Value]) -> Encoding
+    ensures { result ≡ spec.first_known (items_view values.now) }
+{
+    for value in values {
+        if let Some(encoding) = encoding_of(value) {
+            return encoding;
+        }
+    }
+    Encoding::Utf16
+}
+
+/// Returns the values of the encodings that a client can count in.
+fn encoding_values(message: &Value) -> Option<&Vec<Value>>
+    ensures { option_map (λ v. items_view v.now.items) result
+        ≡ option_and_then as_array (pointer (codes "/params/capabilities/general/positionEncodings") (view message.now)) }
+{
+    match message.pointer("/params/capabilities/general/positionEncodings") {
+        Some(found) => found.as_array(),
+        None => None,
+    }
+}
+
+/// Returns the encoding to count in: the client's first that is known, or UTF-16.
+fn encoding_in(message: &Value) -> Encoding
+    ensures { result ≡ spec.encoding_in (view message.now) }
+{
+    match encoding_values(message) {
+        Some(values) => first_known(values.as_slice()),
+        None => Encoding::Utf16,
+    }
+}
+
+/// Returns what the request of this method asks for.
+fn asked_in(method: &str, message: &Value) -> Asked
+    ensures { result ≡ spec.asked_in method.now (view message.now) }
+{
+    if is_same(method, "initialize") {
+        Asked::Initialize(encoding_in(message))
+    } else if is_same(method, "shutdown") {
+        Asked::Shutdown
+    } else {
+        Asked::Unknown
+    }
+}
+
+/// Returns the method of a message.
+fn method_of(message: &Value) -> Option<&str>
+    ensures { option_map (λ t. t.now) result ≡ spec.method_of (view message.now) }
+{
+    match message.get("method") {
+        Some(method) => method.as_str(),
+        None => None,
+    }
+}
+
+/// Copies the id of a message.
+fn id_of(message: &Value) -> Result<Option<Value>, AllocError>
+    ensures { IfOk result (λ id. option_map view id ≡ get (codes "id") (view message.now)) }
+{
+    match message.get("id") {
+        Some(id) => Ok(Some(id.clone()?)),
+        None => Ok(None),
+    }
+}
+
+/// Reads a message that has this method and this id.
+fn named_in(
+    alloc: Global,
+    method: &str,
+    id: Option<Value>,
+    message: &Value,
+) -> Result<Incoming, AllocError>
+    requires method { spec.method_of (view message.now) ≡ Some method.now }
+    requires id { option_map view id ≡ get (codes "id") (view message.now) }
+    ensures { IfOk result (IsSaid (view message.now)) }
+{
+    match id {
+        Some(id) => Ok(Incoming::Request {
+            id,
+            asked: asked_in(method, message),
+        }),
+        None => Ok(Incoming::Notification(notice_in(alloc, method, message)?)),
+    }
+}
+
+/// Reads a message.
+fn said_in(alloc: Global, message: &Value) -> Result<Incoming, AllocError>
+    ensures { IfOk result (IsSaid (view message.now)) }
+{
+    let id = id_of(message)?;
+    match method_of(message) {
+        Some(method) => named_in(alloc, method, id, message),
+        None => match id {
+            Some(_) => Ok(Incoming::Response),
+            None => Ok(Incoming::NotMessage),
+        },
+    }
+}
+
+/// Reads what the bytes of a message say. Returns an error only if out of memory.
+pub fn read_message(alloc: Global, content: &[u8]) -> Result<Incoming, AllocError>
+    ensures { IfOk result (IsIncoming content.now) }
+{
+    let Ok(text) = std::str::from_utf8(content) else {
+        return Ok(Incoming::NotJson);
+    };
+    match Value::from_str(alloc, text) {
+        Ok(value) => said_in(alloc, &value),
+        Err(error) if error.is_memory() => Err(AllocError),
+        Err(_) => Ok(Incoming::NotJson),
+    }
+}

@@ -1,0 +1,167 @@
+//! A session: a stream of messages in, a stream of answers out.
+ghost use Rattle.std.specs.Prelude.{◌≡◌, ◌++◌, IfOk, IfSome, OnOk, [], option_map, string_bytes};
+ghost use Rattle.serde_json.specs.View.{view};
+ghost use Rattle.filterset_editor.specs.Frames.{Bytes};
+ghost use Rattle.filterset_editor.specs.Machine.{state_of};
+ghost use Rattle.filterset_editor.specs.Sessions.{AddsExchange, Advances, Exchange, IsEnding, IsTurn, Writes};
+
+use crate::ending::Ending;
+use crate::frames::{FrameFault, Frames, push_frame};
+use crate::message::read_message;
+use crate::phase::Phase;
+use crate::server::{Diagnose, Server};
+use serde_json::Value;
+use std::alloc::{AllocError, Global};
+
+/// A server, and what has come of its stream and is not answered yet.
+#[derive(Debug, Drop)]
+pub struct Session {
+    pub server: Server,
+    pub frames: Frames,
+}
+
+/// Makes what is written of an answer.
+fn frame_of(alloc: Global, answer: Option<Value>) -> Result<String, AllocError>
+    ensures { IfOk result (λ written. Writes (option_map view answer) (string_bytes written)) }
+{
+    let mut written = String::new(alloc);
+    match answer {
+        Some(value) => {
+            let text = value.to_string(alloc)?;
+            push_frame(&mut written, text.as_str())?;
+            Ok(written)
+        }
+        None => Ok(written),
+    }
+}
+
+/// Answers a message, and makes what is written for it.
+fn exchange<D: Diagnose>(
+    server: &mut Server,
+    diagnose: &D,
+    alloc: Global,
+    message: &[u8],
+) -> Result<String, AllocError>
+    ensures { IfOk result (λ written. Exchange (D.has diagnose.now) (state_of server.old) message.now
+        (string_bytes written) (state_of server.new)) }
+{
+    let incoming = read_message(alloc, message)?;
+    let answer = server.answer(diagnose, alloc, incoming)?;
+    frame_of(alloc, answer)
+}
+
+/// Returns how a session ends in a phase, if it does.
+fn ending_of(server: &Server) -> Option<Ending>
+    ensures { IfSome result (λ ending. (rest : Bytes) → IsEnding ending (state_of server.now) rest) }
+{
+    match server.phase {
+        Phase::Over { in_order } => Some(Ending::Exit { in_order }),
+        _ => None,
+    }
+}
+
+/// What a turn of a session did.
+#[derive(Clone, Copy)]
+enum Turn {
+    /// A message was answered.
+    Answered,
+    /// No message has come whole.
+    Waiting,
+    Ended(Ending),
+}
+
+/// Answers a message, and adds what is written for it.
+fn answer_message<D: Diagnose>(
+    server: &mut Server,
+    diagnose: &D,
+    alloc: Global,
+    message: &[u8],
+    output: &mut String,
+) -> Result<Turn, AllocError>
+    ensures written { OnOk result (AddsExchange (D.has diagnose.now) (state_of server.old) message.now
+        (string_bytes output.old) (state_of server.new) (string_bytes output.new)) }
+    ensures ends { IfOk result (λ turn. (rest : Bytes) → IsTurn (state_of server.new) rest turn) }
+{
+    let written = exchange(server, diagnose, alloc, message)?;
+    output.push_str(written.as_str())?;
+    match ending_of(server) {
+        Some(ending) => Ok(Turn::Ended(ending)),
+        None => Ok(Turn::Answered),
+    }
+}
+
+/// Answers the next message, if it has come whole, and adds what is written for it.
+fn take_turn<D: Diagnose>(
+    server: &mut Server,
+    frames: &mut Frames,
+    diagnose: &D,
+    alloc: Global,
+    output: &mut String,
+) -> Result<Turn, AllocError>
+    ensures advances { OnOk result (Advances (D.has diagnose.now) (state_of server.old) frames.old.waiting.items
+        (string_bytes output.old) (state_of server.new) frames.new.waiting.items (string_bytes output.new)) }
+    ensures ends { IfOk result (IsTurn (state_of server.new) frames.new.waiting.items) }
+{
+    match frames.take(alloc) {
+        Ok(taken) => match taken {
+            Some(message) => answer_message(server, diagnose, alloc, message.as_slice(), output),
+            None => Ok(Turn::Waiting),
+        },
+        Err(FrameFault::Malformed) => Ok(Turn::Ended(Ending::Malformed)),
+        Err(FrameFault::OutOfMemory(refused)) => Err(refused),
+    }
+}
+
+/// Answers the messages that have come whole, and adds what is written for them.
+fn answer_waiting<D: Diagnose>(
+    server: &mut Server,
+    frames: &mut Frames,
+    diagnose: &D,
+    alloc: Global,
+    output: &mut String,
+) -> Result<Option<Ending>, AllocError>
+    ensures advances { OnOk result (Advances (D.has diagnose.now) (state_of server.old) frames.old.waiting.items
+        (string_bytes output.old) (state_of server.new) frames.new.waiting.items (string_bytes output.new)) }
+    ensures ends { IfOk result (λ ended. IfSome ended (λ ending.
+        IsEnding ending (state_of server.new) frames.new.waiting.items)) }
+{
+    for _turn in 0..u64::MAX {
+        match take_turn(server, frames, diagnose, alloc, output)? {
+            Turn::Answered => {}
+            Turn::Waiting => return Ok(None),
+            Turn::Ended(ending) => return Ok(Some(ending)),
+        }
+    }
+    Ok(None)
+}
+
+impl Session {
+    /// Returns a session of which nothing has come.
+    pub fn new(alloc: Global) -> Session
+        ensures state { state_of result.server ≡ record { phase = Phase.New; documents = [] } }
+        ensures waiting { result.frames.waiting.items ≡ [] }
+    {
+        Session {
+            server: Server::new(alloc),
+            frames: Frames::new(alloc),
+        }
+    }
+
+    /// Takes more of the stream, and adds what is written for the messages that have come whole.
+    pub fn advance<D: Diagnose>(
+        &mut self,
+        diagnose: &D,
+        alloc: Global,
+        piece: &[u8],
+        output: &mut String,
+    ) -> Result<Option<Ending>, AllocError>
+        ensures advances { OnOk result (Advances (D.has diagnose.now) (state_of self.old.server)
+            (self.old.frames.waiting.items ++ piece.now) (string_bytes output.old) (state_of self.new.server)
+            self.new.frames.waiting.items (string_bytes output.new)) }
+        ensures ends { IfOk result (λ ended. IfSome ended (λ ending.
+            IsEnding ending (state_of self.new.server) self.new.frames.waiting.items)) }
+    {
+        self.frames.feed(piece)?;
+        answer_waiting(&mut self.server, &mut self.frames, diagnose, alloc, output)
+    }
+}
