@@ -1,3 +1,5 @@
+pub mod GroupLemmas
+pub mod WalkLemmas
 pub mod ListingLemmas
 pub mod MeaningLemmas
 pub mod PicksLemmas

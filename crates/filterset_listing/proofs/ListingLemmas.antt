@@ -1,22 +1,28 @@
 -- Tests that are picked one after the other.
-use Rattle.std.proofs.Common.{◌≡◌, ℕ, ◌+◌, ◌<◌, Bool, true, false, List, [], ◌∷◌, ◌++◌, length, take, get_or, ◌∙◌, sym, ap, append_assoc, refl}
+use Rattle.std.proofs.Common.{◌≡◌, ℕ, ◌+◌, ◌<◌, Bool, true, false, List, [], ◌∷◌, ◌++◌, length, take, get_or, ◌∙◌, sym, ap, append_assoc, refl, subst}
 use Rattle.std.specs.Prelude.{◌↔◌, ◌&&◌, not, Option, Some, None}
 use Rattle.std.specs.List.{AllZip}
 use Rattle.std.proofs.lemmas.Bool.{false≢true}
 use Rattle.std.proofs.lemmas.List.{append-nil, take_more}
-use Rattle.filterset_expression.specs.Expression.{Holds, IsDefinite, IsUndecided}
+use Rattle.filterset_expression.specs.Expression.{IsDefinite, IsUndecided}
 use Rattle.filterset_expression.specs.declared.expression.CompiledExpr.{CompiledExpr}
 use Rattle.filterset_expression.specs.declared.query.BinaryQuery.{BinaryQuery}
-use Rattle.filterset_expression.specs.declared.query.TestQuery.{TestQuery}
 use Rattle.filterset_expression.proofs.LeafAnswers.{definite_of_test}
-use Rattle.filterset_listing.specs.Asking.{ExprCanPick, Text, in_global, is_no}
+use Rattle.filterset_listing.specs.Asking.{ExprCanPick, ExprPicks, Text, in_group, is_no}
 use Rattle.filterset_listing.specs.Comparing.{Divides}
-use Rattle.filterset_listing.specs.Listing.{Picked, one_of}
+use Rattle.filterset_listing.specs.Groups.{Says}
+use Rattle.filterset_listing.specs.Listing.{Picked, no_tests, one_of, one_passed, one_picked, one_unknown, picked_by, unknown_by}
+use Rattle.filterset_listing.specs.declared.groups.GroupOverride.{GroupOverride}
+use Rattle.filterset_listing.specs.declared.groups.TestAnswer.{TestAnswer}
+use Rattle.filterset_listing.specs.declared.groups.TestAnswer.TheVariants.{Known, Unknown}
 
--- where the binary tells that a filterset does not hold, it holds of no test of it
-pub none_holds : (expr default : CompiledExpr) (query : TestQuery) → IsDefinite expr query.binary_query default false → ¬ Holds expr query default in_global
-none_holds expr default query definite holds =
-    absurd (false≢true (sym (definite_of_test expr default query in_global true false (λ _. holds, λ _. refl) definite)))
+-- where the binary tells that a filterset does not hold, it picks no test of it, whatever group the test is in
+pub none_picked : (expr default : CompiledExpr) (overrides : List GroupOverride) (binary : BinaryQuery) → IsDefinite expr binary default false → (name : Text) → Says default overrides (ExprPicks default expr) binary name (Known false)
+none_picked expr default overrides binary definite name = λ test of_binary of_name group may. (
+  λ yes. absurd (false≢true yes),
+  λ picks.
+      sym (definite_of_test expr default test (in_group group) true false (λ _. picks, λ _. refl) (subst (λ (b : BinaryQuery). IsDefinite expr b default false) (sym of_binary) definite)),
+)
 
 -- what is definitely false of a binary can pick no test of it
 pub cannot_pick : (expr default : CompiledExpr) (binary : BinaryQuery) → IsDefinite expr binary default false → ¬ ExprCanPick default expr binary
@@ -47,12 +53,14 @@ AllZip-push R (a ∷ xs) [] x y all one = absurd all
 AllZip-push R (a ∷ xs) (b ∷ ys) x y all one = (all.0, AllZip-push R xs ys x y all.1 one)
 
 -- one more test
-pub Picked-push : (Says : Text → Bool → Type 0) (tests : List Text) (test : Text) (picked : List Text) (answer : Bool)
-    → Picked Says tests picked → Says test answer → Picked Says (tests ++ test ∷ []) (picked ++ one_of answer test)
-Picked-push Says [] test picked answer none says =
-    (answer, [], says, ap (λ t. t ++ one_of answer test) none ∙ sym (append-nil (one_of answer test)), refl)
-Picked-push Says (u ∷ tests) test picked answer (first, others, is_first, whole, are) says =
-    (first, others ++ one_of answer test, is_first, ap (λ t. t ++ one_of answer test) whole ∙ append_assoc (one_of first u) others (one_of answer test), Picked-push Says tests test others answer are says)
+pub Picked-push : (Says : Text → TestAnswer → Type 0) (tests : List Text) (test : Text) (picked : List Text) (unknown : List (Text × Text)) (answer : TestAnswer)
+    → Picked Says tests picked unknown → Says test answer → Picked Says (tests ++ test ∷ []) (picked ++ picked_by answer test) (unknown ++ unknown_by answer test)
+Picked-push Says _ test _ _ (Known true) no_tests says = one_picked says no_tests
+Picked-push Says _ test _ _ (Known false) no_tests says = one_passed says no_tests
+Picked-push Says _ test _ _ (Unknown path) no_tests says = one_unknown says no_tests
+Picked-push Says _ test _ _ answer (one_picked {test = u} {tests} {picked} {unknown} first are) says = one_picked first (Picked-push Says tests test picked unknown answer are says)
+Picked-push Says _ test _ _ answer (one_passed {test = u} {tests} {picked} {unknown} first are) says = one_passed first (Picked-push Says tests test picked unknown answer are says)
+Picked-push Says _ test _ _ answer (one_unknown {test = u} {path} {tests} {picked} {unknown} first are) says = one_unknown first (Picked-push Says tests test picked unknown answer are says)
 
 -- the same where they are divide
 pub Divides-push : (One Other : Text → Bool → Type 0) (tests : List Text) (test : Text) (first second both : List Text) (x y : Bool)

@@ -1,20 +1,20 @@
 -- The steps in which a map is made of the members of another one.
-use Rattle.std.proofs.Common.{◌≡◌, ℕ, ◌+◌, ◌<◌, Bool, true, false, IsTrue, cond, length, get_or, map, take, drop, is_eq, inl, inr, List, None, Some, Result, Ok, Err, IfOk, ◌≤◌, BTreeMap, [], ◌∷◌, ◌++◌, String, Global, string_bytes, string_cmp, nat_cmp, Less, Greater, refl, sym, ap, ◌∙◌, subst}
+use Rattle.std.proofs.Common.{◌≡◌, ℕ, ◌+◌, ◌<◌, Bool, true, false, IsTrue, cond, length, get_or, map, take, is_eq, inl, inr, List, None, Some, Result, Ok, Err, IfOk, ◌≤◌, BTreeMap, [], ◌∷◌, ◌++◌, String, Global, string_bytes, string_cmp, nat_cmp, Less, Greater, refl, sym, ap, ◌∙◌, subst}
 use Rattle.std.proofs.lemmas.List.{take_more, map-append}
 use Rattle.std.proofs.lemmas.List.Elements.{Contains-append_left, Contains-push, Contains-push_cases}
 use Rattle.std.proofs.lemmas.Map.Text.{is_eq-slice_cmp}
 use Rattle.std.proofs.lemmas.Slice.Eq.{bytes_eq-Decides}
-use Rattle.std.specs.Prelude.{◌↔◌, Contains}
+use Rattle.std.specs.Prelude.{◌≢◌, ◌↔◌, Contains, MatchOption, Option}
 use Rattle.std.specs.Bool.{Decides}
 use Rattle.std.specs.Borrow.{Bor}
 use Rattle.std.specs.BTreeSet.{BTreeSet, contains}
 use Rattle.std.specs.Str.{bytes_eq}
 use Rattle.filterset_graph.specs.declared.binary.TestCaseName.{TestCaseName}
 use Rattle.filterset_listing.specs.Asking.{Text}
-use Rattle.filterset_listing.specs.ListJson.{AreNames, IsCompactJson, MarksAt, at_key, at_other, MarksObject, an_object, no_object, MarksSuite, MarksSuites, first_tests, further_suite, next_suite}
-use Rattle.filterset_listing.specs.declared.listing.BinaryPicks.{BinaryPicks}
+use Rattle.filterset_listing.specs.ListJson.{AreNames, ArePaths, IsCompactJson, MarksObject, an_object, no_object}
+use Rattle.filterset_listing.specs.declared.listing.UnknownTest.{UnknownTest}
 use Rattle.std.proofs.lemmas.Cmp.{nat_list_cmp_total}
-use Rattle.std.specs.BTreeMap.{insert_entry}
+use Rattle.std.specs.BTreeMap.{get_by, insert_entry}
 use Rattle.std.specs.Cmp.Lexicographic.{slice_cmp}
 use Rattle.std.specs.List.{AllByRecursion}
 use Rattle.std.specs.List.Sorted.{IsStrictlySortedBy}
@@ -107,15 +107,35 @@ names_one tests i test key old new lt at same updates are name =
     ap (map (λ t. t.now)) (take_more tests i test lt ∙ ap (λ t. take i tests ++ t ∷ []) at) ∙ map-append (λ t. t.now) (take i tests) (test ∷ []) in
     rw (updates name, more, is_eq-slice_cmp key.now name.now, same) (one_more (map (λ t. t.now) (take i tests)) test.now name.now (bytes_eq test.now name.now) _ (bytes_eq-Decides test.now name.now) (are name))
 
+abbrev pub test_path : UnknownTest → Text × Text
+test_path unknown = (unknown.test.now, unknown.path.now)
+
+-- one path more is in a list, under a name
+one_path : (tests : List (Text × Text)) (added name : Text) (path : Bor Text) (same : Bool) (known : Option (Bor Text)) → Decides same (added ≡ name)
+    → MatchOption known ((p : Text) → ¬ Contains tests (name, p)) (λ p. Contains tests (name, p.now))
+    → MatchOption (cond same (Some path) known) ((p : Text) → ¬ Contains (tests ++ (added, path.now) ∷ []) (name, p)) (λ p. Contains (tests ++ (added, path.now) ∷ []) (name, p.now))
+one_path tests added name path true known decides is =
+    subst (λ n. Contains (tests ++ (added, path.now) ∷ []) (n, path.now)) (decides.0 refl) (Contains-push tests (added, path.now))
+one_path tests added name path false None decides is = λ p there. elim (Contains-push_cases tests (added, path.now) (name, p) there) [
+  | inl before ↦ is p before
+  | inr last ↦ (let e : false ≡ true = decides.1 (ap (λ (t : Text × Text). t.0) last) in cc)
+]
+one_path tests added name path false (Some known) decides is = Contains-append_left tests ((added, path.now) ∷ []) (name, known.now) is
+
+-- a path is put into the map
+pub paths_one : (tests : List UnknownTest) (i : ℕ) (test : UnknownTest) (key : Bor Text) (old new : BTreeMap (Bor Text) (Bor Text)) → i < length tests → get_or tests i test ≡ test → key.now ≡ test.test.now
+    → ((name : Text) → get_by (λ k. slice_cmp nat_cmp name k.now) new ≡ cond (bytes_eq key.now name) (Some test.path) (get_by (λ k. slice_cmp nat_cmp name k.now) old))
+    → ArePaths (map test_path (take i tests)) old → ArePaths (map test_path (take (i + 1) tests)) new
+paths_one tests i test key old new lt at same updates are name =
+    let more : map test_path (take (i + 1) tests) ≡ map test_path (take i tests) ++ test_path test ∷ [] =
+    ap (map test_path) (take_more tests i test lt ∙ ap (λ t. take i tests ++ t ∷ []) at) ∙ map-append test_path (take i tests) (test ∷ []) in
+    rw (updates name, more, same) (one_path (map test_path (take i tests)) test.test.now name test.path (bytes_eq test.test.now name) _ (bytes_eq-Decides test.test.now name) (are name))
+
 -- what stands under one more name
-pub at_one : {Marks : Data → Data → Type 0} {key name : Text} {before after : Data} {members others : Members} (is_there : Bool) → Decides is_there (name ≡ key)
-    → (IsTrue is_there → Marks before after) → (is_there ≡ false → after ≡ before) → MarksAt key Marks members others
-    → MarksAt key Marks (member name before members) (member name after others)
-at_one {Marks} {key} {name} {before} {after} {members} {others} true decides changed same marks =
-    subst (λ n. MarksAt key Marks (member n before members) (member n after others)) (sym (decides.0 refl)) (at_key (changed refl) marks)
-at_one {Marks} {key} {name} {before} {after} {members} {others} false decides changed same marks =
-    subst (λ d. MarksAt key Marks (member name before members) (member name d others)) (sym (same refl))
-    (at_other (λ e. let t : false ≡ true = decides.1 e in cc) marks)
+pub at_one : (Marks : Data → Data → Type 0) {key name : Text} {before after : Data} (is_there : Bool) → Decides is_there (name ≡ key)
+    → (IsTrue is_there → Marks before after) → (is_there ≡ false → after ≡ before) → (name ≡ key → Marks before after) × (name ≢ key → after ≡ before)
+at_one Marks true decides changed same = (λ e. changed refl, λ apart. absurd (apart (decides.0 refl)))
+at_one Marks false decides changed same = (λ e. absurd (let t : false ≡ true = decides.1 e in cc), λ apart. same refl)
 
 -- an object became another one
 pub marked_object : {Marks : Members → Members → Type 0} (value : Data) (before : Members) (marked : BTreeMap (String Global) Value) → value ≡ object before
@@ -125,12 +145,6 @@ marked_object value before marked is marks = rw (is, view-Object marked) (an_obj
 -- what is no object stays as it is
 pub marked_other : {Marks : Members → Members → Type 0} (value other : Value) → other ≡ value → as_object (view other) ≡ None → MarksObject Marks (view value) (view other)
 marked_other {Marks} value other same none = subst (λ v. MarksObject Marks (view v) (view other)) same (no_object none)
-
--- one more suite is marked, by the first picks that are left
-pub next_of : (all : List BinaryPicks) (id : Text) (before after : Data) (suites others : Members) → MarksSuite (first_tests all) before after → MarksSuites (drop 1 all) suites others
-    → MarksSuites all (member id before suites) (member id after others)
-next_of [] id before after suites others suite rest = further_suite suite rest
-next_of (picks ∷ all) id before after suites others suite rest = next_suite suite rest
 
 -- what is written is compact JSON
 pub compact_json : {E : Type 0} (value : Data) (written : Result (String Global) E) → IfOk written (λ s. has_float value ≡ false → string_bytes s ≡ compact_text value)

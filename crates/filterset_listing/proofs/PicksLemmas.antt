@@ -1,12 +1,18 @@
--- Two filtersets that pick the same tests have the same picks, and their tests are divided alike.
-use Rattle.std.proofs.Common.{◌↔◌, Bool, List, [], ◌∷◌}
+-- Filtersets that answer alike have the same picks, and their tests are divided alike.
+use Rattle.std.proofs.Common.{◌≡◌, ◌↔◌, Bool, true, false, List, [], ◌∷◌}
+use Rattle.std.specs.Prelude.{MatchBool}
 use Rattle.std.specs.List.{AllZip}
+use Rattle.filterset_expression.specs.declared.expression.CompiledExpr.{CompiledExpr}
 use Rattle.filterset_expression.specs.declared.query.BinaryQuery.{BinaryQuery}
 use Rattle.filterset_expression.specs.declared.query.TestQuery.{TestQuery}
 use Rattle.filterset_listing.specs.Asking.{Tells, Text}
 use Rattle.filterset_listing.specs.Comparing.{Divides}
-use Rattle.filterset_listing.specs.Listing.{IsBinaryPicks, Picked, asked, left_out, tests_of}
+use Rattle.filterset_listing.specs.Groups.{IsAnswer, Says}
+use Rattle.filterset_listing.specs.Listing.{IsBinaryPicks, Picked, no_tests, one_passed, one_picked, one_unknown, tests_of, unknown_of}
 use Rattle.filterset_listing.specs.declared.binary.AskedBinary.{AskedBinary}
+use Rattle.filterset_listing.specs.declared.groups.GroupOverride.{GroupOverride}
+use Rattle.filterset_listing.specs.declared.groups.TestAnswer.{TestAnswer}
+use Rattle.filterset_listing.specs.declared.groups.TestAnswer.TheVariants.{Known, Unknown}
 use Rattle.filterset_listing.specs.declared.listing.BinaryPicks.{BinaryPicks}
 
 -- what holds of each pair, and gives something else of it, gives that of each
@@ -25,21 +31,49 @@ module _ (One Other : TestQuery → Type 0) (same : (test : TestQuery) → One t
     says = (λ yes. (same tells.query).0 (tells.says.0 yes), λ picks. tells.says.1 ((same tells.query).1 picks));
   }
 
-module _ (One Other : Text → Bool → Type 0) (gives : (test : Text) (answer : Bool) → One test answer → Other test answer) where
-  picked_alike : (tests picked : List Text) → Picked One tests picked → Picked Other tests picked
-  picked_alike [] picked none = none
-  picked_alike (test ∷ tests) picked (answer, others, says, whole, are) =
-      (answer, others, gives test answer says, whole, picked_alike tests others are)
+-- an answer is that of what is so alike in each group
+pub answer_of_alike : (default : CompiledExpr) (overrides : List GroupOverride) (test : TestQuery) (One Other : Text → Type 0) → ((group : Text) → One group ↔ Other group) → (answer : TestAnswer)
+    → IsAnswer default overrides test One answer → IsAnswer default overrides test Other answer
+answer_of_alike default overrides test One Other same (Known answer) is = λ group may.
+    let says = is group may in (λ yes. (same group).0 (says.0 yes), λ other. says.1 ((same group).1 other))
+answer_of_alike default overrides test One Other same (Unknown path) (hangs, picked, missed) =
+    (hangs, (picked.0, picked.1, (same picked.0).0 picked.2), (missed.0, missed.1, λ other. missed.2 ((same missed.0).1 other)))
 
-module _ (One Other : TestQuery → Type 0) (CanOne CanOther : BinaryQuery → Type 0) (same : (test : TestQuery) → One test ↔ Other test) (same_can : (binary : BinaryQuery) → CanOne binary ↔ CanOther binary) where
-  picks_alike : (binary : AskedBinary) (picks : BinaryPicks) → IsBinaryPicks One CanOne binary picks → IsBinaryPicks Other CanOther binary picks
-  picks_alike binary picks (left_out is left none cannot never) =
-      left_out is left none (λ can. cannot ((same_can binary.query).1 can)) (λ test of other. never test of ((same test).1 other))
-  picks_alike binary picks (asked is kept can are) =
-      asked is kept ((same_can binary.query).0 can) (picked_alike (Tells One binary.query) (Tells Other binary.query) (tells_alike One Other same binary.query) binary.tests.now (tests_of picks) are)
+module _ (default : CompiledExpr) (overrides : List GroupOverride) (One Other : TestQuery → Text → Type 0) (same : (test : TestQuery) (group : Text) → One test group ↔ Other test group) where
+  -- filtersets that pick the same tests in each group answer alike
+  pub says_alike : (binary : BinaryQuery) (name : Text) (answer : TestAnswer) → Says default overrides One binary name answer → Says default overrides Other binary name answer
+  says_alike binary name answer says = λ test of_binary of_name.
+      answer_of_alike default overrides test (One test) (Other test) (same test) answer (says test of_binary of_name)
 
-  pub all_picks_alike : (binaries : List AskedBinary) (all : List BinaryPicks) → AllZip (IsBinaryPicks One CanOne) binaries all → AllZip (IsBinaryPicks Other CanOther) binaries all
-  all_picks_alike = AllZip-weaker (IsBinaryPicks One CanOne) (IsBinaryPicks Other CanOther) picks_alike
+module _ (One Other : Text → TestAnswer → Type 0) (gives : (test : Text) (answer : TestAnswer) → One test answer → Other test answer) where
+  picked_alike : (tests picked : List Text) (unknown : List (Text × Text)) → Picked One tests picked unknown → Picked Other tests picked unknown
+  picked_alike _ _ _ no_tests = no_tests
+  picked_alike _ _ _ (one_picked {test} {tests} {picked} {unknown} says are) = one_picked (gives test (Known true) says) (picked_alike tests picked unknown are)
+  picked_alike _ _ _ (one_passed {test} {tests} {picked} {unknown} says are) = one_passed (gives test (Known false) says) (picked_alike tests picked unknown are)
+  picked_alike _ _ _ (one_unknown {test} {path} {tests} {picked} {unknown} says are) = one_unknown (gives test (Unknown path) says) (picked_alike tests picked unknown are)
+
+module _ (One Other : BinaryQuery → Text → TestAnswer → Type 0) (CanOne CanOther : BinaryQuery → Type 0) (gives : (binary : BinaryQuery) (test : Text) (answer : TestAnswer) → One binary test answer → Other binary test answer) (same_can : (binary : BinaryQuery) → CanOne binary ↔ CanOther binary) where
+  asked_alike : (is_left_out : Bool) (binary : AskedBinary) (tests : List Text) (unknown : List (Text × Text))
+      → MatchBool is_left_out ((tests ≡ []) × (unknown ≡ []) × ¬ CanOne binary.query × ((name : Text) → One binary.query name (Known false)))
+      (CanOne binary.query × Picked (One binary.query) binary.tests.now tests unknown)
+      → MatchBool is_left_out ((tests ≡ []) × (unknown ≡ []) × ¬ CanOther binary.query × ((name : Text) → Other binary.query name (Known false)))
+      (CanOther binary.query × Picked (Other binary.query) binary.tests.now tests unknown)
+  asked_alike true binary tests unknown (none, no_unknown, cannot, never) =
+      (none, no_unknown, λ can. cannot ((same_can binary.query).1 can), λ name. gives binary.query name (Known false) (never name))
+  asked_alike false binary tests unknown (can, are) =
+      ((same_can binary.query).0 can, picked_alike (One binary.query) (Other binary.query) (gives binary.query) binary.tests.now tests unknown are)
+
+  -- filtersets that answer alike have the same picks
+  pub all_answers_alike : (binaries : List AskedBinary) (all : List BinaryPicks) → AllZip (IsBinaryPicks One CanOne) binaries all → AllZip (IsBinaryPicks Other CanOther) binaries all
+  all_answers_alike = AllZip-weaker (IsBinaryPicks One CanOne) (IsBinaryPicks Other CanOther)
+      (λ binary picks is. (is.0, asked_alike picks.is_left_out binary (tests_of picks) (unknown_of picks) is.1))
+
+-- so have those that pick the same tests in each group
+pub all_picks_alike : (default : CompiledExpr) (overrides : List GroupOverride) (One Other : TestQuery → Text → Type 0) (CanOne CanOther : BinaryQuery → Type 0) → ((test : TestQuery) (group : Text) → One test group ↔ Other test group)
+    → ((binary : BinaryQuery) → CanOne binary ↔ CanOther binary) → (binaries : List AskedBinary) (all : List BinaryPicks)
+    → AllZip (IsBinaryPicks (Says default overrides One) CanOne) binaries all → AllZip (IsBinaryPicks (Says default overrides Other) CanOther) binaries all
+all_picks_alike default overrides One Other CanOne CanOther same =
+    all_answers_alike (Says default overrides One) (Says default overrides Other) CanOne CanOther (says_alike default overrides One Other same)
 
 module _ (A B C D : Text → Bool → Type 0) (first : (test : Text) (answer : Bool) → A test answer → B test answer) (second : (test : Text) (answer : Bool) → C test answer → D test answer) where
   pub divides_alike : (tests x y z : List Text) → Divides A C tests x y z → Divides B D tests x y z

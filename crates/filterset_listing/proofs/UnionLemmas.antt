@@ -1,13 +1,14 @@
 -- Unions that are made set by set, and what they pick.
-use Rattle.std.proofs.Common.{◌≡◌, ◌≢◌, List, [], ◌∷◌, ◌++◌, inl, inr, refl, sym, ap, ◌∙◌}
+use Rattle.std.proofs.Common.{◌≡◌, ◌≢◌, zero, suc, List, [], ◌∷◌, ◌++◌, inl, inr, refl, sym, ap, subst, ◌∙◌, arith}
 use Rattle.std.specs.Prelude.{◌↔◌, ◌⊎◌, MatchOption, Option, Some, None}
 use Rattle.std.specs.Global.{Box}
+use Rattle.std.specs.List.{Any}
 use Rattle.filterset_expression.specs.declared.logic.Connective.TheVariants.{Disjunction}
 use Rattle.filterset_expression.specs.Expression as compiled
 use Rattle.filterset_expression.specs.Expression.{CompiledLeaf, formula}
 use Rattle.filterset_expression.specs.Formula.{Compound, Formula, Leaf}
 use Rattle.filterset_expression.specs.declared.expression.CompiledExpr.{CompiledExpr}
-use Rattle.filterset_listing.specs.Union.{AnyDoes, OneDoes, or_one_of, union_formula}
+use Rattle.filterset_listing.specs.Union.{AnyDoes, or_one_of, union_formula}
 
 -- ---- how unions are made
 
@@ -40,24 +41,49 @@ more_sets (Some before) exprs expr union (some, are) is =
 
 -- ---- what unions mean
 
+module _ {A : Type 0} (P : A → Type 0) where
+  pub any_none : ¬ Any P []
+  any_none any = absurd (omega (arith, any.2))
+
+  pub any_here : (x : A) (xs : List A) → P x → Any P (x ∷ xs)
+  any_here x xs p = (0, x, omega arith, refl, p)
+
+  pub any_behind : (x : A) (xs : List A) → Any P xs → Any P (x ∷ xs)
+  any_behind x xs any = (suc any.0, any.1, omega (arith, any.2), any.3, any.4)
+
+  -- it holds of the first, or of one behind it
+  pub any_parts : (x : A) (xs : List A) → Any P (x ∷ xs) → P x ⊎ Any P xs
+  any_parts x xs (zero, y, within, at, p) = inl (subst P (sym at) p)
+  any_parts x xs (suc k, y, within, at, p) = inr (k, y, omega (arith, within), at, p)
+
 -- Formulas mean something, a disjunction that one of its operands does.
 module _ (Does : Formula CompiledLeaf → Type 0) (either : (f g : Formula CompiledLeaf) → Does (Compound Disjunction f g) ↔ (Does f ⊎ Does g)) where
-  or_one_of_does : (f : Formula CompiledLeaf) (exprs : List CompiledExpr) → Does (or_one_of f exprs) ↔ (Does f ⊎ OneDoes (λ expr. Does (formula expr)) exprs)
-  or_one_of_does f [] = (λ does. inl does, λ one. elim one [ inl does ↦ does | inr none ↦ absurd none ])
+  abbrev ExprDoes : CompiledExpr → Type 0
+  ExprDoes expr = Does (formula expr)
+
+  or_one_of_does : (f : Formula CompiledLeaf) (exprs : List CompiledExpr) → Does (or_one_of f exprs) ↔ (Does f ⊎ Any ExprDoes exprs)
+  or_one_of_does f [] = (λ does. inl does, λ one. elim one [ inl does ↦ does | inr none ↦ absurd (any_none ExprDoes none) ])
   or_one_of_does f (e ∷ exprs) =
       let pair = either f (formula e) in
       let more = or_one_of_does (Compound Disjunction f (formula e)) exprs in (
         λ does. elim (more.0 does) [
-          | inl both ↦ elim (pair.0 both) [ inl first ↦ inl first | inr second ↦ inr (inl second) ]
-          | inr later ↦ inr (inr later)
+          | inl both ↦ elim (pair.0 both) [ inl first ↦ inl first | inr second ↦ inr (any_here ExprDoes e exprs second) ]
+          | inr later ↦ inr (any_behind ExprDoes e exprs later)
         ],
         λ one. more.1 (elim one [
           | inl first ↦ inl (pair.1 (inl first))
-          | inr others ↦ elim others [ inl second ↦ inl (pair.1 (inr second)) | inr later ↦ inr later ]
+          | inr others ↦ elim (any_parts ExprDoes e exprs others) [ inl second ↦ inl (pair.1 (inr second)) | inr later ↦ inr later ]
         ]),
       )
 
   -- the union does what one of its sets does, and where there is none, what all tests do
   pub union_does : Does (Leaf compiled.All) → (exprs : List CompiledExpr) → Does (union_formula exprs) ↔ AnyDoes (λ expr. Does (formula expr)) exprs
-  union_does all [] = (λ does. tt, λ any. all)
-  union_does all (expr ∷ exprs) = or_one_of_does (formula expr) exprs
+  union_does all [] = (λ does. inl refl, λ any. all)
+  union_does all (expr ∷ exprs) =
+      let own = or_one_of_does (formula expr) exprs in (
+        λ does. inr (elim (own.0 does) [ inl first ↦ any_here ExprDoes expr exprs first | inr later ↦ any_behind ExprDoes expr exprs later ]),
+        λ any. own.1 (elim any [
+          | inl none ↦ absurd (let clash : expr ∷ exprs ≡ [] = none in cc)
+          | inr one ↦ any_parts ExprDoes expr exprs one
+        ]),
+      )

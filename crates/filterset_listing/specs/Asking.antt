@@ -15,27 +15,31 @@ use Rattle.filterset_matchers.specs.Matcher.{MatchesName}
 abbrev pub Text : Type 0
 Text = List ℕ
 
+-- every test is in this group
+abbrev pub in_group : Text → Lookup
+in_group group test matcher = MatchesName matcher group
+
 -- every test is in the group `@global`
 abbrev pub in_global : Lookup
-in_global test matcher = MatchesName matcher (codes "@global")
+in_global = in_group (codes "@global")
 
--- whether the answer about a binary is no
+-- whether the answer is no
 abbrev pub is_no : Option Bool → Bool
 is_no (Some true) = false
 is_no (Some false) = true
 is_no None = false
 
--- the compiled expression picks the test, where this is the default filter
-abbrev pub ExprPicks : CompiledExpr → CompiledExpr → TestQuery → Type 0
-ExprPicks default expr test = Holds expr test default in_global
+-- the compiled expression picks the test in this group, where this is the default filter
+abbrev pub ExprPicks : CompiledExpr → CompiledExpr → TestQuery → Text → Type 0
+ExprPicks default expr test group = Holds expr test default (in_group group)
 
 -- it can pick a test of the binary: it is true under some answers to its `test` and `group` leaves
 abbrev pub ExprCanPick : CompiledExpr → CompiledExpr → BinaryQuery → Type 0
 ExprCanPick default expr binary = Possible expr binary default true
 
--- the tree picks the test, for these packages and this default filter
-abbrev pub TreePicks : List PackageMetadata → CompiledExpr → Tree SourceSpan → TestQuery → Type 0
-TreePicks packages default tree test = Meaning tree packages test default in_global
+-- the tree picks the test in this group, for these packages and this default filter
+abbrev pub TreePicks : List PackageMetadata → CompiledExpr → Tree SourceSpan → TestQuery → Text → Type 0
+TreePicks packages default tree test group = Meaning tree packages test default (in_group group)
 
 -- it can pick a test of the binary: it is true under some answers to its `test` and `group` predicates
 abbrev pub TreeCanPick : List PackageMetadata → CompiledExpr → Tree SourceSpan → BinaryQuery → Type 0

@@ -1,4 +1,6 @@
 pub mod Asking
+pub mod Groups
+pub mod Overrides
 pub mod Listing
 pub mod ListText
 pub mod ListJson

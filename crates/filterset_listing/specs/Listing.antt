@@ -1,9 +1,11 @@
 -- Which tests of a list are picked.
-use Rattle.std.specs.Prelude.{◌≡◌, ◌++◌, Bool, true, false, List, [], ◌∷◌, map}
+use Rattle.std.specs.Prelude.{◌≡◌, Bool, true, false, List, [], ◌∷◌, MatchBool, map}
+use Rattle.std.specs.Borrow.{Bor}
 use Rattle.filterset_expression.specs.declared.query.BinaryQuery.{BinaryQuery}
-use Rattle.filterset_expression.specs.declared.query.TestQuery.{TestQuery}
-use Rattle.filterset_listing.specs.Asking.{Tells, Text}
+use Rattle.filterset_listing.specs.Asking.{Text}
 use Rattle.filterset_listing.specs.declared.binary.AskedBinary.{AskedBinary}
+use Rattle.filterset_listing.specs.declared.groups.TestAnswer.{TestAnswer}
+use Rattle.filterset_listing.specs.declared.groups.TestAnswer.TheVariants.{Known, Unknown}
 use Rattle.filterset_listing.specs.declared.listing.BinaryPicks.{BinaryPicks}
 
 -- the test, if the answer is yes
@@ -11,23 +13,38 @@ abbrev pub one_of : Bool → Text → List Text
 one_of true test = test ∷ []
 one_of false test = []
 
--- exactly those of the tests are picked whose answer is yes, each once and in their order
-abbrev pub Picked : (Text → Bool → Type 0) → List Text → List Text → Type 0
-Picked Says [] picked = picked ≡ []
-Picked Says (test ∷ tests) picked =
-    (answer : Bool) × (others : List Text) × Says test answer × (picked ≡ one_of answer test ++ others)
-    × Picked Says tests others
+-- the tests whose answer is yes are picked, and those whose answer is unknown are unknown, each once and in their order
+pub data Picked (Says : Text → TestAnswer → Type 0) : List Text → List Text → List (Text × Text) → Type 0 where
+  no_tests : Picked Says [] [] []
+  one_picked : {test : Text} {tests picked : List Text} {unknown : List (Text × Text)} → Says test (Known true)
+      → Picked Says tests picked unknown → Picked Says (test ∷ tests) (test ∷ picked) unknown
+  one_passed : {test : Text} {tests picked : List Text} {unknown : List (Text × Text)} → Says test (Known false)
+      → Picked Says tests picked unknown → Picked Says (test ∷ tests) picked unknown
+  one_unknown : {test : Text} {path : Bor Text} {tests picked : List Text} {unknown : List (Text × Text)}
+      → Says test (Unknown path) → Picked Says tests picked unknown
+      → Picked Says (test ∷ tests) picked ((test, path.now) ∷ unknown)
 
 abbrev pub tests_of : BinaryPicks → List Text
 tests_of picks = map (λ t. t.now) picks.tests.items
 
+-- the unknown tests, each with the path of the override that it hangs on
+abbrev pub unknown_of : BinaryPicks → List (Text × Text)
+unknown_of picks = map (λ u. (u.test.now, u.path.now)) picks.unknown.items
+
+-- what is listed of a test by the answer about it
+abbrev pub picked_by : TestAnswer → Text → List Text
+picked_by (Known true) test = test ∷ []
+picked_by _ test = []
+
+abbrev pub unknown_by : TestAnswer → Text → List (Text × Text)
+unknown_by (Unknown path) test = (test, path.now) ∷ []
+unknown_by _ test = []
+
 -- What is picked of a binary. If no test of it can be picked, whatever the names and groups of its tests are, it is left
--- out. If one can, exactly those of its tests are listed that are picked.
-pub data IsBinaryPicks (Picks : TestQuery → Type 0) (CanPick : BinaryQuery → Type 0)
-    (binary : AskedBinary) (picks : BinaryPicks) : Type 0 where
-  left_out : picks.binary ≡ binary → picks.is_left_out ≡ true → tests_of picks ≡ [] → ¬ CanPick binary.query
-      → ((test : TestQuery) → test.binary_query ≡ binary.query → ¬ Picks test)
-      → IsBinaryPicks Picks CanPick binary picks
-  asked : picks.binary ≡ binary → picks.is_left_out ≡ false → CanPick binary.query
-      → Picked (Tells Picks binary.query) binary.tests.now (tests_of picks)
-      → IsBinaryPicks Picks CanPick binary picks
+-- out. If one can, its tests are listed by the answers about them.
+abbrev pub IsBinaryPicks :
+    (BinaryQuery → Text → TestAnswer → Type 0) → (BinaryQuery → Type 0) → AskedBinary → BinaryPicks → Type 0
+IsBinaryPicks Says CanPick binary picks = (picks.binary ≡ binary) × MatchBool picks.is_left_out
+    ((tests_of picks ≡ []) × (unknown_of picks ≡ []) × ¬ CanPick binary.query
+    × ((name : Text) → Says binary.query name (Known false)))
+    (CanPick binary.query × Picked (Says binary.query) binary.tests.now (tests_of picks) (unknown_of picks))

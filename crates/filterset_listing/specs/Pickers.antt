@@ -1,5 +1,5 @@
 -- Filtersets as they are compared: which tests they pick, and what they can be of a binary.
-use Rattle.std.specs.Prelude.{◌≡◌, ◌↔◌, Bool, true, false, List, Option, Some, None}
+use Rattle.std.specs.Prelude.{◌≡◌, ◌↔◌, Bool, true, false, List, Option, Some, None, codes}
 use Rattle.filterset_faults.specs.declared.span.SourceSpan.{SourceSpan}
 use Rattle.filterset_graph.specs.declared.package.PackageMetadata.{PackageMetadata}
 use Rattle.filterset_grammar.specs.Tree.{Tree}
@@ -17,12 +17,12 @@ pub record Picker : Type 1 where
 
 -- the compiled expression, where this is the default filter
 abbrev pub expr_picker : CompiledExpr → CompiledExpr → Picker
-expr_picker default expr = record { Picks = ExprPicks default expr; CanBe = λ binary. Possible expr binary default }
+expr_picker default expr = record { Picks = λ test. ExprPicks default expr test (codes "@global"); CanBe = λ binary. Possible expr binary default }
 
 -- the tree, for these packages and this default filter
 abbrev pub tree_picker : List PackageMetadata → CompiledExpr → Tree SourceSpan → Picker
 tree_picker packages default tree =
-    record { Picks = TreePicks packages default tree; CanBe = λ binary. PossibleOfTree tree packages binary default }
+    record { Picks = λ test. TreePicks packages default tree test (codes "@global"); CanBe = λ binary. PossibleOfTree tree packages binary default }
 
 -- the answer about the binary: the value that the filterset has, or none if it can have both
 abbrev pub Answers : Picker → BinaryQuery → Option Bool → Type 0

@@ -1,6 +1,6 @@
 -- Which tests a runner runs, by the filtersets that it is given and the default filter.
-use Rattle.std.specs.Prelude.{◌≡◌, ◌↔◌, Bool, true, false, List}
-use Rattle.std.specs.List.{AllZip}
+use Rattle.std.specs.Prelude.{◌≡◌, ◌↔◌, ◌⊎◌, Bool, true, false, IsTrue, List, []}
+use Rattle.std.specs.List.{AllZip, Any}
 use Rattle.filterset_faults.specs.declared.span.SourceSpan.{SourceSpan}
 use Rattle.filterset_graph.specs.declared.package.PackageMetadata.{PackageMetadata}
 use Rattle.filterset_grammar.specs.Tree.{Tree}
@@ -11,29 +11,27 @@ use Rattle.filterset_expression.specs.Values.{CanBe}
 use Rattle.filterset_expression.specs.declared.expression.CompiledExpr.{CompiledExpr}
 use Rattle.filterset_expression.specs.declared.query.BinaryQuery.{BinaryQuery}
 use Rattle.filterset_expression.specs.declared.query.TestQuery.{TestQuery}
-use Rattle.filterset_listing.specs.Asking.{ExprCanPick, ExprPicks, TreeCanPick, TreePicks, in_global}
-use Rattle.filterset_listing.specs.Union.{AnyDoes}
+use Rattle.filterset_listing.specs.Asking.{ExprCanPick, ExprPicks, Text, TreeCanPick, TreePicks, in_group}
 
 -- the default filter does so, unless it is ignored, and one of the filtersets does, if there are any
 abbrev pub RunDoes : {A : Type 0} → Bool → Type 0 → (A → Type 0) → List A → Type 0
-RunDoes true DefaultDoes Does filters = AnyDoes Does filters
-RunDoes false DefaultDoes Does filters = DefaultDoes × AnyDoes Does filters
+RunDoes ignores DefaultDoes Does filters = (IsTrue ignores ⊎ DefaultDoes) × ((filters ≡ []) ⊎ Any Does filters)
 
 -- the selection picks what the default filter and the expressions pick, and can pick what they can, whatever the default
 -- filter is
 pub record IsSelection (ignores_default : Bool) (exprs : List CompiledExpr) (selection : CompiledExpr) : Type 0 where
-  pub picks : (default : CompiledExpr) (test : TestQuery) → ExprPicks default selection test
-      ↔ RunDoes ignores_default (TrueWhere (HoldsOfTest test in_global) (formula default))
-      (λ expr. ExprPicks default expr test) exprs
+  pub picks : (default : CompiledExpr) (test : TestQuery) (group : Text) → ExprPicks default selection test group
+      ↔ RunDoes ignores_default (TrueWhere (HoldsOfTest test (in_group group)) (formula default))
+      (λ expr. ExprPicks default expr test group) exprs
   pub can_pick : (default : CompiledExpr) (binary : BinaryQuery) → ExprCanPick default selection binary
       ↔ RunDoes ignores_default (CanBe is_of_test (HoldsOfBinary binary) (formula default) true)
       (λ expr. ExprCanPick default expr binary) exprs
 
--- a runner runs the test, if the default filter and the filtersets have these trees
+-- a runner runs the test in this group, if the default filter and the filtersets have these trees
 abbrev pub RunPicks :
-    List PackageMetadata → Bool → CompiledExpr → Tree SourceSpan → List (Tree SourceSpan) → TestQuery → Type 0
-RunPicks packages ignores_default default default_tree trees test = RunDoes ignores_default
-    (TreePicks packages default default_tree test) (λ tree. TreePicks packages default tree test) trees
+    List PackageMetadata → Bool → CompiledExpr → Tree SourceSpan → List (Tree SourceSpan) → TestQuery → Text → Type 0
+RunPicks packages ignores_default default default_tree trees test group = RunDoes ignores_default
+    (TreePicks packages default default_tree test group) (λ tree. TreePicks packages default tree test group) trees
 
 -- it can run a test of the binary
 abbrev pub RunCanPick :
@@ -47,7 +45,7 @@ abbrev pub MeansSelection : Bool → List CompiledExpr → CompiledExpr → Type
 MeansSelection ignores_default exprs selection = (packages : List PackageMetadata) (default : CompiledExpr)
     (default_tree : Tree SourceSpan) (trees : List (Tree SourceSpan)) → IsCompiled packages default_tree default
     → has_leaf is_default default ≡ false → AllZip (IsCompiled packages) trees exprs
-    → ((test : TestQuery)
-    → ExprPicks default selection test ↔ RunPicks packages ignores_default default default_tree trees test)
+    → ((test : TestQuery) (group : Text) → ExprPicks default selection test group
+    ↔ RunPicks packages ignores_default default default_tree trees test group)
     × ((binary : BinaryQuery)
     → ExprCanPick default selection binary ↔ RunCanPick packages ignores_default default default_tree trees binary)

@@ -1,20 +1,15 @@
 -- The union of filtersets.
-use Rattle.std.specs.Prelude.{◌⊎◌, List, [], ◌∷◌}
+use Rattle.std.specs.Prelude.{◌≡◌, ◌⊎◌, List, [], ◌∷◌}
+use Rattle.std.specs.List.{Any}
 use Rattle.filterset_expression.specs.declared.logic.Connective.TheVariants.{Disjunction}
 use Rattle.filterset_expression.specs.Expression as compiled
 use Rattle.filterset_expression.specs.Expression.{CompiledLeaf, formula}
 use Rattle.filterset_expression.specs.Formula.{Compound, Formula, Leaf}
 use Rattle.filterset_expression.specs.declared.expression.CompiledExpr.{CompiledExpr}
 
--- one of the filtersets does so
-abbrev pub OneDoes : {A : Type 0} → (A → Type 0) → List A → Type 0
-OneDoes Does [] = ⊥
-OneDoes Does (x ∷ xs) = Does x ⊎ OneDoes Does xs
-
 -- one of the filtersets does so, or there is none
 abbrev pub AnyDoes : {A : Type 0} → (A → Type 0) → List A → Type 0
-AnyDoes Does [] = Unit {0}
-AnyDoes Does (x ∷ xs) = OneDoes Does (x ∷ xs)
+AnyDoes Does filters = (filters ≡ []) ⊎ Any Does filters
 
 -- the formula or one of the expressions
 abbrev pub or_one_of : Formula CompiledLeaf → List CompiledExpr → Formula CompiledLeaf

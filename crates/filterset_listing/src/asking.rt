@@ -4,23 +4,23 @@ ghost use Rattle.filterset_expression.specs.FlatExpressions.{IsFlat, IsTold};
 ghost use Rattle.filterset_expression.specs.declared.expression.CompiledExpr.{CompiledExpr};
 ghost use Rattle.filterset_listing.specs.Asking.{ExprPicks, Tells, is_no};
 
-use crate::global::GlobalLookup;
+use crate::lookup::OneGroup;
 use filterset_expression::{BinaryQuery, FlatExpr, TestQuery};
 use filterset_graph::TestCaseName;
 use std::alloc::{AllocError, Global};
 
-/// Returns whether the answer about a binary is no, so that the filterset picks none of its tests.
-pub fn is_no(binary_answer: Option<bool>) -> bool
-    ensures { result ≡ is_no binary_answer }
+/// Returns whether an answer is no.
+pub fn is_no(answer: Option<bool>) -> bool
+    ensures { result ≡ is_no answer }
 {
-    match binary_answer {
+    match answer {
         Some(answer) => !answer,
         None => false,
     }
 }
 
 /// Returns the query of a test of the binary.
-fn query_of<'a>(query: &BinaryQuery<'a>, test: &'a TestCaseName) -> TestQuery<'a>
+pub fn query_of<'a>(query: &BinaryQuery<'a>, test: &'a TestCaseName) -> TestQuery<'a>
     ensures binary { result.binary_query ≡ query.now }
     ensures test { result.test_name.now ≡ test.entry.now }
 {
@@ -34,14 +34,14 @@ fn query_of<'a>(query: &BinaryQuery<'a>, test: &'a TestCaseName) -> TestQuery<'a
 pub fn picks(
     alloc: Global,
     flat: &FlatExpr<'_>,
-    lookup: &GlobalLookup,
+    lookup: &OneGroup<'_>,
     query: &BinaryQuery<'_>,
     binary_answer: Option<bool>,
     test: &TestCaseName,
 ) -> Result<bool, AllocError>
     requires { IsTold flat.now query.now binary_answer }
     ensures { IfOk result (λ answer. (expr default : CompiledExpr) → IsFlat flat.now expr default
-        → Tells (ExprPicks default expr) query.now test.now answer) }
+        → Tells (λ query. ExprPicks default expr query lookup.now.group.now) query.now test.now answer) }
 {
     let query = query_of(query, test);
     flat.matches_test_of_told(alloc, binary_answer, &query, lookup)

@@ -17,7 +17,7 @@ pub mod text;
 
 use crate::asking::picks;
 use crate::binary::AskedBinary;
-use crate::global::GlobalLookup;
+use crate::lookup::OneGroup;
 use filterset_expression::{CompiledExpr, EvalContext, FlatExpr};
 use filterset_graph::TestCaseName;
 use std::alloc::{AllocError, Global};
@@ -78,7 +78,7 @@ fn divide<'s>(
         → IsFlat second.now other default
         → IsBinaryDifference (expr_picker default one) (expr_picker default other) binary.now difference) }
 {
-    let lookup = GlobalLookup;
+    let lookup = OneGroup::GLOBAL;
     let query = &binary.query;
     let first_answer = first.matches_binary(alloc, query)?;
     let second_answer = second.matches_binary(alloc, query)?;

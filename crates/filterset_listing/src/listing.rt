@@ -1,6 +1,6 @@
 //! Which tests of a list a filterset picks.
-ghost use Rattle.std.specs.Prelude.{◌≡◌, ◌++◌, IfOk, List, OnOk, map};
-ghost use Rattle.std.specs.List.{AllZip};
+ghost use Rattle.std.specs.Prelude.{◌≡◌, ◌++◌, IfOk, List, OnOk, false};
+ghost use Rattle.std.specs.List.{AllZip, list_any};
 ghost use Rattle.filterset_expression.specs.Contexts.{default_of};
 ghost use Rattle.filterset_expression.specs.FlatExpressions.{IsFlat, IsTold};
 ghost use Rattle.filterset_expression.specs.Meaning.{IsCompiled};
@@ -8,74 +8,105 @@ ghost use Rattle.filterset_expression.specs.declared.expression.CompiledExpr.{Co
 ghost use Rattle.filterset_faults.specs.declared.span.SourceSpan.{SourceSpan};
 ghost use Rattle.filterset_graph.specs.declared.package.PackageMetadata.{PackageMetadata};
 ghost use Rattle.filterset_grammar.specs.Tree.{Tree};
-ghost use Rattle.filterset_listing.specs.Asking.{ExprCanPick, ExprPicks, Tells, TreeCanPick, TreePicks};
-ghost use Rattle.filterset_listing.specs.Listing.{IsBinaryPicks, Picked, one_of};
+ghost use Rattle.filterset_listing.specs.Asking.{ExprCanPick, ExprPicks, TreeCanPick, TreePicks};
+ghost use Rattle.filterset_listing.specs.Groups.{Says};
+ghost use Rattle.filterset_listing.specs.ListText.{has_unknown};
+ghost use Rattle.filterset_listing.specs.Listing.{IsBinaryPicks, Picked, picked_by, tests_of, unknown_by, unknown_of};
+ghost use Rattle.filterset_listing.specs.Overrides.{AreLaid, AreTold};
+ghost use Rattle.filterset_listing.specs.declared.groups.GroupOverride as declared;
 
 pub mod json;
 pub mod text;
 
-use crate::asking::{is_no, picks};
+use crate::asking::{is_no, query_of};
 use crate::binary::AskedBinary;
-use crate::global::GlobalLookup;
-use filterset_expression::{BinaryQuery, CompiledExpr, EvalContext, FlatExpr};
+use crate::groups::{
+    FlatOverride, GroupOverride, TestAnswer, ToldOverride, answer, lay_out, overrides_for,
+    told_overrides,
+};
+use filterset_expression::{CompiledExpr, EvalContext, FlatExpr};
 use filterset_graph::TestCaseName;
 use std::alloc::{AllocError, Global};
 
+/// A test that a filterset picks in one group that the test may be in, and not in another.
+#[derive(Clone, Copy, Debug)]
+pub struct UnknownTest<'s, 'g> {
+    pub test: &'s TestCaseName,
+    /// The path of the override that it hangs on: the first one that picks the test and whose platforms are unknown.
+    pub path: &'g str,
+}
+
 /// The tests of a binary that a filterset picks.
 #[derive(Debug, Drop)]
-pub struct BinaryPicks<'s> {
+pub struct BinaryPicks<'s, 'g> {
     pub binary: AskedBinary<'s>,
     /// Whether the filterset picks none of the binary's tests, whatever their names are, so that it was not asked about
     /// them.
     pub is_left_out: bool,
     /// The tests that the filterset picks, in the order of the list.
     pub tests: Vec<&'s TestCaseName>,
+    /// The tests whose answer is unknown, in the order of the list.
+    pub unknown: Vec<UnknownTest<'s, 'g>>,
 }
 
-/// Adds a test if `is_picked`.
-fn push_if<'s>(
-    tests: &mut Vec<&'s TestCaseName>,
-    test: &'s TestCaseName,
-    is_picked: bool,
-) -> Result<(), AllocError>
-    ensures { OnOk result (map (λ t. t.now) tests.new.items
-        ≡ map (λ t. t.now) tests.old.items ++ one_of is_picked test.entry.now) }
-{
-    if is_picked {
-        tests.push(test)?;
+impl<'s, 'g> BinaryPicks<'s, 'g> {
+    /// Lists a test by the answer about it.
+    fn push(&mut self, test: &'s TestCaseName, answer: TestAnswer<'g>) -> Result<(), AllocError>
+        ensures binary { self.new.binary ≡ self.old.binary }
+        ensures is_left_out { self.new.is_left_out ≡ self.old.is_left_out }
+        ensures tests { OnOk result (tests_of self.new ≡ tests_of self.old ++ picked_by answer.entry test.entry.now) }
+        ensures unknown { OnOk result
+            (unknown_of self.new ≡ unknown_of self.old ++ unknown_by answer.entry test.entry.now) }
+    {
+        match answer {
+            TestAnswer::Known(true) => self.tests.push(test)?,
+            TestAnswer::Known(false) => {}
+            TestAnswer::Unknown(path) => self.unknown.push(UnknownTest { test, path })?,
+        }
+        Ok(())
     }
-    Ok(())
 }
 
-/// Returns the tests that the filterset picks, in their order, where `binary_answer` is its answer about their binary.
-fn pick_tests<'s>(
+/// Returns the tests of a binary that the filterset picks, where `binary_answer` is its answer about the binary, and `rows`
+/// are the overrides that may apply to tests of it.
+fn pick_tests<'s, 'g>(
     alloc: Global,
     flat: &FlatExpr<'_>,
-    query: &BinaryQuery<'_>,
+    rows: &[ToldOverride<'_, 'g, '_>],
     binary_answer: Option<bool>,
-    tests: &'s [TestCaseName],
-) -> Result<Vec<&'s TestCaseName>, AllocError>
-    requires { IsTold flat.now query.now binary_answer }
-    ensures { IfOk result (λ picked. (expr default : CompiledExpr) → IsFlat flat.now expr default
-        → Picked (Tells (ExprPicks default expr) query.now) tests.now (map (λ t. t.now) picked.items)) }
+    binary: &AskedBinary<'s>,
+) -> Result<BinaryPicks<'s, 'g>, AllocError>
+    requires { IsTold flat.now binary.now.query binary_answer }
+    ensures { IfOk result (λ picks. (picks.binary ≡ binary.now) × (picks.is_left_out ≡ false)
+        × ((expr default : CompiledExpr) (overrides : List declared.GroupOverride)
+        → IsFlat flat.now expr default → AreTold default overrides binary.now.query rows.now
+        → Picked (Says default overrides (ExprPicks default expr) binary.now.query) binary.now.tests.now
+        (tests_of picks) (unknown_of picks))) }
 {
-    let lookup = GlobalLookup;
-    let mut picked = Vec::new(alloc);
-    for test in tests {
-        let is_picked = picks(alloc, flat, &lookup, query, binary_answer, test)?;
-        push_if(&mut picked, test, is_picked)?;
+    let mut picks = BinaryPicks {
+        binary: *binary,
+        is_left_out: false,
+        tests: Vec::new(alloc),
+        unknown: Vec::new(alloc),
+    };
+    for test in binary.tests {
+        let query = query_of(&binary.query, test);
+        let answer = answer(alloc, flat, rows, binary_answer, &query)?;
+        picks.push(test, answer)?;
     }
-    Ok(picked)
+    Ok(picks)
 }
 
 /// Returns the tests of a binary that the filterset picks.
-fn picks_of<'s>(
+fn picks_of<'s, 'g>(
     alloc: Global,
     flat: &FlatExpr<'_>,
+    overrides: &[FlatOverride<'g, '_>],
     binary: &AskedBinary<'s>,
-) -> Result<BinaryPicks<'s>, AllocError>
-    ensures { IfOk result (λ picks. (expr default : CompiledExpr) → IsFlat flat.now expr default
-        → IsBinaryPicks (ExprPicks default expr) (ExprCanPick default expr) binary.now picks) }
+) -> Result<BinaryPicks<'s, 'g>, AllocError>
+    ensures { IfOk result (λ picks. (expr default : CompiledExpr) (given : List declared.GroupOverride)
+        → IsFlat flat.now expr default → AreLaid default given overrides.now
+        → IsBinaryPicks (Says default given (ExprPicks default expr)) (ExprCanPick default expr) binary.now picks) }
 {
     let binary_answer = flat.matches_binary(alloc, &binary.query)?;
     if is_no(binary_answer) {
@@ -83,52 +114,65 @@ fn picks_of<'s>(
             binary: *binary,
             is_left_out: true,
             tests: Vec::new(alloc),
+            unknown: Vec::new(alloc),
         });
     }
-    Ok(BinaryPicks {
-        binary: *binary,
-        is_left_out: false,
-        tests: pick_tests(alloc, flat, &binary.query, binary_answer, binary.tests)?,
-    })
+    let rows = told_overrides(alloc, overrides, &binary.query)?;
+    pick_tests(alloc, flat, &rows, binary_answer, binary)
 }
 
 /// Returns the tests of each binary that the filterset picks.
-fn all_picks_of<'s>(
+fn all_picks_of<'s, 'g>(
     alloc: Global,
     flat: &FlatExpr<'_>,
+    overrides: &[FlatOverride<'g, '_>],
     binaries: &[AskedBinary<'s>],
-) -> Result<Vec<BinaryPicks<'s>>, AllocError>
-    ensures { IfOk result (λ all. (expr default : CompiledExpr) → IsFlat flat.now expr default
-        → AllZip (IsBinaryPicks (ExprPicks default expr) (ExprCanPick default expr)) binaries.now all.items) }
+) -> Result<Vec<BinaryPicks<'s, 'g>>, AllocError>
+    ensures { IfOk result (λ all. (expr default : CompiledExpr) (given : List declared.GroupOverride)
+        → IsFlat flat.now expr default → AreLaid default given overrides.now
+        → AllZip (IsBinaryPicks (Says default given (ExprPicks default expr)) (ExprCanPick default expr))
+        binaries.now all.items) }
 {
     let mut all = Vec::with_capacity(alloc, binaries.len())?;
     for binary in binaries {
-        all.push(picks_of(alloc, flat, binary)?)?;
+        all.push(picks_of(alloc, flat, overrides, binary)?)?;
     }
     Ok(all)
 }
 
-/// Returns the tests of each binary that the filterset picks, in the order of the list. Every test is in the group
-/// `@global`.
+/// Returns the tests of each binary that the filterset picks, and the tests whose answer is unknown, in the order of the
+/// list. The overrides say in which groups tests are. Without overrides every test is in the group `@global`.
 ///
-/// The filterset is asked about a binary first. If that decides the binary, it is asked about none of the tests.
+/// The filterset is asked about a binary first. If that decides the binary, it is asked about none of the tests. Overrides
+/// are asked only if the filterset has a `group` predicate.
 ///
 /// Returns an error only if out of memory.
-pub fn list<'s>(
+pub fn list<'s, 'g>(
     alloc: Global,
     expr: &CompiledExpr,
     context: &EvalContext<'_>,
+    overrides: &[GroupOverride<'g>],
     binaries: &[AskedBinary<'s>],
-) -> Result<Vec<BinaryPicks<'s>>, AllocError>
+) -> Result<Vec<BinaryPicks<'s, 'g>>, AllocError>
     ensures picks { let default = default_of context.now in IfOk result (λ all.
-        AllZip (IsBinaryPicks (ExprPicks default expr.now) (ExprCanPick default expr.now)) binaries.now all.items) }
+        AllZip (IsBinaryPicks (Says default overrides.now (ExprPicks default expr.now)) (ExprCanPick default expr.now))
+        binaries.now all.items) }
 
     // If the expression is a compiled tree, exactly those tests are picked that the tree picks.
     ensures meaning { let default = default_of context.now in IfOk result (λ all. (packages : List PackageMetadata)
         (tree : Tree SourceSpan) → IsCompiled packages tree expr.now
-        → AllZip (IsBinaryPicks (TreePicks packages default tree) (TreeCanPick packages default tree))
-        binaries.now all.items) }
+        → AllZip (IsBinaryPicks (Says default overrides.now (TreePicks packages default tree))
+        (TreeCanPick packages default tree)) binaries.now all.items) }
 {
     let flat = FlatExpr::new(alloc, expr, context)?;
-    all_picks_of(alloc, &flat, binaries)
+    let everything = CompiledExpr::ALL;
+    let laid = lay_out(alloc, overrides_for(&flat, overrides), &everything, context)?;
+    all_picks_of(alloc, &flat, &laid, binaries)
+}
+
+/// Returns whether the answer about a test is unknown.
+pub fn lists_unknown(all: &[BinaryPicks<'_, '_>]) -> bool
+    ensures { result ≡ list_any has_unknown all.now }
+{
+    all.iter().any(|picks| picks.has_unknown())
 }

@@ -1,5 +1,5 @@
 //! The values of predicates.
-ghost use Rattle.std.specs.Prelude.{◌≡◌, IfOk, List};
+ghost use Rattle.std.specs.Prelude.{◌≡◌, IfOk, List, codes};
 ghost use Rattle.filterset_faults.specs.declared.span.SourceSpan.{SourceSpan};
 ghost use Rattle.filterset_grammar.specs.Tree.{Tree};
 ghost use Rattle.filterset_graph.specs.declared.package.PackageMetadata.{PackageMetadata};
@@ -11,7 +11,7 @@ ghost use Rattle.filterset_expression.specs.declared.expression.CompiledExpr as 
 ghost use Rattle.filterset_listing.specs.Values.{HasValue};
 
 use crate::explaining::candidate::Candidate;
-use crate::global::GlobalLookup;
+use crate::lookup::OneGroup;
 use filterset_expression::{CompiledExpr, EvalContext, FlatExpr};
 use filterset_graph::PackageGraph;
 use std::alloc::{AllocError, Global};
@@ -44,10 +44,10 @@ impl<'q, 't> Inquiry<'q, 't> {
         &self,
         alloc: Global,
         flat: &FlatExpr<'_>,
-        lookup: &GlobalLookup,
+        lookup: &OneGroup<'_>,
     ) -> Result<Option<bool>, AllocError>
         ensures { IfOk result (λ value. (packages : List PackageMetadata) (e : Tree SourceSpan)
-            (default : declared.CompiledExpr) → IsFlatOfTree flat.now packages e default
+            (default : declared.CompiledExpr) → lookup.now.group.now ≡ codes "@global" → IsFlatOfTree flat.now packages e default
             → HasValue self.now.candidate packages default e value) }
     {
         match &self.candidate {
@@ -69,6 +69,6 @@ impl<'q, 't> Inquiry<'q, 't> {
             → HasValue self.now.candidate packages (default_of self.now.context) e value) }
     {
         let flat = FlatExpr::new(alloc, expr, self.context_of(expr))?;
-        self.ask(alloc, &flat, &GlobalLookup)
+        self.ask(alloc, &flat, &OneGroup::GLOBAL)
     }
 }

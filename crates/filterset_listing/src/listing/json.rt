@@ -1,18 +1,21 @@
 //! The tests of a list that a filterset picks, in the shape in which nextest wrote the list.
-ghost use Rattle.std.specs.Prelude.{◌≡◌, IfErr, IfOk, IsTrue, List, None, OnOk, codes, drop, false, map, string_bytes};
+ghost use Rattle.std.specs.Prelude.{◌≡◌, IfErr, IfOk, IsTrue, List, None, OnOk, codes, drop, false, map, string_bytes, take};
 ghost use Rattle.std.specs.BTreeMap.{insert_entry};
+ghost use Rattle.std.specs.List.{flat_map};
 ghost use Rattle.std.specs.String.{string_cmp};
 ghost use Rattle.serde_json.specs.Data.{Data, object, put};
 ghost use Rattle.serde_json.specs.Find.{as_object};
 ghost use Rattle.serde_json.specs.View.{members_view, view};
 ghost use Rattle.filterset_listing.specs.Asking.{Text};
-ghost use Rattle.filterset_listing.specs.ListJson.{AreNames, IsListJson, MarksAt, MarksList, MarksObject, MarksSuite, MarksSuites, MarksTests, first_tests, match_data};
+ghost use Rattle.filterset_listing.specs.ListJson.{AreNames, ArePaths, IsListJson, IsMarked, MarksAt, MarksList, MarksObject, MarksSuite, MarksSuites, MarksTests, match_data};
+ghost use Rattle.filterset_listing.specs.Listing.{tests_of, unknown_of};
 
-use crate::listing::BinaryPicks;
+use crate::groups::TestAnswer;
+use crate::listing::{BinaryPicks, UnknownTest};
 use filterset_graph::TestCaseName;
 use serde_json::{Map, Value, json};
 use std::alloc::{AllocError, Global};
-use std::collections::BTreeSet;
+use std::collections::{BTreeMap, BTreeSet};
 
 /// A change of a JSON value that marks each test in it as picked or not.
 trait Mark {
@@ -84,44 +87,64 @@ fn mark_at<M: Mark>(
 }
 
 /// Returns what nextest writes of a test that is picked or not.
-fn match_value(alloc: Global, is_picked: bool) -> Result<Value, AllocError>
-    ensures { IfOk result (λ value. view value ≡ match_data is_picked) }
+fn match_value(alloc: Global, answer: TestAnswer<'_>) -> Result<Value, AllocError>
+    ensures { IfOk result (λ value. view value ≡ match_data answer.entry) }
 {
-    if is_picked {
-        json!(in alloc; {"status": "matches"})
-    } else {
-        json!(in alloc; {"reason": "expression", "status": "mismatch"})
+    match answer {
+        TestAnswer::Known(true) => json!(in alloc; {"status": "matches"}),
+        TestAnswer::Known(false) => json!(in alloc; {"reason": "expression", "status": "mismatch"}),
+        TestAnswer::Unknown(path) => {
+            let reason = format!(in alloc; "platform of {path}")?;
+            json!(in alloc; {"reason": reason, "status": "unknown"})
+        }
     }
 }
 
 /// Marks a test as picked or not.
-fn mark_test(alloc: Global, test: Value, is_picked: bool) -> Result<Value, AllocError>
+fn mark_test(alloc: Global, test: Value, answer: TestAnswer<'_>) -> Result<Value, AllocError>
     ensures { IfOk result (λ marked. MarksObject (λ old new. new
-        ≡ put (codes "filter-match") (match_data is_picked) old) (view test) (view marked)) }
+        ≡ put (codes "filter-match") (match_data answer.entry) old) (view test) (view marked)) }
 {
     match members_of(test) {
         Ok(mut members) => {
             let key = String::from_str(alloc, "filter-match")?;
-            put_in(&mut members, key, match_value(alloc, is_picked)?)?;
+            put_in(&mut members, key, match_value(alloc, answer)?)?;
             Ok(Value::Object(members))
         }
         Err(other) => Ok(other),
     }
 }
 
-/// Marks each test as picked if its name is one of `names`.
+/// Returns the answer about the test with a name, by the names of the picked tests and the paths of the unknown ones.
+fn answer_of<'p>(
+    picked: &BTreeSet<&str>,
+    unknown: &BTreeMap<&str, &'p str>,
+    name: &str,
+) -> TestAnswer<'p>
+    ensures { (tests : List Text) (others : List (Text × Text)) → AreNames tests picked.now → ArePaths others unknown.now
+        → IsMarked tests others name.now result }
+{
+    match unknown.get(name) {
+        Some(path) => TestAnswer::Unknown(*path),
+        None => TestAnswer::Known(picked.contains(name)),
+    }
+}
+
+/// Marks each test by its name.
 fn mark_tests(
     alloc: Global,
     tests: Map<String, Value>,
-    names: &BTreeSet<&str>,
+    picked: &BTreeSet<&str>,
+    unknown: &BTreeMap<&str, &str>,
 ) -> Result<Map<String, Value>, AllocError>
-    ensures { IfOk result (λ marked. (picked : List Text) → AreNames picked names.now
-        → MarksTests picked (members_view tests.entries) (members_view marked.entries)) }
+    ensures { IfOk result (λ marked. (names : List Text) (paths : List (Text × Text)) → AreNames names picked.now
+        → ArePaths paths unknown.now
+        → MarksTests names paths (members_view tests.entries) (members_view marked.entries)) }
 {
     let mut marked = Map::new(alloc);
     for (name, test) in tests {
-        let is_picked = names.contains(name.as_str());
-        let test = mark_test(alloc, test, is_picked)?;
+        let answer = answer_of(picked, unknown, name.as_str());
+        let test = mark_test(alloc, test, answer)?;
         put_in(&mut marked, name, test)?;
     }
     Ok(marked)
@@ -138,36 +161,60 @@ fn names_of<'s>(alloc: Global, tests: &[&'s TestCaseName]) -> Result<BTreeSet<&'
     Ok(names)
 }
 
-/// The change that marks the tests of a binary: these are picked.
-#[derive(Clone, Copy)]
-struct PickedTests<'p, 's> {
-    tests: &'p [&'s TestCaseName],
+/// Collects the paths that unknown tests hang on, by the names of the tests.
+fn paths_of<'s, 'g>(
+    alloc: Global,
+    tests: &[UnknownTest<'s, 'g>],
+) -> Result<BTreeMap<&'s str, &'g str>, AllocError>
+    ensures { IfOk result (ArePaths (map (λ u. (u.test.now, u.path.now)) tests.now)) }
+{
+    let mut paths = BTreeMap::new(alloc);
+    for unknown in tests {
+        let UnknownTest { test, path } = *unknown;
+        paths.insert(test.as_str(), path)?;
+    }
+    Ok(paths)
 }
 
-impl Mark for PickedTests<'_, '_> {
+/// The change that marks the tests of a binary: these are picked, and these are unknown.
+#[derive(Clone, Copy)]
+struct PickedTests<'p, 's, 'g> {
+    tests: &'p [&'s TestCaseName],
+    unknown: &'p [UnknownTest<'s, 'g>],
+}
+
+impl Mark for PickedTests<'_, '_, '_> {
     ghost use Rattle.std.specs.Prelude.{map};
     ghost use Rattle.filterset_listing.specs.ListJson.{MarksObject, MarksTests};
 
-    ghost marks = { λ m. MarksObject (MarksTests (map (λ t. t.now) m.tests.now)) };
+    ghost marks = { λ m. MarksObject (MarksTests (map (λ t. t.now) m.tests.now)
+        (map (λ u. (u.test.now, u.path.now)) m.unknown.now)) };
 
     fn mark(&self, alloc: Global, value: Value) -> Result<Value, AllocError> {
         match members_of(value) {
             Ok(tests) => {
-                let names = names_of(alloc, self.tests)?;
-                Ok(Value::Object(mark_tests(alloc, tests, &names)?))
+                let picked = names_of(alloc, self.tests)?;
+                let unknown = paths_of(alloc, self.unknown)?;
+                Ok(Value::Object(mark_tests(alloc, tests, &picked, &unknown)?))
             }
             Err(other) => Ok(other),
         }
     }
 }
 
-/// Marks the tests of a suite. Those in `tests` are picked.
-fn mark_suite(alloc: Global, suite: Value, tests: &[&TestCaseName]) -> Result<Value, AllocError>
-    ensures { IfOk result (λ marked. MarksSuite (map (λ t. t.now) tests.now) (view suite) (view marked)) }
+/// Marks the tests of a suite: those in `tests` are picked, and those in `unknown` are unknown.
+fn mark_suite(
+    alloc: Global,
+    suite: Value,
+    tests: &[&TestCaseName],
+    unknown: &[UnknownTest<'_, '_>],
+) -> Result<Value, AllocError>
+    ensures { IfOk result (λ marked. MarksSuite (map (λ t. t.now) tests.now)
+        (map (λ u. (u.test.now, u.path.now)) unknown.now) (view suite) (view marked)) }
 {
     match members_of(suite) {
         Ok(members) => {
-            let mark = PickedTests { tests };
+            let mark = PickedTests { tests, unknown };
             Ok(Value::Object(mark_at(alloc, members, "testcases", &mark)?))
         }
         Err(other) => Ok(other),
@@ -175,8 +222,8 @@ fn mark_suite(alloc: Global, suite: Value, tests: &[&TestCaseName]) -> Result<Va
 }
 
 /// Returns the tests that are picked of the first binary.
-fn first_tests<'p, 's>(all: &'p [BinaryPicks<'s>]) -> &'p [&'s TestCaseName]
-    ensures { map (λ t. t.now) result.now ≡ first_tests all.now }
+fn first_tests<'p, 's>(all: &'p [BinaryPicks<'s, '_>]) -> &'p [&'s TestCaseName]
+    ensures { map (λ t. t.now) result.now ≡ flat_map tests_of (take 1 all.now) }
 {
     match all {
         [] => &[],
@@ -184,8 +231,18 @@ fn first_tests<'p, 's>(all: &'p [BinaryPicks<'s>]) -> &'p [&'s TestCaseName]
     }
 }
 
+/// Returns the unknown tests of the first binary.
+fn first_unknown<'p, 's, 'g>(all: &'p [BinaryPicks<'s, 'g>]) -> &'p [UnknownTest<'s, 'g>]
+    ensures { map (λ u. (u.test.now, u.path.now)) result.now ≡ flat_map unknown_of (take 1 all.now) }
+{
+    match all {
+        [] => &[],
+        [picks, ..] => picks.unknown.as_slice(),
+    }
+}
+
 /// Returns the picks of the binaries after the first.
-fn other_picks<'p, 's>(all: &'p [BinaryPicks<'s>]) -> &'p [BinaryPicks<'s>]
+fn other_picks<'p, 's, 'g>(all: &'p [BinaryPicks<'s, 'g>]) -> &'p [BinaryPicks<'s, 'g>]
     ensures { result.now ≡ drop 1 all.now }
 {
     match all {
@@ -198,7 +255,7 @@ fn other_picks<'p, 's>(all: &'p [BinaryPicks<'s>]) -> &'p [BinaryPicks<'s>]
 fn mark_suites(
     alloc: Global,
     suites: Map<String, Value>,
-    all: &[BinaryPicks<'_>],
+    all: &[BinaryPicks<'_, '_>],
 ) -> Result<Map<String, Value>, AllocError>
     ensures { IfOk result (λ marked. MarksSuites all.now
         (members_view suites.entries) (members_view marked.entries)) }
@@ -206,7 +263,7 @@ fn mark_suites(
     let mut marked = Map::new(alloc);
     let mut left = all;
     for (id, suite) in suites {
-        let suite = mark_suite(alloc, suite, first_tests(left))?;
+        let suite = mark_suite(alloc, suite, first_tests(left), first_unknown(left))?;
         put_in(&mut marked, id, suite)?;
         left = other_picks(left);
     }
@@ -215,11 +272,11 @@ fn mark_suites(
 
 /// The change that marks the tests of a list's suites: these are picked.
 #[derive(Clone, Copy)]
-struct PickedSuites<'p, 's> {
-    all: &'p [BinaryPicks<'s>],
+struct PickedSuites<'p, 's, 'g> {
+    all: &'p [BinaryPicks<'s, 'g>],
 }
 
-impl Mark for PickedSuites<'_, '_> {
+impl Mark for PickedSuites<'_, '_, '_> {
     ghost use Rattle.filterset_listing.specs.ListJson.{MarksObject, MarksSuites};
 
     ghost marks = { λ m. MarksObject (MarksSuites m.all.now) };
@@ -233,7 +290,7 @@ impl Mark for PickedSuites<'_, '_> {
 }
 
 /// Marks the tests of a list.
-fn mark_list(alloc: Global, list: Value, all: &[BinaryPicks<'_>]) -> Result<Value, AllocError>
+fn mark_list(alloc: Global, list: Value, all: &[BinaryPicks<'_, '_>]) -> Result<Value, AllocError>
     ensures { IfOk result (λ marked. MarksList all.now (view list) (view marked)) }
 {
     match members_of(list) {
@@ -246,11 +303,16 @@ fn mark_list(alloc: Global, list: Value, all: &[BinaryPicks<'_>]) -> Result<Valu
 }
 
 /// Writes nextest's list as JSON, where each test has under `filter-match` whether it is picked:
-/// `{"status":"matches"}` or `{"reason":"expression","status":"mismatch"}`. All else is as nextest wrote it. The picks
-/// are those of the suites of the list, in the order of their ids.
+/// `{"status":"matches"}` or `{"reason":"expression","status":"mismatch"}`. If that is unknown, it is for example
+/// `{"reason":"platform of profile.ci.overrides[1]","status":"unknown"}`. All else is as nextest wrote it. The picks are
+/// those of the suites of the list, in the order of their ids.
 ///
 /// Returns an error only if out of memory.
-pub fn list_json(alloc: Global, list: Value, all: &[BinaryPicks<'_>]) -> Result<String, AllocError>
+pub fn list_json(
+    alloc: Global,
+    list: Value,
+    all: &[BinaryPicks<'_, '_>],
+) -> Result<String, AllocError>
     ensures { IfOk result (λ text. IsListJson all.now (view list) (string_bytes text)) }
 {
     mark_list(alloc, list, all)?.to_string(alloc)

@@ -17,7 +17,7 @@ returns c =
     let query = c.query_of-query.result in
     let told = c.matches_test_of_told.result in
     let says = subst (λ (lookup : Lookup). IfOk told (λ answer. (expr default : CompiledExpr) → IsFlat flat expr default → IsTrue answer ↔ Holds expr query default lookup))
-    (reads-GroupLookup-matches_group-1-1 c.args.lookup) c.matches_test_of_told.ensures.holds in
+    (reads-GroupLookup-matches_group-1-1 _ c.args.lookup) c.matches_test_of_told.ensures.holds in
     IfOk-weaker told _ _ (λ answer holds expr default is. record {
       query = query;
       of_binary = c.query_of-query.ensures.binary;

@@ -1,12 +1,16 @@
-use Rattle.std.proofs.Common.{map, take}
+use Rattle.std.proofs.Common.{◌≡◌, List, false, take}
 use Rattle.filterset_expression.specs.FlatExpressions.{IsFlat}
 use Rattle.filterset_expression.specs.declared.expression.CompiledExpr.{CompiledExpr}
-use Rattle.filterset_listing.specs.Asking.{ExprPicks, Tells}
-use Rattle.filterset_listing.specs.Listing.{Picked}
+use Rattle.filterset_listing.specs.Asking.{ExprPicks}
+use Rattle.filterset_listing.specs.Groups.{Says}
+use Rattle.filterset_listing.specs.Listing.{Picked, tests_of, unknown_of}
+use Rattle.filterset_listing.specs.Overrides.{AreTold}
+use Rattle.filterset_listing.specs.declared.groups.GroupOverride.{GroupOverride}
 use Rattle.filterset_listing.proofs.listing.pick_tests.Given as goal
 
 -- those of the tests so far are picked
 abbrev pub invariant-loop-test : goal.invariant-loop-test
 invariant-loop-test l =
-    (expr default : CompiledExpr) → IsFlat l.flat expr default
-    → Picked (Tells (ExprPicks default expr) l.query) (take l.test-index l.tests) (map (λ t. t.now) l.picked.items)
+    (l.picks.binary ≡ l.binary) × (l.picks.is_left_out ≡ false)
+    × ((expr default : CompiledExpr) (overrides : List GroupOverride) → IsFlat l.flat expr default → AreTold default overrides l.binary.query l.rows
+    → Picked (Says default overrides (ExprPicks default expr) l.binary.query) (take l.test-index l.binary.tests.now) (tests_of l.picks) (unknown_of l.picks))

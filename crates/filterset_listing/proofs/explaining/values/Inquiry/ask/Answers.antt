@@ -1,4 +1,4 @@
-use Rattle.std.proofs.Common.{◌↔◌, ◌≡◌, Bool, IsTrue, List, Option, Some, None, refl, subst, sym}
+use Rattle.std.proofs.Common.{◌↔◌, ◌≡◌, Bool, IsTrue, List, Option, Some, None, ap, refl, subst, sym, ◌∙◌}
 use Rattle.filterset_faults.specs.declared.span.SourceSpan.{SourceSpan}
 use Rattle.filterset_graph.specs.declared.package.PackageMetadata.{PackageMetadata}
 use Rattle.filterset_grammar.specs.Tree.{Tree}
@@ -9,6 +9,7 @@ use Rattle.filterset_expression.specs.Meaning.{Meaning}
 use Rattle.filterset_expression.specs.declared.expression.CompiledExpr.{CompiledExpr}
 use Rattle.filterset_expression.specs.declared.flat.FlatExpr.{FlatExpr}
 use Rattle.filterset_expression.specs.declared.query.BinaryQuery.{BinaryQuery}
+use Rattle.filterset_listing.specs.Asking.{in_group}
 use Rattle.filterset_listing.specs.Values.{HasValue}
 use Rattle.filterset_listing.specs.declared.explaining.candidate.Candidate.TheVariants.{Binary}
 use Rattle.filterset_listing.proofs.explaining.values.Inquiry.ask.OwnLists.{reads-GroupLookup-matches_group-1-1}
@@ -23,12 +24,12 @@ value_of query flat (Some b) definite both packages e default of_tree = (definit
 value_of query flat None definite both packages e default of_tree = (both packages e default of_tree).0 refl
 
 pub returns-in_ok-answer-in-Binary : goal.returns-in_ok-answer-in-Binary
-returns-in_ok-answer-in-Binary c packages e default of_tree =
+returns-in_ok-answer-in-Binary c packages e default global of_tree =
     subst (λ s. HasValue s packages default e c.in_ok-answer-in-Binary.answer) (sym c.in-Binary.is)
     (value_of c.in-Binary.query c.args.flat.now c.in_ok-answer-in-Binary.answer c.in_ok-answer-in-Binary.ensures.meaning c.in_ok-answer-in-Binary.ensures.unknown packages e default of_tree)
 
 pub returns-in_ok-holds-in-Test : goal.returns-in_ok-holds-in-Test
-returns-in_ok-holds-in-Test c packages e default of_tree =
+returns-in_ok-holds-in-Test c packages e default global of_tree =
     let says = c.in_ok-holds-in-Test.ensures.meaning packages e default of_tree in
-    let means = subst (λ (lookup : Lookup). IsTrue c.in_ok-holds-in-Test.holds ↔ Meaning e packages c.in-Test.query default lookup) (reads-GroupLookup-matches_group-1-1 c.args.lookup) says in
+    let means = subst (λ (lookup : Lookup). IsTrue c.in_ok-holds-in-Test.holds ↔ Meaning e packages c.in-Test.query default lookup) (reads-GroupLookup-matches_group-1-1 _ c.args.lookup ∙ ap in_group global) says in
     subst (λ s. HasValue s packages default e (Some c.in_ok-holds-in-Test.holds)) (sym c.in-Test.is) means
