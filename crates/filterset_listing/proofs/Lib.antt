@@ -1,8 +1,10 @@
 pub mod GroupLemmas
 pub mod WalkLemmas
+pub mod AnswerLemmas
 pub mod ListingLemmas
 pub mod MeaningLemmas
 pub mod PicksLemmas
+pub mod DividesLemmas
 pub mod PickerLemmas
 pub mod DifferenceLemmas
 pub mod UnionLemmas
@@ -12,3 +14,5 @@ pub mod Defaults
 pub mod NamedLemmas
 pub mod ValueLemmas
 pub mod NodeLemmas
+pub mod PossibleLemmas
+pub mod AmongLemmas

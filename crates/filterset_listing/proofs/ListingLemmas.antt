@@ -1,17 +1,16 @@
 -- Tests that are picked one after the other.
-use Rattle.std.proofs.Common.{◌≡◌, ℕ, ◌+◌, ◌<◌, Bool, true, false, List, [], ◌∷◌, ◌++◌, length, take, get_or, ◌∙◌, sym, ap, append_assoc, refl, subst}
-use Rattle.std.specs.Prelude.{◌↔◌, ◌&&◌, not, Option, Some, None}
+use Rattle.std.proofs.Common.{◌≡◌, ℕ, ◌+◌, ◌<◌, Bool, true, false, List, [], ◌∷◌, ◌++◌, length, take, get_or, ◌∙◌, sym, ap, refl, subst}
+use Rattle.std.specs.Prelude.{◌↔◌, Option, Some, None}
 use Rattle.std.specs.List.{AllZip}
 use Rattle.std.proofs.lemmas.Bool.{false≢true}
-use Rattle.std.proofs.lemmas.List.{append-nil, take_more}
+use Rattle.std.proofs.lemmas.List.{take_more}
 use Rattle.filterset_expression.specs.Expression.{IsDefinite, IsUndecided}
 use Rattle.filterset_expression.specs.declared.expression.CompiledExpr.{CompiledExpr}
 use Rattle.filterset_expression.specs.declared.query.BinaryQuery.{BinaryQuery}
 use Rattle.filterset_expression.proofs.LeafAnswers.{definite_of_test}
 use Rattle.filterset_listing.specs.Asking.{ExprCanPick, ExprPicks, Text, in_group, is_no}
-use Rattle.filterset_listing.specs.Comparing.{Divides}
 use Rattle.filterset_listing.specs.Groups.{Says}
-use Rattle.filterset_listing.specs.Listing.{Picked, no_tests, one_of, one_passed, one_picked, one_unknown, picked_by, unknown_by}
+use Rattle.filterset_listing.specs.Listing.{Picked, no_tests, one_passed, one_picked, one_unknown, picked_by, unknown_by}
 use Rattle.filterset_listing.specs.declared.groups.GroupOverride.{GroupOverride}
 use Rattle.filterset_listing.specs.declared.groups.TestAnswer.{TestAnswer}
 use Rattle.filterset_listing.specs.declared.groups.TestAnswer.TheVariants.{Known, Unknown}
@@ -61,34 +60,3 @@ Picked-push Says _ test _ _ (Unknown path) no_tests says = one_unknown says no_t
 Picked-push Says _ test _ _ answer (one_picked {test = u} {tests} {picked} {unknown} first are) says = one_picked first (Picked-push Says tests test picked unknown answer are says)
 Picked-push Says _ test _ _ answer (one_passed {test = u} {tests} {picked} {unknown} first are) says = one_passed first (Picked-push Says tests test picked unknown answer are says)
 Picked-push Says _ test _ _ answer (one_unknown {test = u} {path} {tests} {picked} {unknown} first are) says = one_unknown first (Picked-push Says tests test picked unknown answer are says)
-
--- the same where they are divide
-pub Divides-push : (One Other : Text → Bool → Type 0) (tests : List Text) (test : Text) (first second both : List Text) (x y : Bool)
-    → Divides One Other tests first second both → One test x → Other test y
-    → Divides One Other (tests ++ test ∷ []) (first ++ one_of (x && not y) test) (second ++ one_of (y && not x) test) (both ++ one_of (x && y) test)
-Divides-push One Other [] test first second both x y (no_first, no_second, none) one other = (
-  x,
-  y,
-  [],
-  [],
-  [],
-  one,
-  other,
-  ap (λ t. t ++ one_of (x && not y) test) no_first ∙ sym (append-nil (one_of (x && not y) test)),
-  ap (λ t. t ++ one_of (y && not x) test) no_second ∙ sym (append-nil (one_of (y && not x) test)),
-  ap (λ t. t ++ one_of (x && y) test) none ∙ sym (append-nil (one_of (x && y) test)),
-  (refl, refl, refl),
-)
-Divides-push One Other (u ∷ tests) test first second both x y (a, b, f, s, t, is_one, is_other, firsts, seconds, boths, are) one other = (
-  a,
-  b,
-  f ++ one_of (x && not y) test,
-  s ++ one_of (y && not x) test,
-  t ++ one_of (x && y) test,
-  is_one,
-  is_other,
-  ap (λ ts. ts ++ one_of (x && not y) test) firsts ∙ append_assoc (one_of (a && not b) u) f (one_of (x && not y) test),
-  ap (λ ts. ts ++ one_of (y && not x) test) seconds ∙ append_assoc (one_of (b && not a) u) s (one_of (y && not x) test),
-  ap (λ ts. ts ++ one_of (x && y) test) boths ∙ append_assoc (one_of (a && b) u) t (one_of (x && y) test),
-  Divides-push One Other tests test f s t x y are one other,
-)

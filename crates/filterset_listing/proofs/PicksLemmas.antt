@@ -1,12 +1,11 @@
--- Filtersets that answer alike have the same picks, and their tests are divided alike.
+-- Filtersets that answer alike have the same picks.
 use Rattle.std.proofs.Common.{◌≡◌, ◌↔◌, Bool, true, false, List, [], ◌∷◌}
 use Rattle.std.specs.Prelude.{MatchBool}
 use Rattle.std.specs.List.{AllZip}
 use Rattle.filterset_expression.specs.declared.expression.CompiledExpr.{CompiledExpr}
 use Rattle.filterset_expression.specs.declared.query.BinaryQuery.{BinaryQuery}
 use Rattle.filterset_expression.specs.declared.query.TestQuery.{TestQuery}
-use Rattle.filterset_listing.specs.Asking.{Tells, Text}
-use Rattle.filterset_listing.specs.Comparing.{Divides}
+use Rattle.filterset_listing.specs.Asking.{Text}
 use Rattle.filterset_listing.specs.Groups.{IsAnswer, Says}
 use Rattle.filterset_listing.specs.Listing.{IsBinaryPicks, Picked, no_tests, one_passed, one_picked, one_unknown, tests_of, unknown_of}
 use Rattle.filterset_listing.specs.declared.binary.AskedBinary.{AskedBinary}
@@ -21,15 +20,6 @@ AllZip-weaker R S gives [] [] all = tt
 AllZip-weaker R S gives [] (y ∷ ys) all = absurd all
 AllZip-weaker R S gives (x ∷ xs) [] all = absurd all
 AllZip-weaker R S gives (x ∷ xs) (y ∷ ys) all = (gives x y all.0, AllZip-weaker R S gives xs ys all.1)
-
-module _ (One Other : TestQuery → Type 0) (same : (test : TestQuery) → One test ↔ Other test) (binary : BinaryQuery) where
-  pub tells_alike : (test : Text) (answer : Bool) → Tells One binary test answer → Tells Other binary test answer
-  tells_alike test answer tells = record {
-    query = tells.query;
-    of_binary = tells.of_binary;
-    of_test = tells.of_test;
-    says = (λ yes. (same tells.query).0 (tells.says.0 yes), λ picks. tells.says.1 ((same tells.query).1 picks));
-  }
 
 -- an answer is that of what is so alike in each group
 pub answer_of_alike : (default : CompiledExpr) (overrides : List GroupOverride) (test : TestQuery) (One Other : Text → Type 0) → ((group : Text) → One group ↔ Other group) → (answer : TestAnswer)
@@ -74,9 +64,3 @@ pub all_picks_alike : (default : CompiledExpr) (overrides : List GroupOverride) 
     → AllZip (IsBinaryPicks (Says default overrides One) CanOne) binaries all → AllZip (IsBinaryPicks (Says default overrides Other) CanOther) binaries all
 all_picks_alike default overrides One Other CanOne CanOther same =
     all_answers_alike (Says default overrides One) (Says default overrides Other) CanOne CanOther (says_alike default overrides One Other same)
-
-module _ (A B C D : Text → Bool → Type 0) (first : (test : Text) (answer : Bool) → A test answer → B test answer) (second : (test : Text) (answer : Bool) → C test answer → D test answer) where
-  pub divides_alike : (tests x y z : List Text) → Divides A C tests x y z → Divides B D tests x y z
-  divides_alike [] x y z none = none
-  divides_alike (test ∷ tests) x y z (a, b, f, s, t, one, other, firsts, seconds, boths, are) =
-      (a, b, f, s, t, first test a one, second test b other, firsts, seconds, boths, divides_alike tests f s t are)

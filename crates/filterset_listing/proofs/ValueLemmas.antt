@@ -20,10 +20,10 @@ use Rattle.filterset_expression.specs.declared.query.BinaryQuery.{BinaryQuery}
 use Rattle.filterset_expression.proofs.Connectives.{connected_decides}
 use Rattle.filterset_expression.proofs.Folding.{decides_not}
 use Rattle.filterset_expression.proofs.Operands.{Takes, compound_takes, negation_takes}
-use Rattle.filterset_listing.specs.Asking.{in_global}
+use Rattle.filterset_listing.specs.Asking.{in_group}
 use Rattle.filterset_listing.specs.Operands.{left_of, negated_by, right_of}
 use Rattle.filterset_listing.specs.NamedPackages.{NamesOf, NamesPackages, set_of, stands_for_packages}
-use Rattle.filterset_listing.specs.Values.{HasValue}
+use Rattle.filterset_listing.specs.Values.{HasValueIn}
 use Rattle.filterset_listing.specs.declared.explaining.candidate.Candidate.{Candidate}
 use Rattle.filterset_listing.specs.declared.explaining.candidate.Candidate.TheVariants.{Binary, Test}
 use Rattle.filterset_listing.specs.declared.explaining.packages.NamedPackages.{NamedPackages}
@@ -36,40 +36,40 @@ kleene_some Disjunction true q = refl
 kleene_some Disjunction false q = refl
 kleene_some ExclusiveDisjunction p q = refl
 
-module _ (packages : List PackageMetadata) (default : CompiledExpr) where
+module _ (group : Text) (packages : List PackageMetadata) (default : CompiledExpr) where
   abbrev Told : BinaryQuery → Formula (Leaf SourceSpan) → Option Bool → Type 0
   Told query f x = Takes is_either_of_test (EitherOfBinary packages query) (replaced (tree_leaf_with_default default) f) x
 
-  to_told : (query : BinaryQuery) (e : Tree SourceSpan) (x : Option Bool) → HasValue (Binary query) packages default e x → Told query (tree_formula e) x
+  to_told : (query : BinaryQuery) (e : Tree SourceSpan) (x : Option Bool) → HasValueIn group (Binary query) packages default e x → Told query (tree_formula e) x
   to_told query e (Some b) v = v
   to_told query e None v = v
 
-  from_told : (query : BinaryQuery) (e : Tree SourceSpan) (x : Option Bool) → Told query (tree_formula e) x → HasValue (Binary query) packages default e x
+  from_told : (query : BinaryQuery) (e : Tree SourceSpan) (x : Option Bool) → Told query (tree_formula e) x → HasValueIn group (Binary query) packages default e x
   from_told query e (Some b) v = v
   from_told query e None v = v
 
-  pub negation_value : (s : Candidate) (op : NotOperator) (e : Tree SourceSpan) (x : Option Bool) → HasValue s packages default e x → HasValue s packages default (Not op e) (kleene_not x)
+  pub negation_value : (s : Candidate) (op : NotOperator) (e : Tree SourceSpan) (x : Option Bool) → HasValueIn group s packages default e x → HasValueIn group s packages default (Not op e) (kleene_not x)
   negation_value (Binary query) op e x v =
       from_told query (Not op e) (kleene_not x) (negation_takes is_either_of_test (EitherOfBinary packages query) (tree_with_default default e) x (to_told query e x v))
   negation_value (Test query) op e (Some b) v = decides_not b _ v
   negation_value (Test query) op e None v = absurd v
 
   pub compound_value : (s : Candidate) (c : Connective) (t a b : Tree SourceSpan) (x y : Option Bool) → tree_formula t ≡ Compound c (tree_formula a) (tree_formula b)
-      → HasValue s packages default a x → HasValue s packages default b y → HasValue s packages default t (kleene c x y)
+      → HasValueIn group s packages default a x → HasValueIn group s packages default b y → HasValueIn group s packages default t (kleene c x y)
   compound_value (Binary query) c t a b x y is v w =
       from_told query t (kleene c x y) (subst (λ f. Told query f (kleene c x y)) (sym is) (compound_takes is_either_of_test (EitherOfBinary packages query) c (tree_with_default default a) (tree_with_default default b) x y (to_told query a x v) (to_told query b y w)))
   compound_value (Test query) c t a b (Some p) (Some q) is v w =
-      subst (λ z. HasValue (Test query) packages default t z) (sym (kleene_some c p q))
-      (subst (λ f. (IsTrue (connected c p q) ↔ (TrueWhere (MeansOfTest packages query default in_global) f))) (sym is) (connected_decides c p q _ _ v w))
+      subst (λ z. HasValueIn group (Test query) packages default t z) (sym (kleene_some c p q))
+      (subst (λ f. (IsTrue (connected c p q) ↔ (TrueWhere (MeansOfTest packages query default (in_group group)) f))) (sym is) (connected_decides c p q _ _ v w))
   compound_value (Test query) c t a b None y is v w = absurd v
   compound_value (Test query) c t a b (Some p) None is v w = absurd w
 
 -- parentheses have the value of what they hold
-pub parens_value : (packages : List PackageMetadata) (default : CompiledExpr) (s : Candidate) (e : Tree SourceSpan) (x : Option Bool) → HasValue s packages default e x → HasValue s packages default (Parens e) x
-parens_value packages default (Binary query) e (Some b) v = v
-parens_value packages default (Binary query) e None v = v
-parens_value packages default (Test query) e (Some b) v = v
-parens_value packages default (Test query) e None v = v
+pub parens_value : (group : Text) (packages : List PackageMetadata) (default : CompiledExpr) (s : Candidate) (e : Tree SourceSpan) (x : Option Bool) → HasValueIn group s packages default e x → HasValueIn group s packages default (Parens e) x
+parens_value group packages default (Binary query) e (Some b) v = v
+parens_value group packages default (Binary query) e None v = v
+parens_value group packages default (Test query) e (Some b) v = v
+parens_value group packages default (Test query) e None v = v
 
 -- the operands of formulas of one shape are of one shape
 pub operands_alike : {A B : Type 0} (R : A → B → Type 0) (c : Connective) (f g : Formula A) (h : Formula B) → SameShape R (Compound c f g) h → SameShape R f (left_of h) × SameShape R g (right_of h)

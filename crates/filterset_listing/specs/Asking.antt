@@ -1,5 +1,5 @@
 -- Which tests a filterset picks: by its compiled expression, and by its tree.
-use Rattle.std.specs.Prelude.{◌≡◌, ◌↔◌, ℕ, List, Bool, true, false, IsTrue, Option, Some, None, codes}
+use Rattle.std.specs.Prelude.{ℕ, List, Bool, true, false, Option, Some, None, codes}
 use Rattle.filterset_faults.specs.declared.span.SourceSpan.{SourceSpan}
 use Rattle.filterset_graph.specs.declared.package.PackageMetadata.{PackageMetadata}
 use Rattle.filterset_grammar.specs.Tree.{Tree}
@@ -44,10 +44,3 @@ TreePicks packages default tree test group = Meaning tree packages test default 
 -- it can pick a test of the binary: it is true under some answers to its `test` and `group` predicates
 abbrev pub TreeCanPick : List PackageMetadata → CompiledExpr → Tree SourceSpan → BinaryQuery → Type 0
 TreeCanPick packages default tree binary = PossibleOfTree tree packages binary default true
-
--- the answer says whether the test of the binary is picked
-pub record Tells (Picks : TestQuery → Type 0) (binary : BinaryQuery) (test : Text) (answer : Bool) : Type 0 where
-  pub query : TestQuery
-  pub of_binary : query.binary_query ≡ binary
-  pub of_test : query.test_name.now ≡ test
-  pub says : IsTrue answer ↔ Picks query

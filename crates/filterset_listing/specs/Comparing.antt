@@ -1,52 +1,62 @@
 -- How two filtersets differ on a list.
-use Rattle.std.specs.Prelude.{◌≡◌, ◌⊎◌, ◌&&◌, ◌++◌, All, Bool, true, false, not, List, [], ◌∷◌, Some, map}
+use Rattle.std.specs.Prelude.{◌≡◌, ◌↔◌, ◌⊎◌, ◌||◌, ◌++◌, Bool, true, false, not, IsTrue, List, [], ◌∷◌, Option, Some, is_none, map}
+use Rattle.std.specs.Borrow.{Bor}
 use Rattle.std.specs.List.{Any}
-use Rattle.filterset_expression.specs.declared.query.BinaryQuery.{BinaryQuery}
-use Rattle.filterset_listing.specs.Asking.{Tells, Text}
+use Rattle.filterset_listing.specs.Asking.{Text}
+use Rattle.filterset_listing.specs.Groups.{known_of}
 use Rattle.filterset_listing.specs.Listing.{one_of}
 use Rattle.filterset_listing.specs.Pickers.{Answers, Picker}
 use Rattle.filterset_listing.specs.declared.binary.AskedBinary.{AskedBinary}
+use Rattle.filterset_listing.specs.declared.groups.TestAnswer.{TestAnswer}
+use Rattle.filterset_listing.specs.declared.groups.TestAnswer.TheVariants as answers
+use Rattle.filterset_listing.specs.declared.groups.TestAnswer.TheVariants.{Known}
 use Rattle.filterset_listing.specs.declared.comparing.BinaryDifference.{BinaryDifference}
+use Rattle.filterset_listing.specs.declared.comparing.Part.{Part}
+use Rattle.filterset_listing.specs.declared.comparing.Part.TheVariants.{OnlyFirst, OnlySecond, Both, Unknown}
 
--- The tests are divided by which of two filtersets holds of them: those that only the first holds of, those that only the
--- second holds of, and those that both hold of; each once, and in their order.
-abbrev pub Divides :
-    (Text → Bool → Type 0) → (Text → Bool → Type 0) → List Text → List Text → List Text → List Text → Type 0
-Divides One Other [] first second both = (first ≡ []) × (second ≡ []) × (both ≡ [])
-Divides One Other (test ∷ tests) first second both =
-    (is_first : Bool) × (is_second : Bool) × (f : List Text) × (s : List Text) × (b : List Text)
-    × One test is_first × Other test is_second
-    × (first ≡ one_of (is_first && not is_second) test ++ f)
-    × (second ≡ one_of (is_second && not is_first) test ++ s)
-    × (both ≡ one_of (is_first && is_second) test ++ b)
-    × Divides One Other tests f s b
+-- whether the two filtersets' answers are of the part
+abbrev pub is_of : Part → Option Bool → Option Bool → Bool
+is_of OnlyFirst (Some true) (Some false) = true
+is_of OnlySecond (Some false) (Some true) = true
+is_of Both (Some true) (Some true) = true
+is_of Unknown first second = is_none first || is_none second
+is_of _ _ _ = false
+
+-- the tests of a part of a binary
+abbrev pub tests_in : Part → BinaryDifference → List Text
+tests_in OnlyFirst difference = map (λ t. t.now) difference.first.items
+tests_in OnlySecond difference = map (λ t. t.now) difference.second.items
+tests_in Both difference = map (λ t. t.now) difference.both.items
+tests_in Unknown difference = map (λ t. t.now) difference.unknown.items
+
+-- each part has the tests whose answers are of it, each once and in their order
+abbrev pub Divides : (Text → TestAnswer → Type 0) → (Text → TestAnswer → Type 0) → List Text → (Part → List Text) → Type 0
+Divides One Other [] parts = (part : Part) → parts part ≡ []
+Divides One Other (test ∷ tests) parts = (x : TestAnswer) × (y : TestAnswer) × (rest : Part → List Text)
+    × One test x × Other test y × ((part : Part) → parts part ≡ one_of (is_of part (known_of x) (known_of y)) test ++ rest part)
+    × Divides One Other tests rest
 
 -- how the two filtersets differ on the binary
 abbrev pub IsBinaryDifference : Picker → Picker → AskedBinary → BinaryDifference → Type 0
-IsBinaryDifference one other binary difference = (difference.binary ≡ binary)
-    × Answers one binary.query difference.first_answer × Answers other binary.query difference.second_answer
-    × Divides (Tells one.Picks binary.query) (Tells other.Picks binary.query) binary.tests.now
-    (map (λ t. t.now) difference.first.items) (map (λ t. t.now) difference.second.items)
-    (map (λ t. t.now) difference.both.items)
-
--- both decide the binary, and alike
-abbrev pub DecideAlike : Picker → Picker → BinaryQuery → Type 0
-DecideAlike one other binary = (value : Bool) × Answers one binary (Some value) × Answers other binary (Some value)
-
--- each test of the binary is picked by both or by neither, and if nextest skipped the binary, both decide it alike
-abbrev pub AgreeOn : Picker → Picker → AskedBinary → Type 0
-AgreeOn one other binary =
-    All (λ test. (answer : Bool) × Tells one.Picks binary.query test answer × Tells other.Picks binary.query test answer)
-    binary.tests.now × (binary.is_skipped ≡ true → DecideAlike one other binary.query)
+IsBinaryDifference one other binary d = (d.binary ≡ binary)
+    × Answers one binary.query d.first_answer × Answers other binary.query d.second_answer
+    × Divides (one.Says binary.query) (other.Says binary.query) binary.tests.now (λ part. tests_in part d)
 
 -- a test of the binary is picked by one of them alone, or nextest skipped the binary, and they do not decide it alike
 abbrev pub MayDifferOn : Picker → Picker → AskedBinary → Type 0
-MayDifferOn one other binary =
-    Any (λ test. (answer : Bool) × Tells one.Picks binary.query test answer
-    × Tells other.Picks binary.query test (not answer)) binary.tests.now
-    ⊎ ((binary.is_skipped ≡ true) × ¬ DecideAlike one other binary.query)
+MayDifferOn one other b =
+    Any (λ test. (x : Bool) × one.Says b.query test (Known x) × other.Says b.query test (Known (not x))) b.tests.now
+    ⊎ ((b.is_skipped ≡ true) × ((x : Bool) → ¬ (Answers one b.query (Some x) × Answers other b.query (Some x))))
 
 -- whether they may differ on one of the binaries
 abbrev pub TellsDifference : Picker → Picker → List AskedBinary → Bool → Type 0
-TellsDifference one other binaries true = Any (MayDifferOn one other) binaries
-TellsDifference one other binaries false = All (AgreeOn one other) binaries
+TellsDifference one other binaries answer = IsTrue answer ↔ Any (MayDifferOn one other) binaries
+
+-- a test of the binary is unknown to one of them, and hangs on the override at some path
+abbrev pub IsUnknownOn : Picker → Picker → AskedBinary → Type 0
+IsUnknownOn one other b = Any (λ test. (path : Bor Text)
+    × (one.Says b.query test (answers.Unknown path) ⊎ other.Says b.query test (answers.Unknown path))) b.tests.now
+
+-- whether a test of the binaries is unknown to one of them
+abbrev pub TellsUnknown : Picker → Picker → List AskedBinary → Bool → Type 0
+TellsUnknown one other binaries answer = IsTrue answer ↔ Any (IsUnknownOn one other) binaries

@@ -1,45 +1,60 @@
 -- How two filtersets differ, as text.
-use Rattle.std.specs.Prelude.{◌==◌, ◌||◌, Bool, not, List, [], ◌++◌, length, codes, decimal, map, if◌then◌else◌}
-use Rattle.std.specs.List.{flat_map, sum_by}
+use Rattle.std.specs.Prelude.{◌==◌, ◌&&◌, ◌||◌, ℕ, Bool, not, List, [], ◌++◌, length, codes, decimal, if◌then◌else◌}
+use Rattle.std.specs.List.{count_by, flat_map, list_any, sum_by}
 use Rattle.filterset_listing.specs.Asking.{Text}
-use Rattle.filterset_listing.specs.SkippedText.{is_unsettled, skipped_text}
-use Rattle.filterset_listing.specs.declared.comparing.skipped.SkippedPart.TheVariants as skipped
+use Rattle.filterset_listing.specs.Comparing.{is_of, tests_in}
 use Rattle.filterset_listing.specs.declared.comparing.BinaryDifference.{BinaryDifference}
-use Rattle.filterset_listing.specs.declared.comparing.text.Part.{Part}
-use Rattle.filterset_listing.specs.declared.comparing.text.Part.TheVariants.{OnlyFirst, OnlySecond, Both}
+use Rattle.filterset_listing.specs.declared.comparing.Part.{Part}
+use Rattle.filterset_listing.specs.declared.comparing.Part.TheVariants.{OnlyFirst, OnlySecond, Both, Unknown}
 
-abbrev pub part_heading : Part → Text
-part_heading OnlyFirst = codes "only A"
-part_heading OnlySecond = codes "only B"
-part_heading Both = codes "both"
-
--- the tests of a binary that are picked so
-abbrev pub tests_in : Part → BinaryDifference → List Text
-tests_in OnlyFirst difference = map (λ t. t.now) difference.first.items
-tests_in OnlySecond difference = map (λ t. t.now) difference.second.items
-tests_in Both difference = map (λ t. t.now) difference.both.items
+-- a heading with a number, and below it the lines, if they are asked for
+abbrev pub counted_text : Bool → Text → ℕ → Text → Text
+counted_text has_lines heading count lines =
+    (heading ++ (codes ": " ++ (decimal count ++ codes "\n"))) ++ (if has_lines then lines else [])
 
 -- a test after the id of its binary, in a line
 abbrev pub named_line : Text → Text → Text
 named_line id test = codes "    " ++ (id ++ (codes " " ++ (test ++ codes "\n")))
 
--- the tests of a binary that are picked so, a line each
+-- the tests of a part of a binary, a line each
 abbrev pub named_lines : Part → BinaryDifference → Text
 named_lines part difference = flat_map (named_line difference.binary.query.binary_id.now) (tests_in part difference)
 
--- how many tests are picked so, and which, if the names are asked for
-abbrev pub part_text : Bool → Part → List BinaryDifference → Text
-part_text has_names part all =
-    (part_heading part ++ (codes ": " ++ (decimal (sum_by (λ d. length (tests_in part d)) all) ++ codes "\n")))
-    ++ (if has_names then flat_map (named_lines part) all else [])
+-- how many tests are of the part, and which, if the names are asked for
+abbrev pub part_text : Bool → Text → Part → List BinaryDifference → Text
+part_text has_names heading part all =
+    counted_text has_names heading (sum_by (λ d. length (tests_in part d)) all) (flat_map (named_lines part) all)
+
+abbrev pub has_unknown : BinaryDifference → Bool
+has_unknown difference = not (length difference.unknown.items == 0)
+
+-- the tests that are unknown to a filterset, if there are any
+abbrev pub unknown_text : Bool → List BinaryDifference → Text
+unknown_text has_names all = if list_any has_unknown all then part_text has_names (codes "unknown") Unknown all else []
+
+-- nextest skipped the binary, and the filtersets' answers about it are of this part
+abbrev pub is_skipped_in : Part → BinaryDifference → Bool
+is_skipped_in part difference = difference.binary.is_skipped && is_of part difference.first_answer difference.second_answer
+
+-- the id of the binary, in a line, if it is of this part
+abbrev pub id_line : Part → BinaryDifference → Text
+id_line part d = if is_skipped_in part d then codes "    " ++ (d.binary.query.binary_id.now ++ codes "\n") else []
+
+-- how many skipped binaries are of the part, unless there are none, and which, if the names are asked for
+abbrev pub skipped_text : Bool → Text → Part → List BinaryDifference → Text
+skipped_text has_names heading part all = if count_by (is_skipped_in part) all == 0 then [] else
+    counted_text has_names heading (count_by (is_skipped_in part) all) (flat_map (id_line part) all)
 
 -- the tests, and below them the binaries that nextest skipped
 abbrev pub comparison_text : Bool → List BinaryDifference → Text
 comparison_text has_names all =
-    part_text has_names OnlyFirst all ++ (part_text has_names OnlySecond all ++ (part_text has_names Both all
-    ++ (skipped_text has_names skipped.OnlyFirst all ++ (skipped_text has_names skipped.OnlySecond all
-    ++ skipped_text has_names skipped.NotCompared all))))
+    part_text has_names (codes "only A") OnlyFirst all ++ (part_text has_names (codes "only B") OnlySecond all
+    ++ (part_text has_names (codes "both") Both all ++ (unknown_text has_names all
+    ++ (skipped_text has_names (codes "skipped binaries that only A picks") OnlyFirst all
+    ++ (skipped_text has_names (codes "skipped binaries that only B picks") OnlySecond all
+    ++ skipped_text has_names (codes "skipped binaries that were not compared") Unknown all)))))
 
 -- one filterset picks a test of the binary that the other does not, or may pick one that nextest did not list
 abbrev pub differs : BinaryDifference → Bool
-differs d = (not (length d.first.items == 0) || not (length d.second.items == 0)) || is_unsettled d
+differs d = (not (length d.first.items == 0) || not (length d.second.items == 0))
+    || ((is_skipped_in OnlyFirst d || is_skipped_in OnlySecond d) || is_skipped_in Unknown d)

@@ -1,12 +1,14 @@
 -- Explanations as text.
-use Rattle.std.specs.Prelude.{ℕ, ◌-◌, zero, suc, Bool, true, false, [], ◌++◌, Option, Some, None, codes, decimal}
-use Rattle.std.specs.List.{join_by, repeat}
+use Rattle.std.specs.Prelude.{ℕ, ◌-◌, zero, suc, Bool, true, false, [], ◌++◌, Option, Some, None, codes, decimal, option_map, unwrap_or}
+use Rattle.std.specs.List.{flat_map, join_by, repeat}
 use Rattle.filterset_graph.specs.Packages.{Text}
 use Rattle.filterset_grammar.specs.Grammar.{not_text, or_text, join_text}
 use Rattle.filterset_grammar.specs.Printing.{printed_leaf}
 use Rattle.filterset_grammar.specs.Tree.{Tree, Not, Union, Join, Parens, Set}
 use Rattle.filterset_language.specs.Views.{tree_of}
+use Rattle.filterset_listing.specs.ListText.{reason}
 use Rattle.filterset_listing.specs.declared.explaining.ExplainedNode.{ExplainedNode}
+use Rattle.filterset_listing.specs.declared.explaining.Explanation.{Explanation}
 use Rattle.filterset_listing.specs.declared.explaining.packages.NamedPackages.{NamedPackages}
 
 abbrev pub value_text : Option Bool → Text
@@ -43,3 +45,8 @@ indented_by depth (suc more) = repeat 32 (codes "  ") ++ (codes "[" ++ (decimal 
 abbrev pub explained_line : ExplainedNode → Text
 explained_line explained = indented_by explained.depth (explained.depth - 32) ++ (head (tree_of explained.node.now)
     ++ (codes ": " ++ (value_text explained.value ++ (packages_part explained.packages ++ codes "\n"))))
+
+-- the lines of the nodes, and below them why a test is unknown, if a node of it is
+abbrev pub explanation_text : Explanation → Text
+explanation_text explanation = flat_map explained_line explanation.nodes.items
+    ++ unwrap_or (option_map (λ path. codes "unknown: " ++ (reason path.now ++ codes "\n")) explanation.unknown_platform) []

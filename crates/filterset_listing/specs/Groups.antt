@@ -49,3 +49,8 @@ abbrev pub Says :
     CompiledExpr → List GroupOverride → (TestQuery → Text → Type 0) → BinaryQuery → Text → TestAnswer → Type 0
 Says default overrides Picks binary name answer = (test : TestQuery) → test.binary_query ≡ binary
     → test.test_name.now ≡ name → IsAnswer default overrides test (Picks test) answer
+
+-- the known answer; none if it is unknown
+abbrev pub known_of : TestAnswer → Option Bool
+known_of (Known answer) = Some answer
+known_of (Unknown path) = None

@@ -8,11 +8,12 @@ pub mod Union
 pub mod Selection
 pub mod Pickers
 pub mod Comparing
-pub mod SkippedText
 pub mod ComparisonText
 pub mod Nodes
 pub mod Operands
 pub mod NamedPackages
 pub mod Values
 pub mod Explaining
+pub mod Joining
+pub mod Possible
 pub mod ExplanationText

@@ -1,5 +1,5 @@
 //! How two filtersets differ on a list.
-ghost use Rattle.std.specs.Prelude.{◌≡◌, ◌&&◌, ◌++◌, IfOk, List, OnOk, map, not};
+ghost use Rattle.std.specs.Prelude.{◌≡◌, ◌++◌, IfOk, List, OnOk};
 ghost use Rattle.std.specs.List.{AllZip};
 ghost use Rattle.filterset_expression.specs.Contexts.{default_of};
 ghost use Rattle.filterset_expression.specs.FlatExpressions.{IsFlat};
@@ -8,22 +8,53 @@ ghost use Rattle.filterset_expression.specs.declared.expression.CompiledExpr.{Co
 ghost use Rattle.filterset_faults.specs.declared.span.SourceSpan.{SourceSpan};
 ghost use Rattle.filterset_graph.specs.declared.package.PackageMetadata.{PackageMetadata};
 ghost use Rattle.filterset_grammar.specs.Tree.{Tree};
-ghost use Rattle.filterset_listing.specs.Comparing.{IsBinaryDifference};
+ghost use Rattle.filterset_listing.specs.Comparing.{IsBinaryDifference, is_of, tests_in};
 ghost use Rattle.filterset_listing.specs.Listing.{one_of};
+ghost use Rattle.filterset_listing.specs.Overrides.{AreFor, AreLaid, AreTold, all_tests};
 ghost use Rattle.filterset_listing.specs.Pickers.{expr_picker, tree_picker};
+ghost use Rattle.filterset_listing.specs.declared.comparing.Part as parts;
+ghost use Rattle.filterset_listing.specs.declared.groups.GroupOverride as declared;
 
 mod skipped;
 pub mod text;
 
-use crate::asking::picks;
+use crate::asking::query_of;
 use crate::binary::AskedBinary;
-use crate::lookup::OneGroup;
+use crate::groups::{FlatOverride, GroupOverride, ToldOverride, answer, lay_out, told_overrides};
 use filterset_expression::{CompiledExpr, EvalContext, FlatExpr};
 use filterset_graph::TestCaseName;
 use std::alloc::{AllocError, Global};
 
-/// How two filtersets differ on a binary: their answers about it, and the tests that either picks, in the order of the
-/// list.
+/// How two filtersets answer about a test, or about a binary that nextest skipped.
+#[derive(Clone, Copy, Debug)]
+pub enum Part {
+    /// Only the first filterset picks it.
+    OnlyFirst,
+    /// Only the second filterset does.
+    OnlySecond,
+    /// Both do.
+    Both,
+    /// At least one of the filtersets does not decide it.
+    Unknown,
+}
+
+impl Part {
+    /// Returns whether these are answers of the part.
+    fn is_of(self, first: Option<bool>, second: Option<bool>) -> bool
+        ensures { result ≡ is_of self first second }
+    {
+        match (self, first, second) {
+            (Part::OnlyFirst, Some(true), Some(false)) => true,
+            (Part::OnlySecond, Some(false), Some(true)) => true,
+            (Part::Both, Some(true), Some(true)) => true,
+            (Part::Unknown, first, second) => first.is_none() || second.is_none(),
+            _ => false,
+        }
+    }
+}
+
+/// How two filtersets differ on a binary: their answers about it, and its tests by the answers about them, in the order of
+/// the list.
 #[derive(Debug, Drop)]
 pub struct BinaryDifference<'s> {
     pub binary: AskedBinary<'s>,
@@ -37,51 +68,67 @@ pub struct BinaryDifference<'s> {
     pub second: Vec<&'s TestCaseName>,
     /// The tests that both pick.
     pub both: Vec<&'s TestCaseName>,
+    /// The tests that are unknown to one of them, because the platform of an override is.
+    pub unknown: Vec<&'s TestCaseName>,
 }
 
 impl<'s> BinaryDifference<'s> {
-    /// Adds a test to the part of the filtersets that pick it, if any does.
+    /// Adds a test to the part of the answers about it, if they are of one.
     fn push(
         &mut self,
         test: &'s TestCaseName,
-        is_first: bool,
-        is_second: bool,
+        first: Option<bool>,
+        second: Option<bool>,
     ) -> Result<(), AllocError>
         ensures binary { self.new.binary ≡ self.old.binary }
         ensures first_answer { self.new.first_answer ≡ self.old.first_answer }
         ensures second_answer { self.new.second_answer ≡ self.old.second_answer }
-        ensures first { OnOk result (map (λ t. t.now) self.new.first.items
-            ≡ map (λ t. t.now) self.old.first.items ++ one_of (is_first && not is_second) test.entry.now) }
-        ensures second { OnOk result (map (λ t. t.now) self.new.second.items
-            ≡ map (λ t. t.now) self.old.second.items ++ one_of (is_second && not is_first) test.entry.now) }
-        ensures both { OnOk result (map (λ t. t.now) self.new.both.items
-            ≡ map (λ t. t.now) self.old.both.items ++ one_of (is_first && is_second) test.entry.now) }
+        ensures parts { OnOk result ((part : parts.Part)
+            → tests_in part self.new ≡ tests_in part self.old ++ one_of (is_of part first second) test.entry.now) }
     {
-        match (is_first, is_second) {
-            (true, false) => self.first.push(test)?,
-            (false, true) => self.second.push(test)?,
-            (true, true) => self.both.push(test)?,
-            (false, false) => {}
+        match (first, second) {
+            (Some(true), Some(false)) => self.first.push(test)?,
+            (Some(false), Some(true)) => self.second.push(test)?,
+            (Some(true), Some(true)) => self.both.push(test)?,
+            (Some(false), Some(false)) => {}
+            _ => self.unknown.push(test)?,
         }
         Ok(())
     }
 }
 
-/// Divides the tests of a binary by which of two filtersets picks them.
+/// Returns the overrides that the answers of two filtersets depend on: none if neither has a `group` predicate.
+fn overrides_for_both<'o, 'g>(
+    first: &FlatExpr<'_>,
+    second: &FlatExpr<'_>,
+    overrides: &'o [GroupOverride<'g>],
+) -> &'o [GroupOverride<'g>]
+    ensures first { AreFor first.now overrides.now result.now }
+    ensures second { AreFor second.now overrides.now result.now }
+{
+    if first.has_group_matchers() || second.has_group_matchers() {
+        overrides
+    } else {
+        &[]
+    }
+}
+
+/// Divides the tests of a binary by the answers of two filtersets, where `rows` are the overrides that may apply to tests of
+/// the binary.
 fn divide<'s>(
     alloc: Global,
     first: &FlatExpr<'_>,
     second: &FlatExpr<'_>,
+    rows: &[ToldOverride<'_, '_, '_>],
     binary: &AskedBinary<'s>,
 ) -> Result<BinaryDifference<'s>, AllocError>
-    ensures { IfOk result (λ difference. (one other default : CompiledExpr) → IsFlat first.now one default
-        → IsFlat second.now other default
-        → IsBinaryDifference (expr_picker default one) (expr_picker default other) binary.now difference) }
+    ensures { IfOk result (λ difference. (one other default : CompiledExpr) (given : List declared.GroupOverride)
+        → IsFlat first.now one default → IsFlat second.now other default
+        → AreTold default given binary.now.query rows.now
+        → IsBinaryDifference (expr_picker default given one) (expr_picker default given other) binary.now difference) }
 {
-    let lookup = OneGroup::GLOBAL;
-    let query = &binary.query;
-    let first_answer = first.matches_binary(alloc, query)?;
-    let second_answer = second.matches_binary(alloc, query)?;
+    let first_answer = first.matches_binary(alloc, &binary.query)?;
+    let second_answer = second.matches_binary(alloc, &binary.query)?;
     let mut difference = BinaryDifference {
         binary: *binary,
         first_answer,
@@ -89,13 +136,31 @@ fn divide<'s>(
         first: Vec::new(alloc),
         second: Vec::new(alloc),
         both: Vec::new(alloc),
+        unknown: Vec::new(alloc),
     };
     for test in binary.tests {
-        let is_first = picks(alloc, first, &lookup, query, first_answer, test)?;
-        let is_second = picks(alloc, second, &lookup, query, second_answer, test)?;
-        difference.push(test, is_first, is_second)?;
+        let query = query_of(&binary.query, test);
+        let by_first = answer(alloc, first, rows, first_answer, &query)?;
+        let by_second = answer(alloc, second, rows, second_answer, &query)?;
+        difference.push(test, by_first.known(), by_second.known())?;
     }
     Ok(difference)
+}
+
+/// Returns how two filtersets differ on a binary.
+fn difference_of<'s>(
+    alloc: Global,
+    first: &FlatExpr<'_>,
+    second: &FlatExpr<'_>,
+    overrides: &[FlatOverride<'_, '_>],
+    binary: &AskedBinary<'s>,
+) -> Result<BinaryDifference<'s>, AllocError>
+    ensures { IfOk result (λ difference. (one other default : CompiledExpr) (given : List declared.GroupOverride)
+        → IsFlat first.now one default → IsFlat second.now other default → AreLaid default given overrides.now
+        → IsBinaryDifference (expr_picker default given one) (expr_picker default given other) binary.now difference) }
+{
+    let rows = told_overrides(alloc, overrides, &binary.query)?;
+    divide(alloc, first, second, &rows, binary)
 }
 
 /// Returns how two filtersets differ on each binary.
@@ -103,40 +168,51 @@ fn differences_of<'s>(
     alloc: Global,
     first: &FlatExpr<'_>,
     second: &FlatExpr<'_>,
+    overrides: &[FlatOverride<'_, '_>],
     binaries: &[AskedBinary<'s>],
 ) -> Result<Vec<BinaryDifference<'s>>, AllocError>
-    ensures { IfOk result (λ all. (one other default : CompiledExpr) → IsFlat first.now one default
-        → IsFlat second.now other default
-        → AllZip (IsBinaryDifference (expr_picker default one) (expr_picker default other)) binaries.now all.items) }
+    ensures { IfOk result (λ all. (one other default : CompiledExpr) (given : List declared.GroupOverride)
+        → IsFlat first.now one default → IsFlat second.now other default → AreLaid default given overrides.now
+        → AllZip (IsBinaryDifference (expr_picker default given one) (expr_picker default given other))
+        binaries.now all.items) }
 {
     let mut all = Vec::with_capacity(alloc, binaries.len())?;
     for binary in binaries {
-        all.push(divide(alloc, first, second, binary)?)?;
+        all.push(difference_of(alloc, first, second, overrides, binary)?)?;
     }
     Ok(all)
 }
 
-/// Compares two filtersets on each binary, also if nextest skipped it: then by their answers about the binary.
+/// Compares two filtersets on each binary, also if nextest skipped it: then by their answers about the binary. The
+/// overrides say in which groups tests are; without overrides every test is in the group `@global`.
 ///
 /// Returns an error only if out of memory.
-pub fn compare<'s>(
+pub fn compare<'s, 'e>(
     alloc: Global,
-    first: &CompiledExpr,
-    second: &CompiledExpr,
+    first: &'e CompiledExpr,
+    second: &'e CompiledExpr,
     context: &EvalContext<'_>,
+    overrides: &[GroupOverride<'_>],
     binaries: &[AskedBinary<'s>],
 ) -> Result<Vec<BinaryDifference<'s>>, AllocError>
     ensures picks { let default = default_of context.now in IfOk result (λ all.
-        AllZip (IsBinaryDifference (expr_picker default first.now) (expr_picker default second.now))
-        binaries.now all.items) }
+        AllZip (IsBinaryDifference (expr_picker default overrides.now first.now)
+        (expr_picker default overrides.now second.now)) binaries.now all.items) }
 
     // If both expressions are compiled trees, the answers and the parts are those of the trees.
     ensures meaning { let default = default_of context.now in IfOk result (λ all. (packages : List PackageMetadata)
         (one other : Tree SourceSpan) → IsCompiled packages one first.now → IsCompiled packages other second.now
-        → AllZip (IsBinaryDifference (tree_picker packages default one) (tree_picker packages default other))
-        binaries.now all.items) }
+        → AllZip (IsBinaryDifference (tree_picker packages default overrides.now one)
+        (tree_picker packages default overrides.now other)) binaries.now all.items) }
 {
     let first = FlatExpr::new(alloc, first, context)?;
     let second = FlatExpr::new(alloc, second, context)?;
-    differences_of(alloc, &first, &second, binaries)
+    let everything = CompiledExpr::ALL;
+    let laid = lay_out(
+        alloc,
+        overrides_for_both(&first, &second, overrides),
+        &everything,
+        context,
+    )?;
+    differences_of(alloc, &first, &second, &laid, binaries)
 }

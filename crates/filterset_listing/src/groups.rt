@@ -5,7 +5,7 @@ ghost use Rattle.filterset_expression.specs.Expression.{Holds};
 ghost use Rattle.filterset_expression.specs.FlatExpressions.{IsFlat, IsTold};
 ghost use Rattle.filterset_expression.specs.declared.expression.CompiledExpr as compiled;
 ghost use Rattle.filterset_listing.specs.Asking.{ExprPicks, in_group};
-ghost use Rattle.filterset_listing.specs.Groups.{Covers, IsAnswer, applies};
+ghost use Rattle.filterset_listing.specs.Groups.{Covers, IsAnswer, applies, known_of};
 ghost use Rattle.filterset_listing.specs.Overrides.{AreFor, AreLaid, AreTold, IsLaid, Joins, MayApply, NeverApplies, StepsOn, all_tests, given_of};
 ghost use Rattle.filterset_listing.specs.declared.groups.GroupOverride as declared;
 
@@ -50,6 +50,18 @@ pub enum TestAnswer<'g> {
     /// The test is picked in one group that it may be in, and not in another. This is the path of the first override that
     /// picks the test and whose platforms are unknown.
     Unknown(&'g str),
+}
+
+impl TestAnswer<'_> {
+    /// Returns the answer, or `None` if it is unknown.
+    pub fn known(self) -> Option<bool>
+        ensures { result ≡ known_of self.entry }
+    {
+        match self {
+            TestAnswer::Known(answer) => Some(answer),
+            TestAnswer::Unknown(_) => None,
+        }
+    }
 }
 
 /// An override with the steps of its filter.
@@ -171,7 +183,7 @@ pub fn told_overrides<'o, 'g, 'f>(
 }
 
 /// Returns whether the filterset picks the test in the lookup's group.
-fn picks_in(
+pub fn picks_in(
     alloc: Global,
     flat: &FlatExpr<'_>,
     lookup: &OneGroup<'_>,

@@ -13,12 +13,12 @@ mod selection;
 mod union;
 
 pub use binary::AskedBinary;
-pub use comparing::text::{comparison_text, differ};
+pub use comparing::text::{any_unknown, comparison_text, differ};
 pub use comparing::{BinaryDifference, compare};
 pub use explaining::candidate::Candidate;
 pub use explaining::packages::NamedPackages;
 pub use explaining::text::explain_text;
-pub use explaining::{ExplainedNode, explain};
+pub use explaining::{ExplainedNode, Explanation, explain};
 pub use groups::{GroupOverride, TestAnswer};
 pub use listing::json::list_json;
 pub use listing::text::list_text;

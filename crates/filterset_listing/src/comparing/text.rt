@@ -5,38 +5,18 @@ ghost use Rattle.filterset_expression.specs.declared.expression.CompiledExpr.{Co
 ghost use Rattle.filterset_faults.specs.declared.span.SourceSpan.{SourceSpan};
 ghost use Rattle.filterset_graph.specs.declared.package.PackageMetadata.{PackageMetadata};
 ghost use Rattle.filterset_grammar.specs.Tree.{Tree};
-ghost use Rattle.filterset_listing.specs.Comparing.{IsBinaryDifference, TellsDifference};
+ghost use Rattle.filterset_listing.specs.Comparing.{IsBinaryDifference, TellsDifference, TellsUnknown, tests_in};
+ghost use Rattle.filterset_listing.specs.ComparisonText.{comparison_text, differs, has_unknown, named_line, named_lines, part_text, unknown_text};
 ghost use Rattle.filterset_listing.specs.Pickers.{expr_picker, tree_picker};
 ghost use Rattle.filterset_listing.specs.declared.binary.AskedBinary.{AskedBinary};
-ghost use Rattle.filterset_listing.specs.ComparisonText.{comparison_text, differs, named_line, named_lines, part_heading, part_text, tests_in};
+ghost use Rattle.filterset_listing.specs.declared.groups.GroupOverride.{GroupOverride};
 
-use crate::comparing::BinaryDifference;
-use crate::comparing::skipped::{SkippedPart, push_skipped};
+use crate::comparing::skipped::push_skipped;
+use crate::comparing::{BinaryDifference, Part};
 use crate::counting::add_count;
 use filterset_graph::{RustBinaryId, TestCaseName};
 use std::alloc::{AllocError, Global};
 use std::fmt::Write;
-
-/// Which of two filtersets pick a test.
-#[derive(Clone, Copy)]
-enum Part {
-    OnlyFirst,
-    OnlySecond,
-    Both,
-}
-
-impl Part {
-    /// Returns what the text writes before the number of the tests.
-    fn heading(self) -> &'static str
-        ensures { result.now ≡ part_heading self }
-    {
-        match self {
-            Part::OnlyFirst => "only A",
-            Part::OnlySecond => "only B",
-            Part::Both => "both",
-        }
-    }
-}
 
 impl<'s> BinaryDifference<'s> {
     /// Returns the tests of one part.
@@ -47,6 +27,7 @@ impl<'s> BinaryDifference<'s> {
             Part::OnlyFirst => self.first.as_slice(),
             Part::OnlySecond => self.second.as_slice(),
             Part::Both => self.both.as_slice(),
+            Part::Unknown => self.unknown.as_slice(),
         }
     }
 
@@ -54,7 +35,18 @@ impl<'s> BinaryDifference<'s> {
     fn differs(&self) -> bool
         ensures { result ≡ differs self.now }
     {
-        !self.first.is_empty() || !self.second.is_empty() || self.is_unsettled()
+        !self.first.is_empty()
+            || !self.second.is_empty()
+            || self.is_skipped_in(Part::OnlyFirst)
+            || self.is_skipped_in(Part::OnlySecond)
+            || self.is_skipped_in(Part::Unknown)
+    }
+
+    /// Returns whether a test of the binary is unknown to one of the filtersets.
+    fn has_unknown(&self) -> bool
+        ensures { result ≡ has_unknown self.now }
+    {
+        !self.unknown.is_empty()
     }
 }
 
@@ -109,13 +101,13 @@ fn push_all_named(
 fn push_part(
     output: &mut String,
     all: &[BinaryDifference<'_>],
+    heading: &str,
     part: Part,
     has_names: bool,
 ) -> Result<(), AllocError>
     ensures { OnOk result (string_bytes output.new
-        ≡ string_bytes output.old ++ part_text has_names part all.now) }
+        ≡ string_bytes output.old ++ part_text has_names heading.now part all.now) }
 {
-    let heading = part.heading();
     let count = part_count(all, part)?;
     writeln!(output, "{heading}: {count}")?;
     if has_names {
@@ -124,8 +116,24 @@ fn push_part(
     Ok(())
 }
 
-/// Writes how many tests only the first filterset picks, how many only the second, and how many both. With `has_names`
-/// it writes the tests under each number, a line each, after the id of their binary.
+/// Writes the number of the tests that are unknown to one of the filtersets, and with `has_names` the tests, unless there
+/// are none.
+fn push_unknown(
+    output: &mut String,
+    all: &[BinaryDifference<'_>],
+    has_names: bool,
+) -> Result<(), AllocError>
+    ensures { OnOk result (string_bytes output.new ≡ string_bytes output.old ++ unknown_text has_names all.now) }
+{
+    if has_any_unknown(all) {
+        push_part(output, all, "unknown", Part::Unknown, has_names)?;
+    }
+    Ok(())
+}
+
+/// Writes how many tests only the first filterset picks, how many only the second, and how many both, and how many are
+/// unknown to one of the filtersets, if there are any. With `has_names` it writes the tests under each number, a line each,
+/// after the id of their binary.
 ///
 /// Below this it writes how many binaries that nextest skipped only the first filterset picks, how many only the second,
 /// and how many were not compared, because one of the filtersets does not decide them. It leaves out a number that is 0.
@@ -140,12 +148,31 @@ pub fn comparison_text(
     ensures { IfOk result (λ text. string_bytes text ≡ comparison_text has_names all.now) }
 {
     let mut text = String::new(alloc);
-    push_part(&mut text, all, Part::OnlyFirst, has_names)?;
-    push_part(&mut text, all, Part::OnlySecond, has_names)?;
-    push_part(&mut text, all, Part::Both, has_names)?;
-    push_skipped(&mut text, all, SkippedPart::OnlyFirst, has_names)?;
-    push_skipped(&mut text, all, SkippedPart::OnlySecond, has_names)?;
-    push_skipped(&mut text, all, SkippedPart::NotCompared, has_names)?;
+    push_part(&mut text, all, "only A", Part::OnlyFirst, has_names)?;
+    push_part(&mut text, all, "only B", Part::OnlySecond, has_names)?;
+    push_part(&mut text, all, "both", Part::Both, has_names)?;
+    push_unknown(&mut text, all, has_names)?;
+    push_skipped(
+        &mut text,
+        all,
+        "skipped binaries that only A picks",
+        Part::OnlyFirst,
+        has_names,
+    )?;
+    push_skipped(
+        &mut text,
+        all,
+        "skipped binaries that only B picks",
+        Part::OnlySecond,
+        has_names,
+    )?;
+    push_skipped(
+        &mut text,
+        all,
+        "skipped binaries that were not compared",
+        Part::Unknown,
+        has_names,
+    )?;
     Ok(text)
 }
 
@@ -157,17 +184,43 @@ fn any_differs(all: &[BinaryDifference<'_>]) -> bool
 }
 
 /// Returns whether one of the two filtersets picks a test that the other does not, or may pick one that nextest did not
-/// list: they do not decide a skipped binary alike.
+/// list: they do not decide a skipped binary alike. Tests that are unknown to one of them do not count.
 pub fn differ(all: &[BinaryDifference<'_>]) -> bool
     ensures value { result ≡ list_any differs all.now }
-    ensures picks { (one other default : CompiledExpr) (binaries : List AskedBinary)
-        → AllZip (IsBinaryDifference (expr_picker default one) (expr_picker default other)) binaries all.now
-        → TellsDifference (expr_picker default one) (expr_picker default other) binaries result }
-    ensures meaning { (packages : List PackageMetadata) (default : CompiledExpr) (one other : Tree SourceSpan)
-        (binaries : List AskedBinary)
-        → AllZip (IsBinaryDifference (tree_picker packages default one) (tree_picker packages default other))
+    ensures picks { (default one other : CompiledExpr) (overrides : List GroupOverride) (binaries : List AskedBinary)
+        → AllZip (IsBinaryDifference (expr_picker default overrides one) (expr_picker default overrides other))
         binaries all.now
-        → TellsDifference (tree_picker packages default one) (tree_picker packages default other) binaries result }
+        → TellsDifference (expr_picker default overrides one) (expr_picker default overrides other) binaries result }
+    ensures meaning { (packages : List PackageMetadata) (default : CompiledExpr) (overrides : List GroupOverride)
+        (one other : Tree SourceSpan) (binaries : List AskedBinary)
+        → AllZip (IsBinaryDifference (tree_picker packages default overrides one)
+        (tree_picker packages default overrides other)) binaries all.now
+        → TellsDifference (tree_picker packages default overrides one) (tree_picker packages default overrides other)
+        binaries result }
 {
     any_differs(all)
+}
+
+/// Returns whether a test of the binaries is unknown.
+fn has_any_unknown(all: &[BinaryDifference<'_>]) -> bool
+    ensures { result ≡ list_any has_unknown all.now }
+{
+    all.iter().any(|difference| difference.has_unknown())
+}
+
+/// Returns whether a test is unknown to one of the two filtersets, because the platform of an override is.
+pub fn any_unknown(all: &[BinaryDifference<'_>]) -> bool
+    ensures value { result ≡ list_any has_unknown all.now }
+    ensures picks { (default one other : CompiledExpr) (overrides : List GroupOverride) (binaries : List AskedBinary)
+        → AllZip (IsBinaryDifference (expr_picker default overrides one) (expr_picker default overrides other))
+        binaries all.now
+        → TellsUnknown (expr_picker default overrides one) (expr_picker default overrides other) binaries result }
+    ensures meaning { (packages : List PackageMetadata) (default : CompiledExpr) (overrides : List GroupOverride)
+        (one other : Tree SourceSpan) (binaries : List AskedBinary)
+        → AllZip (IsBinaryDifference (tree_picker packages default overrides one)
+        (tree_picker packages default overrides other)) binaries all.now
+        → TellsUnknown (tree_picker packages default overrides one) (tree_picker packages default overrides other)
+        binaries result }
+{
+    has_any_unknown(all)
 }

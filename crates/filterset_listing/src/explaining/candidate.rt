@@ -6,6 +6,6 @@ use filterset_expression::{BinaryQuery, TestQuery};
 pub enum Candidate<'q> {
     /// A test binary, whatever its tests are.
     Binary(BinaryQuery<'q>),
-    /// A test, in the group `@global`.
+    /// A test.
     Test(TestQuery<'q>),
 }

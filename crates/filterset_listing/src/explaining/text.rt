@@ -2,10 +2,10 @@
 ghost use Rattle.std.specs.Prelude.{◌≡◌, ◌++◌, ◌-◌, IfOk, OnOk, Some, codes, string_bytes};
 ghost use Rattle.std.specs.List.{flat_map, join_by};
 ghost use Rattle.filterset_language.specs.Views.{tree_of};
-ghost use Rattle.filterset_listing.specs.ExplanationText.{explained_line, head, indented_by, others_text, packages_part, value_text};
+ghost use Rattle.filterset_listing.specs.ExplanationText.{explained_line, explanation_text, head, indented_by, others_text, packages_part, value_text};
 
-use crate::explaining::ExplainedNode;
 use crate::explaining::packages::NamedPackages;
+use crate::explaining::{ExplainedNode, Explanation};
 use filterset_language::ParsedExpr;
 use std::alloc::{AllocError, Global};
 use std::fmt::Write;
@@ -100,20 +100,32 @@ fn push_explained(
     writeln!(output, "{indentation}{head}: {value}{packages}")
 }
 
-/// Writes an explanation, a line a node: two blanks for each operator above the node, the operator as the text spells it
-/// or the predicate as it prints, and the value, `yes`, `no` or `unknown`. A predicate of packages is followed by the
-/// names of the first ten that it matches and the number of the others.
-///
-/// A node under more than 32 operators is indented as one under 32, after their number in brackets. So the text of a long
-/// chain grows with the number of its operands, and not with the square.
-///
-/// Returns an error only if out of memory.
-pub fn explain_text(alloc: Global, nodes: &[ExplainedNode<'_>]) -> Result<String, AllocError>
+/// Writes the lines of nodes.
+fn nodes_text(alloc: Global, nodes: &[ExplainedNode<'_>]) -> Result<String, AllocError>
     ensures { IfOk result (λ text. string_bytes text ≡ flat_map explained_line nodes.now) }
 {
     let mut text = String::new(alloc);
     for explained in nodes {
         push_explained(&mut text, alloc, explained)?;
+    }
+    Ok(text)
+}
+
+/// Writes an explanation, a line a node: two blanks for each operator above the node, the operator as the text spells it
+/// or the predicate as it prints, and the value, `yes`, `no` or `unknown`. A predicate of packages is followed by the
+/// names of the first ten that it matches and the number of the others. If a node of a test is unknown, the last line says
+/// because of the platform of which override.
+///
+/// A node under more than 32 operators is indented as one under 32, after their number in brackets. So the text of a long
+/// chain grows with the number of its operands, and not with the square.
+///
+/// Returns an error only if out of memory.
+pub fn explain_text(alloc: Global, explanation: &Explanation<'_, '_>) -> Result<String, AllocError>
+    ensures { IfOk result (λ text. string_bytes text ≡ explanation_text explanation.now) }
+{
+    let mut text = nodes_text(alloc, explanation.nodes.as_slice())?;
+    if let Some(path) = explanation.unknown_platform {
+        writeln!(text, "unknown: platform of {path}")?;
     }
     Ok(text)
 }

@@ -1,22 +1,38 @@
-use Rattle.std.proofs.Common.{rules, arith, ◌≡◌, ◌<◌, ◌∙◌, length, get_or, subst, sym, take}
+use Rattle.std.proofs.Common.{rules, arith, ◌≡◌, ◌<◌, ◌++◌, ◌∙◌, ap, length, get_or, subst, sym, take}
 use Rattle.std.proofs.lemmas.List.{take_all}
+use Rattle.filterset_expression.specs.FlatExpressions.{IsTold}
+use Rattle.filterset_expression.specs.declared.query.BinaryQuery.{BinaryQuery}
+use Rattle.filterset_listing.specs.Comparing.{is_of, tests_in}
+use Rattle.filterset_listing.specs.Groups.{known_of}
+use Rattle.filterset_listing.specs.Listing.{one_of}
+use Rattle.filterset_listing.specs.Overrides.{AreTold}
 use Rattle.filterset_listing.specs.Pickers.{Answers, expr_picker}
-use Rattle.filterset_listing.proofs.ListingLemmas.{Divides-push, one_more}
+use Rattle.filterset_listing.proofs.DividesLemmas.{Divides-push}
+use Rattle.filterset_listing.proofs.GroupLemmas.{says_of}
+use Rattle.filterset_listing.proofs.ListingLemmas.{one_more}
 use Rattle.filterset_listing.proofs.PickerLemmas.{expr_answers}
 use Rattle.filterset_listing.proofs.comparing.divide.Goals as goal
 
+pub answer-requires : goal.answer-requires
+answer-requires c =
+    subst (λ (binary : BinaryQuery). IsTold c.args.first.now binary c.in_ok-first_answer.first_answer) (sym c.query_of-query.ensures.binary) c.in_ok-first_answer.ensures.told
+
+pub answer-requires-in-loop-test : goal.answer-requires-in-loop-test
+answer-requires-in-loop-test c =
+    subst (λ (binary : BinaryQuery). IsTold c.args.second.now binary c.in_ok-second_answer.second_answer) (sym c.query_of-query.ensures.binary) c.in_ok-second_answer.ensures.told
+
 pub returns : goal.returns
-returns c one other default is_one is_other =
+returns c one other default given is_one is_other told =
     let kept = c.loop-test.invariant in
     let query = c.args.binary.now.query in
     let first = c.in_ok-first_answer in
     let second = c.in_ok-second_answer in
-    let tests = kept.3 one other default is_one is_other in (
+    let tests = kept.3 one other default given is_one is_other told in (
       kept.0,
-      subst (Answers (expr_picker default one) query) (sym kept.1)
-          (expr_answers one default query first.first_answer (first.ensures.definite one default is_one) (first.ensures.undecided one default is_one)),
-      subst (Answers (expr_picker default other) query) (sym kept.2)
-          (expr_answers other default query second.second_answer (second.ensures.definite other default is_other) (second.ensures.undecided other default is_other)),
+      subst (Answers (expr_picker default given one) query) (sym kept.1)
+          (expr_answers default given one query first.first_answer (first.ensures.definite one default is_one) (first.ensures.undecided one default is_one)),
+      subst (Answers (expr_picker default given other) query) (sym kept.2)
+          (expr_answers default given other query second.second_answer (second.ensures.definite other default is_other) (second.ensures.undecided other default is_other)),
       rw (take_all c.loop-test.test-index c.args.binary.now.tests.now c.loop-test-test.false) at tests,
     )
 
@@ -25,6 +41,9 @@ loop-test-preserved c =
     let tests = c.args.binary.now.tests.now in
     let i = c.loop-test.test-index in
     let test = c.test-item.result in
+    let query = c.query_of-query.result in
+    let of_binary = c.query_of-query.ensures.binary in
+    let of_name = c.query_of-query.ensures.test in
     let kept = c.loop-test.invariant in
     let push = c.in_ok-push.ensures in
     let lt : i < length tests = omega (arith, c.loop-test-test.true) in
@@ -32,7 +51,12 @@ loop-test-preserved c =
       push.binary ∙ kept.0,
       push.first_answer ∙ kept.1,
       push.second_answer ∙ kept.2,
-      λ one other default is_one is_other.
-          rw (push.first, push.second, push.both, one_more tests i test lt at)
-          (Divides-push _ _ (take i tests) test _ _ _ _ _ (kept.3 one other default is_one is_other) (c.in_ok-is_first.ensures one default is_one) (c.in_ok-is_second.ensures other default is_other)),
+      λ one other default given is_one is_other told.
+          let own = subst (λ (binary : BinaryQuery). AreTold default given binary c.args.rows.now) (sym of_binary) told in
+          rw (one_more tests i test lt at)
+          (Divides-push _ _ (take i tests) test _ _ c.in_ok-by_first.by_first c.in_ok-by_second.by_second (kept.3 one other default given is_one is_other told)
+          (says_of default one given query c.args.binary.now.query test _ of_binary of_name (c.in_ok-by_first.ensures one default given is_one own))
+          (says_of default other given query c.args.binary.now.query test _ of_binary of_name (c.in_ok-by_second.ensures other default given is_other own))
+          (λ part. push.parts part ∙ ap (λ answer. tests_in part c.loop-test.difference ++ one_of (is_of part answer c.known-in-loop-test.result) test) c.known.ensures
+          ∙ ap (λ answer. tests_in part c.loop-test.difference ++ one_of (is_of part (known_of c.in_ok-by_first.by_first) answer) test) c.known-in-loop-test.ensures)),
     )

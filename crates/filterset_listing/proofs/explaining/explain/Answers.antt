@@ -1,13 +1,16 @@
+use Rattle.std.proofs.Common.{None, codes, refl, subst, sym}
 use Rattle.filterset_language.specs.Views.{tree_of}
 use Rattle.filterset_expression.specs.Contexts.{default_of}
-use Rattle.filterset_listing.specs.Explaining.{IsExplained}
+use Rattle.filterset_listing.specs.Explaining.{NamesOverride, has_unknown}
 use Rattle.filterset_listing.specs.Nodes.{tree_nodes}
-use Rattle.filterset_listing.proofs.NodeLemmas.{turned_round}
+use Rattle.filterset_listing.proofs.AmongLemmas.{binary_explained}
 use Rattle.filterset_listing.proofs.explaining.explain.Goals as goal
 
-pub returns : goal.returns
-returns c is =
-    let is_explained = IsExplained c.args.candidate c.args.graph.now (default_of c.args.context.now) in
-    let nodes = tree_nodes 0 (tree_of c.args.tree.now) in
-    let added = rw c.new-nodes.ensures.items at (c.in_ok-push_nodes.ensures is).1 in
-    rw c.reverse.ensures.items (turned_round is_explained nodes c.push_nodes.new.nodes.items added)
+pub returns-in-Binary : goal.returns-in-Binary
+returns-in-Binary c compiled =
+    let default = default_of c.args.context.now in
+    let overrides = c.args.overrides.now in
+    let nodes = c.in_ok-nodes_in-in-Binary.field-0.items in (
+      binary_explained (codes "@global") c.args.candidate c.args.graph.now default overrides c.in-Binary.field-0 (tree_nodes 0 (tree_of c.args.tree.now)) nodes c.in-Binary.is (c.in_ok-nodes_in-in-Binary.ensures compiled),
+      subst (λ s. NamesOverride s overrides default (has_unknown nodes) None) (sym c.in-Binary.is) refl,
+    )

@@ -1,6 +1,6 @@
 use Rattle.std.proofs.Common.{◌≡◌, length, take}
 use Rattle.std.specs.List.{sum_by}
-use Rattle.filterset_listing.specs.ComparisonText.{tests_in}
+use Rattle.filterset_listing.specs.Comparing.{tests_in}
 use Rattle.filterset_listing.proofs.comparing.text.part_count.Given as goal
 
 -- the tests of the binaries so far were counted

@@ -1,4 +1,4 @@
-use Rattle.std.proofs.Common.{◌∙◌, ap, refl}
+use Rattle.std.proofs.Common.{◌∙◌, ap}
 use Rattle.std.proofs.lemmas.Result.{IfOk-weaker}
 use Rattle.filterset_expression.specs.Contexts.{default_of}
 use Rattle.filterset_expression.specs.FlatSteps.{postfix}
@@ -6,4 +6,4 @@ use Rattle.filterset_listing.proofs.explaining.values.Inquiry.value.Goals as goa
 
 pub returns : goal.returns
 returns c =
-    IfOk-weaker c.ask.result _ _ (λ value answers packages e is. answers packages e (default_of c.args.self.now.context) refl (c.args.expr.now, is, c.in_ok-flat.ensures.flat ∙ ap postfix c.context_of.ensures)) c.ask.ensures
+    IfOk-weaker c.ask.result _ _ (λ value answers packages e is. answers packages e (default_of c.args.self.now.context) (c.args.expr.now, is, c.in_ok-flat.ensures.flat ∙ ap postfix c.context_of.ensures)) c.ask.ensures

@@ -4,7 +4,7 @@ use Rattle.std.proofs.lemmas.Grind.{flat_map-append}
 use Rattle.std.proofs.lemmas.List.{append-nil, take_more}
 use Rattle.std.proofs.Math.Seq.{take-length}
 use Rattle.filterset_listing.specs.ExplanationText.{explained_line}
-use Rattle.filterset_listing.proofs.explaining.text.explain_text.Goals as goal
+use Rattle.filterset_listing.proofs.explaining.text.nodes_text.Goals as goal
 
 -- one more is written
 written_more : {X : Type 0} (f : X → List ℕ) (xs : List X) (i : ℕ) (one : X) (old new : List ℕ) → i < length xs → one ≡ get_or xs i one → old ≡ flat_map f (take i xs) → new ≡ old ++ f one → new ≡ flat_map f (take (i + 1) xs)

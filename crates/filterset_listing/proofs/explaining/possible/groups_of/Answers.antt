@@ -1,0 +1,12 @@
+use Rattle.std.proofs.Common.{subst, sym}
+use Rattle.std.proofs.lemmas.Result.{IfOk-weaker}
+use Rattle.filterset_expression.specs.Contexts.{default_of}
+use Rattle.filterset_listing.specs.Overrides.{AreLaid}
+use Rattle.filterset_listing.proofs.explaining.possible.groups_of.Goals as goal
+
+pub returns : goal.returns
+returns c =
+    let default = default_of c.args.context.now in
+    let overrides = c.args.overrides.now in
+    IfOk-weaker c.groups_by.result _ _ (λ possible are.
+    are default overrides (subst (AreLaid default overrides) (sym c.deref.ensures.value) c.in_ok-laid.ensures)) c.groups_by.ensures
