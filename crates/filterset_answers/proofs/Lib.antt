@@ -1,4 +1,5 @@
 pub mod AnswersLemmas
+pub mod CompilingLemmas
+pub mod GroupingLemmas
 pub mod RowsLemmas
 pub mod PickingLemmas
-pub mod ExplainingLemmas

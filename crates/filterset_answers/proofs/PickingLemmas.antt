@@ -1,34 +1,37 @@
 -- What the texts of a question are as filtersets.
 use Rattle.std.proofs.Common.{◌≡◌, List, [], ◌∷◌, arith, get_or, length, map, subst}
 use Rattle.std.specs.List.{AllZip}
-use Rattle.std.proofs.lemmas.Slice.Zip.{AllZip-long}
 use Rattle.filterset_expression.specs.Meaning.{IsCompiled}
 use Rattle.filterset_graph.specs.declared.package.PackageMetadata.{PackageMetadata}
+use Rattle.filterset_language.specs.Views.{tree_of}
+use Rattle.filterset_listing.specs.declared.groups.GroupOverride.{GroupOverride}
 use Rattle.nextest_filtering.specs.declared.compile.context.KnownGroups.{KnownGroups}
 use Rattle.nextest_filtering.specs.declared.filterset.Filterset.{Filterset}
 use Rattle.filterset_answers.specs.Checked.{TextRow}
-use Rattle.filterset_answers.specs.Compiled.{AreCompiled, IsFiltersetFor}
-use Rattle.filterset_answers.specs.Entries.{question_rows}
-use Rattle.filterset_answers.specs.Picking.{IsPairFor, compiled_of, parsed_of}
-use Rattle.filterset_answers.specs.declared.compiling.CompiledTexts.{CompiledTexts}
-use Rattle.filterset_answers.specs.declared.form.Form.{Form}
-use Rattle.filterset_answers.specs.declared.question.Question.{Question}
-use Rattle.filterset_answers.specs.declared.question.Question.TheVariants as questions
+use Rattle.filterset_answers.specs.Compiled.{AreFiltersets, Basis, IsFiltersetFor, IsOverrideFor, IsTreeOf}
+use Rattle.filterset_answers.specs.Picking.{compiled_of, parsed_of}
+use Rattle.filterset_answers.specs.declared.compiling.QuestionFiltersets.{QuestionFiltersets}
+use Rattle.filterset_answers.specs.declared.setting.Setting.{Setting}
 
--- there are two filtersets, where two are compared
-pub pair_of : (packages : List PackageMetadata) (groups : KnownGroups) (question : Question) (filters : List Filterset)
-    → AllZip (IsFiltersetFor packages groups) (question_rows question) filters → IsPairFor question filters
-pair_of packages groups (questions.List texts ignores_default) filters are = tt
-pair_of packages groups (questions.Compare first second has_names) filters are =
-    AllZip-long (IsFiltersetFor packages groups) (question_rows (questions.Compare first second has_names)) filters are
+-- the setting, as it was compiled
+abbrev pub basis_of : (setting : Setting) (rows : List TextRow) (made : QuestionFiltersets) (overrides : List GroupOverride)
+    → AreFiltersets setting.graph.now setting.groups.now setting rows made → AllZip (IsOverrideFor setting) setting.overrides.now overrides → Basis setting
+basis_of setting rows made overrides are grouped = record {
+  default_tree = tree_of made.setting.default.parsed;
+  default = made.setting.default.compiled;
+  overrides = overrides;
+  spelled = are.default.accepted;
+  compiled = are.default.compiled;
+  grouped = grouped;
+}
 
--- what rows are as filtersets, for equal rows
-pub rows_compiled : (packages : List PackageMetadata) (groups : KnownGroups) (form : Form) (row row' : TextRow) (rows rows' : List TextRow) (made made' : CompiledTexts)
-    → row ≡ row' → rows ≡ rows' → made ≡ made' → AreCompiled packages groups form row rows made → AreCompiled packages groups form row' rows' made'
-rows_compiled packages groups form row row' rows rows' made made' same_row same_rows same_made are =
-    subst (λ r. AreCompiled packages groups form r rows' made') same_row
-    (subst (λ rs. AreCompiled packages groups form row rs made') same_rows
-    (subst (λ m. AreCompiled packages groups form row rows m) same_made are))
+-- the trees of filtersets are those of their texts
+pub trees_of : (setting : Setting) (rows : List TextRow) (filters : List Filterset) → AllZip (IsFiltersetFor setting.graph.now setting.groups.now) rows filters
+    → AllZip (IsTreeOf setting) rows (map parsed_of filters)
+trees_of setting [] [] are = tt
+trees_of setting [] (f ∷ filters) are = absurd are
+trees_of setting (row ∷ rows) [] are = absurd are
+trees_of setting (row ∷ rows) (f ∷ filters) (is, are) = (is.accepted, trees_of setting rows filters are)
 
 -- the expressions of filtersets are their compiled trees
 pub compiled_trees : (packages : List PackageMetadata) (groups : KnownGroups) (rows : List TextRow) (filters : List Filterset) → AllZip (IsFiltersetFor packages groups) rows filters
@@ -38,6 +41,12 @@ compiled_trees packages groups [] (f ∷ filters) are = absurd are
 compiled_trees packages groups (row ∷ rows) [] are = absurd are
 compiled_trees packages groups (row ∷ rows) (f ∷ filters) (is, are) =
     (is.compiled, compiled_trees packages groups rows filters are)
+
+-- the filterset of one text
+pub one_of : (packages : List PackageMetadata) (groups : KnownGroups) (row : TextRow) (filters : List Filterset) (f : Filterset)
+    → AllZip (IsFiltersetFor packages groups) (row ∷ []) filters → get_or filters 0 f ≡ f → IsFiltersetFor packages groups row f
+one_of packages groups row [] f are at = absurd are
+one_of packages groups row (g ∷ filters) f are at = subst (IsFiltersetFor packages groups row) at are.0
 
 -- a list of two elements
 pub two_of : {A : Type 0} (xs : List A) (x y : A) → length xs ≡ 2 → get_or xs 0 x ≡ x → get_or xs 1 y ≡ y → xs ≡ x ∷ y ∷ []

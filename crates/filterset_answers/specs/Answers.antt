@@ -1,5 +1,5 @@
 -- What `check` and `format` write about texts.
-use Rattle.std.specs.Prelude.{◌≡◌, ◌≢◌, ◌++◌, Bool, true, false, ℕ, suc, ◌+◌, List, [], ◌∷◌, codes, decimal, length}
+use Rattle.std.specs.Prelude.{◌≡◌, ◌≢◌, ◌==◌, ◌++◌, Bool, true, false, ℕ, suc, ◌+◌, List, [], ◌∷◌, codes, decimal, length, if◌then◌else◌}
 use Rattle.filterset_drawing.specs.Columns.{Text}
 use Rattle.filterset_faults.specs.declared.error.ParseSingleError.{ParseSingleError}
 use Rattle.filterset_faults.specs.declared.span.SourceSpan.{SourceSpan}
@@ -8,10 +8,9 @@ use Rattle.filterset_grammar.specs.Tree.{Tree}
 use Rattle.filterset_language.specs.Parsed.{Reads}
 use Rattle.filterset_io.specs.Pieces.{Pieces}
 use Rattle.filterset_answers.specs.Checked.{HasFaults, HasReadingFaults, TextRow}
-use Rattle.filterset_answers.specs.Counts.{one_if}
 use Rattle.filterset_answers.specs.Forms.{FaultPieces}
 use Rattle.filterset_answers.specs.declared.form.Form.{Form}
-use Rattle.filterset_answers.specs.declared.form.Form.TheVariants.{Drawn, Github, Json}
+use Rattle.filterset_answers.specs.declared.form.Form.TheVariants.{Drawn}
 use Rattle.filterset_answers.specs.declared.names.Names.{Names}
 
 -- ---- faults
@@ -22,40 +21,30 @@ has_some (fault ∷ faults) = true
 
 -- what is written of the faults of a text with this number, and whether it has any
 abbrev pub TextFaults : (TextRow → List ParseSingleError → Type 0) → Form → ℕ → TextRow → Bool → Text → Type 0
-TextFaults Has form number row has piece =
-    (faults : List ParseSingleError) × Has row faults × (has ≡ has_some faults)
-    × FaultPieces form row.origin row.text row.place number faults piece
+TextFaults Has form number row has piece = (faults : List ParseSingleError) × Has row faults × (has ≡ has_some faults)
+    × FaultPieces form row number faults piece
 
 -- what is written of the faults of texts, of which the first has this number, and how many of them have any
 pub data FaultsOf (Has : TextRow → List ParseSingleError → Type 0) (form : Form) :
     ℕ → List TextRow → ℕ → Text → Type 0 where
-  no_texts : {number : ℕ} → FaultsOf Has form number [] 0 []
-  next_text : {number others : ℕ} {row : TextRow} {rows : List TextRow} {has : Bool} {front rest : Text}
-      → TextFaults Has form number row has front → FaultsOf Has form (suc number) rows others rest
-      → FaultsOf Has form number (row ∷ rows) (one_if has + others) (front ++ rest)
+  no_texts : {n : ℕ} → FaultsOf Has form n [] 0 []
+  next_text : {n others : ℕ} {row : TextRow} {rows : List TextRow} {faults : List ParseSingleError} {front rest : Text}
+      → Has row faults → FaultPieces form row n faults front → FaultsOf Has form (suc n) rows others rest
+      → FaultsOf Has form n (row ∷ rows) ((if length faults == 0 then 0 else 1) + others) (front ++ rest)
 
 -- ---- checking
-
--- what is said of names that were not checked
-abbrev pub unchecked_packages : Bool → Text
-unchecked_packages true = []
-unchecked_packages false = codes "not checked: names of packages and test binaries\n"
-
-abbrev pub unchecked_groups : Bool → Text
-unchecked_groups true = []
-unchecked_groups false = codes "not checked: names of test groups\n"
 
 -- how many texts there are, how many of them have faults, and which names were not checked
 abbrev pub counts_text : Names → ℕ → ℕ → Text
 counts_text names count faulty =
     codes "filtersets: " ++ (decimal count ++ (codes ", with faults: " ++ (decimal faulty ++ (codes "\n"
-    ++ (unchecked_packages names.has_packages ++ unchecked_groups names.has_groups)))))
+    ++ ((if names.has_packages then [] else codes "not checked: names of packages and test binaries\n")
+    ++ (if names.has_groups then [] else codes "not checked: names of test groups\n"))))))
 
 -- what is said for people at the end
 abbrev pub summary : Form → Names → ℕ → ℕ → Text
 summary (Drawn color) names count faulty = counts_text names count faulty
-summary Json names count faulty = []
-summary Github names count faulty = []
+summary _ names count faulty = []
 
 -- what checking texts answers
 abbrev pub ChecksTexts : Names → Form → List TextRow → ℕ → Text → Type 0
@@ -69,10 +58,6 @@ ChecksTexts names form rows faulty text =
 abbrev pub FormattedLine : TextRow → Text → Type 0
 FormattedLine row line = (e : Tree SourceSpan) × Reads row.text e × (line ≡ printed e ++ codes "\n")
 
--- those of texts, one after the other
-abbrev pub FormattedLines : List TextRow → Text → Type 0
-FormattedLines = Pieces FormattedLine
-
 -- what is written of a text that has faults or not: nothing, or its line
 abbrev pub FormattedPart : Bool → TextRow → Text → Type 0
 FormattedPart true row line = line ≡ []
@@ -83,4 +68,4 @@ FormattedPart false row line = FormattedLine row line
 abbrev pub FormatsTexts : Form → List TextRow → ℕ → Text → Type 0
 FormatsTexts form rows faulty text =
     (pieces : Text) × FaultsOf HasReadingFaults form 1 rows faulty pieces
-    × (faulty ≡ 0 → FormattedLines rows text) × (faulty ≢ 0 → text ≡ pieces)
+    × (faulty ≡ 0 → Pieces FormattedLine rows text) × (faulty ≢ 0 → text ≡ pieces)

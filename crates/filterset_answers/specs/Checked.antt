@@ -4,9 +4,11 @@ use Rattle.filterset_drawing.specs.Columns.{Text}
 use Rattle.filterset_faults.specs.declared.error.ParseSingleError.{ParseSingleError}
 use Rattle.filterset_faults.specs.declared.kind.FiltersetKind.{FiltersetKind}
 use Rattle.filterset_faults.specs.declared.span.SourceSpan.{SourceSpan}
+use Rattle.filterset_graph.specs.declared.package.PackageMetadata.{PackageMetadata}
 use Rattle.filterset_grammar.specs.Tree.{Tree}
 use Rattle.filterset_language.specs.Parsed.{IsUnreadWith, Reads}
 use Rattle.nextest_filtering.specs.Compiling.{IsFiltersetOf, IsRefusedWith, packages_of}
+use Rattle.nextest_filtering.specs.declared.compile.context.KnownGroups.{KnownGroups}
 use Rattle.filterset_answers.specs.Names.{is_judged}
 use Rattle.filterset_answers.specs.Placements.{Placement, placement_of}
 use Rattle.filterset_answers.specs.declared.names.Names.{Names}
@@ -27,15 +29,17 @@ abbrev pub text_row : TextEntry → TextRow
 text_row entry =
     record (row_of (string_bytes entry.origin) entry.kind entry.text.now) { place = option_map placement_of entry.place }
 
--- The faults of a text, as far as names are known: none where it is a filterset of its kind over the packages and
--- groups, and else those that refuse it, without those that are about names of which not enough is known.
-pub data HasFaults (names : Names) (row : TextRow) (faults : List ParseSingleError) : Type 0 where
-  fine : (e : Tree SourceSpan)
-      → IsFiltersetOf row.text row.kind (packages_of names.parse_context) names.known_groups e
-      → faults ≡ [] → HasFaults names row faults
-  refused : (all : List ParseSingleError)
-      → IsRefusedWith row.text row.kind (packages_of names.parse_context) names.known_groups all
-      → faults ≡ filter (is_judged names) all → HasFaults names row faults
+-- the faults of a text: none where it is a filterset of its kind over the packages and groups, and else those that
+-- refuse it
+abbrev pub HasRefusal : List PackageMetadata → KnownGroups → TextRow → List ParseSingleError → Type 0
+HasRefusal packages groups row faults =
+    ((e : Tree SourceSpan) × IsFiltersetOf row.text row.kind packages groups e × (faults ≡ []))
+    ⊎ IsRefusedWith row.text row.kind packages groups faults
+
+-- the same, as far as names are known: without those that are about names of which not enough is known
+abbrev pub HasFaults : Names → TextRow → List ParseSingleError → Type 0
+HasFaults names row faults = (all : List ParseSingleError)
+    × HasRefusal (packages_of names.parse_context) names.known_groups row all × (faults ≡ filter (is_judged names) all)
 
 -- the faults of a text, as the parser reads it: none, where it reads as a tree; else those that the parser found
 abbrev pub HasReadingFaults : TextRow → List ParseSingleError → Type 0

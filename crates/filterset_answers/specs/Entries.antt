@@ -1,16 +1,18 @@
 -- Which texts commands check, format or ask, as rows: where a text comes from, what it has to be, and the text.
-use Rattle.std.specs.Prelude.{ℕ, ◌++◌, List, [], ◌∷◌, Option, codes, decimal, map, option_map, string_bytes}
+use Rattle.std.specs.Prelude.{ℕ, ◌++◌, List, [], ◌∷◌, Option, codes, decimal, filter_map, map, option_map, string_bytes}
 use Rattle.std.specs.List.{enumerate_from}
 use Rattle.filterset_drawing.specs.Columns.{Text}
 use Rattle.filterset_faults.specs.declared.kind.FiltersetKind.{FiltersetKind}
 use Rattle.filterset_faults.specs.declared.kind.FiltersetKind.TheVariants as kinds
 use Rattle.filterset_sources.specs.declared.configuration.ConfiguredFilterset.{ConfiguredFilterset}
 use Rattle.filterset_places.specs.Places.{place_at}
-use Rattle.filterset_answers.specs.Checked.{TextRow, row_of}
+use Rattle.filterset_answers.specs.Checked.{TextRow, row_of, text_row}
 use Rattle.filterset_answers.specs.Placements.{Placement}
 use Rattle.filterset_answers.specs.declared.entries.ConfiguredTexts.{ConfiguredTexts}
 use Rattle.filterset_answers.specs.declared.question.Question.{Question}
 use Rattle.filterset_answers.specs.declared.question.Question.TheVariants as questions
+use Rattle.filterset_answers.specs.declared.setting.OverrideEntry.{OverrideEntry}
+use Rattle.filterset_answers.specs.declared.setting.Setting.{Setting}
 
 -- the row of a text that is called by a word and a number, as `argument 2`
 abbrev pub numbered_row : Text → FiltersetKind → ℕ → Text → TextRow
@@ -37,6 +39,14 @@ placed_row texts numbered = file_row (placement_at texts numbered.0) numbered.1
 -- the rows of a configuration's filtersets
 abbrev pub rows_in : ConfiguredTexts → List TextRow
 rows_in texts = map (placed_row texts) (enumerate_from 0 texts.filtersets.now)
+
+-- the text of an override's filter, if it has one
+abbrev pub filter_row : OverrideEntry → Option TextRow
+filter_row entry = option_map text_row entry.filter
+
+-- the texts that are compiled before those of a question: the default filter, and the filters of overrides
+abbrev pub setting_rows : Setting → List TextRow
+setting_rows setting = text_row setting.default.now ∷ filter_map filter_row setting.overrides.now
 
 -- filtersets of a question have to be ones of tests
 abbrev pub test_row : Text → Text → TextRow

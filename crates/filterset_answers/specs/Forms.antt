@@ -12,7 +12,8 @@ use Rattle.filterset_drawing.specs.declared.source.FileSpan.{FileSpan}
 use Rattle.filterset_faults.specs.Faults.{code_of, message_of, span_of}
 use Rattle.filterset_faults.specs.declared.error.ParseSingleError.{ParseSingleError}
 use Rattle.filterset_io.specs.Pieces.{Pieces}
-use Rattle.filterset_answers.specs.Placements.{IsRegionOf, Placement, file_part}
+use Rattle.filterset_answers.specs.Checked.{TextRow}
+use Rattle.filterset_answers.specs.Placements.{IsRegionOf, file_part}
 use Rattle.filterset_answers.specs.declared.form.Form.{Form}
 use Rattle.filterset_answers.specs.declared.form.Form.TheVariants.{Drawn, Github, Json}
 
@@ -38,7 +39,7 @@ WrittenIn part Json origin text number fault piece =
     (d : Data) × FaultData origin text part number fault d × (piece ≡ compact_text d ++ codes "\n")
 WrittenIn part Github origin text number fault piece = IsAnnotatedIn part origin fault piece
 
--- what is written of faults, one after the other
-abbrev pub FaultPieces : Form → Text → Text → Option Placement → ℕ → List ParseSingleError → Text → Type 0
-FaultPieces form origin text place number =
-    Pieces (λ fault. WrittenIn (file_part place (span_of fault)) form origin text number fault)
+-- what is written of faults of the text with this number, one after the other
+abbrev pub FaultPieces : Form → TextRow → ℕ → List ParseSingleError → Text → Type 0
+FaultPieces form row number =
+    Pieces (λ fault. WrittenIn (file_part row.place (span_of fault)) form row.origin row.text number fault)

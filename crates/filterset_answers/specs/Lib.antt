@@ -1,4 +1,3 @@
-pub mod Counts
 pub mod Endings
 pub mod Names
 pub mod Placements

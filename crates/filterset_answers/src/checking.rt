@@ -1,10 +1,10 @@
 //! The faults of texts.
-ghost use Rattle.std.specs.Prelude.{◌≡◌, ◌++◌, IfOk, List, OnOk, ℕ, length, map, string_bytes};
+ghost use Rattle.std.specs.Prelude.{◌≡◌, ◌++◌, IfOk, List, OnOk, [], codes, if◌then◌else◌, ℕ, length, map, string_bytes};
 ghost use Rattle.filterset_drawing.specs.Columns.{Text};
 ghost use Rattle.filterset_faults.specs.declared.error.ParseSingleError.{ParseSingleError};
 ghost use Rattle.nextest_filtering.specs.Groups.{IsKnown};
 ghost use Rattle.filterset_answers.specs.Answers.{ChecksTexts, FaultsOf, TextFaults};
-ghost use Rattle.filterset_answers.specs.Answers.{counts_text, summary, unchecked_groups, unchecked_packages};
+ghost use Rattle.filterset_answers.specs.Answers.{counts_text, summary};
 ghost use Rattle.filterset_answers.specs.Checked.{HasFaults, text_row};
 ghost use Rattle.filterset_answers.specs.Endings.{ending_of};
 ghost use Rattle.filterset_answers.specs.Entries.{rows_in};
@@ -37,7 +37,7 @@ fn push_text(
 
 /// Returns the line that says that names of packages and test binaries are not checked, unless they are.
 fn unchecked_packages(are_known: bool) -> &'static str
-    ensures { result.now ≡ unchecked_packages are_known }
+    ensures { result.now ≡ (if are_known then [] else codes "not checked: names of packages and test binaries\n") }
 {
     if are_known {
         ""
@@ -48,7 +48,7 @@ fn unchecked_packages(are_known: bool) -> &'static str
 
 /// Returns the line that says that names of groups are not checked, unless they are.
 fn unchecked_groups(are_known: bool) -> &'static str
-    ensures { result.now ≡ unchecked_groups are_known }
+    ensures { result.now ≡ (if are_known then [] else codes "not checked: names of test groups\n") }
 {
     if are_known {
         ""

@@ -1,23 +1,40 @@
 //! Texts as the filtersets that they spell.
-ghost use Rattle.std.specs.Prelude.{◌≡◌, ◌+◌, ◌++◌, ℕ, IfOk, OnOk, length, map, string_bytes};
+ghost use Rattle.std.specs.Prelude.{◌≡◌, ◌+◌, ◌++◌, ◌∷◌, [], IfOk, OnOk, filter_map, map, option_to_list, string_bytes};
 ghost use Rattle.std.specs.List.{AllZip};
 ghost use Rattle.filterset_drawing.specs.Columns.{Text};
-ghost use Rattle.nextest_filtering.specs.Compiling.{packages_of};
 ghost use Rattle.nextest_filtering.specs.Groups.{IsKnown};
-ghost use Rattle.filterset_answers.specs.Answers.{FaultsOf};
 ghost use Rattle.filterset_answers.specs.Checked.{text_row};
-ghost use Rattle.filterset_answers.specs.Compiled.{AreCompiled, HasRefusal, IsFiltersetFor, IsParsedAs, those_of};
+ghost use Rattle.filterset_answers.specs.Compiled.{AreCompiled, Compiles, CompilesAll, HasMade, IsFilter, IsMade, IsParsedAs};
+ghost use Rattle.filterset_answers.specs.Entries.{filter_row};
 
-use crate::entries::QuestionTexts;
 use crate::form::{Form, push_faults};
+use crate::setting::{OverrideEntry, Setting};
 use crate::text::TextEntry;
 use nextest_filtering::{Filterset, KnownGroups, ParseContext};
 use std::alloc::{AllocError, Global};
 
-/// The filtersets of a question.
+/// The filtersets of a setting.
+#[derive(Debug)]
+pub struct SettingFiltersets {
+    pub default: Filterset,
+    /// The filter of each override, if it has one.
+    pub overrides: Vec<Option<Filterset>>,
+}
+
+// By hand, so that a function that drops them proves one call.
+impl Drop for SettingFiltersets {
+    fn drop(self) {
+        let SettingFiltersets {
+            default: _default,
+            overrides: _overrides,
+        } = self;
+    }
+}
+
+/// The filtersets of a question, and those of the setting that it is asked under.
 #[derive(Debug, Drop)]
 pub struct QuestionFiltersets {
-    pub default: Filterset,
+    pub setting: SettingFiltersets,
     pub filters: Vec<Filterset>,
 }
 
@@ -30,41 +47,114 @@ pub enum CompiledTexts {
     Faults(String),
 }
 
+/// What texts are compiled with.
+#[derive(Debug, Drop)]
+pub struct Compiler<'c> {
+    pub context: ParseContext<'c>,
+    pub groups: &'c KnownGroups,
+    /// How faults are written.
+    pub form: Form,
+}
+
+/// The faults of texts that were compiled one after the other.
+#[derive(Debug, Drop)]
+pub struct FaultLog {
+    pub text: String,
+    /// How many texts were compiled.
+    pub count: usize,
+    /// Whether any of them has faults.
+    pub has_any: bool,
+}
+
 /// Parses the text with this number as a filterset, or writes its faults.
-pub fn parse_entry(
+fn parse_entry(
     output: &mut String,
     alloc: Global,
-    context: &ParseContext<'_>,
-    groups: &KnownGroups,
-    form: Form,
+    compiler: &Compiler<'_>,
     number: usize,
     entry: &TextEntry<'_>,
 ) -> Result<Option<Filterset>, AllocError>
-    requires { IsKnown groups.now }
+    requires { IsKnown compiler.now.groups.now }
     ensures { IfOk result (λ made. (piece : Text) × (string_bytes output.new ≡ string_bytes output.old ++ piece)
-        × IsParsedAs (packages_of context.now) groups.now form number (text_row entry.now) made piece) }
+        × IsParsedAs compiler.now number (text_row entry.now) made piece) }
 {
     let input = String::from_str(alloc, entry.text)?;
-    match Filterset::parse(alloc, input, context, entry.kind, groups) {
+    match Filterset::parse(alloc, input, &compiler.context, entry.kind, compiler.groups) {
         Ok(filterset) => Ok(Some(filterset)),
         Err(refusal) => {
             let refused = refusal.into_faults()?;
-            push_faults(
-                output,
-                alloc,
-                form,
-                entry,
-                number,
-                refused.errors.as_slice(),
-            )?;
+            let faults = refused.errors.as_slice();
+            push_faults(output, alloc, compiler.form, entry, number, faults)?;
             Ok(None)
         }
     }
 }
 
+/// Returns the number of the text after this many. A number that a `usize` cannot hold counts as out of memory.
+fn number_after(count: usize) -> Result<usize, AllocError>
+    ensures { IfOk result (λ number. number ≡ count + 1) }
+{
+    count.checked_add(1).ok_or(AllocError)
+}
+
+/// Compiles the next text, or writes its faults.
+fn compile_text(
+    log: &mut FaultLog,
+    alloc: Global,
+    compiler: &Compiler<'_>,
+    entry: &TextEntry<'_>,
+) -> Result<Option<Filterset>, AllocError>
+    requires { IsKnown compiler.now.groups.now }
+    ensures { let row = text_row entry.now in IfOk result (λ made.
+        Compiles compiler.now (row ∷ []) log.old log.new (HasMade compiler.now row made)) }
+{
+    let number = number_after(log.count)?;
+    let made = parse_entry(&mut log.text, alloc, compiler, number, entry)?;
+    log.count = number;
+    if made.is_none() {
+        log.has_any = true;
+    }
+    Ok(made)
+}
+
+/// Compiles the filter of an override, if it has one, or writes its faults.
+fn compile_filter(
+    log: &mut FaultLog,
+    alloc: Global,
+    compiler: &Compiler<'_>,
+    entry: &OverrideEntry<'_>,
+) -> Result<Option<Filterset>, AllocError>
+    requires { IsKnown compiler.now.groups.now }
+    ensures { IfOk result (λ made. Compiles compiler.now (filter_map filter_row (entry.now ∷ []))
+        log.old log.new (IsFilter compiler.now entry.now made)) }
+{
+    match &entry.filter {
+        Some(filter) => compile_text(log, alloc, compiler, filter),
+        None => Ok(None),
+    }
+}
+
+/// Compiles the filters of overrides, or writes their faults.
+fn compile_overrides(
+    log: &mut FaultLog,
+    alloc: Global,
+    compiler: &Compiler<'_>,
+    overrides: &[OverrideEntry<'_>],
+) -> Result<Vec<Option<Filterset>>, AllocError>
+    requires { IsKnown compiler.now.groups.now }
+    ensures { IfOk result (λ made. Compiles compiler.now (filter_map filter_row overrides.now)
+        log.old log.new (AllZip (IsFilter compiler.now) overrides.now made.items)) }
+{
+    let mut filters = Vec::with_capacity(alloc, overrides.len())?;
+    for entry in overrides {
+        filters.push(compile_filter(log, alloc, compiler, entry)?)?;
+    }
+    Ok(filters)
+}
+
 /// Adds a filterset if there is one.
 fn push_some(filtersets: &mut Vec<Filterset>, made: Option<Filterset>) -> Result<(), AllocError>
-    ensures { OnOk result (filtersets.new.items ≡ filtersets.old.items ++ those_of made) }
+    ensures { OnOk result (filtersets.new.items ≡ filtersets.old.items ++ option_to_list made) }
 {
     if let Some(filterset) = made {
         filtersets.push(filterset)?;
@@ -72,52 +162,70 @@ fn push_some(filtersets: &mut Vec<Filterset>, made: Option<Filterset>) -> Result
     Ok(())
 }
 
-/// Parses texts as filtersets, and writes the faults of those that have any. The number of the first text is 2.
-fn parse_filters(
-    output: &mut String,
+/// Compiles texts, or writes their faults.
+fn compile_filters(
+    log: &mut FaultLog,
     alloc: Global,
-    context: &ParseContext<'_>,
-    groups: &KnownGroups,
-    form: Form,
+    compiler: &Compiler<'_>,
     entries: &[TextEntry<'_>],
 ) -> Result<Vec<Filterset>, AllocError>
-    requires { IsKnown groups.now }
-    ensures { let packages = packages_of context.now in let rows = map text_row entries.now in
-        IfOk result (λ made. (piece : Text) × (faulty : ℕ)
-        × (string_bytes output.new ≡ string_bytes output.old ++ piece)
-        × (length made.items + faulty ≡ length rows)
-        × (faulty ≡ 0 → AllZip (IsFiltersetFor packages groups.now) rows made.items)
-        × FaultsOf (HasRefusal packages groups.now) form 2 rows faulty piece) }
+    requires { IsKnown compiler.now.groups.now }
+    ensures { let rows = map text_row entries.now in IfOk result (λ made.
+        Compiles compiler.now rows log.old log.new (AllZip (IsMade compiler.now) rows made.items)) }
 {
-    let mut filtersets = Vec::new(alloc);
-    for (i, entry) in entries.iter().enumerate() {
-        let made = parse_entry(output, alloc, context, groups, form, i + 2, entry)?;
+    let mut filtersets = Vec::with_capacity(alloc, entries.len())?;
+    for entry in entries {
+        let made = compile_text(log, alloc, compiler, entry)?;
         push_some(&mut filtersets, made)?;
     }
     Ok(filtersets)
 }
 
-/// Parses and compiles the texts of a question. The number of the default filter is 1.
+/// Compiles the texts of a setting, and after them those of a question, or writes their faults.
+fn compile_all(
+    log: &mut FaultLog,
+    alloc: Global,
+    compiler: &Compiler<'_>,
+    setting: &Setting<'_>,
+    entries: &[TextEntry<'_>],
+) -> Result<Option<QuestionFiltersets>, AllocError>
+    requires { IsKnown compiler.now.groups.now }
+    ensures { IfOk result (CompilesAll compiler.now setting.now (map text_row entries.now) log.old log.new) }
+{
+    let default = compile_text(log, alloc, compiler, setting.default)?;
+    let overrides = compile_overrides(log, alloc, compiler, setting.overrides)?;
+    let filters = compile_filters(log, alloc, compiler, entries)?;
+    match default {
+        Some(default) if !log.has_any => Ok(Some(QuestionFiltersets {
+            setting: SettingFiltersets { default, overrides },
+            filters,
+        })),
+        _ => Ok(None),
+    }
+}
+
+/// Parses and compiles the texts of a question under a setting. The number of the default filter is 1.
 pub fn compile_texts(
     alloc: Global,
-    context: &ParseContext<'_>,
-    groups: &KnownGroups,
     form: Form,
-    texts: &QuestionTexts<'_>,
+    setting: &Setting<'_>,
+    entries: &[TextEntry<'_>],
 ) -> Result<CompiledTexts, AllocError>
-    requires { IsKnown groups.now }
-    ensures { IfOk result (AreCompiled (packages_of context.now) groups.now form
-        (text_row texts.now.default) (map text_row texts.now.filters.items)) }
+    requires { IsKnown setting.now.groups.now }
+    ensures { IfOk result (AreCompiled form setting.now (map text_row entries.now)) }
 {
-    let mut faults = String::new(alloc);
-    let default = parse_entry(&mut faults, alloc, context, groups, form, 1, &texts.default)?;
-    let entries = texts.filters.as_slice();
-    let filters = parse_filters(&mut faults, alloc, context, groups, form, entries)?;
-    let Some(default) = default else {
-        return Ok(CompiledTexts::Faults(faults));
+    let compiler = Compiler {
+        context: ParseContext::new(alloc, setting.graph)?,
+        groups: setting.groups,
+        form,
     };
-    if filters.len() != entries.len() {
-        return Ok(CompiledTexts::Faults(faults));
+    let mut log = FaultLog {
+        text: String::new(alloc),
+        count: 0,
+        has_any: false,
+    };
+    match compile_all(&mut log, alloc, &compiler, setting, entries)? {
+        Some(filtersets) => Ok(CompiledTexts::Filtersets(filtersets)),
+        None => Ok(CompiledTexts::Faults(log.text)),
     }
-    Ok(CompiledTexts::Filtersets(QuestionFiltersets { default, filters }))
 }

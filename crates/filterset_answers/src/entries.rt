@@ -152,7 +152,7 @@ fn pair_entries<'t>(
 }
 
 /// Makes an entry of each filterset of a question.
-fn filter_entries<'t>(
+pub fn question_entries<'t>(
     alloc: Global,
     question: &Question<'t>,
 ) -> Result<Vec<TextEntry<'t>>, AllocError>
@@ -164,29 +164,9 @@ fn filter_entries<'t>(
     }
 }
 
-/// The texts that a question is about.
-#[derive(Debug, Drop)]
-pub struct QuestionTexts<'t> {
-    pub default: TextEntry<'t>,
-    pub filters: Vec<TextEntry<'t>>,
-}
-
-/// Makes the entries of a default filter and of a question's filtersets.
-pub fn question_texts<'t>(
-    alloc: Global,
-    default_filter: &'t str,
-    question: &Question<'t>,
-) -> Result<QuestionTexts<'t>, AllocError>
-    ensures default { IfOk result (λ texts. text_row texts.default ≡ default_row default_filter.now) }
-    ensures filters { IfOk result (λ texts. map text_row texts.filters.items ≡ question_rows question.now) }
-{
-    Ok(QuestionTexts {
-        default: default_entry(alloc, default_filter)?,
-        filters: filter_entries(alloc, question)?,
-    })
-}
-
-/// Makes the entry of a default filter.
+/// Makes the entry of a default filter of the command line.
+///
+/// Returns an error only if out of memory.
 pub fn default_entry(alloc: Global, text: &str) -> Result<TextEntry<'_>, AllocError>
     ensures { IfOk result (λ entry. text_row entry ≡ default_row text.now) }
 {

@@ -1,107 +1,109 @@
 //! Why a filterset picks a test or not.
-ghost use Rattle.std.specs.Prelude.{◌≡◌, ◌++◌, IfOk, false, string_bytes};
-ghost use Rattle.filterset_drawing.specs.Columns.{Text};
+ghost use Rattle.std.specs.Prelude.{◌≡◌, ◌∷◌, [], IfOk, List, false, string_bytes};
+ghost use Rattle.std.specs.List.{AllZip};
 ghost use Rattle.filterset_expression.specs.Expression.{has_leaf, is_default, is_group};
 ghost use Rattle.filterset_expression.specs.Meaning.{IsCompiled};
+ghost use Rattle.filterset_faults.specs.declared.kind.FiltersetKind.TheVariants as kinds;
+ghost use Rattle.filterset_faults.specs.declared.span.SourceSpan.{SourceSpan};
+ghost use Rattle.filterset_grammar.specs.Tree.{Tree};
 ghost use Rattle.filterset_language.specs.Views.{tree_of};
-ghost use Rattle.filterset_answers.specs.Explained.{AnswersExplanation, AreParsed, IsExplanation};
+ghost use Rattle.nextest_filtering.specs.Groups.{IsKnown};
+ghost use Rattle.filterset_answers.specs.Checked.{TextRow};
+ghost use Rattle.filterset_answers.specs.Compiled.{AreFiltersets, Basis, IsTreeOf};
+ghost use Rattle.filterset_answers.specs.Explained.{AnswersExplanation, Explains};
 
-use crate::compiling::parse_entry;
-use crate::entries::{default_entry, entry_of};
+use crate::compiling::{CompiledTexts, QuestionFiltersets, compile_texts};
+use crate::entries::entry_of;
 use crate::form::Form;
-use crate::text::{Answer, Ending};
-use filterset_listing::{Candidate, explain, explain_text};
-use nextest_filtering::{
-    EvalContext, Filterset, FiltersetKind, KnownGroups, PackageGraph, ParseContext,
-};
+use crate::grouping::group_overrides;
+use crate::setting::Setting;
+use crate::text::{Answer, Ending, unknown_ending};
+use filterset_listing::{Candidate, GroupOverride, explain, explain_text};
+use nextest_filtering::{EvalContext, Filterset, FiltersetKind};
 use std::alloc::{AllocError, Global};
+use std::slice;
 
-/// A default filter and a filterset, as far as their texts are filtersets.
-struct ParsedTexts {
-    default: Option<Filterset>,
-    filter: Option<Filterset>,
-}
-
-// By hand, so that a function that drops them proves one call.
-impl Drop for ParsedTexts {
-    fn drop(self) {
-        let ParsedTexts {
-            default: _default,
-            filter: _filter,
-        } = self;
-    }
-}
-
-/// Parses a default filter and a filterset, or writes their faults.
-fn parse_texts(
-    output: &mut String,
-    alloc: Global,
-    form: Form,
-    default_filter: &str,
-    filter: &str,
-    graph: &PackageGraph,
-) -> Result<ParsedTexts, AllocError>
-    ensures { IfOk result (λ made. (piece : Text) × (string_bytes output.new ≡ string_bytes output.old ++ piece)
-        × AreParsed form default_filter.now filter.now graph.now made.default made.filter piece) }
-{
-    let default = default_entry(alloc, default_filter)?;
-    let filter = entry_of(alloc, "-E", FiltersetKind::Test, filter)?;
-    let context = ParseContext::new(alloc, graph)?;
-    let groups = KnownGroups::global_only(alloc);
-    Ok(ParsedTexts {
-        default: parse_entry(output, alloc, &context, &groups, form, 1, &default)?,
-        filter: parse_entry(output, alloc, &context, &groups, form, 2, &filter)?,
-    })
-}
-
-/// Explains a filterset, where the first filterset is the value of `default()`.
+/// Explains a filterset, where the first filterset is the value of `default()`, and the overrides set groups.
 fn explain_parsed(
     alloc: Global,
-    graph: &PackageGraph,
-    candidate: Candidate<'_>,
+    setting: &Setting<'_>,
     default: &Filterset,
     filter: &Filterset,
+    overrides: &[GroupOverride<'_>],
+    candidate: Candidate<'_>,
 ) -> Result<Answer, AllocError>
     requires no_default { has_leaf is_default default.now.compiled ≡ false }
     requires no_group { has_leaf is_group default.now.compiled ≡ false }
-    requires compiled { IsCompiled graph.now (tree_of filter.now.parsed) filter.now.compiled }
-    ensures { IfOk result (λ answer. IsExplanation candidate.entry graph.now default.now filter.now
+    requires compiled { IsCompiled setting.now.graph.now (tree_of filter.now.parsed) filter.now.compiled }
+    ensures { IfOk result (λ answer. (basis : Basis setting.now) → basis.default ≡ default.now.compiled
+        → basis.overrides ≡ overrides.now → Explains candidate.entry setting.now basis (tree_of filter.now.parsed ∷ [])
         answer.ending (string_bytes answer.text)) }
 {
     let context = EvalContext::new(&default.compiled);
-    let nodes = explain(
+    let explanation = explain(
         alloc,
-        graph,
+        setting.graph,
         &filter.parsed,
         &filter.compiled,
         &context,
+        overrides,
         candidate,
     )?;
     Ok(Answer {
-        text: explain_text(alloc, nodes.as_slice())?,
-        ending: Ending::Fine,
+        text: explain_text(alloc, &explanation)?,
+        ending: unknown_ending(explanation.is_unknown()),
     })
 }
 
-/// Explains a filterset for a binary or a test, or writes the faults of the texts.
+/// Explains the one filterset of these.
+fn explain_compiled(
+    alloc: Global,
+    setting: &Setting<'_>,
+    filtersets: &QuestionFiltersets,
+    candidate: Candidate<'_>,
+) -> Result<Answer, AllocError>
+    requires kind { setting.now.default.now.kind ≡ kinds.DefaultFilter }
+    requires filtersets { (row : TextRow) × AreFiltersets setting.now.graph.now setting.now.groups.now setting.now
+        (row ∷ []) filtersets.now }
+    ensures { IfOk result (λ answer. (row : TextRow) → AreFiltersets setting.now.graph.now setting.now.groups.now
+        setting.now (row ∷ []) filtersets.now → (basis : Basis setting.now) × (trees : List (Tree SourceSpan))
+        × AllZip (IsTreeOf setting.now) (row ∷ []) trees
+        × Explains candidate.entry setting.now basis trees answer.ending (string_bytes answer.text)) }
+{
+    let compiled = &filtersets.setting;
+    let filter = &filtersets.filters[0];
+    let overrides = group_overrides(alloc, setting.overrides, compiled.overrides.as_slice())?;
+    explain_parsed(
+        alloc,
+        setting,
+        &compiled.default,
+        filter,
+        overrides.as_slice(),
+        candidate,
+    )
+}
+
+/// Explains a filterset for a binary or a test, or writes the faults of its text and of those of the setting.
 ///
 /// Returns an error only if out of memory.
 pub fn explain_filterset(
     alloc: Global,
     form: Form,
-    default_filter: &str,
+    setting: &Setting<'_>,
     filter: &str,
-    graph: &PackageGraph,
     candidate: Candidate<'_>,
 ) -> Result<Answer, AllocError>
-    ensures { IfOk result (λ answer. AnswersExplanation form default_filter.now filter.now graph.now candidate.entry
+    requires default { setting.now.default.now.kind ≡ kinds.DefaultFilter }
+    requires groups { IsKnown setting.now.groups.now }
+    ensures { IfOk result (λ answer. AnswersExplanation form setting.now filter.now candidate.entry
         answer.ending (string_bytes answer.text)) }
 {
-    let mut text = String::new(alloc);
-    let made = parse_texts(&mut text, alloc, form, default_filter, filter, graph)?;
-    match (&made.default, &made.filter) {
-        (Some(default), Some(filter)) => explain_parsed(alloc, graph, candidate, default, filter),
-        _ => Ok(Answer {
+    let entry = entry_of(alloc, "-E", FiltersetKind::Test, filter)?;
+    match compile_texts(alloc, form, setting, slice::from_ref(&entry))? {
+        CompiledTexts::Filtersets(filtersets) => {
+            explain_compiled(alloc, setting, &filtersets, candidate)
+        }
+        CompiledTexts::Faults(text) => Ok(Answer {
             text,
             ending: Ending::Faulty,
         }),

@@ -5,10 +5,12 @@ ghost use Rattle.serde_json.specs.Written.{compact_text};
 ghost use Rattle.filterset_drawing.specs.Columns.{Text};
 ghost use Rattle.filterset_drawing.specs.Drawings.{Drawing};
 ghost use Rattle.filterset_drawing.specs.Json.{FaultData};
+ghost use Rattle.filterset_faults.specs.Faults.{span_of};
+ghost use Rattle.filterset_io.specs.Pieces.{Pieces};
 ghost use Rattle.filterset_answers.specs.Answers.{has_some};
 ghost use Rattle.filterset_answers.specs.Checked.{text_row};
 ghost use Rattle.filterset_answers.specs.Forms.{FaultPieces, IsAnnotatedIn, IsDrawnIn, WrittenIn};
-ghost use Rattle.filterset_answers.specs.Placements.{placement_of};
+ghost use Rattle.filterset_answers.specs.Placements.{file_part, placement_of};
 
 use crate::place::{FilePlace, file_part, region_of};
 use crate::text::TextEntry;
@@ -178,9 +180,8 @@ pub fn push_faults(
     number: usize,
     faults: &[ParseSingleError],
 ) -> Result<(), AllocError>
-    ensures { let row = text_row entry.now in OnOk result ((piece : Text)
-        × (string_bytes output.new ≡ string_bytes output.old ++ piece)
-        × FaultPieces form row.origin row.text row.place number faults.now piece) }
+    ensures { OnOk result ((piece : Text) × (string_bytes output.new ≡ string_bytes output.old ++ piece)
+        × FaultPieces form (text_row entry.now) number faults.now piece) }
 {
     let source = Source::new(alloc, entry.origin.as_str(), entry.text)?;
     push_faults_of(output, alloc, form, &source, entry.place, number, faults)
@@ -198,7 +199,8 @@ fn push_faults_of(
 ) -> Result<(), AllocError>
     ensures { let source = source.now in OnOk result ((piece : Text)
         × (string_bytes output.new ≡ string_bytes output.old ++ piece)
-        × FaultPieces form source.origin.now source.text.now (option_map placement_of place.entry) number faults.now piece) }
+        × Pieces (λ fault. WrittenIn (file_part (option_map placement_of place.entry) (span_of fault)) form
+        source.origin.now source.text.now number fault) faults.now piece) }
 {
     for fault in faults {
         let part = file_part(place, fault.span());

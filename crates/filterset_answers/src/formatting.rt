@@ -1,7 +1,8 @@
 //! Filtersets as they print.
 ghost use Rattle.std.specs.Prelude.{◌≡◌, ◌≢◌, ◌++◌, IfOk, ℕ, map, string_bytes};
 ghost use Rattle.filterset_drawing.specs.Columns.{Text};
-ghost use Rattle.filterset_answers.specs.Answers.{FaultsOf, FormatsTexts, FormattedLines, FormattedPart, TextFaults};
+ghost use Rattle.filterset_io.specs.Pieces.{Pieces};
+ghost use Rattle.filterset_answers.specs.Answers.{FaultsOf, FormatsTexts, FormattedLine, FormattedPart, TextFaults};
 ghost use Rattle.filterset_answers.specs.Checked.{HasReadingFaults, text_row};
 ghost use Rattle.filterset_answers.specs.Endings.{ending_of};
 ghost use Rattle.filterset_answers.specs.Readings.{IsReadingOf};
@@ -70,7 +71,7 @@ fn push_texts(
     ensures { IfOk result (λ faulty. (lines : Text) × (pieces : Text)
         × (string_bytes formatted.new ≡ string_bytes formatted.old ++ lines)
         × (string_bytes output.new ≡ string_bytes output.old ++ pieces)
-        × (faulty ≡ 0 → FormattedLines (map text_row texts.now) lines)
+        × (faulty ≡ 0 → Pieces FormattedLine (map text_row texts.now) lines)
         × FaultsOf HasReadingFaults form 1 (map text_row texts.now) faulty pieces) }
 {
     let mut faulty = 0;

@@ -3,28 +3,33 @@ ghost use Rattle.std.specs.Prelude.{◌≡◌, IfOk, List, false, length, map, o
 ghost use Rattle.std.specs.List.{AllZip};
 ghost use Rattle.serde_json.specs.View.{view};
 ghost use Rattle.filterset_expression.specs.Contexts.{default_of};
-ghost use Rattle.filterset_expression.specs.Expression.{has_leaf, is_default, is_group};
+ghost use Rattle.filterset_expression.specs.Expression.{has_leaf, is_default};
 ghost use Rattle.filterset_expression.specs.Meaning.{IsCompiled};
+ghost use Rattle.filterset_faults.specs.declared.kind.FiltersetKind.TheVariants as kinds;
 ghost use Rattle.filterset_faults.specs.declared.span.SourceSpan.{SourceSpan};
 ghost use Rattle.filterset_grammar.specs.Tree.{Tree};
 ghost use Rattle.filterset_graph.specs.declared.package.PackageMetadata.{PackageMetadata};
+ghost use Rattle.filterset_listing.specs.Groups.{Says};
 ghost use Rattle.filterset_listing.specs.Listing.{IsBinaryPicks};
 ghost use Rattle.filterset_listing.specs.Selection.{RunCanPick, RunPicks};
-ghost use Rattle.nextest_filtering.specs.declared.filterset.Filterset as declared;
-ghost use Rattle.filterset_answers.specs.Picking.{AnswersQuestion, AreCompiledTrees, Compares, IsPairFor, Lists, Tells, WritesList, compiled_of};
+ghost use Rattle.nextest_filtering.specs.Groups.{IsKnown};
+ghost use Rattle.filterset_answers.specs.Compiled.{AreFiltersets, Basis, IsTreeOf};
+ghost use Rattle.filterset_answers.specs.Entries.{question_rows};
+ghost use Rattle.filterset_answers.specs.Picking.{AnswersQuestion, Compares, Lists, Tells, WritesList, compiled_of, parsed_of};
+ghost use Rattle.filterset_answers.specs.declared.setting.Setting as settings;
 
 use crate::compiling::{CompiledTexts, QuestionFiltersets, compile_texts};
-use crate::entries::question_texts;
+use crate::entries::question_entries;
 use crate::form::Form;
+use crate::grouping::group_overrides;
 use crate::question::Question;
-use crate::text::{Answer, Ending, differing_ending};
+use crate::setting::Setting;
+use crate::text::{Answer, Ending, differing_ending, unknown_ending};
 use filterset_listing::{
-    AskedBinary, BinaryPicks, compare, comparison_text, differ, list, list_json, list_text,
-    selection_of,
+    AskedBinary, BinaryPicks, GroupOverride, any_unknown, compare, comparison_text, differ, list,
+    list_json, list_text, lists_unknown, selection_of,
 };
-use nextest_filtering::{
-    CompiledExpr, EvalContext, Filterset, KnownGroups, PackageGraph, ParseContext,
-};
+use nextest_filtering::{CompiledExpr, EvalContext, Filterset};
 use serde_json::Value;
 use std::alloc::{AllocError, Global};
 
@@ -32,7 +37,7 @@ use std::alloc::{AllocError, Global};
 fn picks_text(
     alloc: Global,
     kept: Option<Value>,
-    all: &[BinaryPicks<'_>],
+    all: &[BinaryPicks<'_, '_>],
 ) -> Result<String, AllocError>
     ensures { IfOk result (λ text. WritesList (option_map view kept) all.now (string_bytes text)) }
 {
@@ -56,43 +61,54 @@ fn expressions_of(
     Ok(exprs)
 }
 
-/// Returns the tests of each binary that a runner runs, given these filtersets.
-fn picks_of<'s>(
+/// Returns the tests of each binary that a runner runs, given these filtersets and overrides.
+fn picks_of<'s, 'g>(
     alloc: Global,
     filters: Vec<CompiledExpr>,
     ignores_default: bool,
     context: &EvalContext<'_>,
+    overrides: &[GroupOverride<'g>],
     binaries: &[AskedBinary<'s>],
-) -> Result<Vec<BinaryPicks<'s>>, AllocError>
+) -> Result<Vec<BinaryPicks<'s, 'g>>, AllocError>
     ensures { let default = default_of context.now in IfOk result (λ all. (packages : List PackageMetadata)
         (tree : Tree SourceSpan) (trees : List (Tree SourceSpan)) → IsCompiled packages tree default
         → has_leaf is_default default ≡ false → AllZip (IsCompiled packages) trees filters.items
-        → AllZip (IsBinaryPicks (RunPicks packages ignores_default default tree trees)
+        → AllZip (IsBinaryPicks (Says default overrides.now (RunPicks packages ignores_default default tree trees))
         (RunCanPick packages ignores_default default tree trees)) binaries.now all.items) }
 {
     let selection = selection_of(alloc, filters, ignores_default)?;
-    list(alloc, &selection, context, binaries)
+    list(alloc, &selection, context, overrides, binaries)
 }
 
-/// Answers which tests a runner runs, given these filtersets.
+/// Answers which tests a runner runs, given these filtersets and overrides.
 fn answer_list(
     alloc: Global,
     filters: Vec<Filterset>,
     ignores_default: bool,
     context: &EvalContext<'_>,
+    overrides: &[GroupOverride<'_>],
     kept: Option<Value>,
     binaries: &[AskedBinary<'_>],
 ) -> Result<Answer, AllocError>
-    ensures { IfOk result (λ answer. (packages : List PackageMetadata) (default : declared.Filterset)
-        → default.compiled ≡ default_of context.now → AreCompiledTrees packages default filters.items
-        → Lists packages ignores_default default filters.items (option_map view kept) binaries.now
+    ensures { IfOk result (λ answer. (setting : settings.Setting) (basis : Basis setting)
+        (trees : List (Tree SourceSpan)) → basis.default ≡ default_of context.now
+        → basis.overrides ≡ overrides.now → has_leaf is_default basis.default ≡ false
+        → AllZip (IsCompiled setting.graph.now) trees (map compiled_of filters.items)
+        → Lists setting ignores_default (option_map view kept) binaries.now basis trees
         answer.ending (string_bytes answer.text)) }
 {
     let filters = expressions_of(alloc, filters)?;
-    let all = picks_of(alloc, filters, ignores_default, context, binaries)?;
+    let all = picks_of(
+        alloc,
+        filters,
+        ignores_default,
+        context,
+        overrides,
+        binaries,
+    )?;
     Ok(Answer {
         text: picks_text(alloc, kept, all.as_slice())?,
-        ending: Ending::Fine,
+        ending: unknown_ending(lists_unknown(all.as_slice())),
     })
 }
 
@@ -101,73 +117,96 @@ fn answer_compare(
     alloc: Global,
     filters: &[Filterset],
     context: &EvalContext<'_>,
+    overrides: &[GroupOverride<'_>],
     binaries: &[AskedBinary<'_>],
     has_names: bool,
 ) -> Result<Answer, AllocError>
     requires { length filters.now ≡ 2 }
-    ensures { IfOk result (λ answer. (packages : List PackageMetadata) (default : declared.Filterset)
-        → default.compiled ≡ default_of context.now → AreCompiledTrees packages default filters.now
-        → Compares has_names packages default filters.now binaries.now answer.ending (string_bytes answer.text)) }
+    ensures { IfOk result (λ answer. (setting : settings.Setting) (basis : Basis setting)
+        → basis.default ≡ default_of context.now → basis.overrides ≡ overrides.now
+        → AllZip (IsCompiled setting.graph.now) (map parsed_of filters.now) (map compiled_of filters.now)
+        → Compares setting has_names binaries.now basis (map parsed_of filters.now)
+        answer.ending (string_bytes answer.text)) }
 {
     let (first, second) = (&filters[0].compiled, &filters[1].compiled);
-    let all = compare(alloc, first, second, context, binaries)?;
+    let all = compare(alloc, first, second, context, overrides, binaries)?;
+    let all = all.as_slice();
     Ok(Answer {
-        text: comparison_text(alloc, all.as_slice(), has_names)?,
-        ending: differing_ending(differ(all.as_slice())),
+        text: comparison_text(alloc, all, has_names)?,
+        ending: differing_ending(differ(all), any_unknown(all)),
     })
 }
 
 /// Answers a question by its filtersets.
 fn answer_question(
     alloc: Global,
+    setting: &Setting<'_>,
     question: &Question<'_>,
     filtersets: QuestionFiltersets,
     kept: Option<Value>,
     binaries: &[AskedBinary<'_>],
 ) -> Result<Answer, AllocError>
-    requires no_default { has_leaf is_default filtersets.default.compiled ≡ false }
-    requires no_group { has_leaf is_group filtersets.default.compiled ≡ false }
-    requires pair { IsPairFor question.now filtersets.filters.items }
-    ensures { IfOk result (λ answer. (packages : List PackageMetadata)
-        → AreCompiledTrees packages filtersets.default filtersets.filters.items
-        → Tells packages question.now filtersets.default filtersets.filters.items (option_map view kept) binaries.now
+    requires kind { setting.now.default.now.kind ≡ kinds.DefaultFilter }
+    requires filtersets { AreFiltersets setting.now.graph.now setting.now.groups.now setting.now
+        (question_rows question.now) filtersets }
+    ensures { IfOk result (λ answer. (basis : Basis setting.now) × (trees : List (Tree SourceSpan))
+        × AllZip (IsTreeOf setting.now) (question_rows question.now) trees
+        × Tells setting.now question.now (option_map view kept) binaries.now basis trees
         answer.ending (string_bytes answer.text)) }
 {
-    let QuestionFiltersets { default, filters } = filtersets;
-    let context = EvalContext::new(&default.compiled);
+    let QuestionFiltersets {
+        setting: compiled,
+        filters,
+    } = filtersets;
+    let context = EvalContext::new(&compiled.default.compiled);
+    let made = group_overrides(alloc, setting.overrides, compiled.overrides.as_slice())?;
+    let overrides = made.as_slice();
     match question {
         Question::List {
             ignores_default,
             ..
-        } => answer_list(alloc, filters, *ignores_default, &context, kept, binaries),
+        } => answer_list(
+            alloc,
+            filters,
+            *ignores_default,
+            &context,
+            overrides,
+            kept,
+            binaries,
+        ),
         Question::Compare { has_names, .. } => {
-            answer_compare(alloc, filters.as_slice(), &context, binaries, *has_names)
+            answer_compare(
+                alloc,
+                filters.as_slice(),
+                &context,
+                overrides,
+                binaries,
+                *has_names,
+            )
         }
     }
 }
 
-/// Answers a question about a workspace, or writes the faults of its texts. `kept` is nextest's list, if the answer has its
-/// shape.
+/// Answers a question about a workspace, or writes the faults of its texts and those of the setting.
 ///
-/// Returns an error only if out of memory.
+/// `kept` is nextest's list, if the answer has its shape. Returns an error only if out of memory.
 pub fn ask_workspace(
     alloc: Global,
     form: Form,
-    default_filter: &str,
+    setting: &Setting<'_>,
     question: &Question<'_>,
     kept: Option<Value>,
-    graph: &PackageGraph,
     binaries: &[AskedBinary<'_>],
 ) -> Result<Answer, AllocError>
-    ensures { IfOk result (λ answer. AnswersQuestion form default_filter.now question.now (option_map view kept)
-        graph.now binaries.now answer.ending (string_bytes answer.text)) }
+    requires default { setting.now.default.now.kind ≡ kinds.DefaultFilter }
+    requires groups { IsKnown setting.now.groups.now }
+    ensures { IfOk result (λ answer. AnswersQuestion form setting.now question.now (option_map view kept)
+        binaries.now answer.ending (string_bytes answer.text)) }
 {
-    let texts = question_texts(alloc, default_filter, question)?;
-    let context = ParseContext::new(alloc, graph)?;
-    let groups = KnownGroups::global_only(alloc);
-    match compile_texts(alloc, &context, &groups, form, &texts)? {
+    let entries = question_entries(alloc, question)?;
+    match compile_texts(alloc, form, setting, entries.as_slice())? {
         CompiledTexts::Filtersets(filtersets) => {
-            answer_question(alloc, question, filtersets, kept, binaries)
+            answer_question(alloc, setting, question, filtersets, kept, binaries)
         }
         CompiledTexts::Faults(text) => Ok(Answer {
             text,

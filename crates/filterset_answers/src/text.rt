@@ -1,9 +1,10 @@
 //! Filterset texts, and what commands answer about them.
-ghost use Rattle.std.specs.Prelude.{◌≡◌};
-ghost use Rattle.filterset_answers.specs.Endings.{differing_ending, ending_of};
+ghost use Rattle.std.specs.Prelude.{◌≡◌, IfOk, string_bytes};
+ghost use Rattle.filterset_answers.specs.Endings.{AnswersUnknown, differing_ending, ending_of, unknown_ending};
 
 use crate::place::FilePlace;
 use nextest_filtering::FiltersetKind;
+use std::alloc::{AllocError, Global};
 
 /// A filterset's text, the kind of filterset that it has to be, and where it comes from, for people.
 #[derive(Debug, Drop)]
@@ -24,6 +25,8 @@ pub enum Ending {
     Faulty,
     /// The two filtersets that were compared differ, or may differ on a binary that nextest skipped.
     Differing,
+    /// Some of the answer hangs on a platform that is not known.
+    Unknown,
 }
 
 /// What a command writes, and how it ends.
@@ -54,13 +57,36 @@ pub fn ending_of(faulty: usize) -> Ending
     }
 }
 
-/// Returns how a comparison ends, by whether the filtersets differ.
-pub fn differing_ending(differ: bool) -> Ending
-    ensures { result ≡ differing_ending differ }
+/// Returns how an answer ends, by whether some of it is unknown.
+pub fn unknown_ending(is_unknown: bool) -> Ending
+    ensures { result ≡ unknown_ending is_unknown }
+{
+    if is_unknown {
+        Ending::Unknown
+    } else {
+        Ending::Fine
+    }
+}
+
+/// Returns how a comparison ends, by whether the filtersets differ, and whether some of it is unknown.
+pub fn differing_ending(differ: bool, is_unknown: bool) -> Ending
+    ensures { result ≡ differing_ending differ is_unknown }
 {
     if differ {
         Ending::Differing
     } else {
-        Ending::Fine
+        unknown_ending(is_unknown)
     }
+}
+
+/// Answers that the default filter is unknown, because it hangs on the platform of the override at this path.
+///
+/// Returns an error only if out of memory.
+pub fn answer_unknown(alloc: Global, path: &str) -> Result<Answer, AllocError>
+    ensures { IfOk result (λ answer. AnswersUnknown path.now answer.ending (string_bytes answer.text)) }
+{
+    Ok(Answer {
+        text: format!(in alloc; "unknown: platform of {path}\n")?,
+        ending: Ending::Unknown,
+    })
 }

@@ -1,17 +1,11 @@
-use Rattle.std.proofs.Common.{◌∙◌, ap, refl}
+use Rattle.std.proofs.Common.{◌∙◌, ap}
 use Rattle.filterset_answers.specs.Answers.{has_some}
-use Rattle.filterset_answers.proofs.AnswersLemmas.{FaultPieces-of}
 use Rattle.filterset_answers.proofs.checking.push_text.Goals as goal
 
 pub returns : goal.returns
 returns c =
-    let piece = c.in_ok-push_faults.ensures in (
+    let piece = rw c.as_slice.ensures.value at c.in_ok-push_faults.ensures in (
       piece.0,
       piece.1,
-      (
-        c.in_ok-faults.faults.items,
-        c.in_ok-faults.ensures,
-        c.has_some.ensures ∙ ap has_some c.as_slice-2.ensures.value,
-        FaultPieces-of c.args.form c.args.number _ piece.0 _ _ _ _ _ _ refl refl c.as_slice.ensures.value piece.2,
-      ),
+      (c.in_ok-faults.faults.items, c.in_ok-faults.ensures, c.has_some.ensures ∙ ap has_some c.as_slice-2.ensures.value, piece.2),
     )

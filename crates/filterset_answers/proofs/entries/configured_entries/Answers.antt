@@ -1,5 +1,4 @@
-use Rattle.std.proofs.Common.{rules, arith, ◌≡◌, ◌<◌, ◌∙◌, ap, length, get_or, option_map}
-use Rattle.std.proofs.lemmas.List.{take_all}
+use Rattle.std.proofs.Common.{rules, arith, ◌≡◌, ◌<◌, ◌∙◌, ap, length, get_or}
 use Rattle.filterset_answers.specs.Entries.{file_row}
 use Rattle.filterset_answers.proofs.RowsLemmas.{placed_entry}
 use Rattle.filterset_answers.proofs.entries.configured_entries.Goals as goal

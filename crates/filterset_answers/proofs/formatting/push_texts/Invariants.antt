@@ -1,6 +1,7 @@
 use Rattle.std.proofs.Common.{◌≡◌, ◌≤◌, ◌++◌, map, string_bytes, take}
 use Rattle.filterset_drawing.specs.Columns.{Text}
-use Rattle.filterset_answers.specs.Answers.{FaultsOf, FormattedLines}
+use Rattle.filterset_io.specs.Pieces.{Pieces}
+use Rattle.filterset_answers.specs.Answers.{FaultsOf, FormattedLine}
 use Rattle.filterset_answers.specs.Checked.{HasReadingFaults, text_row}
 use Rattle.filterset_answers.proofs.formatting.push_texts.Given as goal
 
@@ -10,5 +11,5 @@ invariant-loop-i l =
     (l.faulty ≤ l.i) × ((lines : Text) × (pieces : Text)
     × (string_bytes l.formatted ≡ string_bytes l.initial.formatted ++ lines)
     × (string_bytes l.output ≡ string_bytes l.initial.output ++ pieces)
-    × (l.faulty ≡ 0 → FormattedLines (map text_row (take l.i l.texts)) lines)
+    × (l.faulty ≡ 0 → Pieces FormattedLine (map text_row (take l.i l.texts)) lines)
     × FaultsOf HasReadingFaults l.form 1 (map text_row (take l.i l.texts)) l.faulty pieces)

@@ -1,20 +1,44 @@
-use Rattle.std.proofs.Common.{string_bytes, subst, sym}
+use Rattle.std.proofs.Common.{map, string_bytes, subst, sym}
 use Rattle.std.specs.Prelude.{option_map}
 use Rattle.std.proofs.lemmas.Result.{IfOk-weaker}
 use Rattle.serde_json.specs.View.{view}
-use Rattle.filterset_answers.specs.Picking.{Tells}
+use Rattle.filterset_answers.specs.Entries.{question_rows}
+use Rattle.filterset_answers.specs.Picking.{Tells, parsed_of}
+use Rattle.filterset_answers.proofs.PickingLemmas.{basis_of, compiled_trees, trees_of}
 use Rattle.filterset_answers.proofs.picking.answer_question.Goals as goal
 
 pub returns-in-List : goal.returns-in-List
 returns-in-List c =
+    let setting = c.args.setting.now in
     let made = c.args.filtersets in
-    IfOk-weaker c.answer_list.result _ _ (λ answer lists packages are.
-    subst (λ question. Tells packages question made.default made.filters.items (option_map view c.args.kept) c.args.binaries.now answer.ending (string_bytes answer.text)) (sym c.in-List.is)
-    (lists packages made.default (sym c.new-context.ensures) are)) c.answer_list.ensures
+    let are = c.requires.filtersets in
+    let rows = question_rows c.args.question.now in
+    let grouped = rw c.as_slice.ensures.value at c.in_ok-made.ensures in
+    let basis = basis_of setting rows made c.in_ok-made.made.items are (grouped setting are.overrides) in
+    let trees = map parsed_of made.filters.items in
+    IfOk-weaker c.answer_list.result _ _ (λ answer lists. (
+      basis,
+      trees,
+      trees_of setting rows made.filters.items are.filters,
+      subst (λ question. Tells setting question (option_map view c.args.kept) c.args.binaries.now basis trees answer.ending (string_bytes answer.text)) (sym c.in-List.is)
+          (lists setting basis trees (sym c.new-context.ensures) (sym c.as_slice-overrides.ensures.value) (are.default.no_default c.requires.kind) (compiled_trees setting.graph.now setting.groups.now rows made.filters.items are.filters)),
+    ))
+    c.answer_list.ensures
 
 pub returns-in-Compare : goal.returns-in-Compare
 returns-in-Compare c =
+    let setting = c.args.setting.now in
     let made = c.args.filtersets in
-    IfOk-weaker c.answer_compare.result _ _ (λ answer compares packages are.
-    subst (λ question. Tells packages question made.default made.filters.items (option_map view c.args.kept) c.args.binaries.now answer.ending (string_bytes answer.text)) (sym c.in-Compare.is)
-    (let own = rw c.as_slice.ensures.value at compares in own packages made.default (sym c.new-context.ensures) are)) c.answer_compare.ensures
+    let are = c.requires.filtersets in
+    let rows = question_rows c.args.question.now in
+    let grouped = rw c.as_slice.ensures.value at c.in_ok-made.ensures in
+    let basis = basis_of setting rows made c.in_ok-made.made.items are (grouped setting are.overrides) in
+    let trees = map parsed_of made.filters.items in
+    IfOk-weaker c.answer_compare.result _ _ (λ answer compares. (
+      basis,
+      trees,
+      trees_of setting rows made.filters.items are.filters,
+      subst (λ question. Tells setting question (option_map view c.args.kept) c.args.binaries.now basis trees answer.ending (string_bytes answer.text)) (sym c.in-Compare.is)
+          (let own = rw c.as_slice-in-Compare.ensures.value at compares in own setting basis (sym c.new-context.ensures) (sym c.as_slice-overrides.ensures.value) (compiled_trees setting.graph.now setting.groups.now rows made.filters.items are.filters)),
+    ))
+    c.answer_compare.ensures
