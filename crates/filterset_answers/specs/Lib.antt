@@ -10,3 +10,4 @@ pub mod Compiled
 pub mod Binaries
 pub mod Picking
 pub mod Explained
+pub mod Profile

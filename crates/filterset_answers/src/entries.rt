@@ -92,7 +92,10 @@ pub struct ConfiguredTexts<'t> {
 }
 
 /// Returns the place of the filterset at a position of a configuration, if it was found.
-fn place_at<'t>(configured: ConfiguredTexts<'t>, position: usize) -> Option<FilePlace<'t>>
+pub(crate) fn place_at<'t>(
+    configured: ConfiguredTexts<'t>,
+    position: usize,
+) -> Option<FilePlace<'t>>
     ensures { option_map placement_of result ≡ placement_at configured.entry position }
 {
     match configured.places.get(position) {
