@@ -1,17 +1,55 @@
--- What `list` and `compare` answer about the workspace that files describe.
-use Rattle.std.specs.Prelude.{List, Option, Some, None}
+-- What `list`, `compare` and `explain` answer about the workspace that files describe.
+use Rattle.std.specs.Prelude.{◌≡◌, ◌⊎◌, List, [], Option, Some, None, Result, Ok, Err, MatchOption, MatchResult, IsSomeAnd, codes, filter, flat_map, option_map, string_bytes, unwrap_or}
+use Rattle.std.specs.Borrow.{Bor}
 use Rattle.std.specs.List.{AllZip}
+use Rattle.std.specs.declared.io.Error.{Error}
 use Rattle.serde_json.specs.Data.{Data}
 use Rattle.serde_json.specs.View.{view}
 use Rattle.filterset_answers.specs.Binaries.{IsAsked}
+use Rattle.filterset_answers.specs.Checked.{TextRow, text_row}
+use Rattle.filterset_answers.specs.Endings.{AnswersUnknown}
+use Rattle.filterset_answers.specs.Entries.{default_row}
+use Rattle.filterset_answers.specs.Explained.{AnswersExplanation}
 use Rattle.filterset_answers.specs.Picking.{AnswersQuestion}
+use Rattle.filterset_answers.specs.Profile.{IsEntryOf, row_at, sets_group}
+use Rattle.filterset_answers.specs.declared.entries.ConfiguredTexts.{ConfiguredTexts}
 use Rattle.filterset_answers.specs.declared.form.Form.{Form}
 use Rattle.filterset_answers.specs.declared.form.Form.TheVariants.{Json}
+use Rattle.filterset_answers.specs.declared.setting.OverrideEntry.{OverrideEntry}
+use Rattle.filterset_answers.specs.declared.setting.Setting.{Setting}
 use Rattle.filterset_answers.specs.declared.text.Ending.{Ending}
+use Rattle.filterset_answers.specs.declared.text.TextEntry.{TextEntry}
 use Rattle.filterset_drawing.specs.Columns.{Text}
+use Rattle.filterset_faults.specs.declared.kind.FiltersetKind.TheVariants.{DefaultFilter}
+use Rattle.filterset_graph.specs.declared.package.PackageMetadata.{PackageMetadata}
 use Rattle.filterset_listing.specs.declared.binary.AskedBinary.{AskedBinary}
-use Rattle.filterset_command.specs.Workspaces.{IsWorkspaceIn}
-use Rattle.filterset_command.specs.declared.asking.WorkspaceQuestion.{WorkspaceQuestion}
+use Rattle.filterset_listing.specs.declared.explaining.candidate.Candidate.{Candidate}
+use Rattle.filterset_platforms.specs.Trees.{facts_of}
+use Rattle.filterset_profiles.specs.Lineages.{Lineage}
+use Rattle.filterset_profiles.specs.Ranking.{IsDefaultFilter, IsRanked, placed}
+use Rattle.filterset_profiles.specs.declared.defaults.DefaultFilter as defaults
+use Rattle.filterset_profiles.specs.declared.defaults.DefaultFilter.TheVariants.{All, Set, Unknown}
+use Rattle.filterset_profiles.specs.declared.profiles.Profile.{Profile}
+use Rattle.filterset_profiles.specs.declared.ranking.RankedOverride.{RankedOverride}
+use Rattle.filterset_sources.specs.declared.list.Suite.{Suite}
+use Rattle.filterset_sources.specs.declared.platforms.BuildPlatforms.{BuildPlatforms}
+use Rattle.nextest_filtering.specs.Groups.{IsGlobalOnly}
+use Rattle.nextest_filtering.specs.declared.compile.context.KnownGroups.{KnownGroups}
+use Rattle.filterset_command.specs.Configurations.{AreKnown, AreProfilesIn, AreTextsOf, IsProfileFault}
+use Rattle.filterset_command.specs.Explaining.{IsCandidate, IsMissing}
+use Rattle.filterset_command.specs.Files.{content_of, name_of}
+use Rattle.filterset_command.specs.Workspaces.{IsWorkspaceFault, IsWorkspaceIn}
+use Rattle.filterset_command.specs.declared.asking.Asked.{Asked}
+use Rattle.filterset_command.specs.declared.asking.Asked.TheVariants.{Explanation, Question}
+use Rattle.filterset_command.specs.declared.asking.AskedWorkspace.{AskedWorkspace}
+use Rattle.filterset_command.specs.declared.asking.WorkspaceRequest.{WorkspaceRequest}
+use Rattle.filterset_command.specs.declared.fault.CommandFault.{CommandFault}
+use Rattle.filterset_command.specs.declared.fault.FileRole.TheVariants.{Configuration}
+use Rattle.filterset_command.specs.declared.profile.KnownPlatforms.{KnownPlatforms}
+use Rattle.filterset_command.specs.declared.profile.ProfileRequest.{ProfileRequest}
+use Rattle.filterset_command.specs.declared.profile.ProfilesFile.{ProfilesFile}
+use Rattle.filterset_command.specs.declared.profiled.ChosenFilter.{ChosenFilter}
+use Rattle.filterset_command.specs.declared.profiled.ChosenFilter.TheVariants as chosens
 use Rattle.filterset_command.specs.declared.workspace.Workspace.{Workspace}
 
 -- what nextest wrote of the list, where an answer of this form is in its shape
@@ -19,10 +57,99 @@ abbrev pub kept_of : Form → Data → Option Data
 kept_of Json list = Some list
 kept_of form list = None
 
--- what is answered of the workspace that the files describe
-abbrev pub AnswersAsked : (Text → Option Text) → WorkspaceQuestion → Ending → Text → Type 0
-AnswersAsked content asked ending text =
-    (workspace : Workspace) × (binaries : List AskedBinary)
-    × IsWorkspaceIn content asked.paths workspace × AllZip IsAsked workspace.list.suites.items binaries
-    × AnswersQuestion asked.form asked.default_filter.now asked.question
-    (kept_of asked.form (view workspace.value)) workspace.graph binaries ending text
+-- the answer under a setting: to a question, or why the filterset picks the binary with the id, or its test with the name
+abbrev pub AnswersOf : Form → Asked → Setting → List AskedBinary → Option Data → Ending → Text → Type 0
+AnswersOf form (Question question) setting binaries kept = AnswersQuestion form setting question kept binaries
+AnswersOf form (Explanation filter id test) setting binaries kept = λ ending text.
+    (candidate : Candidate) × IsCandidate binaries id.now test candidate
+    × AnswersExplanation form setting filter.now candidate ending text
+
+abbrev pub AnswersUnder : WorkspaceRequest → List Suite → Option Data → Setting → Ending → Text → Type 0
+AnswersUnder request suites kept setting ending text = (binaries : List AskedBinary) × AllZip IsAsked suites binaries
+    × AnswersOf request.form request.asked setting binaries kept ending text
+
+abbrev pub given_row : Option (Bor Text) → Option TextRow
+given_row given = option_map (λ t. default_row t.now) given
+
+-- without a profile: under the default filter that is given, or else all tests, and no override
+abbrev pub IsPlain : List PackageMetadata → Option TextRow → Setting → Type 0
+IsPlain packages given setting = (setting.graph.now ≡ packages) × IsGlobalOnly setting.groups.now
+    × (text_row setting.default.now ≡ unwrap_or given (default_row (codes "all()"))) × (setting.overrides.now ≡ [])
+
+-- the default filter that is given, or else that of the profile, or all tests; or the path that it is not known by
+abbrev pub chosen : ConfiguredTexts → Option TextRow → defaults.DefaultFilter → Result TextRow Text
+chosen texts (Some row) filter = Ok row
+chosen texts None (Set path text) = Ok (row_at texts (string_bytes path) DefaultFilter text.now)
+chosen texts None (Unknown path) = Err (string_bytes path)
+chosen texts None All = Ok (default_row (codes "all()"))
+
+-- under a setting with this default filter and these groups, and with the overrides that set groups
+abbrev pub AnswersWith : (Setting → Ending → Text → Type 0) → List PackageMetadata → KnownGroups → ConfiguredTexts
+    → List RankedOverride → TextRow → Ending → Text → Type 0
+AnswersWith Answers packages groups texts ranked row ending text = (setting : Setting) × (setting.graph.now ≡ packages)
+    × (setting.groups.now ≡ groups) × (text_row setting.default.now ≡ row)
+    × AllZip (IsEntryOf texts) (filter sets_group ranked) setting.overrides.now × Answers setting ending text
+
+-- under the default filter that is given, or that follows from overrides
+abbrev pub AnswersBy : (Setting → Ending → Text → Type 0) → List PackageMetadata → Option TextRow → KnownGroups
+    → ConfiguredTexts → List RankedOverride → defaults.DefaultFilter → Ending → Text → Type 0
+AnswersBy Answers packages given groups texts ranked filter ending text = MatchResult (chosen texts given filter)
+    (λ row. AnswersWith Answers packages groups texts ranked row ending text) (λ path. AnswersUnknown path ending text)
+
+-- under the profile of this name: by its lineage, the overrides of that in their order, and the default filter that follows
+abbrev pub AnswersProfile : (Setting → Ending → Text → Type 0) → List PackageMetadata → Option TextRow → Text
+    → List Profile → KnownGroups → ConfiguredTexts → KnownPlatforms → Ending → Text → Type 0
+AnswersProfile Answers packages given name profiles groups texts known ending text =
+    (lineage : List Profile) × (ranked : List RankedOverride) × (filter : defaults.DefaultFilter)
+    × Lineage profiles name lineage
+    × AllZip (IsRanked (facts_of known.host) (facts_of known.target)) (flat_map placed lineage) ranked
+    × IsDefaultFilter ranked lineage filter × AnswersBy Answers packages given groups texts ranked filter ending text
+
+-- under the profile that is asked for, of the configuration and for the platforms that the files describe
+abbrev pub AnswersConfigured : (Text → Option Text) → Text → (Setting → Ending → Text → Type 0) → List PackageMetadata
+    → Option TextRow → ProfileRequest → BuildPlatforms → Ending → Text → Type 0
+AnswersConfigured content input Answers packages given profile built ending text =
+    (file : ProfilesFile) × (known : KnownPlatforms) × (texts : ConfiguredTexts)
+    × AreProfilesIn (content_of content input profile.configuration.now) file × AreKnown content profile built known
+    × AreTextsOf (name_of Configuration profile.configuration.now) (string_bytes file.text) file.filtersets.items file.places texts
+    × AnswersProfile Answers packages given profile.name.now file.profiles.items file.groups texts known ending text
+
+-- what is answered of the workspace that the files describe, under no profile or the one that is asked for
+abbrev pub AnswersAsked : (Text → Option Text) → Text → WorkspaceRequest → Ending → Text → Type 0
+AnswersAsked content input request ending text = (workspace : Workspace) × IsWorkspaceIn content request.paths workspace
+    × (let Answers = AnswersUnder request workspace.list.suites.items (kept_of request.form (view workspace.value)) in
+    MatchOption request.profile
+    ((setting : Setting) × IsPlain workspace.graph (given_row request.default_filter) setting × Answers setting ending text)
+    (λ profile. AnswersConfigured content input Answers workspace.graph (given_row request.default_filter) profile
+    workspace.platforms ending text))
+
+-- the list of suites lacks the binary or the test that is to be explained
+abbrev pub LacksIn : Text → Asked → List Suite → CommandFault → Type 0
+LacksIn list (Question question) suites fault = ⊥
+LacksIn list (Explanation filter id test) suites fault =
+    (binaries : List AskedBinary) × AllZip IsAsked suites binaries × IsMissing list binaries id.now test fault
+
+-- the setting has these parts
+abbrev pub HasParts : List PackageMetadata → KnownGroups → TextEntry → List OverrideEntry → Setting → Type 0
+HasParts packages groups default overrides setting = (setting.graph.now ≡ packages) × (setting.groups.now ≡ groups)
+    × (setting.default.now ≡ default) × (setting.overrides.now ≡ overrides)
+
+-- the same of what is asked of a workspace
+abbrev pub AnswersIn : AskedWorkspace → Option Data → Setting → Ending → Text → Type 0
+AnswersIn asked kept = AnswersUnder asked.request.now asked.suites.now kept
+
+abbrev pub Lacks : AskedWorkspace → CommandFault → Type 0
+Lacks asked = LacksIn asked.request.now.paths.list.now asked.request.now.asked asked.suites.now
+
+-- the default filter that is given, or else that of the profile or all tests; or the path that says why it is not known
+abbrev pub IsChosen : ConfiguredTexts → Option TextRow → defaults.DefaultFilter → ChosenFilter → Type 0
+IsChosen texts given filter (chosens.Entry entry) =
+    (chosen texts given filter ≡ Ok (text_row entry)) × (entry.kind ≡ DefaultFilter)
+IsChosen texts given filter (chosens.Unknown path) = chosen texts given filter ≡ Err (string_bytes path)
+
+-- a file is not used, or the workspace lacks the binary or the test, or the configuration the profile
+abbrev pub IsAskedFault : (Text → Option Text) → (Text → Error → Type 0) → Text → WorkspaceRequest → CommandFault → Type 0
+IsAskedFault content fails input request fault = IsWorkspaceFault content fails request.paths fault
+    ⊎ IsSomeAnd request.profile (λ profile. IsProfileFault content fails input profile fault)
+    ⊎ ((workspace : Workspace) × IsWorkspaceIn content request.paths workspace
+    × LacksIn request.paths.list.now request.asked workspace.list.suites.items fault)

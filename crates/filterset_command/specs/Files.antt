@@ -1,6 +1,6 @@
 -- Faults of files.
-use Rattle.std.specs.Prelude.{◌≡◌, ◌≢◌, Option, IfSome, alloc_error, string_bytes}
-use Rattle.std.specs.Str.{IsUtf8}
+use Rattle.std.specs.Prelude.{◌≡◌, ◌≢◌, Bool, Option, Some, IfSome, alloc_error, codes, if◌then◌else◌, string_bytes}
+use Rattle.std.specs.Str.{IsUtf8, bytes_eq}
 use Rattle.std.specs.declared.io.Error.{Error}
 use Rattle.filterset_drawing.specs.Columns.{Text}
 use Rattle.filterset_io.specs.declared.fault.RunFault.TheVariants.{Memory}
@@ -11,6 +11,20 @@ use Rattle.filterset_command.specs.declared.fault.CommandFault.TheVariants.{File
 use Rattle.filterset_command.specs.declared.fault.FileFault.{FileFault}
 use Rattle.filterset_command.specs.declared.fault.FileFault.TheVariants.{Unread, NotText, Refused}
 use Rattle.filterset_command.specs.declared.fault.FileRole.{FileRole}
+use Rattle.filterset_command.specs.declared.fault.FileRole.TheVariants.{Configuration}
+
+-- the path of a configuration that stands for standard input
+abbrev pub is_input : Text → Bool
+is_input path = bytes_eq path (codes "-")
+
+-- what faults call the file at a path
+abbrev pub name_of : FileRole → Text → Text
+name_of Configuration path = if is_input path then codes "standard input" else path
+name_of role path = path
+
+-- what the configuration at a path is read from, where standard input has this text
+abbrev pub content_of : (Text → Option Text) → Text → Text → Option Text
+content_of content input path = if is_input path then Some input else content path
 
 -- the bytes are the content of a file, as far as that is known
 abbrev pub IsContent : Option Text → Text → Type 0
@@ -23,19 +37,23 @@ OrMemory P fault = P fault
 
 -- the fault is this one of the file at this path, which is read for this
 abbrev pub IsFaultAt : FileRole → Text → FileFault → CommandFault → Type 0
-IsFaultAt role path fault (File own at is) = (own ≡ role) × (string_bytes at ≡ path) × (is ≡ fault)
+IsFaultAt role path fault (File own at is) = (own ≡ role) × (string_bytes at ≡ name_of role path) × (is ≡ fault)
 IsFaultAt role path fault _ = ⊥
 
 -- why a file is not used: reading it fails so, its content is not UTF-8, or its text is refused
-abbrev pub IsUnused : Option Text → (Error → Type 0) → (Text → SourceRefusal → Type 0) → FileFault → Type 0
+abbrev pub IsUnused : Option Text → (Error → Type 0) → (Text → FileFault → Type 0) → FileFault → Type 0
 IsUnused content fails refuses (Unread error) = fails error
 IsUnused content fails refuses NotText = (bytes : Text) × IsContent content bytes × ¬ IsUtf8 bytes
-IsUnused content fails refuses (Refused refusal) =
-    (text : Text) × IsContent content text × refuses text refusal × (refusal ≢ OutOfMemory alloc_error)
+IsUnused content fails refuses fault = (text : Text) × IsContent content text × refuses text fault
+
+-- the text is refused by what reads it
+abbrev pub BySource : (Text → SourceRefusal → Type 0) → Text → FileFault → Type 0
+BySource refuses text (Refused refusal) = refuses text refusal × (refusal ≢ OutOfMemory alloc_error)
+BySource refuses text _ = ⊥
 
 -- the fault names the file at this path, what it is read for, and why it is not used
-abbrev pub IsFileFault : (Text → Option Text) → (Text → Error → Type 0) → FileRole → (Text → SourceRefusal → Type 0)
-    → Text → CommandFault → Type 0
+abbrev pub IsFileFault : (Text → Option Text) → (Text → Error → Type 0) → FileRole → (Text → FileFault → Type 0) → Text
+    → CommandFault → Type 0
 IsFileFault content fails role refuses path (File own at fault) =
-    (own ≡ role) × (string_bytes at ≡ path) × IsUnused (content path) (fails path) refuses fault
+    (own ≡ role) × (string_bytes at ≡ name_of role path) × IsUnused (content path) (fails path) refuses fault
 IsFileFault content fails role refuses path _ = ⊥

@@ -1,8 +1,9 @@
 pub mod Ending
 pub mod Files
+pub mod Configurations
 pub mod Workspaces
+pub mod Explaining
 pub mod Asking
 pub mod Checking
-pub mod Explaining
 pub mod Requests
 pub mod Words

@@ -1,5 +1,6 @@
 -- What is answered to each request.
-use Rattle.std.specs.Prelude.{◌≡◌, ◌⊎◌, Bool, IsTrue, ℕ, List, Option, codes, map}
+use Rattle.std.specs.Prelude.{◌≡◌, ◌⊎◌, ◌||◌, Bool, true, false, IsTrue, ℕ, List, Option, codes, map}
+use Rattle.std.specs.Option.{option_map_or}
 use Rattle.std.specs.Str.{IsUtf8}
 use Rattle.std.specs.Str.Lines.{lines}
 use Rattle.std.specs.declared.io.Error.{Error}
@@ -16,21 +17,31 @@ use Rattle.filterset_faults.specs.declared.kind.FiltersetKind.{FiltersetKind}
 use Rattle.filterset_faults.specs.declared.kind.FiltersetKind.TheVariants as kinds
 use Rattle.filterset_io.specs.Runs.{AreLeft}
 use Rattle.filterset_io.specs.declared.fault.RunFault.TheVariants.{Read}
-use Rattle.filterset_command.specs.Asking.{AnswersAsked}
+use Rattle.filterset_command.specs.Asking.{AnswersAsked, IsAskedFault}
 use Rattle.filterset_command.specs.Checking.{AnswersCheck, IsCheckFault}
-use Rattle.filterset_command.specs.Explaining.{AnswersExplained, IsExplainFault}
-use Rattle.filterset_command.specs.Workspaces.{IsWorkspaceFault}
+use Rattle.filterset_command.specs.Files.{is_input}
 use Rattle.filterset_command.specs.declared.fault.CommandFault.{CommandFault}
 use Rattle.filterset_command.specs.declared.fault.CommandFault.TheVariants.{NotText, Run}
 use Rattle.filterset_command.specs.declared.request.Request.{Request}
-use Rattle.filterset_command.specs.declared.request.Request.TheVariants.{Ask, Check, Explain, Format, Show}
+use Rattle.filterset_command.specs.declared.request.Request.TheVariants.{Ask, Check, Format, Show}
 use Rattle.filterset_command.specs.declared.request.Texts.{Texts}
 use Rattle.filterset_command.specs.declared.request.Texts.TheVariants.{Given, StandardInput}
 
--- the text is what standard input had left, as far as that is known, if its lines are the filtersets
-abbrev pub IsInput : Texts → Option Text → Text → Type 0
-IsInput (Given texts) left input = Unit {0}
-IsInput StandardInput left input = AreLeft left input
+-- the filtersets are the lines of standard input
+abbrev pub are_lines : Texts → Bool
+are_lines (Given texts) = false
+are_lines StandardInput = true
+
+-- the request is about standard input: its lines are the filtersets, or it is the configuration
+abbrev pub takes_input : Request → Bool
+takes_input (Check kind form texts paths) = are_lines texts || option_map_or (λ p. is_input p.now) paths.configuration false
+takes_input (Format form texts) = are_lines texts
+takes_input (Ask asked) = option_map_or (λ p. is_input p.configuration.now) asked.profile false
+takes_input (Show text) = false
+
+-- the text is what standard input had left, as far as that is known, if the request is about that
+abbrev pub IsInput : Request → Option Text → Text → Type 0
+IsInput request left input = takes_input request ≡ true → AreLeft left input
 
 -- the rows of the filtersets: the arguments, as `argument 2`, or the lines of standard input, as `line 7`
 abbrev pub rows_of : FiltersetKind → Texts → Text → List TextRow
@@ -41,32 +52,33 @@ rows_of kind StandardInput input = numbered_rows (codes "line") kind (lines inpu
 abbrev pub IsShown : ErrorKind → Type 0
 IsShown kind = (kind ≡ DisplayHelp) ⊎ (kind ≡ DisplayVersion)
 
--- The answer to a request, and how the command ends, where files have these contents and this is left of standard
--- input. If their bytes are not known, it is the answer for some bytes.
-abbrev pub IsAnswered : (Text → Option Text) → Request → Option Text → Ending → Text → Type 0
-IsAnswered content (Check kind form texts paths) left ending text =
-    (input : Text) × IsInput texts left input
-    × AnswersCheck content form paths (rows_of kind texts input) ending text
-IsAnswered content (Format form texts) left ending text =
-    (input : Text) × (faulty : ℕ) × IsInput texts left input
+-- the answer to a request, and how the command ends, where files have these contents and standard input has this text
+abbrev pub Answers : (Text → Option Text) → Text → Request → Ending → Text → Type 0
+Answers content input (Check kind form texts paths) = AnswersCheck content input form paths (rows_of kind texts input)
+Answers content input (Format form texts) = λ ending text. (faulty : ℕ)
     × FormatsTexts form (rows_of kinds.Test texts input) faulty text × (ending ≡ ending_of faulty)
-IsAnswered content (Ask asked) left ending text = AnswersAsked content asked ending text
-IsAnswered content (Explain asked) left ending text = AnswersExplained content asked ending text
-IsAnswered content (Show shown) left ending text = (ending ≡ Fine) × (text ≡ shown.now)
+Answers content input (Ask asked) = AnswersAsked content input asked
+Answers content input (Show shown) = λ ending text. (ending ≡ Fine) × (text ≡ shown.now)
 
--- standard input has the filtersets, and is not UTF-8, or the reader has failed
-abbrev pub IsInputFault : Texts → Option Text → Bool → CommandFault → Type 0
-IsInputFault StandardInput left failed NotText = (bytes : Text) × AreLeft left bytes × ¬ IsUtf8 bytes
-IsInputFault StandardInput left failed (Run Read) = IsTrue failed
-IsInputFault texts left failed _ = ⊥
+-- the same, where this is left of standard input; if the bytes of that or of files are not known, it is the answer for some
+abbrev pub IsAnswered : (Text → Option Text) → Request → Option Text → Ending → Text → Type 0
+IsAnswered content request left ending text =
+    (input : Text) × IsInput request left input × Answers content input request ending text
 
--- The fault of a request that is not answered, where files have these contents, reading one fails with these errors,
--- this is left of standard input, and its reader has failed or not.
+-- standard input is not UTF-8, or its reader has failed
+abbrev pub IsInputFault : Option Text → Bool → CommandFault → Type 0
+IsInputFault left failed NotText = (bytes : Text) × AreLeft left bytes × ¬ IsUtf8 bytes
+IsInputFault left failed (Run Read) = IsTrue failed
+IsInputFault left failed _ = ⊥
+
+-- the fault of a request, where files have these contents, reading one fails with these errors, and standard input has this text
+abbrev pub Faults : (Text → Option Text) → (Text → Error → Type 0) → Text → Request → CommandFault → Type 0
+Faults content fails input (Check kind form texts paths) fault = IsCheckFault content fails input paths fault
+Faults content fails input (Ask asked) fault = IsAskedFault content fails input asked fault
+Faults content fails input _ fault = ⊥
+
+-- the fault of a request that is not answered, where this is left of standard input, and its reader has failed or not
 abbrev pub IsFaultOf : (Text → Option Text) → (Text → Error → Type 0) → Request → Option Text → Bool → CommandFault
     → Type 0
-IsFaultOf content fails (Check kind form texts paths) left failed fault =
-    IsInputFault texts left failed fault ⊎ IsCheckFault content fails paths fault
-IsFaultOf content fails (Format form texts) left failed fault = IsInputFault texts left failed fault
-IsFaultOf content fails (Ask asked) left failed fault = IsWorkspaceFault content fails asked.paths fault
-IsFaultOf content fails (Explain asked) left failed fault = IsExplainFault content fails asked fault
-IsFaultOf content fails (Show shown) left failed fault = ⊥
+IsFaultOf content fails request left failed fault = ((takes_input request ≡ true) × IsInputFault left failed fault)
+    ⊎ ((input : Text) × IsInput request left input × Faults content fails input request fault)

@@ -8,7 +8,6 @@ use Rattle.clap.specs.declared.parser.matches.ArgMatches.{ArgMatches}
 use Rattle.clap.specs.declared.parser.matches.Found.{Found}
 use Rattle.filterset_answers.specs.declared.form.Form.{Form}
 use Rattle.filterset_answers.specs.declared.form.Form.TheVariants.{Drawn, Github, Json}
-use Rattle.filterset_answers.specs.declared.question.Question.{Question}
 use Rattle.filterset_answers.specs.declared.question.Question.TheVariants as questions
 use Rattle.filterset_drawing.specs.Columns.{Text}
 use Rattle.filterset_drawing.specs.declared.color.Color.{Color}
@@ -16,17 +15,15 @@ use Rattle.filterset_drawing.specs.declared.color.Color.TheVariants.{Always, Nev
 use Rattle.filterset_faults.specs.declared.kind.FiltersetKind.{FiltersetKind}
 use Rattle.filterset_faults.specs.declared.kind.FiltersetKind.TheVariants as kinds
 use Rattle.filterset_command.specs.declared.fault.CommandFault.{CommandFault}
-use Rattle.filterset_command.specs.declared.fault.CommandFault.TheVariants.{Missing}
+use Rattle.filterset_command.specs.declared.asking.Asked.{Asked}
+use Rattle.filterset_command.specs.declared.asking.Asked.TheVariants.{Explanation, Question as Asking}
+use Rattle.filterset_command.specs.declared.fault.CommandFault.TheVariants.{Missing, TwoInputs}
+use Rattle.filterset_command.specs.declared.profile.ProfileRequest.{ProfileRequest}
 use Rattle.filterset_command.specs.declared.request.Request.{Request}
-use Rattle.filterset_command.specs.declared.request.Request.TheVariants.{Ask, Check, Explain, Format, Show}
+use Rattle.filterset_command.specs.declared.request.Request.TheVariants.{Ask, Check, Format, Show}
 use Rattle.filterset_command.specs.declared.request.Texts.{Texts}
 use Rattle.filterset_command.specs.declared.request.Texts.TheVariants.{Given, StandardInput}
 use Rattle.filterset_command.specs.declared.workspace.WorkspacePaths.{WorkspacePaths}
-
--- the fault is that an argument is missing
-abbrev pub IsMissingArgument : CommandFault → Type 0
-IsMissingArgument (Missing id) = Unit {0}
-IsMissingArgument _ = ⊥
 
 -- the words give the argument no value
 abbrev pub LacksArgument : Found → CommandFault → Type 0
@@ -90,15 +87,25 @@ abbrev pub ArePathsAsked : Found → WorkspacePaths → Type 0
 ArePathsAsked found paths =
     IsTextAsked found (codes "metadata") paths.metadata.now × IsTextAsked found (codes "list") paths.list.now
 
--- the question of `list` or `compare`, and the form of its answer
-abbrev pub IsQuestionAsked : Text → Found → Form → Question → Type 0
-IsQuestionAsked name found form (questions.List filters ignores_default) =
+-- the configuration and its profile, if there is a configuration
+abbrev pub IsProfileAsked : Found → Option ProfileRequest → Type 0
+IsProfileAsked found None = first_value found (codes "config") ≡ None
+IsProfileAsked found (Some profile) =
+    IsTextAsked found (codes "config") profile.configuration.now × IsTextAsked found (codes "profile") profile.name.now
+    × IsOptionAsked found (codes "target-cfg") profile.target_cfg × IsOptionAsked found (codes "host-cfg") profile.host_cfg
+
+-- what `list`, `compare` or `explain` asks, and the form of the answer
+abbrev pub IsQuestionAsked : Text → Found → Form → Asked → Type 0
+IsQuestionAsked name found form (Asking (questions.List filters ignores_default)) =
     (name ≡ codes "list") × IsFormAsked found form
     × (map (λ t. t.now) filters.now ≡ values_of found (codes "filterset"))
     × IsFlagAsked found (codes "ignore") ignores_default
-IsQuestionAsked name found form (questions.Compare first second has_names) =
+IsQuestionAsked name found form (Asking (questions.Compare first second has_names)) =
     (name ≡ codes "compare") × IsDrawnAsked found form × IsTextAsked found (codes "first") first.now
     × IsTextAsked found (codes "second") second.now × IsFlagAsked found (codes "tests") has_names
+IsQuestionAsked name found form (Explanation filter binary test) =
+    (name ≡ codes "explain") × IsDrawnAsked found form × IsTextAsked found (codes "filterset") filter.now
+    × IsTextAsked found (codes "binary") binary.now × IsOptionAsked found (codes "test") test
 
 -- the command with this name and these arguments asks for this
 abbrev pub IsAskedBy : Text → Found → Request → Type 0
@@ -108,13 +115,8 @@ IsAskedBy name found (Check kind form texts paths) =
 IsAskedBy name found (Format form texts) =
     (name ≡ codes "format") × IsDrawnAsked found form × AreTextsAsked found texts
 IsAskedBy name found (Ask asked) =
-    IsQuestionAsked name found asked.form asked.question × ArePathsAsked found asked.paths
-    × IsTextAsked found (codes "default") asked.default_filter.now
-IsAskedBy name found (Explain asked) =
-    (name ≡ codes "explain") × IsDrawnAsked found asked.form × ArePathsAsked found asked.paths
-    × IsTextAsked found (codes "default") asked.default_filter.now
-    × IsTextAsked found (codes "filterset") asked.filter.now × IsTextAsked found (codes "binary") asked.binary.now
-    × IsOptionAsked found (codes "test") asked.test
+    IsQuestionAsked name found asked.form asked.asked × ArePathsAsked found asked.paths
+    × IsOptionAsked found (codes "default") asked.default_filter × IsProfileAsked found asked.profile
 IsAskedBy name found (Show text) = ⊥
 
 -- the words ask for this: by the name of their command, and by what it was given
@@ -122,3 +124,14 @@ abbrev pub IsAsked : ArgMatches → Request → Type 0
 IsAsked matches request =
     (name : Text) × (found : Found) × (subcommand_name_of matches ≡ Some name)
     × (option_map (λ p. p.1) (subcommand_rows_of matches) ≡ Some (rows_of found)) × IsAskedBy name found request
+
+-- standard input is to be the filtersets, and the configuration too
+abbrev pub TakesTwo : Found → Type 0
+TakesTwo found = (values_of found (codes "text") ≡ codes "-" ∷ []) × (first_value found (codes "config") ≡ Some (codes "-"))
+
+-- an argument is missing, or standard input is to be two things
+abbrev pub IsWordsFault : ArgMatches → CommandFault → Type 0
+IsWordsFault matches (Missing id) = Unit {0}
+IsWordsFault matches TwoInputs =
+    (found : Found) × (option_map (λ p. p.1) (subcommand_rows_of matches) ≡ Some (rows_of found)) × TakesTwo found
+IsWordsFault matches _ = ⊥

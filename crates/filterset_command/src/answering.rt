@@ -1,17 +1,17 @@
 //! The answers to requests.
-ghost use Rattle.std.specs.Prelude.{◌≡◌, IfErr, IfOk, IfSome, OnOk, map, string_bytes};
+ghost use Rattle.std.specs.Prelude.{◌≡◌, IfErr, IfOk, OnOk, map, string_bytes, true};
 ghost use Rattle.filterset_answers.specs.Checked.{text_row};
 ghost use Rattle.filterset_command.specs.Files.{OrMemory};
-ghost use Rattle.filterset_command.specs.Requests.{IsAnswered, IsFaultOf, IsInput, IsInputFault, rows_of};
+ghost use Rattle.filterset_command.specs.Requests.{Answers, Faults, IsAnswered, IsFaultOf, IsInput, IsInputFault, rows_of, takes_input};
 
 use crate::asking::ask;
 use crate::checking::check_texts;
-use crate::explaining::explain_asked;
 use crate::fault::CommandFault;
 use crate::files::FileSource;
+use crate::input::read_input;
 use crate::request::{Request, Texts};
 use filterset_answers::{Answer, Ending, TextEntry, format_texts, given_entries, line_entries};
-use filterset_io::{Source, read_all};
+use filterset_io::Source;
 use nextest_filtering::FiltersetKind;
 use std::alloc::{AllocError, Global};
 
@@ -28,6 +28,39 @@ pub fn answer<F: FileSource, R: Source>(
         (R.left input.old) (R.failed input.new))) }
     ensures none_failed { OnOk result (R.failed input.new ≡ R.failed input.old) }
 {
+    let text = input_of(alloc, request, input)?;
+    answer_with(alloc, request, files, text.as_str())
+}
+
+/// Reads standard input, if the request is about that.
+fn input_of<R: Source>(
+    alloc: Global,
+    request: &Request<'_>,
+    input: &mut R,
+) -> Result<String, CommandFault>
+    ensures whole { IfOk result (λ text. IsInput request.now (R.left input.old) (string_bytes text)) }
+    ensures refused { IfErr result (OrMemory (λ fault. (takes_input request.now ≡ true)
+        × IsInputFault (R.left input.old) (R.failed input.new) fault)) }
+    ensures none_failed { OnOk result (R.failed input.new ≡ R.failed input.old) }
+{
+    if request.takes_input() {
+        read_input(alloc, input)
+    } else {
+        Ok(String::new(alloc))
+    }
+}
+
+/// Answers a request, where standard input has the text `input`, if the request is about that.
+fn answer_with<F: FileSource>(
+    alloc: Global,
+    request: &Request<'_>,
+    files: &F,
+    input: &str,
+) -> Result<Answer, CommandFault>
+    ensures answered { IfOk result (λ answer. Answers (F.content files.now) input.now request.now
+        answer.ending (string_bytes answer.text)) }
+    ensures refused { IfErr result (OrMemory (Faults (F.content files.now) (F.fails files.now) input.now request.now)) }
+{
     match request {
         Request::Check {
             kind,
@@ -35,17 +68,14 @@ pub fn answer<F: FileSource, R: Source>(
             texts,
             paths,
         } => {
-            let lines = read_lines(alloc, texts, input)?;
-            let given = entries_of(alloc, *kind, texts, lines.as_str())?;
-            check_texts(alloc, files, *form, paths, given)
+            let given = entries_of(alloc, *kind, texts, input)?;
+            check_texts(alloc, files, input, *form, paths, given)
         }
         Request::Format { form, texts } => {
-            let lines = read_lines(alloc, texts, input)?;
-            let entries = entries_of(alloc, FiltersetKind::Test, texts, lines.as_str())?;
+            let entries = entries_of(alloc, FiltersetKind::Test, texts, input)?;
             Ok(format_texts(alloc, *form, entries.as_slice())?)
         }
-        Request::Ask(asked) => ask(alloc, files, asked),
-        Request::Explain(asked) => explain_asked(alloc, files, asked),
+        Request::Ask(asked) => ask(alloc, files, input, asked),
         Request::Show(text) => Ok(Answer {
             text: String::from_str(alloc, text)?,
             ending: Ending::Fine,
@@ -53,47 +83,17 @@ pub fn answer<F: FileSource, R: Source>(
     }
 }
 
-/// Reads what standard input has left as text.
-fn read_input<R: Source>(alloc: Global, input: &mut R) -> Result<String, CommandFault>
-    ensures whole { IfOk result (λ text. IfSome (R.left input.old) (λ left. string_bytes text ≡ left)) }
-    ensures refused { IfErr result (OrMemory
-        (IsInputFault Texts.StandardInput (R.left input.old) (R.failed input.new))) }
-    ensures none_failed { OnOk result (R.failed input.new ≡ R.failed input.old) }
-{
-    let bytes = read_all(alloc, input)?;
-    match String::from_utf8(bytes) {
-        Ok(text) => Ok(text),
-        Err(_) => Err(CommandFault::NotText),
-    }
-}
-
-/// Reads standard input if its lines are the filtersets.
-fn read_lines<R: Source>(
-    alloc: Global,
-    texts: &Texts<'_>,
-    input: &mut R,
-) -> Result<String, CommandFault>
-    ensures whole { IfOk result (λ lines. IsInput texts.now (R.left input.old) (string_bytes lines)) }
-    ensures refused { IfErr result (OrMemory (IsInputFault texts.now (R.left input.old) (R.failed input.new))) }
-    ensures none_failed { OnOk result (R.failed input.new ≡ R.failed input.old) }
-{
-    match texts {
-        Texts::Given(_) => Ok(String::new(alloc)),
-        Texts::StandardInput => read_input(alloc, input),
-    }
-}
-
-/// Makes the entries of the filtersets: the arguments, or the lines of standard input.
+/// Makes the entries of the filtersets: the arguments, or the lines of standard input, which has the text `input`.
 fn entries_of<'t>(
     alloc: Global,
     kind: FiltersetKind,
     texts: &Texts<'t>,
-    lines: &'t str,
+    input: &'t str,
 ) -> Result<Vec<TextEntry<'t>>, AllocError>
-    ensures { IfOk result (λ entries. map text_row entries.items ≡ rows_of kind texts.now lines.now) }
+    ensures { IfOk result (λ entries. map text_row entries.items ≡ rows_of kind texts.now input.now) }
 {
     match texts {
         Texts::Given(texts) => given_entries(alloc, "argument", kind, texts),
-        Texts::StandardInput => line_entries(alloc, kind, lines),
+        Texts::StandardInput => line_entries(alloc, kind, input),
     }
 }

@@ -65,10 +65,7 @@ fn kind<'a>(alloc: Global) -> Arg<'a> {
 
 /// Makes the option of the file with the configuration.
 fn config<'a>(alloc: Global) -> Arg<'a> {
-    Arg::new(alloc, "config")
-        .long("config")
-        .value_name("FILE")
-        .help("nextest's configuration: its filtersets are checked too, and its groups are known")
+    Arg::new(alloc, "config").long("config").value_name("FILE")
 }
 
 /// Makes the command `check`.
@@ -76,7 +73,9 @@ fn check<'a>(alloc: Global) -> Result<Command<'a>, AllocError> {
     let command = Command::new(alloc, "check")
         .about("Shows the faults of filtersets, and where they are")
         .after_help("Example: filterset check 'package(parser) and not test(~slow)'")
-        .arg(config(alloc))?
+        .arg(config(alloc).help(
+            "nextest's configuration, or `-` for standard input: its filtersets are checked too, and its groups are known",
+        ))?
         .arg(metadata(alloc))?
         .arg(kind(alloc))?
         .arg(message_format(alloc, CHECK_FORMATS.as_slice()).help(
@@ -109,16 +108,55 @@ fn default_filter<'a>(alloc: Global) -> Arg<'a> {
     Arg::new(alloc, "default")
         .long("default-filter")
         .value_name("TEXT")
-        .default_value("all()")
-        .help("the default filter, the value of `default()`")
+        .help(
+            "the default filter, the value of `default()`, in place of that of the profile, or of `all()`",
+        )
 }
 
-/// Adds the options of the workspace and its default filter.
+/// Makes the option of the profile of the configuration.
+fn profile<'a>(alloc: Global) -> Arg<'a> {
+    Arg::new(alloc, "profile")
+        .long("profile")
+        .value_name("NAME")
+        .default_value("default")
+        .help("the profile of the configuration that nextest is to use")
+}
+
+/// Makes the option of a file with what `rustc` sets for a platform.
+fn cfg<'a>(alloc: Global, name: &'a str, help: &'a str) -> Arg<'a> {
+    Arg::new(alloc, name)
+        .long(name)
+        .value_name("FILE")
+        .help(help)
+}
+
+/// Adds the options of the configuration and its profile.
+fn with_profile<'a>(alloc: Global, command: Command<'a>) -> Result<Command<'a>, AllocError> {
+    let command = command.arg(config(alloc).help(
+        "nextest's configuration, or `-` for standard input: the default filter and the groups of its profile count",
+    ))?;
+    let command = with_argument(command, profile(alloc).requires_arg("config"))?;
+    let target = cfg(
+        alloc,
+        "target-cfg",
+        "the output of `rustc --print cfg --target TRIPLE`, for overrides by what tests are built for",
+    );
+    let command = with_argument(command, target.requires_arg("config"))?;
+    let host = cfg(
+        alloc,
+        "host-cfg",
+        "the output of `rustc --print cfg`, for overrides by the platform that builds",
+    );
+    with_argument(command, host.requires_arg("config"))
+}
+
+/// Adds the options of the workspace, its default filter and the profile.
 fn with_workspace<'a>(alloc: Global, command: Command<'a>) -> Result<Command<'a>, AllocError> {
-    command
+    let command = command
         .arg(metadata(alloc).required(true))?
         .arg(nextest_list(alloc))?
-        .arg(default_filter(alloc))
+        .arg(default_filter(alloc))?;
+    with_profile(alloc, command)
 }
 
 /// Makes the option of a filterset.

@@ -1,29 +1,56 @@
-//! The commands `list` and `compare`: what filtersets pick of the workspace that files describe.
-ghost use Rattle.std.specs.Prelude.{◌≡◌, IfErr, IfOk, option_map, string_bytes};
+//! The commands `list`, `compare` and `explain`: what filtersets pick of the workspace that files describe, and why.
+ghost use Rattle.std.specs.Prelude.{◌≡◌, IfErr, IfOk, IfSome, option_map, string_bytes};
 ghost use Rattle.serde_json.specs.View.{view};
-ghost use Rattle.filterset_command.specs.Asking.{AnswersAsked, kept_of};
+ghost use Rattle.filterset_answers.specs.Checked.{text_row};
+ghost use Rattle.filterset_answers.specs.declared.setting.Setting as settings;
+ghost use Rattle.filterset_faults.specs.declared.kind.FiltersetKind.TheVariants as kinds;
+ghost use Rattle.nextest_filtering.specs.Groups.{IsKnown};
+ghost use Rattle.filterset_command.specs.Asking.{AnswersAsked, AnswersIn, HasParts, IsAskedFault, IsPlain, Lacks, given_row, kept_of};
 ghost use Rattle.filterset_command.specs.Files.{OrMemory};
-ghost use Rattle.filterset_command.specs.Workspaces.{IsWorkspaceFault};
 
+use crate::explaining::candidate_of;
 use crate::fault::CommandFault;
 use crate::files::FileSource;
+use crate::profile::ProfileRequest;
+use crate::profiled::ask_configured;
 use crate::workspace::{Workspace, WorkspacePaths, read_workspace};
-use filterset_answers::{Answer, Form, Question, ask_workspace, asked_binaries};
+use filterset_answers::{
+    Answer, Form, OverrideEntry, Question, Setting, TextEntry, ask_workspace, asked_binaries,
+    default_entry, explain_filterset,
+};
+use filterset_graph::PackageGraph;
+use filterset_sources::Suite;
+use nextest_filtering::KnownGroups;
 use serde_json::Value;
-use std::alloc::Global;
+use std::alloc::{AllocError, Global};
 
-/// A question to filtersets about the workspace that files describe.
+/// What a workspace is asked.
 #[derive(Clone, Copy)]
-pub struct WorkspaceQuestion<'w> {
+pub enum Asked<'w> {
+    Question(Question<'w>),
+    /// Why a filterset picks a binary or a test.
+    Explanation {
+        filter: &'w str,
+        /// The id of the binary.
+        binary: &'w str,
+        /// The name of a test of the binary, if the filterset is explained for that.
+        test: Option<&'w str>,
+    },
+}
+
+/// What is asked of the workspace that files describe.
+#[derive(Clone, Copy)]
+pub struct WorkspaceRequest<'w> {
     pub paths: WorkspacePaths<'w>,
     pub form: Form,
-    /// The filterset that is the value of `default()`.
-    pub default_filter: &'w str,
-    pub question: Question<'w>,
+    /// The filterset that is the value of `default()`, in place of that of the profile.
+    pub default_filter: Option<&'w str>,
+    pub profile: Option<ProfileRequest<'w>>,
+    pub asked: Asked<'w>,
 }
 
 /// Keeps nextest's list if the answer has its shape.
-fn kept_of(form: Form, list: Value) -> Option<Value>
+pub fn kept_of(form: Form, list: Value) -> Option<Value>
     ensures { option_map view result ≡ kept_of form (view list) }
 {
     match form {
@@ -32,27 +59,137 @@ fn kept_of(form: Form, list: Value) -> Option<Value>
     }
 }
 
-/// Answers a question about the workspace that files describe.
+/// What is asked of a workspace, its packages and its test binaries.
+#[derive(Clone, Copy)]
+pub struct AskedWorkspace<'a, 'w> {
+    pub request: &'a WorkspaceRequest<'w>,
+    pub graph: &'a PackageGraph,
+    pub suites: &'a [Suite],
+}
+
+impl<'a, 'w> AskedWorkspace<'a, 'w> {
+    /// Puts a request and the parts of a workspace together.
+    fn new(
+        request: &'a WorkspaceRequest<'w>,
+        graph: &'a PackageGraph,
+        suites: &'a [Suite],
+    ) -> AskedWorkspace<'a, 'w>
+        ensures request { result.request.now ≡ request.entry.now }
+        ensures graph { result.graph.now ≡ graph.entry.now }
+        ensures suites { result.suites.now ≡ suites.entry.now }
+    {
+        AskedWorkspace {
+            request,
+            graph,
+            suites,
+        }
+    }
+}
+
+/// Answers under a default filter and overrides. `kept` is nextest's list, if the answer has its shape.
+pub fn ask_under(
+    alloc: Global,
+    asked: &AskedWorkspace<'_, '_>,
+    groups: &KnownGroups,
+    default: &TextEntry<'_>,
+    overrides: &[OverrideEntry<'_>],
+    kept: Option<Value>,
+) -> Result<Answer, CommandFault>
+    requires kind { default.now.kind ≡ kinds.DefaultFilter }
+    requires groups { IsKnown groups.now }
+    ensures answered { IfOk result (λ answer. (setting : settings.Setting)
+        × HasParts asked.now.graph.now groups.now default.now overrides.now setting
+        × AnswersIn asked.now (option_map view kept) setting answer.ending (string_bytes answer.text)) }
+    ensures missing { IfErr result (OrMemory (Lacks asked.now)) }
+{
+    let binaries = asked_binaries(alloc, asked.suites)?;
+    let binaries = binaries.as_slice();
+    let setting = Setting {
+        graph: asked.graph,
+        groups,
+        default,
+        overrides,
+    };
+    let request = asked.request;
+    let (form, list) = (request.form, request.paths.list);
+    match &request.asked {
+        Asked::Question(question) => {
+            Ok(ask_workspace(alloc, form, &setting, question, kept, binaries)?)
+        }
+        Asked::Explanation {
+            filter,
+            binary,
+            test,
+        } => {
+            let candidate = candidate_of(alloc, list, binary, *test, binaries)?;
+            Ok(explain_filterset(alloc, form, &setting, filter, candidate)?)
+        }
+    }
+}
+
+/// Makes the entry of the default filter that is given, if one is.
+fn given_default<'w>(
+    alloc: Global,
+    request: &WorkspaceRequest<'w>,
+) -> Result<Option<TextEntry<'w>>, AllocError>
+    ensures row { IfOk result (λ given. option_map text_row given ≡ given_row request.now.default_filter) }
+    ensures kind { IfOk result (λ given. IfSome given (λ entry. entry.kind ≡ kinds.DefaultFilter)) }
+{
+    match request.default_filter {
+        Some(text) => Ok(Some(default_entry(alloc, text)?)),
+        None => Ok(None),
+    }
+}
+
+/// Answers without a profile: under the default filter that is given, or else all tests.
+fn ask_plainly(
+    alloc: Global,
+    asked: &AskedWorkspace<'_, '_>,
+    given: Option<TextEntry<'_>>,
+    kept: Option<Value>,
+) -> Result<Answer, CommandFault>
+    requires { IfSome given (λ entry. entry.kind ≡ kinds.DefaultFilter) }
+    ensures answered { IfOk result (λ answer. (setting : settings.Setting)
+        × IsPlain asked.now.graph.now (option_map text_row given.entry) setting
+        × AnswersIn asked.now (option_map view kept) setting answer.ending (string_bytes answer.text)) }
+    ensures missing { IfErr result (OrMemory (Lacks asked.now)) }
+{
+    let groups = KnownGroups::global_only(alloc);
+    match given {
+        Some(default) => ask_under(alloc, asked, &groups, &default, &[], kept),
+        None => {
+            let default = default_entry(alloc, "all()")?;
+            ask_under(alloc, asked, &groups, &default, &[], kept)
+        }
+    }
+}
+
+/// Answers what is asked of the workspace that files describe. Standard input has the text `input`, if that is the
+/// configuration.
 pub fn ask<F: FileSource>(
     alloc: Global,
     files: &F,
-    asked: &WorkspaceQuestion<'_>,
+    input: &str,
+    request: &WorkspaceRequest<'_>,
 ) -> Result<Answer, CommandFault>
-    ensures answered { IfOk result (λ answer. AnswersAsked (F.content files.now) asked.now
+    ensures answered { IfOk result (λ answer. AnswersAsked (F.content files.now) input.now request.now
         answer.ending (string_bytes answer.text)) }
     ensures refused { IfErr result (OrMemory
-        (IsWorkspaceFault (F.content files.now) (F.fails files.now) asked.now.paths)) }
+        (IsAskedFault (F.content files.now) (F.fails files.now) input.now request.now)) }
 {
-    let Workspace { graph, list, value } = read_workspace(alloc, files, &asked.paths)?;
-    let kept = kept_of(asked.form, value);
-    let binaries = asked_binaries(alloc, list.suites.as_slice())?;
-    Ok(ask_workspace(
-        alloc,
-        asked.form,
-        asked.default_filter,
-        &asked.question,
-        kept,
-        &graph,
-        binaries.as_slice(),
-    )?)
+    let Workspace {
+        graph,
+        list,
+        platforms,
+        value,
+    } = read_workspace(alloc, files, &request.paths)?;
+    let kept = kept_of(request.form, value);
+    let asked = AskedWorkspace::new(request, &graph, list.suites.as_slice());
+    let given = given_default(alloc, request)?;
+    match request.profile {
+        None => ask_plainly(alloc, &asked, given, kept),
+        Some(profile) => ask_configured(
+            alloc, files, input, &asked, &profile, platforms, given, kept,
+        ),
+    }
 }

@@ -11,7 +11,7 @@ fn file_status(fault: &FileFault) -> u8
 {
     match fault {
         FileFault::Unread(_) => 3,
-        FileFault::NotText | FileFault::Refused(_) => 2,
+        FileFault::NotText | FileFault::Refused(_) | FileFault::WrongLine(_) => 2,
     }
 }
 
@@ -22,10 +22,9 @@ pub fn status(ended: &Result<Ending, CommandFault>) -> u8
     match ended {
         Ok(Ending::Fine) => 0,
         Ok(Ending::Faulty) | Ok(Ending::Differing) => 1,
-        Err(CommandFault::Words(_)) | Err(CommandFault::NoWords) | Err(CommandFault::NotText) => 2,
-        Err(CommandFault::Missing(_)) => 2,
+        Ok(Ending::Unknown) => 4,
         Err(CommandFault::File { fault, .. }) => file_status(fault),
-        Err(CommandFault::NoBinary { .. }) | Err(CommandFault::NoTest { .. }) => 2,
         Err(CommandFault::Run(_)) => 3,
+        Err(_) => 2,
     }
 }

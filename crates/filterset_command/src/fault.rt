@@ -1,9 +1,11 @@
 //! The faults that end a command without an answer, and what they tell people to do next.
-ghost use Rattle.std.specs.Prelude.{◌≢◌, alloc_error};
-ghost use Rattle.filterset_command.specs.Files.{IsFaultAt, OrMemory};
+ghost use Rattle.std.specs.Prelude.{◌≡◌, ◌≢◌, alloc_error};
+ghost use Rattle.filterset_command.specs.Files.{IsFaultAt, OrMemory, name_of};
 
+use crate::input::is_input;
 use clap::Error;
 use filterset_io::RunFault;
+use filterset_profiles::LineageFault;
 use filterset_sources::SourceRefusal;
 use std::alloc::{AllocError, Global};
 use std::{fmt, io};
@@ -15,11 +17,25 @@ pub enum FileRole {
     Metadata,
     /// It has the tests: what `cargo nextest list` wrote.
     List,
-    /// It is nextest's configuration.
+    /// It is nextest's configuration, where `-` is standard input.
     Configuration,
+    /// It has what `rustc` sets for the platform that tests are built for.
+    TargetCfg,
+    /// It has what `rustc` sets for the platform that runs the build.
+    HostCfg,
 }
 
 impl FileRole {
+    /// Returns what faults call the file at a path.
+    pub fn name_of(self, path: &str) -> &str
+        ensures { result.now ≡ name_of self path.now }
+    {
+        match self {
+            FileRole::Configuration if is_input(path) => "standard input",
+            _ => path,
+        }
+    }
+
     /// Returns which file the option takes.
     fn help(self) -> &'static str {
         match self {
@@ -32,6 +48,10 @@ impl FileRole {
             FileRole::Configuration => {
                 "`--config` takes nextest's configuration, such as `.config/nextest.toml`"
             }
+            FileRole::TargetCfg => {
+                "`--target-cfg` takes the output of `rustc --print cfg --target TRIPLE`"
+            }
+            FileRole::HostCfg => "`--host-cfg` takes the output of `rustc --print cfg`",
         }
     }
 }
@@ -44,6 +64,8 @@ pub enum FileFault {
     NotText,
     /// Its content is not what it has to be.
     Refused(SourceRefusal),
+    /// This line, counted from 1, is nothing that `rustc` sets.
+    WrongLine(usize),
 }
 
 // By hand, so that a function that drops a fault proves one call.
@@ -51,7 +73,7 @@ impl Drop for FileFault {
     fn drop(self) {
         match self {
             FileFault::Unread(_error) => {}
-            FileFault::NotText => {}
+            FileFault::NotText | FileFault::WrongLine(_) => {}
             FileFault::Refused(_refusal) => {}
         }
     }
@@ -64,6 +86,10 @@ impl FileFault {
             FileFault::Unread(error) => write!(f, "error: cannot read {path}: {error}"),
             FileFault::NotText => write!(f, "error: {path} is not UTF-8"),
             FileFault::Refused(refusal) => write!(f, "error: {path}: {refusal}"),
+            FileFault::WrongLine(line) => write!(
+                f,
+                "error: {path}: line {line} must be a name, or a key with a value in quotes",
+            ),
         }
     }
 }
@@ -78,11 +104,20 @@ pub enum CommandFault {
     NotText,
     /// The command line lacks this argument.
     Missing(&'static str),
+    /// `-` stands for the filtersets, and for the configuration too.
+    TwoInputs,
     /// The file at this path is not used.
     File {
         role: FileRole,
         path: String,
         fault: FileFault,
+    },
+    /// The file of this name has no such profile, or one that falls back on none.
+    Profile {
+        file: String,
+        fault: LineageFault,
+        /// The names of its profiles.
+        known: Vec<String>,
     },
     /// The list at this path has no test binary with this id.
     NoBinary {
@@ -104,12 +139,17 @@ impl Drop for CommandFault {
     fn drop(self) {
         match self {
             CommandFault::Words(_error) => {}
-            CommandFault::NoWords | CommandFault::NotText => {}
+            CommandFault::NoWords | CommandFault::NotText | CommandFault::TwoInputs => {}
             CommandFault::Missing(_) | CommandFault::Run(_) => {}
             CommandFault::File {
                 role: _role,
                 path: _path,
                 fault: _fault,
+            } => {}
+            CommandFault::Profile {
+                file: _file,
+                fault: _fault,
+                known: _known,
             } => {}
             CommandFault::NoBinary {
                 list: _list,
@@ -129,7 +169,7 @@ impl CommandFault {
     pub fn in_file(alloc: Global, role: FileRole, path: &str, fault: FileFault) -> CommandFault
         ensures { OrMemory (IsFaultAt role path.now fault) result }
     {
-        match String::from_str(alloc, path) {
+        match String::from_str(alloc, role.name_of(path)) {
             Ok(path) => CommandFault::File { role, path, fault },
             Err(refused) => CommandFault::Run(RunFault::Memory(refused)),
         }
@@ -162,6 +202,16 @@ impl CommandFault {
     }
 }
 
+/// Writes the names of profiles but `default`.
+fn write_others<W: fmt::Write>(f: &mut fmt::Formatter<W>, names: &[String]) -> fmt::Result {
+    for name in names {
+        if name.as_str() != "default" {
+            write!(f, ", `{name}`")?;
+        }
+    }
+    Ok(())
+}
+
 impl fmt::Display for CommandFault {
     fn fmt<W: fmt::Write>(&self, f: &mut fmt::Formatter<W>) -> fmt::Result {
         match self {
@@ -170,7 +220,10 @@ impl fmt::Display for CommandFault {
                 "error: the command line is not UTF-8\nhelp: write filtersets, paths and names in UTF-8",
             ),
             CommandFault::NotText => f.write_str(
-                "error: standard input is not UTF-8\nhelp: `-` takes filtersets in UTF-8, one a line",
+                "error: standard input is not UTF-8\nhelp: `-` takes filtersets, one a line, or a configuration, in UTF-8",
+            ),
+            CommandFault::TwoInputs => f.write_str(
+                "error: `-` stands for the filtersets and for the configuration\nhelp: give one of them as an argument or a file",
             ),
             CommandFault::Missing(argument) => write!(
                 f,
@@ -180,6 +233,10 @@ impl fmt::Display for CommandFault {
                 fault.write_at(f, path.as_str())?;
                 let help = role.help();
                 write!(f, "\nhelp: {help}")
+            }
+            CommandFault::Profile { file, fault, known } => {
+                write!(f, "error: {file}: {fault}\nhelp: profiles: `default`")?;
+                write_others(f, known)
             }
             CommandFault::NoBinary { list, binary } => write!(
                 f,

@@ -1,13 +1,17 @@
 //! What the command line asks for.
-ghost use Rattle.std.specs.Prelude.{◌≡◌, IfErr, IfOk, codes};
+ghost use Rattle.std.specs.Prelude.{◌≡◌, IfErr, IfOk, codes, false};
 ghost use Rattle.clap.specs.Words.{found_of};
 ghost use Rattle.filterset_drawing.specs.Columns.{Text};
-ghost use Rattle.filterset_command.specs.Words.{ArePathsAsked, AreTextsAsked, IsAsked, IsAskedBy, IsColorAsked, IsFormAsked, IsKindAsked, IsMissingArgument, IsQuestionAsked, IsTextAsked, LacksArgument};
+ghost use Rattle.std.specs.Option.{option_map_or};
+ghost use Rattle.filterset_command.specs.Files.{is_input};
+ghost use Rattle.filterset_command.specs.Requests.{are_lines, takes_input};
+ghost use Rattle.filterset_command.specs.Words.{ArePathsAsked, AreTextsAsked, IsAsked, IsAskedBy, IsColorAsked, IsFormAsked, IsKindAsked, IsProfileAsked, IsQuestionAsked, IsTextAsked, IsWordsFault, LacksArgument, TakesTwo};
 
-use crate::asking::WorkspaceQuestion;
+use crate::asking::{Asked, WorkspaceRequest};
 use crate::checking::CheckPaths;
-use crate::explaining::ExplainRequest;
 use crate::fault::CommandFault;
+use crate::input::is_input;
+use crate::profile::ProfileRequest;
 use crate::workspace::WorkspacePaths;
 use clap::ArgMatches;
 use filterset_answers::{Form, Question};
@@ -23,6 +27,28 @@ pub enum Texts<'w> {
     StandardInput,
 }
 
+impl Texts<'_> {
+    /// Returns whether the filtersets are the lines of standard input.
+    pub fn is_input(&self) -> bool
+        ensures { result ≡ are_lines self.now }
+    {
+        match self {
+            Texts::Given(_) => false,
+            Texts::StandardInput => true,
+        }
+    }
+}
+
+/// Returns whether there is a path of the configuration, and it stands for standard input.
+fn is_some_input(path: Option<&str>) -> bool
+    ensures { result ≡ option_map_or (λ p. is_input p.now) path.entry false }
+{
+    match path {
+        Some(path) => is_input(path),
+        None => false,
+    }
+}
+
 /// What the command line asks for.
 #[derive(Clone, Copy)]
 pub enum Request<'w> {
@@ -36,19 +62,38 @@ pub enum Request<'w> {
         form: Form,
         texts: Texts<'w>,
     },
-    Ask(WorkspaceQuestion<'w>),
-    Explain(ExplainRequest<'w>),
+    /// `list`, `compare` or `explain`.
+    Ask(WorkspaceRequest<'w>),
     /// To write this text: the help or the version.
     Show(&'w str),
+}
+
+impl Request<'_> {
+    /// Returns whether the request is about standard input.
+    pub fn takes_input(&self) -> bool
+        ensures { result ≡ takes_input self.now }
+    {
+        match self {
+            Request::Check { texts, paths, .. } => {
+                texts.is_input() || is_some_input(paths.configuration)
+            }
+            Request::Format { texts, .. } => texts.is_input(),
+            Request::Ask(asked) => match &asked.profile {
+                Some(profile) => is_input(profile.configuration),
+                None => false,
+            },
+            Request::Show(_) => false,
+        }
+    }
 }
 
 /// Returns what matched words ask for.
 pub fn request_of<'m>(matches: &'m ArgMatches<'_>) -> Result<Request<'m>, CommandFault>
     ensures asked { IfOk result (IsAsked matches.now) }
-    ensures missing { IfErr result IsMissingArgument }
+    ensures refused { IfErr result (IsWordsFault matches.now) }
 {
     match matches.subcommand() {
-        Some(("check", own)) => Ok(check_of(own)),
+        Some(("check", own)) => check_of(own),
         Some(("format", own)) => Ok(format_of(own)),
         Some(("list", own)) => list_of(own),
         Some(("compare", own)) => compare_of(own),
@@ -58,18 +103,23 @@ pub fn request_of<'m>(matches: &'m ArgMatches<'_>) -> Result<Request<'m>, Comman
 }
 
 /// Returns what `check` asks for.
-fn check_of<'m>(matches: &'m ArgMatches<'_>) -> Request<'m>
-    ensures { IsAskedBy (codes "check") (found_of matches.now) result }
+fn check_of<'m>(matches: &'m ArgMatches<'_>) -> Result<Request<'m>, CommandFault>
+    ensures asked { IfOk result (IsAskedBy (codes "check") (found_of matches.now)) }
+    ensures refused { IfErr result (λ fault. (fault ≡ CommandFault.TwoInputs) × TakesTwo (found_of matches.now)) }
 {
-    Request::Check {
+    let (texts, configuration) = (texts_of(matches), matches.get_str("config"));
+    if texts.is_input() && is_some_input(configuration) {
+        return Err(CommandFault::TwoInputs);
+    }
+    Ok(Request::Check {
         kind: kind_of(matches),
         form: form_of(matches),
-        texts: texts_of(matches),
+        texts,
         paths: CheckPaths {
             metadata: matches.get_str("metadata"),
-            configuration: matches.get_str("config"),
+            configuration,
         },
-    }
+    })
 }
 
 /// Returns what `format` asks for.
@@ -91,7 +141,7 @@ fn list_of<'m>(matches: &'m ArgMatches<'_>) -> Result<Request<'m>, CommandFault>
         filters: matches.get_strs("filterset").unwrap_or(&[]),
         ignores_default: matches.get_flag("ignore"),
     };
-    ask_of(matches, form_of(matches), question)
+    ask_of(matches, form_of(matches), Asked::Question(question))
 }
 
 /// Returns what `compare` asks for.
@@ -104,24 +154,26 @@ fn compare_of<'m>(matches: &'m ArgMatches<'_>) -> Result<Request<'m>, CommandFau
         second: text_of(matches, "second")?,
         has_names: matches.get_flag("tests"),
     };
-    ask_of(matches, Form::Drawn(color_of(matches)), question)
+    let form = Form::Drawn(color_of(matches));
+    ask_of(matches, form, Asked::Question(question))
 }
 
-/// Returns a request for what a question asks about the workspace of the arguments.
+/// Returns a request that asks this of the workspace of the arguments.
 fn ask_of<'m>(
     matches: &'m ArgMatches<'_>,
     form: Form,
-    question: Question<'m>,
+    asked: Asked<'m>,
 ) -> Result<Request<'m>, CommandFault>
     ensures asked { IfOk result (λ request. (name : Text)
-        → IsQuestionAsked name (found_of matches.now) form question.entry → IsAskedBy name (found_of matches.now) request) }
+        → IsQuestionAsked name (found_of matches.now) form asked.entry → IsAskedBy name (found_of matches.now) request) }
     ensures missing { IfErr result (LacksArgument (found_of matches.now)) }
 {
-    Ok(Request::Ask(WorkspaceQuestion {
+    Ok(Request::Ask(WorkspaceRequest {
         paths: paths_of(matches)?,
         form,
-        default_filter: text_of(matches, "default")?,
-        question,
+        default_filter: matches.get_str("default"),
+        profile: profile_of(matches)?,
+        asked,
     }))
 }
 
@@ -130,13 +182,27 @@ fn explain_of<'m>(matches: &'m ArgMatches<'_>) -> Result<Request<'m>, CommandFau
     ensures asked { IfOk result (IsAskedBy (codes "explain") (found_of matches.now)) }
     ensures missing { IfErr result (LacksArgument (found_of matches.now)) }
 {
-    Ok(Request::Explain(ExplainRequest {
-        paths: paths_of(matches)?,
-        form: Form::Drawn(color_of(matches)),
-        default_filter: text_of(matches, "default")?,
+    let asked = Asked::Explanation {
         filter: text_of(matches, "filterset")?,
         binary: text_of(matches, "binary")?,
         test: matches.get_str("test"),
+    };
+    ask_of(matches, Form::Drawn(color_of(matches)), asked)
+}
+
+/// Returns the profile, if there is a configuration.
+fn profile_of<'w>(matches: &ArgMatches<'w>) -> Result<Option<ProfileRequest<'w>>, CommandFault>
+    ensures asked { IfOk result (IsProfileAsked (found_of matches.now)) }
+    ensures missing { IfErr result (LacksArgument (found_of matches.now)) }
+{
+    let Some(configuration) = matches.get_str("config") else {
+        return Ok(None);
+    };
+    Ok(Some(ProfileRequest {
+        configuration,
+        name: text_of(matches, "profile")?,
+        target_cfg: matches.get_str("target-cfg"),
+        host_cfg: matches.get_str("host-cfg"),
     }))
 }
 

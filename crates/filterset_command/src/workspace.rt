@@ -4,15 +4,17 @@ ghost use Rattle.serde_json.specs.View.{view};
 ghost use Rattle.filterset_graph.specs.Packages.{ids};
 ghost use Rattle.filterset_sources.specs.Suites.{IsOfPackage, IsTestList};
 ghost use Rattle.filterset_sources.specs.Metadata.{RefusesMetadata};
+ghost use Rattle.filterset_sources.specs.Platforms.{ArePlatforms};
 ghost use Rattle.filterset_sources.specs.Refusals.{RefusesJson};
-ghost use Rattle.filterset_command.specs.Files.{IsFileFault, OrMemory};
-ghost use Rattle.filterset_command.specs.Workspaces.{ArePackagesIn, AreSuitesIn, IsJsonOf, IsWorkspaceFault, IsWorkspaceIn, RefusesList, RefusesValue};
+ghost use Rattle.filterset_command.specs.Files.{BySource, IsFileFault, OrMemory};
+ghost use Rattle.filterset_command.specs.Workspaces.{ArePackagesIn, IsJsonOf, IsListIn, IsWorkspaceFault, IsWorkspaceIn, RefusesList, RefusesValue};
 
 use crate::fault::{CommandFault, FileRole};
 use crate::files::{FileSource, read_text};
 use filterset_graph::PackageGraph;
 use filterset_sources::{
-    SourceRefusal, TestList, check_packages, read_json, read_metadata, read_test_list,
+    BuildPlatforms, SourceRefusal, TestList, check_packages, read_json, read_metadata,
+    read_platforms, read_test_list,
 };
 use serde_json::Value;
 use std::alloc::Global;
@@ -26,11 +28,12 @@ pub struct WorkspacePaths<'w> {
     pub list: &'w str,
 }
 
-/// A workspace: its packages and nextest's list of its tests.
+/// A workspace: its packages, and nextest's list of its tests, with the platforms of the build.
 #[derive(Drop)]
 pub struct Workspace {
     pub graph: PackageGraph,
     pub list: TestList,
+    pub platforms: BuildPlatforms,
     /// The JSON value of the list.
     pub value: Value,
 }
@@ -44,7 +47,7 @@ fn read_value<F: FileSource>(
 ) -> Result<Value, CommandFault>
     ensures read { IfOk result (λ value. IsJsonOf (F.content files.now path.now) (view value)) }
     ensures refused { IfErr result (OrMemory
-        (IsFileFault (F.content files.now) (F.fails files.now) role RefusesJson path.now)) }
+        (IsFileFault (F.content files.now) (F.fails files.now) role (BySource RefusesJson) path.now)) }
 {
     let text = read_text(alloc, files, role, path)?;
     match read_json(alloc, text.as_str()) {
@@ -71,33 +74,37 @@ pub fn read_graph<F: FileSource>(
     }
 }
 
-/// Reads nextest's list, whose test binaries have to be built of these packages.
-fn list_of(alloc: Global, value: &Value, graph: &PackageGraph) -> Result<TestList, SourceRefusal>
-    ensures read { IfOk result (λ list. IsTestList (view value.now) list.suites.items
-        × All (IsOfPackage (ids graph.now)) list.suites.items) }
+/// Reads nextest's list, whose test binaries have to be built of these packages, and the platforms of the build.
+fn list_of(
+    alloc: Global,
+    value: &Value,
+    graph: &PackageGraph,
+) -> Result<(TestList, BuildPlatforms), SourceRefusal>
+    ensures read { IfOk result (λ both. IsTestList (view value.now) both.0.suites.items
+        × All (IsOfPackage (ids graph.now)) both.0.suites.items × ArePlatforms (view value.now) both.1) }
     ensures refused { IfErr result (RefusesList graph.now (view value.now)) }
 {
     let list = read_test_list(alloc, value)?;
     check_packages(alloc, &list, graph)?;
-    Ok(list)
+    Ok((list, read_platforms(alloc, value)?))
 }
 
-/// Reads nextest's list of a workspace of these packages, and returns its JSON value too.
+/// Reads nextest's list of a workspace of these packages, and the platforms, and returns its JSON value too.
 fn read_list<F: FileSource>(
     alloc: Global,
     files: &F,
     path: &str,
     graph: &PackageGraph,
-) -> Result<(TestList, Value), CommandFault>
-    ensures read { IfOk result (λ both. AreSuitesIn (F.content files.now path.now) graph.now
-        (view both.1) both.0.suites.items) }
+) -> Result<(TestList, BuildPlatforms, Value), CommandFault>
+    ensures read { IfOk result (λ all. IsListIn (F.content files.now path.now) graph.now
+        (view all.2) all.0.suites.items all.1) }
     ensures refused { IfErr result (OrMemory (IsFileFault (F.content files.now) (F.fails files.now)
         FileRole.List (RefusesValue (RefusesList graph.now)) path.now)) }
 {
     let role = FileRole::List;
     let value = read_value(alloc, files, role, path)?;
     match list_of(alloc, &value, graph) {
-        Ok(list) => Ok((list, value)),
+        Ok((list, platforms)) => Ok((list, platforms, value)),
         Err(refusal) => Err(CommandFault::from_refusal(alloc, role, path, refusal)),
     }
 }
@@ -112,6 +119,11 @@ pub fn read_workspace<F: FileSource>(
     ensures refused { IfErr result (OrMemory (IsWorkspaceFault (F.content files.now) (F.fails files.now) paths.now)) }
 {
     let graph = read_graph(alloc, files, paths.metadata)?;
-    let (list, value) = read_list(alloc, files, paths.list, &graph)?;
-    Ok(Workspace { graph, list, value })
+    let (list, platforms, value) = read_list(alloc, files, paths.list, &graph)?;
+    Ok(Workspace {
+        graph,
+        list,
+        platforms,
+        value,
+    })
 }

@@ -1,11 +1,11 @@
-use Rattle.std.proofs.Common.{◌≡◌, ◌∙◌, Some, ap, codes, option_map, sym}
-use Rattle.std.proofs.lemmas.Result.{IfOk-weaker}
+use Rattle.std.proofs.Common.{◌≡◌, ◌∙◌, Some, ap, codes, option_map, subst, sym}
+use Rattle.std.proofs.lemmas.Result.{IfErr-weaker, IfOk-weaker}
 use Rattle.clap.specs.Simple.{subcommand_rows_of}
 use Rattle.clap.specs.Walk.{rows_of}
 use Rattle.clap.specs.Words.{found_of, subcommand_name_of}
 use Rattle.clap.specs.declared.parser.matches.ArgMatches.{ArgMatches}
 use Rattle.filterset_drawing.specs.Columns.{Text}
-use Rattle.filterset_command.specs.Words.{IsAsked, IsAskedBy}
+use Rattle.filterset_command.specs.Words.{IsAsked, IsAskedBy, IsWordsFault}
 use Rattle.filterset_command.specs.declared.request.Request.{Request}
 use Rattle.filterset_command.proofs.request.request_of.Goals as goal
 
@@ -16,7 +16,14 @@ asked_by matches named own name request is_named has_rows is asked = (name, foun
 
 pub returns-in-Some-check-default-clause-asked : goal.returns-in-Some-check-default-clause-asked
 returns-in-Some-check-default-clause-asked c =
-    asked_by c.args.matches.now c.in-Some-check-default.field-0-0.now c.in-Some-check-default.own.now (codes "check") c.check_of.result c.in-Some-check-default.ensures.name c.in-Some-check-default.ensures.rows c.in-Some-check-default.is-check c.check_of.ensures
+    IfOk-weaker c.check_of.result _ _ (λ request asked.
+    asked_by c.args.matches.now c.in-Some-check-default.field-0-0.now c.in-Some-check-default.own.now (codes "check") request c.in-Some-check-default.ensures.name c.in-Some-check-default.ensures.rows c.in-Some-check-default.is-check asked) c.check_of.ensures.asked
+
+-- standard input is to be two things
+pub returns-in-Some-check-default-clause-refused : goal.returns-in-Some-check-default-clause-refused
+returns-in-Some-check-default-clause-refused c =
+    IfErr-weaker c.check_of.result _ _ (λ fault twice.
+    subst (IsWordsFault c.args.matches.now) (sym twice.0) (found_of c.in-Some-check-default.own.now, sym c.in-Some-check-default.ensures.rows, twice.1)) c.check_of.ensures.refused
 
 pub returns-in-Some-format-default-clause-asked : goal.returns-in-Some-format-default-clause-asked
 returns-in-Some-format-default-clause-asked c =

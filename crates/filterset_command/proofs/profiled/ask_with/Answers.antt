@@ -1,0 +1,19 @@
+use Rattle.std.proofs.Common.{◌∙◌, List, ap, filter, subst, sym}
+use Rattle.std.specs.List.{AllZip}
+use Rattle.std.proofs.lemmas.Result.{IfOk-weaker}
+use Rattle.filterset_answers.specs.Checked.{text_row}
+use Rattle.filterset_answers.specs.Profile.{IsEntryOf, sets_group}
+use Rattle.filterset_answers.specs.declared.setting.OverrideEntry.{OverrideEntry}
+use Rattle.filterset_command.proofs.profiled.ask_with.Goals as goal
+
+pub returns-clause-answered : goal.returns-clause-answered
+returns-clause-answered c =
+    let AreEntries : List OverrideEntry → Type 0 = AllZip (IsEntryOf c.args.texts) (filter sets_group c.args.ranked.now) in
+    IfOk-weaker c.ask_under.result _ _ (λ answer told. (
+      told.0,
+      told.1.0,
+      told.1.1,
+      ap text_row told.1.2,
+      subst AreEntries (sym (told.1.3 ∙ c.as_slice.ensures.value)) c.in_ok-overrides.ensures,
+      told.2,
+    )) c.ask_under.ensures.answered

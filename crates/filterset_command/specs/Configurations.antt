@@ -1,0 +1,108 @@
+-- What files say of a configuration and its profiles, and of the platforms by which their overrides apply.
+use Rattle.std.specs.Prelude.{◌≡◌, ◌≢◌, ◌⊎◌, List, Option, Some, None, IsSomeAnd, Vec, alloc_error, map, string_bytes}
+use Rattle.std.specs.Borrow.{Bor}
+use Rattle.std.specs.Global.{Global}
+use Rattle.std.specs.List.{AllZip}
+use Rattle.std.specs.Str.Lines.{lines}
+use Rattle.std.specs.declared.io.Error.{Error}
+use Rattle.filterset_answers.specs.declared.entries.ConfiguredTexts.{ConfiguredTexts}
+use Rattle.filterset_drawing.specs.Columns.{Text}
+use Rattle.filterset_places.specs.Places.{ArePlaces}
+use Rattle.filterset_places.specs.declared.place.Place.{Place}
+use Rattle.filterset_places.specs.declared.places.Places.{Places}
+use Rattle.filterset_platforms.specs.Grammar.{IsLine}
+use Rattle.filterset_platforms.specs.Reading.{Refuses}
+use Rattle.filterset_platforms.specs.Trees.{setting_of}
+use Rattle.filterset_platforms.specs.declared.fault.CfgRefusal.TheVariants.{Line}
+use Rattle.filterset_platforms.specs.declared.settings.Cfg.{Cfg}
+use Rattle.filterset_profiles.specs.Lineages.{IsLineageFault}
+use Rattle.filterset_profiles.specs.Profiles.{HasProfiles}
+use Rattle.filterset_profiles.specs.declared.fault.LineageFault.TheVariants as lineages
+use Rattle.filterset_profiles.specs.declared.profiles.Profile.{Profile}
+use Rattle.filterset_sources.specs.Configurations.{IsConfiguration, RefusesConfiguration, configured_rows}
+use Rattle.filterset_sources.specs.declared.configuration.Configuration.{Configuration}
+use Rattle.filterset_sources.specs.declared.configuration.ConfiguredFilterset.{ConfiguredFilterset}
+use Rattle.filterset_sources.specs.declared.platforms.BuildPlatforms.{BuildPlatforms}
+use Rattle.filterset_sources.specs.declared.refusal.SourceRefusal.TheVariants.{WrongValue}
+use Rattle.nextest_filtering.specs.Groups.{AreGroups}
+use Rattle.filterset_command.specs.Files.{BySource, IsContent, IsFaultAt, IsFileFault, content_of, name_of}
+use Rattle.filterset_command.specs.declared.fault.CommandFault.{CommandFault}
+use Rattle.filterset_command.specs.declared.fault.CommandFault.TheVariants as faults
+use Rattle.filterset_command.specs.declared.fault.FileFault.{FileFault}
+use Rattle.filterset_command.specs.declared.fault.FileFault.TheVariants.{Refused, WrongLine}
+use Rattle.filterset_command.specs.declared.fault.FileRole.{FileRole}
+use Rattle.filterset_command.specs.declared.fault.FileRole.TheVariants as roles
+use Rattle.filterset_command.specs.declared.profile.KnownPlatforms.{KnownPlatforms}
+use Rattle.filterset_command.specs.declared.profile.ProfileRequest.{ProfileRequest}
+use Rattle.filterset_command.specs.declared.profile.ProfilesFile.{ProfilesFile}
+
+-- the bytes of the file are this configuration, and its filtersets have these places in it
+abbrev pub IsConfigurationIn : Option Text → Text → Configuration → List (Option Place) → Type 0
+IsConfigurationIn content bytes configuration places = IsContent content bytes × IsConfiguration bytes configuration
+    × ArePlaces bytes (configured_rows configuration.filtersets.items) places
+
+-- the filtersets of a file with these bytes, and their places
+abbrev pub AreTextsOf : Text → Text → List ConfiguredFilterset → Places → ConfiguredTexts → Type 0
+AreTextsOf name bytes filtersets places texts =
+    (texts.file.now.origin.now ≡ name) × (texts.file.now.text.now ≡ bytes)
+    × (texts.filtersets.now ≡ filtersets) × (texts.places.now ≡ places)
+
+-- the file has these profiles
+abbrev pub AreProfilesIn : Option Text → ProfilesFile → Type 0
+AreProfilesIn content file = let bytes = string_bytes file.text in (configuration : Configuration)
+    × IsConfigurationIn content bytes configuration file.places.places.items
+    × (file.filtersets.items ≡ configuration.filtersets.items)
+    × AreGroups (map (λ s. string_bytes s) configuration.groups.items) file.groups
+    × HasProfiles bytes file.profiles.items
+
+-- what `rustc` sets for a platform, as a file says, if there is one
+abbrev pub AreSettings : (Text → Option Text) → Option (Bor Text) → Option (Vec Cfg Global) → Type 0
+AreSettings content None settings = settings ≡ None
+AreSettings content (Some path) settings = IsSomeAnd settings (λ all. (text : Text) × IsContent (content path.now) text
+    × AllZip IsLine (lines text) (map setting_of all.items))
+
+-- what is known of the platforms of a build
+abbrev pub AreKnown : (Text → Option Text) → ProfileRequest → BuildPlatforms → KnownPlatforms → Type 0
+AreKnown content request built known = (known.host.triple ≡ built.host) × (known.target.triple ≡ built.target)
+    × AreSettings content request.host_cfg known.host.cfg × AreSettings content request.target_cfg known.target.cfg
+
+-- the text has no profiles that are right
+abbrev pub RefusesProfiles : Text → FileFault → Type 0
+RefusesProfiles text (Refused (WrongValue wrong)) = ¬ ((profiles : List Profile) × HasProfiles text profiles)
+RefusesProfiles text fault = ⊥
+
+-- it is no configuration, or one with profiles that are wrong
+abbrev pub RefusesFile : Text → FileFault → Type 0
+RefusesFile text fault = BySource RefusesConfiguration text fault ⊎ RefusesProfiles text fault
+
+-- this is the first line that is nothing that `rustc` sets
+abbrev pub RefusesLine : Text → FileFault → Type 0
+RefusesLine text (WrongLine line) = Refuses (lines text) (Line line)
+RefusesLine text fault = ⊥
+
+-- a file that says what `rustc` sets for a platform is not used
+abbrev pub IsSettingsFault : (Text → Option Text) → (Text → Error → Type 0) → FileRole → Option (Bor Text) → CommandFault → Type 0
+IsSettingsFault content fails role path fault =
+    IsSomeAnd path (λ p. IsFileFault content fails role RefusesLine p.now fault)
+
+-- the fault names the file, says why there is no such profile, and names the profiles that there are
+abbrev pub LacksProfile : ProfileRequest → List Profile → CommandFault → Type 0
+LacksProfile request profiles (faults.Profile file fault known) =
+    (string_bytes file ≡ name_of roles.Configuration request.configuration.now)
+    × IsLineageFault profiles request.name.now fault × (fault ≢ lineages.OutOfMemory alloc_error)
+    × (map (λ s. string_bytes s) known.items ≡ map (λ p. string_bytes p.name) profiles)
+LacksProfile request profiles _ = ⊥
+
+-- what keeps a profile from being used: a file that is not, or a configuration without the profile
+abbrev pub IsProfileFault : (Text → Option Text) → (Text → Error → Type 0) → Text → ProfileRequest → CommandFault → Type 0
+IsProfileFault content fails input request fault =
+    IsFileFault (content_of content input) fails roles.Configuration RefusesFile request.configuration.now fault
+    ⊎ IsSettingsFault content fails roles.HostCfg request.host_cfg fault
+    ⊎ IsSettingsFault content fails roles.TargetCfg request.target_cfg fault
+    ⊎ ((file : ProfilesFile) × AreProfilesIn (content_of content input request.configuration.now) file
+    × LacksProfile request file.profiles.items fault)
+
+-- the text of the file at this path has no profiles that are right
+abbrev pub IsRefusedProfile : Text → Text → CommandFault → Type 0
+IsRefusedProfile text path fault =
+    (own : FileFault) × IsFaultAt roles.Configuration path own fault × RefusesProfiles text own

@@ -1,0 +1,29 @@
+//! Standard input.
+ghost use Rattle.std.specs.Prelude.{◌≡◌, IfErr, IfOk, OnOk, string_bytes};
+ghost use Rattle.filterset_io.specs.Runs.{AreLeft};
+ghost use Rattle.filterset_command.specs.Files.{OrMemory, is_input};
+ghost use Rattle.filterset_command.specs.Requests.{IsInputFault};
+
+use crate::fault::CommandFault;
+use filterset_io::{Source, read_all};
+use std::alloc::Global;
+
+/// Returns whether a path of the configuration stands for standard input.
+pub fn is_input(path: &str) -> bool
+    ensures { result ≡ is_input path.now }
+{
+    path == "-"
+}
+
+/// Reads what standard input has left as text.
+pub fn read_input<R: Source>(alloc: Global, input: &mut R) -> Result<String, CommandFault>
+    ensures whole { IfOk result (λ text. AreLeft (R.left input.old) (string_bytes text)) }
+    ensures refused { IfErr result (OrMemory (IsInputFault (R.left input.old) (R.failed input.new))) }
+    ensures none_failed { OnOk result (R.failed input.new ≡ R.failed input.old) }
+{
+    let bytes = read_all(alloc, input)?;
+    match String::from_utf8(bytes) {
+        Ok(text) => Ok(text),
+        Err(_) => Err(CommandFault::NotText),
+    }
+}

@@ -1,0 +1,190 @@
+//! What files say of the profiles of a configuration, and of the platforms by which their overrides apply.
+ghost use Rattle.std.specs.Prelude.{◌≡◌, ◌≢◌, ◌⊎◌, IfErr, IfOk, alloc_error, map, string_bytes};
+ghost use Rattle.filterset_profiles.specs.Lineages.{IsLineageFault, Lineage};
+ghost use Rattle.filterset_profiles.specs.Profiles.{HasProfiles};
+ghost use Rattle.filterset_sources.specs.Configurations.{IsConfiguration};
+ghost use Rattle.filterset_sources.specs.declared.configuration.Configuration as configurations;
+ghost use Rattle.nextest_filtering.specs.Groups.{IsKnown};
+ghost use Rattle.filterset_command.specs.Configurations.{AreKnown, AreProfilesIn, AreSettings, IsRefusedProfile, IsSettingsFault, LacksProfile, RefusesFile};
+ghost use Rattle.filterset_command.specs.Files.{IsFileFault, OrMemory, content_of};
+
+use crate::configuration::{ConfigurationFile, read_configuration_file};
+use crate::fault::{CommandFault, FileFault, FileRole};
+use crate::files::{FileSource, read_text};
+use filterset_places::Places;
+use filterset_platforms::{Cfg, CfgRefusal, PlatformFacts, read_cfg};
+use filterset_profiles::{LineageFault, Profile, ProfileRefusal, lineage, read_profiles};
+use filterset_sources::{
+    BuildPlatforms, Configuration, ConfiguredFilterset, SourceRefusal, WrongValue,
+};
+use nextest_filtering::KnownGroups;
+use std::alloc::{AllocError, Global};
+
+/// The profile that a command uses, by the paths of the files that say what it is.
+#[derive(Clone, Copy)]
+pub struct ProfileRequest<'w> {
+    /// Nextest's configuration, where `-` is standard input.
+    pub configuration: &'w str,
+    pub name: &'w str,
+    /// What `rustc --print cfg` wrote of the platform that tests are built for.
+    pub target_cfg: Option<&'w str>,
+    /// What it wrote of the platform that runs the build.
+    pub host_cfg: Option<&'w str>,
+}
+
+/// The profiles of a configuration, with its text, its filtersets and their places in that, and its groups.
+#[derive(Drop)]
+pub struct ProfilesFile {
+    pub text: String,
+    pub filtersets: Vec<ConfiguredFilterset>,
+    pub places: Places,
+    pub groups: KnownGroups,
+    pub profiles: Vec<Profile>,
+}
+
+/// What is known of the platforms of a build.
+#[derive(Drop)]
+pub struct KnownPlatforms {
+    pub host: PlatformFacts,
+    pub target: PlatformFacts,
+}
+
+/// Reads the profiles of the configuration at a path, which is TOML.
+fn profiles_in(alloc: Global, path: &str, text: &str) -> Result<Vec<Profile>, CommandFault>
+    requires { (c : configurations.Configuration) × IsConfiguration text.now c }
+    ensures read { IfOk result (λ profiles. HasProfiles text.now profiles.items) }
+    ensures refused { IfErr result (OrMemory (IsRefusedProfile text.now path.now)) }
+{
+    match read_profiles(alloc, text) {
+        Ok(profiles) => Ok(profiles),
+        Err(ProfileRefusal::Wrong { path: at, expected }) => {
+            let wrong = SourceRefusal::WrongValue(WrongValue { path: at, expected });
+            Err(CommandFault::from_refusal(alloc, FileRole::Configuration, path, wrong))
+        }
+        Err(ProfileRefusal::OutOfMemory(refused)) => Err(CommandFault::from(refused)),
+        Err(ProfileRefusal::NotToml(_)) => unreachable!(),
+    }
+}
+
+/// Reads the profiles of the configuration at a path, where `-` is standard input, which has this text.
+pub fn read_profiles_file<F: FileSource>(
+    alloc: Global,
+    files: &F,
+    input: &str,
+    path: &str,
+) -> Result<ProfilesFile, CommandFault>
+    ensures read { IfOk result (AreProfilesIn (content_of (F.content files.now) input.now path.now)) }
+    ensures known { IfOk result (λ file. IsKnown file.groups) }
+    ensures refused { IfErr result (OrMemory (IsFileFault (content_of (F.content files.now) input.now) (F.fails files.now)
+        FileRole.Configuration RefusesFile path.now)) }
+{
+    let ConfigurationFile {
+        text,
+        configuration,
+        places,
+    } = read_configuration_file(alloc, files, input, path)?;
+    let profiles = profiles_in(alloc, path, text.as_str())?;
+    let Configuration { filtersets, groups } = configuration;
+    Ok(ProfilesFile {
+        groups: KnownGroups::of(alloc, groups)?,
+        text,
+        filtersets,
+        places,
+        profiles,
+    })
+}
+
+/// Reads what `rustc` sets for a platform, if there is a file that says so.
+fn read_settings<F: FileSource>(
+    alloc: Global,
+    files: &F,
+    role: FileRole,
+    path: Option<&str>,
+) -> Result<Option<Vec<Cfg>>, CommandFault>
+    ensures read { IfOk result (AreSettings (F.content files.now) path.entry) }
+    ensures refused { IfErr result (OrMemory (IsSettingsFault (F.content files.now) (F.fails files.now) role path.entry)) }
+{
+    let Some(path) = path else {
+        return Ok(None);
+    };
+    let text = read_text(alloc, files, role, path)?;
+    match read_cfg(alloc, text.as_str()) {
+        Ok(settings) => Ok(Some(settings)),
+        Err(CfgRefusal::Line(line)) => {
+            let wrong = FileFault::WrongLine(line);
+            Err(CommandFault::in_file(alloc, role, path, wrong))
+        }
+        Err(CfgRefusal::OutOfMemory(refused)) => Err(CommandFault::from(refused)),
+    }
+}
+
+/// Reads what is known of the platforms of a build.
+pub fn read_facts<F: FileSource>(
+    alloc: Global,
+    files: &F,
+    request: &ProfileRequest<'_>,
+    built: BuildPlatforms,
+) -> Result<KnownPlatforms, CommandFault>
+    ensures read { IfOk result (AreKnown (F.content files.now) request.now built) }
+    ensures refused { IfErr result (OrMemory (λ fault.
+        IsSettingsFault (F.content files.now) (F.fails files.now) FileRole.HostCfg request.now.host_cfg fault
+        ⊎ IsSettingsFault (F.content files.now) (F.fails files.now) FileRole.TargetCfg request.now.target_cfg fault)) }
+{
+    let host_cfg = read_settings(alloc, files, FileRole::HostCfg, request.host_cfg)?;
+    let target_cfg = read_settings(alloc, files, FileRole::TargetCfg, request.target_cfg)?;
+    Ok(KnownPlatforms {
+        host: PlatformFacts {
+            triple: built.host,
+            cfg: host_cfg,
+        },
+        target: PlatformFacts {
+            triple: built.target,
+            cfg: target_cfg,
+        },
+    })
+}
+
+/// Copies the names of profiles.
+fn names_of(alloc: Global, profiles: &[Profile]) -> Result<Vec<String>, AllocError>
+    ensures { IfOk result (λ names. map (λ s. string_bytes s) names.items ≡ map (λ p. string_bytes p.name) profiles.now) }
+{
+    let mut names = Vec::with_capacity(alloc, profiles.len())?;
+    for profile in profiles {
+        names.push(String::from_str(alloc, profile.name.as_str())?)?;
+    }
+    Ok(names)
+}
+
+/// Makes the fault of a profile that there is not, or that falls back on none.
+fn wrong_profile(
+    alloc: Global,
+    request: &ProfileRequest<'_>,
+    profiles: &[Profile],
+    fault: LineageFault,
+) -> Result<CommandFault, AllocError>
+    ensures { IsLineageFault profiles.now request.now.name.now fault → fault ≢ LineageFault.OutOfMemory alloc_error
+        → IfOk result (LacksProfile request.now profiles.now) }
+{
+    let file = FileRole::Configuration.name_of(request.configuration);
+    Ok(CommandFault::Profile {
+        file: String::from_str(alloc, file)?,
+        fault,
+        known: names_of(alloc, profiles)?,
+    })
+}
+
+/// Returns the profile that is asked for, and those that it falls back on.
+pub fn lineage_of<'p>(
+    alloc: Global,
+    request: &ProfileRequest<'_>,
+    profiles: &'p [Profile],
+) -> Result<Vec<&'p Profile>, CommandFault>
+    ensures found { IfOk result (λ chain. Lineage profiles.entry.now request.now.name.now (map (λ p. p.now) chain.items)) }
+    ensures missing { IfErr result (OrMemory (LacksProfile request.now profiles.entry.now)) }
+{
+    match lineage(alloc, profiles, request.name) {
+        Ok(chain) => Ok(chain),
+        Err(LineageFault::OutOfMemory(refused)) => Err(CommandFault::from(refused)),
+        Err(fault) => Err(wrong_profile(alloc, request, profiles, fault)?),
+    }
+}

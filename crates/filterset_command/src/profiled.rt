@@ -1,0 +1,184 @@
+//! Answers under the profile of a configuration.
+ghost use Rattle.std.specs.Prelude.{◌≡◌, ◌⊎◌, IfErr, IfOk, IfSome, map, option_map, string_bytes};
+ghost use Rattle.serde_json.specs.View.{view};
+ghost use Rattle.filterset_answers.specs.Checked.{text_row};
+ghost use Rattle.filterset_profiles.specs.Ranking.{IsDefaultFilter};
+ghost use Rattle.filterset_profiles.specs.declared.defaults.DefaultFilter as filters;
+ghost use Rattle.nextest_filtering.specs.Groups.{IsKnown};
+ghost use Rattle.filterset_command.specs.Asking.{AnswersBy, AnswersConfigured, AnswersIn, AnswersProfile, AnswersWith, IsChosen, Lacks};
+ghost use Rattle.filterset_command.specs.Configurations.{IsProfileFault, LacksProfile};
+ghost use Rattle.filterset_command.specs.Files.{OrMemory};
+
+use crate::asking::{AskedWorkspace, ask_under};
+use crate::configuration::configured_texts;
+use crate::fault::{CommandFault, FileRole};
+use crate::files::FileSource;
+use crate::profile::{
+    KnownPlatforms, ProfileRequest, ProfilesFile, lineage_of, read_facts, read_profiles_file,
+};
+use filterset_answers::{
+    Answer, ConfiguredTexts, TextEntry, answer_unknown, default_entry, entry_at, override_entries,
+};
+use filterset_drawing::Source;
+use filterset_profiles::{DefaultFilter, Profile, RankedOverride, default_filter, rank_overrides};
+use filterset_sources::BuildPlatforms;
+use nextest_filtering::{FiltersetKind, KnownGroups};
+use serde_json::Value;
+use std::alloc::{AllocError, Global};
+
+/// What is known of a default filter.
+#[derive(Drop)]
+enum ChosenFilter<'t> {
+    Entry(TextEntry<'t>),
+    /// It hangs on the platform of the override at this path.
+    Unknown(String),
+}
+
+/// Makes the entry of the default filter that is given, or else of the profile's.
+fn choose<'t>(
+    alloc: Global,
+    texts: ConfiguredTexts<'t>,
+    given: Option<TextEntry<'t>>,
+    filter: DefaultFilter<'t>,
+) -> Result<ChosenFilter<'t>, AllocError>
+    requires { IfSome given (λ entry. entry.kind ≡ FiltersetKind.DefaultFilter) }
+    ensures { IfOk result (IsChosen texts.entry (option_map text_row given.entry) filter.entry) }
+{
+    if let Some(entry) = given {
+        return Ok(ChosenFilter::Entry(entry));
+    }
+    match filter {
+        DefaultFilter::Set { path, text } => {
+            let entry = entry_at(texts, path, FiltersetKind::DefaultFilter, text);
+            Ok(ChosenFilter::Entry(entry))
+        }
+        DefaultFilter::Unknown { path } => Ok(ChosenFilter::Unknown(path)),
+        DefaultFilter::All => Ok(ChosenFilter::Entry(default_entry(alloc, "all()")?)),
+    }
+}
+
+/// Answers under a default filter and the overrides of a profile.
+fn ask_with(
+    alloc: Global,
+    asked: &AskedWorkspace<'_, '_>,
+    groups: &KnownGroups,
+    texts: ConfiguredTexts<'_>,
+    ranked: &[RankedOverride<'_>],
+    default: &TextEntry<'_>,
+    kept: Option<Value>,
+) -> Result<Answer, CommandFault>
+    requires kind { default.now.kind ≡ FiltersetKind.DefaultFilter }
+    requires groups { IsKnown groups.now }
+    ensures answered { IfOk result (λ answer. AnswersWith (AnswersIn asked.now (option_map view kept)) asked.now.graph.now
+        groups.now texts.entry ranked.now (text_row default.now) answer.ending (string_bytes answer.text)) }
+    ensures missing { IfErr result (OrMemory (Lacks asked.now)) }
+{
+    let overrides = override_entries(alloc, texts, ranked)?;
+    ask_under(alloc, asked, groups, default, overrides.as_slice(), kept)
+}
+
+/// Answers under the overrides of a lineage.
+fn ask_ranked<'p>(
+    alloc: Global,
+    asked: &AskedWorkspace<'_, '_>,
+    groups: &KnownGroups,
+    texts: ConfiguredTexts<'p>,
+    given: Option<TextEntry<'p>>,
+    lineage: &[&'p Profile],
+    ranked: &[RankedOverride<'p>],
+    kept: Option<Value>,
+) -> Result<Answer, CommandFault>
+    requires groups { IsKnown groups.now }
+    requires kind { IfSome given (λ entry. entry.kind ≡ FiltersetKind.DefaultFilter) }
+    ensures answered { IfOk result (λ answer. (filter : filters.DefaultFilter)
+        × IsDefaultFilter ranked.now (map (λ p. p.now) lineage.now) filter
+        × AnswersBy (AnswersIn asked.now (option_map view kept)) asked.now.graph.now (option_map text_row given.entry)
+        groups.now texts.entry ranked.now filter answer.ending (string_bytes answer.text)) }
+    ensures missing { IfErr result (OrMemory (Lacks asked.now)) }
+{
+    let filter = default_filter(alloc, lineage, ranked)?;
+    match choose(alloc, texts, given, filter)? {
+        ChosenFilter::Entry(default) => {
+            ask_with(alloc, asked, groups, texts, ranked, &default, kept)
+        }
+        ChosenFilter::Unknown(path) => Ok(answer_unknown(alloc, path.as_str())?),
+    }
+}
+
+/// Answers under the profile that is asked for.
+fn ask_profile<'p>(
+    alloc: Global,
+    asked: &AskedWorkspace<'_, '_>,
+    profile: &ProfileRequest<'_>,
+    profiles: &'p [Profile],
+    groups: &KnownGroups,
+    texts: ConfiguredTexts<'p>,
+    given: Option<TextEntry<'p>>,
+    known: &KnownPlatforms,
+    kept: Option<Value>,
+) -> Result<Answer, CommandFault>
+    requires groups { IsKnown groups.now }
+    requires kind { IfSome given (λ entry. entry.kind ≡ FiltersetKind.DefaultFilter) }
+    ensures answered { IfOk result (λ answer. AnswersProfile (AnswersIn asked.now (option_map view kept)) asked.now.graph.now
+        (option_map text_row given.entry) profile.now.name.now profiles.entry.now groups.now texts.entry known.now
+        answer.ending (string_bytes answer.text)) }
+    ensures missing { IfErr result (OrMemory (λ fault. Lacks asked.now fault
+        ⊎ LacksProfile profile.now profiles.entry.now fault)) }
+{
+    let lineage = lineage_of(alloc, profile, profiles)?;
+    let lineage = lineage.as_slice();
+    let ranked = rank_overrides(alloc, lineage, &known.host, &known.target)?;
+    ask_ranked(
+        alloc,
+        asked,
+        groups,
+        texts,
+        given,
+        lineage,
+        ranked.as_slice(),
+        kept,
+    )
+}
+
+/// Answers under the profile of the files that describe it. Standard input has the text `input`, if that is the
+/// configuration.
+pub fn ask_configured<F: FileSource>(
+    alloc: Global,
+    files: &F,
+    input: &str,
+    asked: &AskedWorkspace<'_, '_>,
+    profile: &ProfileRequest<'_>,
+    built: BuildPlatforms,
+    given: Option<TextEntry<'_>>,
+    kept: Option<Value>,
+) -> Result<Answer, CommandFault>
+    requires { IfSome given (λ entry. entry.kind ≡ FiltersetKind.DefaultFilter) }
+    ensures answered { IfOk result (λ answer. AnswersConfigured (F.content files.now) input.now
+        (AnswersIn asked.now (option_map view kept)) asked.now.graph.now (option_map text_row given.entry) profile.now built
+        answer.ending (string_bytes answer.text)) }
+    ensures refused { IfErr result (OrMemory (λ fault. Lacks asked.now fault
+        ⊎ IsProfileFault (F.content files.now) (F.fails files.now) input.now profile.now fault)) }
+{
+    let ProfilesFile {
+        text,
+        filtersets,
+        places,
+        groups,
+        profiles,
+    } = read_profiles_file(alloc, files, input, profile.configuration)?;
+    let known = read_facts(alloc, files, profile, built)?;
+    let name = FileRole::Configuration.name_of(profile.configuration);
+    let source = Source::new(alloc, name, text.as_str())?;
+    let texts = configured_texts(&source, filtersets.as_slice(), &places);
+    ask_profile(
+        alloc,
+        asked,
+        profile,
+        profiles.as_slice(),
+        &groups,
+        texts,
+        given,
+        &known,
+        kept,
+    )
+}
