@@ -1,0 +1,4 @@
+pub mod ListLemmas
+pub mod GivingLemmas
+pub mod ApplyingLemmas
+pub mod KeyLemmas

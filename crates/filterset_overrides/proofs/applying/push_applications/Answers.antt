@@ -1,0 +1,32 @@
+use Rattle.std.proofs.Common.{rules, arith, ◌≡◌, ◌<◌, ◌+◌, ◌++◌, ◌∷◌, [], Bool, Bor, IsTrue, List, Option, length, get_or, map, take, subst}
+use Rattle.std.specs.List.{AllZip}
+use Rattle.std.proofs.lemmas.List.{take_all}
+use Rattle.filterset_graph.specs.declared.binary.TestCaseName.{TestCaseName}
+use Rattle.filterset_overrides.specs.Applying.{AppliesAs, HasApplication, Test}
+use Rattle.filterset_overrides.proofs.ApplyingLemmas.{applies_as}
+use Rattle.filterset_overrides.proofs.ListLemmas.{AllZip-push, behind, map_more}
+use Rattle.filterset_overrides.proofs.applying.push_applications.Goals as goal
+
+pub returns : goal.returns
+returns c packages default tests compiled laid before =
+    let all = c.loop-test.invariant packages default tests compiled laid before in
+    rw (take_all c.loop-test.test-index _ c.loop-test-test.false) at all
+
+pub loop-test-preserved : goal.loop-test-preserved
+loop-test-preserved c packages default tests compiled laid before =
+    let items = c.args.binary.now.tests.now in
+    let i = c.loop-test.test-index in
+    let one = c.test-item.result in
+    let lt : i < length items = omega (arith, c.loop-test-test.true) in
+    let at : get_or items i one ≡ one = search (rules, c.test-item.is) in
+    let query = c.args.binary.now.query in
+    let asked = c.args.asked.now in
+    let f : Bor TestCaseName → Test = λ t. (query, t.now) in
+    let this : Test = (query, one.now) in
+    let so_far = map f (take i items) in
+    let has = subst (λ (platforms : Option Bool). HasApplication (IsTrue c.in_ok-is_picked.is_picked) platforms c.application_of.result) c.platforms_of-platforms.ensures c.application_of.ensures in
+    let one_applies = applies_as packages default asked c.args.flat.now query one.now c.in_ok-is_picked.is_picked c.application_of.result compiled laid c.in_ok-is_picked.ensures has in
+    let added = AllZip-push (λ test. AppliesAs packages default test asked) (tests ++ so_far) c.loop-test.applications.items this c.application_of.result
+    (c.loop-test.invariant packages default tests compiled laid before) one_applies in
+    rw c.in_ok-push.ensures.items (subst (λ (all : List Test). AllZip (λ test. AppliesAs packages default test asked) all (c.loop-test.applications.items ++ c.application_of.result ∷ []))
+    (behind tests so_far (this ∷ []) (map f (take (i + 1) items)) (map_more f items i one lt at)) added)

@@ -1,0 +1,24 @@
+use Rattle.std.proofs.Common.{rules, arith, ◌≡◌, ◌<◌, ◌++◌, ◌∷◌, [], List, length, get_or, take, subst, sym, ◌∙◌}
+use Rattle.std.proofs.lemmas.List.{length-map, length-take-le}
+use Rattle.filterset_overrides.specs.Applied.{IsApplied, overrides_of}
+use Rattle.filterset_overrides.specs.Counting.{EachAfter, IsRow}
+use Rattle.filterset_overrides.specs.declared.asked.AskedOverride.{AskedOverride}
+use Rattle.filterset_overrides.specs.declared.counting.applied.AppliedOverride.{AppliedOverride}
+use Rattle.filterset_overrides.proofs.ListLemmas.{EachAfter-push, map_more}
+use Rattle.filterset_overrides.proofs.counting.rows_of.Goals as goal
+
+pub loop-at-preserved : goal.loop-at-preserved
+loop-at-preserved c packages default tests applied =
+    let all = c.args.applied.now in
+    let i = c.loop-at.at in
+    let one = c.index-applied-at.result in
+    let lt : i < length all = omega (arith, c.loop-at-test.true) in
+    let at : get_or all i one ≡ one = search (rules, c.index-applied-at.is) in
+    let f = λ (a : AppliedOverride). a.asked in
+    let so_far = overrides_of (take i all) in
+    let row = c.row_of-row.result in
+    let is = subst (IsApplied packages default tests) at (applied i one lt) in
+    let long : i ≡ length so_far = sym (length-map (take i all) f ∙ length-take-le i all (omega (arith, lt))) in
+    let each = EachAfter-push (IsRow packages default tests) [] so_far c.loop-at.rows.items one.asked row
+    (c.loop-at.invariant packages default tests applied) (c.row_of-row.ensures packages default tests so_far is long) in
+    rw c.in_ok-push.ensures.items (subst (λ (os : List AskedOverride). EachAfter (IsRow packages default tests) [] os (c.loop-at.rows.items ++ row ∷ [])) (sym (map_more f all i one lt at)) each)

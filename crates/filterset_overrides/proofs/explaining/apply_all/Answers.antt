@@ -1,0 +1,23 @@
+use Rattle.std.proofs.Common.{rules, arith, ◌≡◌, ◌<◌, length, get_or, subst, ap, ◌∙◌}
+use Rattle.std.proofs.lemmas.List.Elements.{All-push}
+use Rattle.filterset_expression.specs.Contexts.{default_of}
+use Rattle.filterset_overrides.specs.Applying.{AppliesAs, IsCompiledOf, Test}
+use Rattle.filterset_overrides.specs.Giving.{asked_of}
+use Rattle.filterset_overrides.specs.declared.applying.ExplainedOverride.{ExplainedOverride}
+use Rattle.filterset_overrides.proofs.ListLemmas.{pushed_map}
+use Rattle.filterset_overrides.proofs.explaining.apply_all.Goals as goal
+
+pub loop-asked-preserved : goal.loop-asked-preserved
+loop-asked-preserved c =
+    let all = c.args.overrides.now in
+    let i = c.loop-asked.asked-index in
+    let one = c.asked-item.result in
+    let lt : i < length all = omega (arith, c.loop-asked-test.true) in
+    let at : get_or all i one ≡ one = search (rules, c.asked-item.is) in
+    let made = c.in_ok-apply.field-0 in
+    let test : Test = (c.args.query.now.binary_query, c.args.query.now.test_name.now) in
+    record {
+      asked = ap asked_of c.in_ok-push.ensures.items ∙ pushed_map (λ (e : ExplainedOverride). e.asked) c.loop-asked.explained.items made all i one lt at c.loop-asked.invariant.asked c.in_ok-apply.ensures.asked;
+      applied = λ packages compiled. rw c.in_ok-push.ensures.items (All-push (λ (e : ExplainedOverride). AppliesAs packages (default_of c.args.context.now) test e.asked e.application) c.loop-asked.explained.items made
+          (c.loop-asked.invariant.applied packages compiled) (c.in_ok-apply.ensures.applied packages (subst (IsCompiledOf packages) at (compiled i one lt))));
+    }
