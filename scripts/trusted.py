@@ -21,6 +21,13 @@ from sources import TOP, crate_of, crates, files, operator_parts, text_of, words
 PAGE, BEGIN, END = "docs/TRUST.md", "<!-- trusted.py begins -->\n", "<!-- trusted.py ends -->\n"
 # The crate that other programs name; the program that reads a record, with the crate of its run; the program for people.
 LIBRARY, PROGRAM, PROGRAMS, COMMAND = "nextest_filtering", "filterset_cli", "filterset_io", "filterset_command"
+# What only configurations mean: crates, files of specs/, definitions and types.
+CONFIGURED = {
+    "filterset_platforms", "filterset_profiles", "filterset_sources/specs/Platforms", "filterset_listing/specs/Groups",
+    "filterset_answers/specs/Profile", "filterset_command/specs/Configurations", "AnswersConfigured", "AnswersProfile",
+    "AnswersWith", "BuildPlatforms", "GroupOverride", "IsOverrideFor", "IsUnknownOn", "KnownPlatforms", "NamesOverride",
+    "OverrideEntry", "ProfileRequest", "ProfilesFile", "TestAnswer", "UnknownTest", "chosen", "filter_row", "unknown_line",
+}
 # Ghost members that prove something where they are used.
 PROVED_MEMBERS = {"laws", "xor_laws", "total", "matches_partial_cmp", "matches_eq", "respects_eq", "coded", "invariant"}
 # A public field of a struct, as far as its type.
@@ -225,6 +232,9 @@ class Trusted:
         for what, publics in self.sources.parts():
             roots += publics
             parts.append(f"| {what} | {lines_of(self.sources.ways(roots))} |")
+        configured = [node for node in self.reached
+                      if CONFIGURED & {crate_of(node.path), node.path[len("crates/"):-len(".antt")], node.name}]
+        parts.append(f"| of these, what only configurations mean | {lines_of(configured)} |")
         for crate, names in sorted(self.sources.external.items()):
             shown = sorted(name for name in names if name and "◌" not in name and name != "[]")
             kit += [f"| `{crate}` | {', '.join(f'`{name}`' for name in shown)} |"] if shown else []
