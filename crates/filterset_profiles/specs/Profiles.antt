@@ -1,8 +1,9 @@
 -- What nextest's configuration says of profiles. What is missing is as if it were empty.
-use Rattle.std.specs.Prelude.{◌≡◌, ◌||◌, Bool, List, Option, None, Some, String, IsSome, IsSomeAnd, IsTrue, MatchOption, bytes_eq, codes, if◌then◌else◌, is_none, is_some, map, option_and_then, string_bytes, unwrap_or, zip}
-use Rattle.std.specs.List.{AllZip}
+use Rattle.std.specs.Prelude.{◌≡◌, ◌||◌, Bool, List, [], ◌∷◌, Option, None, Some, String, IsSome, IsSomeAnd, IsTrue, MatchOption, bytes_eq, codes, filter, if◌then◌else◌, is_none, is_some, map, not, option_and_then, string_bytes, unwrap_or, zip}
+use Rattle.std.specs.List.{AllZip, list_any}
+use Rattle.std.specs.Option.{option_map_or}
 use Rattle.std.specs.declared.alloc.Global.{Global}
-use Rattle.toml.specs.Data.{Data, string, array, table, no_items, Members, no_members, as_table, get}
+use Rattle.toml.specs.Data.{Data, string, array, table, no_items, Members, no_members, member, as_table, get}
 use Rattle.toml.specs.Parse.{parse_document}
 use Rattle.toml.specs.View.{items_of, members_of}
 use Rattle.filterset_platforms.specs.Grammar.{Spells}
@@ -36,11 +37,32 @@ is_group file t = bytes_eq t (codes "@global") || is_some (option_and_then (get 
 abbrev pub IsGroup : Data → Data → String Global → Type 0
 IsGroup file e s = IsText e s × IsTrue (is_group file (string_bytes s))
 
+-- the keys of a table, in its order
+abbrev pub keys_of : Members → List Text
+keys_of no_members = []
+keys_of (member key d ms) = key ∷ keys_of ms
+
+-- the keys, without those among the others
+abbrev pub keys_but : List Text → List Text → List Text
+keys_but others keys = filter (λ key. not (list_any (λ other. bytes_eq other key) others)) keys
+
+-- the keys that a table sets: all but the others
+abbrev pub settings_but : List Text → Data → List Text
+settings_but others d = keys_but others (option_map_or keys_of (as_table d) [])
+
+-- the keys of an override, and of a profile, that are no settings
+abbrev pub override_keys : List Text
+override_keys = codes "platform" ∷ codes "filter" ∷ codes "default-filter" ∷ []
+
+abbrev pub profile_keys : List Text
+profile_keys = codes "inherits" ∷ codes "default-filter" ∷ codes "overrides" ∷ []
+
 abbrev pub HasSettings : Data → Data → Override → Type 0
 HasSettings file d o =
     ArePlatforms (unwrap_or (get (codes "platform") d) (table no_members)) o.platform
     × Under IsText (codes "filter") d o.filter × Under IsText (codes "default-filter") d o.default_filter
     × Under (IsGroup file) (codes "test-group") d o.test_group
+    × (map string_bytes o.settings.items ≡ settings_but override_keys d)
 
 -- an override says for what it is, and a default filter is for platforms alone
 abbrev pub is_allowed : Override → Bool
@@ -58,6 +80,7 @@ IsProfile file d p =
     IsSome (as_table d) × Under IsText (codes "inherits") d p.inherits
     × Under IsText (codes "default-filter") d p.default_filter
     × AreOverrides file (unwrap_or (get (codes "overrides") d) (array no_items)) p.overrides.items
+    × (map string_bytes p.settings.items ≡ settings_but profile_keys d)
 
 -- a table of these profiles, by the order of their names
 abbrev pub AreProfiles : Data → Data → List Profile → Type 0

@@ -10,7 +10,7 @@ ghost use Rattle.filterset_profiles.specs.declared.overrides.Override.{Override}
 
 use crate::paths::override_path;
 use crate::refusal::ProfileRefusal;
-use crate::values::{read_group, read_platform, read_text, wrong_at, wrong_under};
+use crate::values::{read_group, read_keys_but, read_platform, read_text, wrong_at, wrong_under};
 use filterset_platforms::PlatformFilter;
 use std::alloc::Global;
 use toml::Value;
@@ -26,6 +26,8 @@ pub struct Override {
     pub default_filter: Option<String>,
     /// The group that it puts its tests in.
     pub test_group: Option<String>,
+    /// The keys that it sets: all but `platform`, `filter` and `default-filter`, in the order of the table.
+    pub settings: Vec<String>,
 }
 
 /// Reads the parts of a table of platforms.
@@ -79,6 +81,7 @@ fn read_settings(
         filter: read_text(alloc, path, value, "filter")?,
         default_filter: read_text(alloc, path, value, "default-filter")?,
         test_group: read_group(alloc, path, file, value)?,
+        settings: read_keys_but(alloc, value, &["platform", "filter", "default-filter"])?,
     })
 }
 

@@ -10,7 +10,7 @@ ghost use Rattle.filterset_profiles.specs.declared.profiles.Profile.{Profile};
 use crate::overrides::{Override, read_overrides};
 use crate::paths::profile_path;
 use crate::refusal::ProfileRefusal;
-use crate::values::{read_text, wrong_at};
+use crate::values::{read_keys_but, read_text, wrong_at};
 use std::alloc::{AllocError, Global};
 use toml::{Table, Value};
 
@@ -23,6 +23,8 @@ pub struct Profile {
     pub default_filter: Option<String>,
     /// The overrides, in the order of the file.
     pub overrides: Vec<Override>,
+    /// The keys that it sets: all but `inherits`, `default-filter` and `overrides`, in the order of the table.
+    pub settings: Vec<String>,
 }
 
 /// Reads a profile.
@@ -46,6 +48,7 @@ fn read_profile(
         inherits: read_text(alloc, path, value, "inherits")?,
         default_filter: read_text(alloc, path, value, "default-filter")?,
         overrides: read_overrides(alloc, path, file, value)?,
+        settings: read_keys_but(alloc, value, &["inherits", "default-filter", "overrides"])?,
     })
 }
 

@@ -1,15 +1,15 @@
 //! Reads single values.
-ghost use Rattle.std.specs.Prelude.{◌≡◌, Option, String, IfErr, IfOk, codes};
+ghost use Rattle.std.specs.Prelude.{◌≡◌, Option, String, IfErr, IfOk, codes, map, string_bytes};
 ghost use Rattle.std.specs.declared.alloc.Global.{Global};
-ghost use Rattle.toml.specs.View.{view};
+ghost use Rattle.toml.specs.View.{table_view, view};
 ghost use Rattle.filterset_platforms.specs.declared.specification.PlatformSpec.{PlatformSpec};
-ghost use Rattle.filterset_profiles.specs.Profiles.{IsGroup, IsPlatform, IsText, Under, is_group};
+ghost use Rattle.filterset_profiles.specs.Profiles.{IsGroup, IsPlatform, IsText, Under, is_group, keys_but, keys_of, settings_but};
 ghost use Rattle.filterset_profiles.specs.Refusals.{IsWrong, Refuses};
 
 use crate::refusal::ProfileRefusal;
 use filterset_platforms::{PlatformRefusal, PlatformSpec};
 use std::alloc::{AllocError, Global};
-use toml::Value;
+use toml::{Table, Value};
 
 /// Makes the refusal of the value under a key of what is at `path`.
 pub(crate) fn wrong_under(
@@ -53,6 +53,36 @@ pub(crate) fn read_text(
         return Err(wrong_under(alloc, path, key, "a text")?);
     };
     Ok(Some(String::from_str(alloc, text)?))
+}
+
+/// Copies the keys of a table, but for those among `others`.
+fn copy_keys_but(alloc: Global, members: &Table, others: &[&str]) -> Result<Vec<String>, AllocError>
+    ensures { IfOk result (λ keys. map (λ s. string_bytes s) keys.items
+        ≡ keys_but (map (λ o. o.now) others.now) (keys_of (table_view members.now))) }
+{
+    let mut keys = Vec::new(alloc);
+    for key in members.keys() {
+        if others.contains(&key.as_str()) {
+            continue;
+        }
+        keys.push(String::from_str(alloc, key.as_str())?)?;
+    }
+    Ok(keys)
+}
+
+/// Reads the keys that a table sets: all but `others`. There are none if the value is no table.
+pub(crate) fn read_keys_but(
+    alloc: Global,
+    value: &Value,
+    others: &[&str],
+) -> Result<Vec<String>, AllocError>
+    ensures { IfOk result (λ keys. map (λ s. string_bytes s) keys.items
+        ≡ settings_but (map (λ o. o.now) others.now) (view value.now)) }
+{
+    match value.as_table() {
+        Some(members) => copy_keys_but(alloc, members, others),
+        None => Ok(Vec::new(alloc)),
+    }
 }
 
 /// Returns whether a group of tests is `@global`, or a key of the file's `[test-groups]`.

@@ -21,6 +21,8 @@ default-filter = 'all()'
 platform = { host = 'x86_64-unknown-linux-gnu' }
 filter = 'test(db)'
 test-group = 'serial'
+retries = 3
+slow-timeout.period = '60s'
 
 [test-groups]
 serial = { max-threads = 1 }
@@ -31,6 +33,16 @@ fn is_text(text: &Option<String>, wanted: &str) -> bool {
         Some(text) => text.as_str() == wanted,
         None => wanted.is_empty(),
     }
+}
+
+/// Returns whether the keys are those wanted, in their order.
+fn are_keys(keys: &[String], wanted: &[&str]) -> bool {
+    for (key, text) in keys.iter().zip(wanted) {
+        if key.as_str() != *text {
+            return false;
+        }
+    }
+    keys.len() == wanted.len()
 }
 
 fn is_cfg(platform: &Option<PlatformSpec>) -> bool {
@@ -52,10 +64,12 @@ fn are_overrides(overrides: &[Override]) -> bool {
                 && first.platform.host.is_none()
                 && is_text(&first.filter, "")
                 && is_text(&first.default_filter, "all()")
+                && first.settings.is_empty()
                 && is_triple(&second.platform.host, "x86_64-unknown-linux-gnu")
                 && second.platform.target.is_none()
                 && is_text(&second.filter, "test(db)")
                 && is_text(&second.test_group, "serial")
+                && are_keys(&second.settings, &["retries", "slow-timeout", "test-group"])
         }
         _ => false,
     }
@@ -69,9 +83,11 @@ fn are_profiles(profiles: &[Profile]) -> bool {
                 && is_text(&ci.inherits, "base")
                 && is_text(&ci.default_filter, "")
                 && are_overrides(&ci.overrides)
+                && ci.settings.is_empty()
                 && default.name.as_str() == "default"
                 && is_text(&default.default_filter, "not test(slow)")
                 && default.overrides.is_empty()
+                && are_keys(&default.settings, &["retries"])
         }
         _ => false,
     }

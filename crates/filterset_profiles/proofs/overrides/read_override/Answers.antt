@@ -2,8 +2,13 @@ use Rattle.std.proofs.Common.{ap, sym, ◌∙◌}
 use Rattle.std.specs.Prelude.{not}
 use Rattle.std.proofs.lemmas.Bool.{true≢false}
 use Rattle.toml.specs.View.{view}
-use Rattle.filterset_profiles.proofs.Reading.{allowed_same, refused_wrong}
+use Rattle.filterset_profiles.proofs.Reading.{allowed_same, handed_on, refused_wrong}
 use Rattle.filterset_profiles.proofs.overrides.read_override.Goals as goal
+
+pub returns-in_err-read-clause-refused : goal.returns-in_err-read-clause-refused
+returns-in_err-read-clause-refused c =
+    handed_on c.from_residual-in_err-read.result c.in_err-read.field-0.0 c.from_residual-in_err-read.ensures.1
+    (λ fact. (fact.0, fact.1.1)) c.in_err-read.ensures.refused
 
 pub returns-in_ok-wrong_at-in-Some-clause-refused : goal.returns-in_ok-wrong_at-in-Some-clause-refused
 returns-in_ok-wrong_at-in-Some-clause-refused c =
