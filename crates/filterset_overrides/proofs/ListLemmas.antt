@@ -104,3 +104,8 @@ pub both_mapped : {A B C : Type 0} (f : A → C) (g : B → C) (ys : List A) (y 
 both_mapped f g ys y xs i d lt front same =
     map_append f ys (y ∷ []) ∙ (ap (λ zs. zs ++ f y ∷ []) front ∙ (ap (λ z. map g (take i xs) ++ z ∷ []) same
     ∙ sym (ap (map g) (take_more xs i d lt) ∙ map_append g (take i xs) (get_or xs i d ∷ []))))
+
+-- three texts behind another
+pub three_more : (a b c d x y z : List ℕ) → b ≡ a ++ x → c ≡ b ++ y → d ≡ c ++ z → d ≡ a ++ (x ++ (y ++ z))
+three_more a b c d x y z first second third =
+    third ∙ (ap (λ t. t ++ z) (second ∙ (ap (λ t. t ++ y) first ∙ append_assoc a x y)) ∙ (append_assoc a (x ++ y) z ∙ ap (λ t. a ++ t) (append_assoc x y z)))

@@ -1,6 +1,9 @@
 -- How overrides apply to a test, as text.
-use Rattle.std.specs.Prelude.{Bool, true, false, ◌++◌, codes}
+use Rattle.std.specs.Prelude.{ℕ, List, [], ◌∷◌, ◌++◌, String, codes, slice_get, string_bytes}
 use Rattle.std.specs.List.{flat_map}
+use Rattle.std.specs.Option.{option_map_or}
+use Rattle.std.specs.Str.Lines.{lines}
+use Rattle.std.specs.declared.alloc.Global.{Global}
 use Rattle.filterset_overrides.specs.Applying.{Text}
 use Rattle.filterset_overrides.specs.declared.applying.Application.{Application}
 use Rattle.filterset_overrides.specs.declared.applying.Application.TheVariants.{Applies, NotPicked, OtherPlatform, UnknownPlatform}
@@ -30,12 +33,25 @@ giver_text Nextest = codes "nextest's default"
 abbrev pub setting_line : ExplainedSetting → Text
 setting_line s = s.key.now ++ (codes ": " ++ (giver_text s.giver ++ codes "\n"))
 
--- the overrides, and below them the settings, a line each
-abbrev pub test_overrides_text : TestOverrides → Text
-test_overrides_text explained =
-    flat_map override_line explained.overrides.items ++ flat_map setting_line explained.settings.items
+-- a line, moved right by two blanks
+abbrev pub indented_line : Text → Text
+indented_line line = codes "  " ++ (line ++ codes "\n")
 
--- whether it is unknown what gives the setting
-abbrev pub is_unknown : Giver → Bool
-is_unknown (Unknown path) = true
-is_unknown giver = false
+-- the lines of a text, each moved so
+abbrev pub indented : Text → Text
+indented text = flat_map indented_line (lines text)
+
+-- the line of each override, and below it the lines of its reason, if there is one
+abbrev pub override_lines : List ExplainedOverride → List Text → Text
+override_lines [] reasons = []
+override_lines (e ∷ es) [] = override_line e ++ override_lines es []
+override_lines (e ∷ es) (reason ∷ reasons) = override_line e ++ (indented reason ++ override_lines es reasons)
+
+-- the overrides with their reasons, and below them the settings, a line each
+abbrev pub test_overrides_text : TestOverrides → List Text → Text
+test_overrides_text explained reasons =
+    override_lines explained.overrides.items reasons ++ flat_map setting_line explained.settings.items
+
+-- The reason at a place, or none where there are not as many. Only contracts of private functions cite this.
+abbrev pub reason_at : List (String Global) → ℕ → Text
+reason_at reasons at = option_map_or string_bytes (slice_get reasons at) []

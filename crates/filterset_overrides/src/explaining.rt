@@ -1,12 +1,11 @@
 //! Which overrides apply to a test, and what gives it each of its settings.
-ghost use Rattle.std.specs.Prelude.{◌≡◌, All, false, IfOk, List, MatchOption, Some, map};
+ghost use Rattle.std.specs.Prelude.{◌≡◌, All, false, IfOk, List, MatchOption, Some, is_none, map};
 ghost use Rattle.std.specs.List.{list_any};
 ghost use Rattle.filterset_graph.specs.declared.package.PackageMetadata.{PackageMetadata};
 ghost use Rattle.filterset_expression.specs.Contexts.{default_of};
 ghost use Rattle.filterset_expression.specs.declared.expression.CompiledExpr.{CompiledExpr};
-ghost use Rattle.filterset_overrides.specs.Applying.{AppliesAs, DoesApply, IsCompiledOf, Test};
+ghost use Rattle.filterset_overrides.specs.Applying.{AppliesAs, DoesApply, IsCompiledOf, Test, verdict};
 ghost use Rattle.filterset_overrides.specs.Asking.{IsGivenBy};
-ghost use Rattle.filterset_overrides.specs.ExplainedText.{is_unknown};
 ghost use Rattle.filterset_overrides.specs.Giving.{AreExplained, Explains, IsGiver, IsProfileGiver, Takes, asked_of};
 
 pub mod text;
@@ -202,12 +201,14 @@ pub fn explain_overrides<'o>(
     })
 }
 
-/// Returns whether it is unknown what gives the test one of its settings.
+/// Returns whether it is unknown of one of the overrides whether it applies to the test.
+///
+/// If this is false, what gives the test each of its settings is known too.
 pub fn any_unknown(explained: &TestOverrides<'_>) -> bool
-    ensures { result ≡ list_any (λ s. is_unknown s.giver) explained.now.settings.items }
+    ensures { result ≡ list_any (λ e. is_none (verdict e.application)) explained.now.overrides.items }
 {
     explained
-        .settings
+        .overrides
         .iter()
-        .any(|setting| matches!(setting.giver, Giver::Unknown(_)))
+        .any(|one| one.application.verdict().is_none())
 }

@@ -1,7 +1,7 @@
 //! How overrides apply to a test, as text.
-ghost use Rattle.std.specs.Prelude.{◌≡◌, ◌++◌, IfOk, OnOk, string_bytes};
+ghost use Rattle.std.specs.Prelude.{◌≡◌, ◌++◌, IfOk, OnOk, map, string_bytes};
 ghost use Rattle.std.specs.List.{flat_map};
-ghost use Rattle.filterset_overrides.specs.ExplainedText.{application_text, giver_text, override_line, setting_line, test_overrides_text};
+ghost use Rattle.filterset_overrides.specs.ExplainedText.{application_text, giver_text, indented, override_line, override_lines, reason_at, setting_line, test_overrides_text};
 
 use crate::applying::{Application, ExplainedOverride};
 use crate::explaining::{ExplainedSetting, Giver, TestOverrides};
@@ -20,14 +20,47 @@ fn application_text(application: Application) -> &'static str
     }
 }
 
-/// Writes how each override applies, a line each.
-fn push_overrides(output: &mut String, all: &[ExplainedOverride<'_>]) -> Result<(), AllocError>
-    ensures { OnOk result (string_bytes output.new ≡ string_bytes output.old ++ flat_map override_line all.now) }
+/// Writes how an override applies.
+fn push_override(output: &mut String, explained: &ExplainedOverride<'_>) -> Result<(), AllocError>
+    ensures { OnOk result (string_bytes output.new ≡ string_bytes output.old ++ override_line explained.now) }
 {
-    for explained in all {
-        let path = explained.asked.path;
-        let application = application_text(explained.application);
-        writeln!(output, "{path}: {application}")?;
+    let path = explained.asked.path;
+    let application = application_text(explained.application);
+    writeln!(output, "{path}: {application}")
+}
+
+/// Writes each line of a text, moved right by two blanks.
+fn push_indented(output: &mut String, text: &str) -> Result<(), AllocError>
+    ensures { OnOk result (string_bytes output.new ≡ string_bytes output.old ++ indented text.now) }
+{
+    for line in text.lines() {
+        writeln!(output, "  {line}")?;
+    }
+    Ok(())
+}
+
+/// Returns the reason at this place, or an empty text if there are not as many.
+fn reason_at(reasons: &[String], at: usize) -> &str
+    ensures { result.now ≡ reason_at reasons.now at }
+{
+    match reasons.get(at) {
+        Some(reason) => reason.as_str(),
+        None => "",
+    }
+}
+
+/// Writes how each override applies, a line each, and its reason below.
+fn push_overrides(
+    output: &mut String,
+    all: &[ExplainedOverride<'_>],
+    reasons: &[String],
+) -> Result<(), AllocError>
+    ensures { OnOk result (string_bytes output.new
+        ≡ string_bytes output.old ++ override_lines all.now (map (λ s. string_bytes s) reasons.now)) }
+{
+    for (at, explained) in all.iter().enumerate() {
+        push_override(output, explained)?;
+        push_indented(output, reason_at(reasons, at))?;
     }
     Ok(())
 }
@@ -66,15 +99,19 @@ fn push_settings(output: &mut String, all: &[ExplainedSetting<'_>]) -> Result<()
 
 /// Writes how each override applies to a test, and below that what gives the test each setting, a line each.
 ///
-/// Returns an error only if out of memory.
+/// The lines of the override's reason, each moved right by two blanks, follow its own. `reasons` has a text for each
+/// override, in their order; an empty one adds nothing. An override beyond them has no reason, and a text beyond the
+/// overrides is ignored. Returns an error only if out of memory.
 pub fn test_overrides_text(
     alloc: Global,
     explained: &TestOverrides<'_>,
+    reasons: &[String],
 ) -> Result<String, AllocError>
-    ensures { IfOk result (λ text. string_bytes text ≡ test_overrides_text explained.now) }
+    ensures { IfOk result (λ text. string_bytes text
+        ≡ test_overrides_text explained.now (map (λ s. string_bytes s) reasons.now)) }
 {
     let mut text = String::new(alloc);
-    push_overrides(&mut text, explained.overrides.as_slice())?;
+    push_overrides(&mut text, explained.overrides.as_slice(), reasons)?;
     push_settings(&mut text, explained.settings.as_slice())?;
     Ok(text)
 }
