@@ -1,5 +1,6 @@
 pub mod AnswersLemmas
 pub mod CompilingLemmas
 pub mod GroupingLemmas
+pub mod LineLemmas
 pub mod RowsLemmas
 pub mod PickingLemmas

@@ -8,9 +8,7 @@ use Rattle.filterset_drawing.specs.Columns.{Text}
 use Rattle.filterset_faults.specs.declared.kind.FiltersetKind.{FiltersetKind}
 use Rattle.filterset_answers.specs.Checked.{TextRow, text_row}
 use Rattle.filterset_answers.specs.declared.text.TextEntry.{TextEntry}
-use Rattle.filterset_answers.specs.Entries.{numbered_row, numbered_rows, placed_row}
-use Rattle.filterset_answers.specs.declared.entries.ConfiguredTexts.{ConfiguredTexts}
-use Rattle.filterset_sources.specs.declared.configuration.ConfiguredFilterset.{ConfiguredFilterset}
+use Rattle.filterset_answers.specs.Entries.{numbered_row, numbered_rows}
 
 -- one more element, with the number behind those of the others
 enumerate_from-push : {A : Type 0} (n : ℕ) (xs : List A) (x : A)
@@ -20,13 +18,6 @@ enumerate_from-push n [] x =
 enumerate_from-push {A} n (y ∷ ys) x =
     let same : (n + 1) + length ys ≡ n + length (y ∷ ys) = omega arith in
     ap (λ zs. (n, y) ∷ zs) (enumerate_from-push (n + 1) ys x ∙ ap (λ k. enumerate_from (n + 1) ys ++ (k, x) ∷ []) same)
-
--- there is a row for each text
-pub length-numbered_rows : (word : Text) (kind : FiltersetKind) (texts : List Text)
-    → length (numbered_rows word kind texts) ≡ length texts
-length-numbered_rows word kind texts =
-    length-map (enumerate_from 1 texts) (λ (numbered : ℕ × Text). numbered_row word kind numbered.0 numbered.1)
-    ∙ length-enumerate_from 1 texts
 
 -- the row of one more text
 pub numbered_rows-push : (word : Text) (kind : FiltersetKind) (texts : List Text) (text : Text)
@@ -45,12 +36,6 @@ numbered_entry word kind texts entries number text entry are next is =
     ∙ ap (λ row. numbered_rows word kind texts ++ row ∷ []) (is ∙ ap (λ n. numbered_row word kind n text) next)
     ∙ sym (numbered_rows-push word kind texts text)
 
--- there is an entry for each text
-pub entries_long : (word : Text) (kind : FiltersetKind) (texts : List Text) (entries : List TextEntry)
-    → map text_row entries ≡ numbered_rows word kind texts → length entries ≡ length texts
-entries_long word kind texts entries are =
-    sym (length-map entries text_row) ∙ ap length are ∙ length-numbered_rows word kind texts
-
 -- the entry of the next of given texts
 pub given_entry : (word : Text) (kind : FiltersetKind) (texts : List (Bor Text)) (i : ℕ) (d : Bor Text) (entries : List TextEntry) (entry : TextEntry) → i < length texts
     → map text_row entries ≡ numbered_rows word kind (map (λ (t : Bor Text). t.now) (take i texts))
@@ -61,17 +46,21 @@ given_entry word kind texts i d entries entry lt are is =
     rw (take_more texts i d lt, map-append (λ (t : Bor Text). t.now) (take i texts) (get_or texts i d ∷ []))
     (numbered_entry word kind (map (λ (t : Bor Text). t.now) (take i texts)) entries (i + 1) (get_or texts i d).now entry are next is)
 
--- the entry of the next filterset of a configuration
-pub placed_entry : (texts : ConfiguredTexts) (filtersets : List ConfiguredFilterset) (i : ℕ) (x : ConfiguredFilterset) (entries : List TextEntry) (entry : TextEntry)
-    → i < length filtersets → get_or filtersets i x ≡ x → map text_row entries ≡ map (placed_row texts) (enumerate_from 0 (take i filtersets))
-    → text_row entry ≡ placed_row texts (i, x)
-    → map text_row (entries ++ entry ∷ []) ≡ map (placed_row texts) (enumerate_from 0 (take (i + 1) filtersets))
-placed_entry texts filtersets i x entries entry lt at are is =
-    let before = take i filtersets in
-    let row : ℕ × ConfiguredFilterset → TextRow = placed_row texts in
-    let count : i ≡ 0 + length before = omega (arith, length-take-le i filtersets (omega arith)) in
+-- the entry of the next element, of which there is a row by its number
+pub next_entry : {A : Type 0} (row : ℕ × A → TextRow) (xs : List A) (i : ℕ) (x : A) (entries : List TextEntry) (entry : TextEntry)
+    → i < length xs → get_or xs i x ≡ x → map text_row entries ≡ map row (enumerate_from 0 (take i xs)) → text_row entry ≡ row (i, x)
+    → map text_row (entries ++ entry ∷ []) ≡ map row (enumerate_from 0 (take (i + 1) xs))
+next_entry {A} row xs i x entries entry lt at are is =
+    let before = take i xs in
+    let count : i ≡ 0 + length before = omega (arith, length-take-le i xs (omega arith)) in
     map-append text_row entries (entry ∷ [])
     ∙ ap (λ rows. rows ++ text_row entry ∷ []) are
     ∙ ap (λ one. map row (enumerate_from 0 before) ++ one ∷ []) (is ∙ ap (λ n. row (n, x)) count)
     ∙ sym (ap (map row) (enumerate_from-push 0 before x) ∙ map-append row (enumerate_from 0 before) ((0 + length before, x) ∷ []))
-    ∙ ap (λ fs. map row (enumerate_from 0 fs)) (sym (take_more filtersets i x lt ∙ ap (λ y. before ++ y ∷ []) at))
+    ∙ ap (λ ys. map row (enumerate_from 0 ys)) (sym (take_more xs i x lt ∙ ap (λ y. before ++ y ∷ []) at))
+
+-- there is an entry for each element
+pub entries_long : {A : Type 0} (row : ℕ × A → TextRow) (xs : List A) (entries : List TextEntry)
+    → map text_row entries ≡ map row (enumerate_from 0 xs) → length entries ≡ length xs
+entries_long row xs entries are =
+    sym (length-map entries text_row) ∙ ap length are ∙ length-map (enumerate_from 0 xs) row ∙ length-enumerate_from 0 xs

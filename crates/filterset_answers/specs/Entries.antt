@@ -1,13 +1,18 @@
 -- Which texts commands check, format or ask, as rows: where a text comes from, what it has to be, and the text.
-use Rattle.std.specs.Prelude.{ℕ, ◌++◌, List, [], ◌∷◌, Option, codes, decimal, filter_map, map, option_map, string_bytes}
+use Rattle.std.specs.Prelude.{ℕ, ◌+◌, ◌++◌, List, [], ◌∷◌, Option, Some, codes, decimal, filter_map, length, map, option_map, string_bytes, sum_by, take}
+use Rattle.std.specs.Borrow.{Bor}
 use Rattle.std.specs.List.{enumerate_from}
+use Rattle.std.specs.Str.Lines.{lines}
 use Rattle.filterset_drawing.specs.Columns.{Text}
+use Rattle.filterset_drawing.specs.Lines.{pieces}
+use Rattle.filterset_drawing.specs.declared.source.Source.{Source}
 use Rattle.filterset_faults.specs.declared.kind.FiltersetKind.{FiltersetKind}
 use Rattle.filterset_faults.specs.declared.kind.FiltersetKind.TheVariants as kinds
 use Rattle.filterset_sources.specs.declared.configuration.ConfiguredFilterset.{ConfiguredFilterset}
 use Rattle.filterset_places.specs.Places.{place_at}
+use Rattle.filterset_places.specs.declared.stretch.Stretch.{Stretch}
 use Rattle.filterset_answers.specs.Checked.{TextRow, row_of, text_row}
-use Rattle.filterset_answers.specs.Placements.{Placement}
+use Rattle.filterset_answers.specs.Placements.{Placement, line, literal}
 use Rattle.filterset_answers.specs.declared.entries.ConfiguredTexts.{ConfiguredTexts}
 use Rattle.filterset_answers.specs.declared.question.Question.{Question}
 use Rattle.filterset_answers.specs.declared.question.Question.TheVariants as questions
@@ -23,6 +28,25 @@ abbrev pub numbered_rows : Text → FiltersetKind → List Text → List TextRow
 numbered_rows word kind texts =
     map (λ (numbered : ℕ × Text). numbered_row word kind numbered.0 numbered.1) (enumerate_from 1 texts)
 
+-- where a line begins: behind this many line feeds
+abbrev pub line_start : Text → ℕ → ℕ
+line_start text feeds = sum_by (λ piece. length piece + 1) (take feeds (pieces text))
+
+-- the row of a line that is at this stretch of a file
+abbrev pub stretch_row : Bor Source → FiltersetKind → ℕ → Stretch → Text → TextRow
+stretch_row file kind number stretch text =
+    record (numbered_row (codes "line") kind number text) { place = Some (record { file = file; spot = line stretch }) }
+
+-- the row of a line of a file, by how many lines come before it
+abbrev pub line_row : Bor Source → FiltersetKind → ℕ × Text → TextRow
+line_row file kind numbered =
+    let from = line_start file.now.text.now numbered.0 in
+    stretch_row file kind (numbered.0 + 1) (record { from = from; to = from + length numbered.1 }) numbered.1
+
+-- the rows of the lines of a file, which are called `line` and numbered from 1
+abbrev pub line_rows : Bor Source → FiltersetKind → List TextRow
+line_rows file kind = map (line_row file kind) (enumerate_from 0 (lines file.now.text.now))
+
 -- a filterset of a configuration is called by its path
 abbrev pub file_row : Option Placement → ConfiguredFilterset → TextRow
 file_row place filterset =
@@ -31,7 +55,7 @@ file_row place filterset =
 -- where the filterset at this position is in the file, if it was found there
 abbrev pub placement_at : ConfiguredTexts → ℕ → Option Placement
 placement_at texts at =
-    option_map (λ p. record { file = texts.file; place = p }) (place_at texts.places.now.places.items at)
+    option_map (λ p. record { file = texts.file; spot = literal p }) (place_at texts.places.now.places.items at)
 
 abbrev pub placed_row : ConfiguredTexts → ℕ × ConfiguredFilterset → TextRow
 placed_row texts numbered = file_row (placement_at texts numbered.0) numbered.1

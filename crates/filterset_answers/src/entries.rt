@@ -1,16 +1,15 @@
 //! The texts that commands are about, each with where it comes from.
 ghost use Rattle.std.specs.Prelude.{◌≡◌, ◌∷◌, [], IfOk, codes, map, option_map};
-ghost use Rattle.std.specs.Str.Lines.{lines};
 ghost use Rattle.filterset_answers.specs.Checked.{row_of, text_row};
-ghost use Rattle.filterset_answers.specs.Entries.{default_row, file_row, numbered_row, numbered_rows};
-ghost use Rattle.filterset_answers.specs.Entries.{placement_at, question_rows, rows_in, test_row};
+ghost use Rattle.filterset_answers.specs.Entries.{default_row, file_row, line_rows, numbered_row, numbered_rows};
+ghost use Rattle.filterset_answers.specs.Entries.{placement_at, question_rows, rows_in, stretch_row, test_row};
 ghost use Rattle.filterset_answers.specs.Placements.{placement_of};
 
-use crate::place::FilePlace;
+use crate::place::{FilePlace, Spot};
 use crate::question::Question;
 use crate::text::TextEntry;
 use filterset_drawing::Source;
-use filterset_places::Places;
+use filterset_places::{Places, Stretch};
 use filterset_sources::ConfiguredFilterset;
 use nextest_filtering::FiltersetKind;
 use std::alloc::{AllocError, Global};
@@ -50,18 +49,49 @@ pub fn given_entries<'t>(
     Ok(entries)
 }
 
-/// Makes an entry of each line, called `line` and its number.
+/// What the entries of a file's lines share: the file, and what their texts have to be.
+#[derive(Clone, Copy)]
+struct Lines<'t> {
+    file: &'t Source<'t>,
+    kind: FiltersetKind,
+}
+
+/// Makes the entry of a line that is at this stretch of its file, called `line` and its number.
+fn line_entry<'t>(
+    alloc: Global,
+    lines: Lines<'t>,
+    number: usize,
+    stretch: Stretch,
+    text: &'t str,
+) -> Result<TextEntry<'t>, AllocError>
+    ensures { IfOk result (λ entry.
+        text_row entry ≡ stretch_row lines.entry.file lines.entry.kind number stretch text.entry.now) }
+{
+    let mut entry = numbered_entry(alloc, "line", number, lines.kind, text)?;
+    entry.place = Some(FilePlace {
+        file: lines.file,
+        spot: Spot::Line(stretch),
+    });
+    Ok(entry)
+}
+
+/// Makes an entry of each line of a file, called `line` and its number, with its place in the file.
 pub fn line_entries<'t>(
     alloc: Global,
     kind: FiltersetKind,
-    text: &'t str,
+    file: &'t Source<'t>,
 ) -> Result<Vec<TextEntry<'t>>, AllocError>
-    ensures { IfOk result (λ entries. map text_row entries.items ≡ numbered_rows (codes "line") kind (lines text.now)) }
+    ensures { IfOk result (λ entries. map text_row entries.items ≡ line_rows file.entry kind) }
 {
+    let lines = Lines { file, kind };
     let mut entries = Vec::new(alloc);
-    for line in text.lines() {
+    let mut from = 0;
+    // What `split` returns has the carriage return of the line break too, and `lines` has not.
+    for (line, piece) in file.text.lines().zip(file.text.split('\n')) {
         let number = entries.len() + 1;
-        entries.push(numbered_entry(alloc, "line", number, kind, line)?)?;
+        let to = from + line.len();
+        entries.push(line_entry(alloc, lines, number, Stretch { from, to }, line)?)?;
+        from += piece.len() + 1;
     }
     Ok(entries)
 }
@@ -101,7 +131,7 @@ pub(crate) fn place_at<'t>(
     match configured.places.get(position) {
         Some(place) => Some(FilePlace {
             file: configured.file,
-            place,
+            spot: Spot::Literal(place),
         }),
         None => None,
     }

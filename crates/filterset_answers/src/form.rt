@@ -1,18 +1,16 @@
 //! How faults are written.
-ghost use Rattle.std.specs.Prelude.{◌≡◌, ◌++◌, IfOk, OnOk, Some, codes, option_map, string_bytes};
+ghost use Rattle.std.specs.Prelude.{◌≡◌, ◌++◌, IfOk, OnOk, codes, option_map, string_bytes};
 ghost use Rattle.serde_json.specs.Data.{Data};
 ghost use Rattle.serde_json.specs.Written.{compact_text};
 ghost use Rattle.filterset_drawing.specs.Columns.{Text};
-ghost use Rattle.filterset_drawing.specs.Drawings.{Drawing};
 ghost use Rattle.filterset_drawing.specs.Json.{FaultData};
-ghost use Rattle.filterset_faults.specs.Faults.{span_of};
 ghost use Rattle.filterset_io.specs.Pieces.{Pieces};
 ghost use Rattle.filterset_answers.specs.Answers.{has_some};
 ghost use Rattle.filterset_answers.specs.Checked.{text_row};
 ghost use Rattle.filterset_answers.specs.Forms.{FaultPieces, IsAnnotatedIn, IsDrawnIn, WrittenIn};
-ghost use Rattle.filterset_answers.specs.Placements.{file_part, placement_of};
+ghost use Rattle.filterset_answers.specs.Placements.{note_of, placement_of};
 
-use crate::place::{FilePlace, file_part, region_of};
+use crate::place::{FilePlace, Spot, file_part, region_of};
 use crate::text::TextEntry;
 use filterset_drawing::{Color, FileSpan, Source, draw, draw_at, fault_json, push_annotation};
 use nextest_filtering::ParseSingleError;
@@ -29,48 +27,49 @@ pub enum Form {
     Github,
 }
 
-/// Draws a fault in the file that its text was read from, with a note that has the text's name.
-fn draw_in_file(
-    output: &mut String,
+/// Returns the note of a drawing in a file: it has the name of a text that a string is read as. A line has none.
+fn note_of(
     alloc: Global,
-    color: Color,
+    place: Option<FilePlace<'_>>,
     name: &str,
-    part: FileSpan<'_>,
-    fault: &ParseSingleError,
-) -> Result<(), AllocError>
-    ensures { let file = part.entry.file.now in OnOk result ((drawing : Text)
-        × (string_bytes output.new ≡ string_bytes output.old ++ drawing)
-        × Drawing color file.origin.now file.text.now (Some part.entry.span) (Some (codes "in " ++ name.now))
-        fault.now drawing) }
+) -> Result<Option<String>, AllocError>
+    ensures { IfOk result (λ note.
+        option_map (λ n. string_bytes n) note ≡ note_of (option_map placement_of place.entry) name.now) }
 {
-    let note = format!(in alloc; "in {name}")?;
-    draw_at(
-        output,
-        alloc,
-        color,
-        part.file,
-        Some(part.span),
-        Some(note.as_str()),
-        fault,
-    )
+    let Some(at) = place else {
+        return Ok(None);
+    };
+    match at.spot {
+        Spot::Literal(_) => Ok(Some(format!(in alloc; "in {name}")?)),
+        Spot::Line(_) => Ok(None),
+    }
 }
 
-/// Draws a fault under its text, or in its file, if it is in one.
+/// Draws a fault under its text, or, if it is in a file, in that with the note.
 fn draw_fault(
     output: &mut String,
     alloc: Global,
     color: Color,
     source: &Source<'_>,
     part: Option<FileSpan<'_>>,
+    note: Option<&str>,
     fault: &ParseSingleError,
 ) -> Result<(), AllocError>
     ensures { let source = source.now in OnOk result ((drawing : Text)
         × (string_bytes output.new ≡ string_bytes output.old ++ drawing)
-        × IsDrawnIn part.entry color source.origin.now source.text.now fault.now drawing) }
+        × IsDrawnIn part.entry (option_map (λ n. n.now) note.entry) color source.origin.now source.text.now fault.now drawing) }
 {
     match part {
         None => draw(output, alloc, color, source, fault),
-        Some(part) => draw_in_file(output, alloc, color, source.origin, part, fault),
+        Some(part) => draw_at(
+            output,
+            alloc,
+            color,
+            part.file,
+            Some(part.span),
+            note,
+            fault,
+        ),
     }
 }
 
@@ -81,13 +80,14 @@ fn push_drawing(
     color: Color,
     source: &Source<'_>,
     part: Option<FileSpan<'_>>,
+    note: Option<&str>,
     fault: &ParseSingleError,
 ) -> Result<(), AllocError>
     ensures { let source = source.now in OnOk result ((drawing : Text)
         × (string_bytes output.new ≡ string_bytes output.old ++ (drawing ++ codes "\n"))
-        × IsDrawnIn part.entry color source.origin.now source.text.now fault.now drawing) }
+        × IsDrawnIn part.entry (option_map (λ n. n.now) note.entry) color source.origin.now source.text.now fault.now drawing) }
 {
-    draw_fault(output, alloc, color, source, part, fault)?;
+    draw_fault(output, alloc, color, source, part, note, fault)?;
     output.push_str("\n")?;
     Ok(())
 }
@@ -150,22 +150,26 @@ fn push_command(
     }
 }
 
-/// Writes a fault of the text with this number, which is in this part of a file, if it is in one.
+/// Writes a fault of the text with this number, which is at this place of a file, if it is in one.
 fn push_fault(
     output: &mut String,
     alloc: Global,
     form: Form,
     source: &Source<'_>,
-    part: Option<FileSpan<'_>>,
+    place: Option<FilePlace<'_>>,
     number: usize,
     fault: &ParseSingleError,
 ) -> Result<(), AllocError>
     ensures { let source = source.now in OnOk result ((piece : Text)
         × (string_bytes output.new ≡ string_bytes output.old ++ piece)
-        × WrittenIn part.entry form source.origin.now source.text.now number fault.now piece) }
+        × WrittenIn (option_map placement_of place.entry) form source.origin.now source.text.now number fault.now piece) }
 {
+    let part = file_part(place, fault.span());
     match form {
-        Form::Drawn(color) => push_drawing(output, alloc, color, source, part, fault),
+        Form::Drawn(color) => {
+            let note = note_of(alloc, place, source.origin)?;
+            push_drawing(output, alloc, color, source, part, note.as_deref(), fault)
+        }
         Form::Json => push_object(output, alloc, source, part, number, fault),
         Form::Github => push_command(output, alloc, source.origin, part, fault),
     }
@@ -199,12 +203,11 @@ fn push_faults_of(
 ) -> Result<(), AllocError>
     ensures { let source = source.now in OnOk result ((piece : Text)
         × (string_bytes output.new ≡ string_bytes output.old ++ piece)
-        × Pieces (λ fault. WrittenIn (file_part (option_map placement_of place.entry) (span_of fault)) form
-        source.origin.now source.text.now number fault) faults.now piece) }
+        × Pieces (WrittenIn (option_map placement_of place.entry) form source.origin.now source.text.now number)
+        faults.now piece) }
 {
     for fault in faults {
-        let part = file_part(place, fault.span());
-        push_fault(output, alloc, form, source, part, number, fault)?;
+        push_fault(output, alloc, form, source, place, number, fault)?;
     }
     Ok(())
 }

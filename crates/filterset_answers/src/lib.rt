@@ -27,7 +27,7 @@ pub use form::Form;
 pub use formatting::format_texts;
 pub use names::Names;
 pub use picking::ask_workspace;
-pub use place::FilePlace;
+pub use place::{FilePlace, Spot};
 pub use profile::{entry_at, override_entries};
 pub use question::Question;
 pub use setting::{OverrideEntry, Setting};

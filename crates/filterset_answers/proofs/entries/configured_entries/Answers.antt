@@ -1,6 +1,6 @@
 use Rattle.std.proofs.Common.{rules, arith, ◌≡◌, ◌<◌, ◌∙◌, ap, length, get_or}
-use Rattle.filterset_answers.specs.Entries.{file_row}
-use Rattle.filterset_answers.proofs.RowsLemmas.{placed_entry}
+use Rattle.filterset_answers.specs.Entries.{file_row, placed_row}
+use Rattle.filterset_answers.proofs.RowsLemmas.{next_entry}
 use Rattle.filterset_answers.proofs.entries.configured_entries.Goals as goal
 
 pub loop-i-preserved : goal.loop-i-preserved
@@ -12,5 +12,5 @@ loop-i-preserved c =
     let lt : i < length filtersets = omega (arith, c.loop-i-test.true) in
     let at : get_or filtersets i filterset ≡ filterset = search (rules, c.filterset-item.is) in
     rw c.in_ok-push.ensures.items
-    (placed_entry texts filtersets i filterset c.loop-i.entries.items _ lt at c.loop-i.invariant
+    (next_entry (placed_row texts) filtersets i filterset c.loop-i.entries.items _ lt at c.loop-i.invariant
     (c.in_ok-configured_entry.ensures ∙ ap (λ p. file_row p filterset) c.place_at-place.ensures))

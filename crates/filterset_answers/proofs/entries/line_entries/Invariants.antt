@@ -1,9 +1,13 @@
-use Rattle.std.proofs.Common.{◌≡◌, map}
-use Rattle.std.specs.Prelude.{codes}
+use Rattle.std.proofs.Common.{◌≡◌, length, map, take}
+use Rattle.std.specs.List.{enumerate_from}
+use Rattle.std.specs.Str.Lines.{lines}
 use Rattle.filterset_answers.specs.Checked.{text_row}
-use Rattle.filterset_answers.specs.Entries.{numbered_rows}
+use Rattle.filterset_answers.specs.Entries.{line_row, line_start}
 use Rattle.filterset_answers.proofs.entries.line_entries.Given as goal
 
--- the lines so far have their entries
+-- the lines so far have their entries, and the next begins here
 abbrev pub invariant-loop-line : goal.invariant-loop-line
-invariant-loop-line l = map text_row l.entries.items ≡ numbered_rows (codes "line") l.kind (map (λ s. s.now) l.yielded)
+invariant-loop-line l = record {
+  start : l.from ≡ line_start l.lines.file.now.text.now (length l.yielded);
+  made : map text_row l.entries.items ≡ map (line_row l.lines.file l.lines.kind) (enumerate_from 0 (take (length l.yielded) (lines l.lines.file.now.text.now)));
+}
