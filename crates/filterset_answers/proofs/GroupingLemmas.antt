@@ -1,35 +1,28 @@
 -- Overrides with what their filters are compiled to.
 use Rattle.std.proofs.Common.{◌≡◌, ℕ, zero, suc, ◌<◌, arith, List, [], ◌∷◌, Option, Some, None, get_or, length, refl, subst, sym}
 use Rattle.std.specs.List.{AllZip}
-use Rattle.std.specs.Prelude.{MatchOption, option_map}
+use Rattle.std.specs.Prelude.{option_map}
 use Rattle.std.specs.Borrow.{Bor}
 use Rattle.filterset_expression.specs.Meaning.{IsCompiled}
 use Rattle.filterset_expression.specs.declared.expression.CompiledExpr.{CompiledExpr}
-use Rattle.filterset_faults.specs.declared.span.SourceSpan.{SourceSpan}
-use Rattle.filterset_grammar.specs.Tree.{Tree}
 use Rattle.filterset_language.specs.Views.{tree_of}
 use Rattle.nextest_filtering.specs.declared.filterset.Filterset.{Filterset}
-use Rattle.filterset_answers.specs.Checked.{text_row}
-use Rattle.filterset_answers.specs.Compiled.{IsFilterFor, IsTreeOf}
+use Rattle.filterset_answers.specs.Compiled.{IsCompiledText, IsFilterFor}
 use Rattle.filterset_answers.specs.Picking.{compiled_of}
 use Rattle.filterset_answers.specs.declared.setting.OverrideEntry.{OverrideEntry}
 use Rattle.filterset_answers.specs.declared.setting.Setting.{Setting}
 use Rattle.filterset_answers.specs.declared.text.TextEntry.{TextEntry}
 
--- what a text is compiled to, if there is a text
-abbrev pub IsCompiledText : Setting → Option (Bor CompiledExpr) → Option TextEntry → Type 0
-IsCompiledText setting filter text = MatchOption text (filter ≡ None) (λ text. (tree : Tree SourceSpan) × (expr : Bor CompiledExpr)
-    × (filter ≡ Some expr) × IsTreeOf setting (text_row text) tree × IsCompiled setting.graph.now tree expr.now)
-
 -- the expression of a filter is what its text is compiled to
 pub compiled_text : (setting : Setting) (entry : OverrideEntry) (made : Option Filterset) (filter : Option (Bor CompiledExpr))
-    → option_map (λ e. e.now) filter ≡ option_map compiled_of made → IsFilterFor setting.graph.now setting.groups.now entry made → IsCompiledText setting filter entry.filter
-compiled_text setting entry None None same is = subst (IsCompiledText setting None) (sym is) refl
+    → option_map (λ e. e.now) filter ≡ option_map compiled_of made → IsFilterFor setting.graph.now setting.groups.now entry made → IsCompiledText setting entry.filter filter
+compiled_text setting entry None None same is = subst (λ (text : Option TextEntry). IsCompiledText setting text None) (sym is) refl
 compiled_text setting entry None (Some expr) same is = absurd cc
 compiled_text setting entry (Some made) None same is = absurd cc
 compiled_text setting entry (Some made) (Some expr) same (text, e, is) =
     let own : made.compiled ≡ expr.now = cc in
-    subst (IsCompiledText setting (Some expr)) (sym e) (tree_of made.parsed, expr, refl, is.accepted, subst (IsCompiled setting.graph.now (tree_of made.parsed)) own is.compiled)
+    subst (λ (text : Option TextEntry). IsCompiledText setting text (Some expr)) (sym e)
+    (tree_of made.parsed, expr, refl, is.accepted, subst (IsCompiled setting.graph.now (tree_of made.parsed)) own is.compiled)
 
 -- what holds of two lists place by place holds at a place
 pub zipped_at : {A B : Type 0} (R : A → B → Type 0) (xs : List A) (ys : List B) (i : ℕ) (x : A) (y : B) → AllZip R xs ys → i < length xs → R (get_or xs i x) (get_or ys i y)

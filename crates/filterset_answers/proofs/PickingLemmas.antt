@@ -1,5 +1,5 @@
 -- What the texts of a question are as filtersets.
-use Rattle.std.proofs.Common.{◌≡◌, List, [], ◌∷◌, arith, get_or, length, map, subst}
+use Rattle.std.proofs.Common.{◌≡◌, List, [], ◌∷◌, arith, filter, get_or, length, map, subst}
 use Rattle.std.specs.List.{AllZip}
 use Rattle.filterset_expression.specs.Meaning.{IsCompiled}
 use Rattle.filterset_graph.specs.declared.package.PackageMetadata.{PackageMetadata}
@@ -8,14 +8,14 @@ use Rattle.filterset_listing.specs.declared.groups.GroupOverride.{GroupOverride}
 use Rattle.nextest_filtering.specs.declared.compile.context.KnownGroups.{KnownGroups}
 use Rattle.nextest_filtering.specs.declared.filterset.Filterset.{Filterset}
 use Rattle.filterset_answers.specs.Checked.{TextRow}
-use Rattle.filterset_answers.specs.Compiled.{AreFiltersets, Basis, IsFiltersetFor, IsOverrideFor, IsTreeOf}
+use Rattle.filterset_answers.specs.Compiled.{AreFiltersets, Basis, IsFiltersetFor, IsOverrideFor, IsTreeOf, sets_group}
 use Rattle.filterset_answers.specs.Picking.{compiled_of, parsed_of}
 use Rattle.filterset_answers.specs.declared.compiling.QuestionFiltersets.{QuestionFiltersets}
 use Rattle.filterset_answers.specs.declared.setting.Setting.{Setting}
 
 -- the setting, as it was compiled
 abbrev pub basis_of : (setting : Setting) (rows : List TextRow) (made : QuestionFiltersets) (overrides : List GroupOverride)
-    → AreFiltersets setting.graph.now setting.groups.now setting rows made → AllZip (IsOverrideFor setting) setting.overrides.now overrides → Basis setting
+    → AreFiltersets setting.graph.now setting.groups.now setting rows made → AllZip (IsOverrideFor setting) (filter sets_group setting.overrides.now) overrides → Basis setting
 basis_of setting rows made overrides are grouped = record {
   default_tree = tree_of made.setting.default.parsed;
   default = made.setting.default.compiled;

@@ -1,5 +1,5 @@
 -- Which filtersets texts spell, or which faults they have.
-use Rattle.std.specs.Prelude.{◌≡◌, ◌≢◌, ◌⊎◌, ◌++◌, ℕ, List, [], length, true, false, Option, Some, None, MatchOption, string_bytes}
+use Rattle.std.specs.Prelude.{◌≡◌, ◌≢◌, ◌⊎◌, ◌++◌, ℕ, List, [], filter, length, Bool, true, false, Option, Some, None, is_some, option_map, string_bytes}
 use Rattle.std.specs.Borrow.{Bor}
 use Rattle.std.specs.List.{AllZip}
 use Rattle.filterset_drawing.specs.Columns.{Text}
@@ -13,6 +13,7 @@ use Rattle.filterset_graph.specs.declared.package.PackageMetadata.{PackageMetada
 use Rattle.filterset_grammar.specs.Tree.{Tree}
 use Rattle.filterset_language.specs.Views.{tree_of}
 use Rattle.filterset_listing.specs.declared.groups.GroupOverride.{GroupOverride}
+use Rattle.filterset_overrides.specs.declared.asked.AskedOverride.{AskedOverride}
 use Rattle.nextest_filtering.specs.Compiling.{IsFiltersetOf, IsRefusedWith, packages_of}
 use Rattle.nextest_filtering.specs.declared.compile.context.KnownGroups.{KnownGroups}
 use Rattle.nextest_filtering.specs.declared.filterset.Filterset.{Filterset}
@@ -38,21 +39,36 @@ use Rattle.filterset_answers.specs.declared.text.TextEntry.{TextEntry}
 abbrev pub IsTreeOf : Setting → TextRow → Tree SourceSpan → Type 0
 IsTreeOf setting row = IsFiltersetOf row.text row.kind setting.graph.now setting.groups.now
 
--- the override as tests are asked about it: with what the tree of its filter is compiled to, if it has a filter
-abbrev pub IsOverrideFor : Setting → OverrideEntry → GroupOverride → Type 0
-IsOverrideFor setting entry over = (over.path.now ≡ entry.path.now) × (over.group.now ≡ entry.group.now)
-    × (over.for_target ≡ entry.for_target) × (over.for_host ≡ entry.for_host)
-    × MatchOption entry.filter (over.filter ≡ None) (λ text. (tree : Tree SourceSpan) × (expr : Bor CompiledExpr)
-    × (over.filter ≡ Some expr) × IsTreeOf setting (text_row text) tree × IsCompiled setting.graph.now tree expr.now)
+-- this is what the tree of the text is compiled to, if there is a text
+abbrev pub IsCompiledText : Setting → Option TextEntry → Option (Bor CompiledExpr) → Type 0
+IsCompiledText setting None made = made ≡ None
+IsCompiledText setting (Some text) made = (tree : Tree SourceSpan) × (expr : Bor CompiledExpr) × (made ≡ Some expr)
+    × IsTreeOf setting (text_row text) tree × IsCompiled setting.graph.now tree expr.now
 
--- what a setting is: the tree of its default filter, what that is compiled to, and the overrides
+-- the override as it is asked whether it applies to tests, with the keys that it sets
+abbrev pub IsAskedFor : Setting → OverrideEntry → AskedOverride → Type 0
+IsAskedFor setting entry asked = (asked.path.now ≡ entry.path.now) × (asked.settings.now ≡ entry.settings.now)
+    × (asked.for_target ≡ entry.for_target) × (asked.for_host ≡ entry.for_host)
+    × IsCompiledText setting entry.filter asked.filter
+
+-- the override as it is asked which tests it puts in its group
+abbrev pub IsOverrideFor : Setting → OverrideEntry → GroupOverride → Type 0
+IsOverrideFor setting entry over = (over.path.now ≡ entry.path.now)
+    × (option_map (λ g. g.now) entry.group ≡ Some over.group.now)
+    × (over.for_target ≡ entry.for_target) × (over.for_host ≡ entry.for_host)
+    × IsCompiledText setting entry.filter over.filter
+
+abbrev pub sets_group : OverrideEntry → Bool
+sets_group entry = is_some entry.group
+
+-- what a setting is: the tree of its default filter, what that is compiled to, and the overrides that set groups
 pub record Basis (setting : Setting) : Type 0 where
   pub default_tree : Tree SourceSpan
   pub default : CompiledExpr
   pub overrides : List GroupOverride
   pub spelled : IsTreeOf setting (text_row setting.default.now) default_tree
   pub compiled : IsCompiled setting.graph.now default_tree default
-  pub grouped : AllZip (IsOverrideFor setting) setting.overrides.now overrides
+  pub grouped : AllZip (IsOverrideFor setting) (filter sets_group setting.overrides.now) overrides
 
 -- what is told of trees under a setting, by an ending and a text
 abbrev pub Telling : Setting → Type 1

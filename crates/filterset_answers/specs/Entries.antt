@@ -68,7 +68,8 @@ rows_in texts = map (placed_row texts) (enumerate_from 0 texts.filtersets.now)
 abbrev pub filter_row : OverrideEntry → Option TextRow
 filter_row entry = option_map text_row entry.filter
 
--- the texts that are compiled before those of a question: the default filter, and the filters of overrides
+-- the texts that are compiled before those of a question: the default filter, and the filter of each override that has
+-- one, whatever the override sets
 abbrev pub setting_rows : Setting → List TextRow
 setting_rows setting = text_row setting.default.now ∷ filter_map filter_row setting.overrides.now
 
@@ -79,9 +80,10 @@ test_row origin text = row_of origin kinds.Test text
 abbrev pub default_row : Text → TextRow
 default_row text = row_of (codes "--default-filter") kinds.DefaultFilter text
 
--- the rows of the filtersets of a question: those of a list are numbered, and two that are compared are `A` and `B`
+-- the rows of the filtersets of a question: those of a union are numbered, and two that are compared are `A` and `B`
 abbrev pub question_rows : Question → List TextRow
 question_rows (questions.List filters ignores_default) =
     numbered_rows (codes "-E") kinds.Test (map (λ t. t.now) filters.now)
 question_rows (questions.Compare first second has_names) =
     test_row (codes "A") first.now ∷ test_row (codes "B") second.now ∷ []
+question_rows (questions.Overrides filters) = numbered_rows (codes "-E") kinds.Test (map (λ t. t.now) filters.now)

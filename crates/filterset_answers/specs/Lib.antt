@@ -8,6 +8,8 @@ pub mod Readings
 pub mod Entries
 pub mod Compiled
 pub mod Binaries
+pub mod Picks
+pub mod Overriding
 pub mod Picking
 pub mod Explained
 pub mod Profile

@@ -1,4 +1,4 @@
--- What `list` and `compare` write.
+-- What `list` and `compare` write, and what a question is answered.
 use Rattle.std.specs.Prelude.{◌≡◌, List, [], ◌∷◌, Bool, Option, Some, None}
 use Rattle.std.specs.List.{AllZip, list_any}
 use Rattle.serde_json.specs.Data.{Data}
@@ -9,12 +9,9 @@ use Rattle.filterset_grammar.specs.Tree.{Tree}
 use Rattle.filterset_language.specs.Views.{tree_of}
 use Rattle.filterset_listing.specs.Comparing.{IsBinaryDifference, TellsDifference, TellsUnknown}
 use Rattle.filterset_listing.specs.ComparisonText.{comparison_text}
-use Rattle.filterset_listing.specs.Groups.{Says}
 use Rattle.filterset_listing.specs.ListJson.{IsListJson}
 use Rattle.filterset_listing.specs.ListText.{has_unknown, list_text}
-use Rattle.filterset_listing.specs.Listing.{IsBinaryPicks}
 use Rattle.filterset_listing.specs.Pickers.{tree_picker}
-use Rattle.filterset_listing.specs.Selection.{RunCanPick, RunPicks}
 use Rattle.filterset_listing.specs.declared.binary.AskedBinary.{AskedBinary}
 use Rattle.filterset_listing.specs.declared.comparing.BinaryDifference.{BinaryDifference}
 use Rattle.filterset_listing.specs.declared.listing.BinaryPicks.{BinaryPicks}
@@ -22,6 +19,8 @@ use Rattle.nextest_filtering.specs.declared.filterset.Filterset.{Filterset}
 use Rattle.filterset_answers.specs.Compiled.{AnswersTexts, Telling}
 use Rattle.filterset_answers.specs.Endings.{differing_ending, unknown_ending}
 use Rattle.filterset_answers.specs.Entries.{question_rows}
+use Rattle.filterset_answers.specs.Overriding.{CountsOverrides}
+use Rattle.filterset_answers.specs.Picks.{ArePicks}
 use Rattle.filterset_answers.specs.declared.form.Form.{Form}
 use Rattle.filterset_answers.specs.declared.question.Question.{Question}
 use Rattle.filterset_answers.specs.declared.question.Question.TheVariants as questions
@@ -39,13 +38,11 @@ abbrev pub WritesList : Option Data → List BinaryPicks → Text → Type 0
 WritesList None all text = text ≡ list_text all
 WritesList (Some list) all text = IsListJson all list text
 
--- the answer is the tests that the default filter picks, unless it is ignored, and one of the trees, if there are any
+-- the answer is the tests that a runner runs
 abbrev pub Lists : (setting : Setting) → Bool → Option Data → List AskedBinary → Telling setting
 Lists setting ignores_default kept binaries basis trees ending text = (all : List BinaryPicks)
-    × AllZip (IsBinaryPicks (Says basis.default basis.overrides
-    (RunPicks setting.graph.now ignores_default basis.default basis.default_tree trees))
-    (RunCanPick setting.graph.now ignores_default basis.default basis.default_tree trees)) binaries all
-    × WritesList kept all text × (ending ≡ unknown_ending (list_any has_unknown all))
+    × ArePicks setting ignores_default binaries basis trees all × WritesList kept all text
+    × (ending ≡ unknown_ending (list_any has_unknown all))
 
 -- the answer is how two trees differ, and ends by whether they may differ on one of the binaries, and a test is unknown
 abbrev pub Compares : (setting : Setting) → Bool → List AskedBinary → Telling setting
@@ -61,6 +58,7 @@ Compares setting has_names binaries basis _ ending text = ⊥
 abbrev pub Tells : (setting : Setting) → Question → Option Data → List AskedBinary → Telling setting
 Tells setting (questions.List texts ignores_default) kept binaries = Lists setting ignores_default kept binaries
 Tells setting (questions.Compare first second has_names) kept binaries = Compares setting has_names binaries
+Tells setting (questions.Overrides texts) kept binaries = CountsOverrides setting binaries
 
 -- the answer to a question
 abbrev pub AnswersQuestion : Form → Setting → Question → Option Data → List AskedBinary → Ending → Text → Type 0

@@ -192,7 +192,9 @@ pub fn question_entries<'t>(
     ensures { IfOk result (λ entries. map text_row entries.items ≡ question_rows question.now) }
 {
     match question {
-        Question::List { filters, .. } => given_entries(alloc, "-E", FiltersetKind::Test, filters),
+        Question::List { filters, .. } | Question::Overrides { filters } => {
+            given_entries(alloc, "-E", FiltersetKind::Test, filters)
+        }
         Question::Compare { first, second, .. } => pair_entries(alloc, first, second),
     }
 }

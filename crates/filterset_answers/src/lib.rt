@@ -1,5 +1,5 @@
 //! What the commands answer: the faults of filtersets, filtersets as they print, the tests that filtersets pick, how two
-//! filtersets differ, and why a filterset picks a test or not.
+//! filtersets differ, why a filterset picks a test or not, and how the overrides of a configuration apply to tests.
 #![tactic(auto)]
 
 mod binaries;
@@ -12,7 +12,9 @@ mod form;
 mod formatting;
 mod grouping;
 mod names;
+mod overriding;
 mod picking;
+mod picks;
 mod place;
 mod profile;
 mod question;
@@ -26,9 +28,10 @@ pub use explaining::explain_filterset;
 pub use form::Form;
 pub use formatting::format_texts;
 pub use names::Names;
+pub use overriding::explain_test_overrides;
 pub use picking::ask_workspace;
 pub use place::{FilePlace, Spot};
-pub use profile::{entry_at, override_entries};
+pub use profile::{asked_profiles, entry_at, override_entries};
 pub use question::Question;
 pub use setting::{OverrideEntry, Setting};
 pub use text::{Answer, Ending, TextEntry, answer_unknown};

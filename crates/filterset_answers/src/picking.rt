@@ -8,10 +8,6 @@ ghost use Rattle.filterset_expression.specs.Meaning.{IsCompiled};
 ghost use Rattle.filterset_faults.specs.declared.kind.FiltersetKind.TheVariants as kinds;
 ghost use Rattle.filterset_faults.specs.declared.span.SourceSpan.{SourceSpan};
 ghost use Rattle.filterset_grammar.specs.Tree.{Tree};
-ghost use Rattle.filterset_graph.specs.declared.package.PackageMetadata.{PackageMetadata};
-ghost use Rattle.filterset_listing.specs.Groups.{Says};
-ghost use Rattle.filterset_listing.specs.Listing.{IsBinaryPicks};
-ghost use Rattle.filterset_listing.specs.Selection.{RunCanPick, RunPicks};
 ghost use Rattle.nextest_filtering.specs.Groups.{IsKnown};
 ghost use Rattle.filterset_answers.specs.Compiled.{AreFiltersets, Basis, IsTreeOf};
 ghost use Rattle.filterset_answers.specs.Entries.{question_rows};
@@ -21,15 +17,17 @@ ghost use Rattle.filterset_answers.specs.declared.setting.Setting as settings;
 use crate::compiling::{CompiledTexts, QuestionFiltersets, compile_texts};
 use crate::entries::question_entries;
 use crate::form::Form;
-use crate::grouping::group_overrides;
+use crate::grouping::{asked_overrides, group_overrides};
+use crate::overriding::answer_overrides;
+use crate::picks::picks_of;
 use crate::question::Question;
 use crate::setting::Setting;
 use crate::text::{Answer, Ending, differing_ending, unknown_ending};
 use filterset_listing::{
-    AskedBinary, BinaryPicks, GroupOverride, any_unknown, compare, comparison_text, differ, list,
-    list_json, list_text, lists_unknown, selection_of,
+    AskedBinary, BinaryPicks, GroupOverride, any_unknown, compare, comparison_text, differ,
+    list_json, list_text, lists_unknown,
 };
-use nextest_filtering::{CompiledExpr, EvalContext, Filterset};
+use nextest_filtering::{EvalContext, Filterset};
 use serde_json::Value;
 use std::alloc::{AllocError, Global};
 
@@ -45,39 +43,6 @@ fn picks_text(
         Some(value) => list_json(alloc, value, all),
         None => list_text(alloc, all),
     }
-}
-
-/// Takes the compiled expressions of filtersets.
-fn expressions_of(
-    alloc: Global,
-    filtersets: Vec<Filterset>,
-) -> Result<Vec<CompiledExpr>, AllocError>
-    ensures { IfOk result (λ exprs. exprs.items ≡ map compiled_of filtersets.items) }
-{
-    let mut exprs = Vec::with_capacity(alloc, filtersets.len())?;
-    for filterset in filtersets {
-        exprs.push(filterset.compiled)?;
-    }
-    Ok(exprs)
-}
-
-/// Returns the tests of each binary that a runner runs, given these filtersets and overrides.
-fn picks_of<'s, 'g>(
-    alloc: Global,
-    filters: Vec<CompiledExpr>,
-    ignores_default: bool,
-    context: &EvalContext<'_>,
-    overrides: &[GroupOverride<'g>],
-    binaries: &[AskedBinary<'s>],
-) -> Result<Vec<BinaryPicks<'s, 'g>>, AllocError>
-    ensures { let default = default_of context.now in IfOk result (λ all. (packages : List PackageMetadata)
-        (tree : Tree SourceSpan) (trees : List (Tree SourceSpan)) → IsCompiled packages tree default
-        → has_leaf is_default default ≡ false → AllZip (IsCompiled packages) trees filters.items
-        → AllZip (IsBinaryPicks (Says default overrides.now (RunPicks packages ignores_default default tree trees))
-        (RunCanPick packages ignores_default default tree trees)) binaries.now all.items) }
-{
-    let selection = selection_of(alloc, filters, ignores_default)?;
-    list(alloc, &selection, context, overrides, binaries)
 }
 
 /// Answers which tests a runner runs, given these filtersets and overrides.
@@ -97,7 +62,6 @@ fn answer_list(
         → Lists setting ignores_default (option_map view kept) binaries.now basis trees
         answer.ending (string_bytes answer.text)) }
 {
-    let filters = expressions_of(alloc, filters)?;
     let all = picks_of(
         alloc,
         filters,
@@ -183,6 +147,11 @@ fn answer_question(
                 binaries,
                 *has_names,
             )
+        }
+        Question::Overrides { .. } => {
+            let asked = asked_overrides(alloc, setting.overrides, compiled.overrides.as_slice())?;
+            let asked = asked.as_slice();
+            answer_overrides(alloc, filters, &context, overrides, asked, binaries)
         }
     }
 }

@@ -1,18 +1,18 @@
-//! The texts of a profile: its default filter, and the filters of its overrides.
-ghost use Rattle.std.specs.Prelude.{◌≡◌, ◌++◌, ◌∷◌, [], IfOk, List, OnOk, Some, codes, filter, option_and_then, option_map, position, string_bytes};
+//! The texts of a profile, which are its default filter and the filters of its overrides, and the keys that it sets.
+ghost use Rattle.std.specs.Prelude.{◌≡◌, ◌++◌, IfOk, codes, map, option_and_then, option_map, position, string_bytes};
 ghost use Rattle.std.specs.List.{AllZip};
 ghost use Rattle.std.specs.Str.{bytes_eq};
 ghost use Rattle.filterset_answers.specs.Checked.{text_row};
 ghost use Rattle.filterset_answers.specs.Entries.{placement_at};
 ghost use Rattle.filterset_answers.specs.Placements.{placement_of};
-ghost use Rattle.filterset_answers.specs.Profile.{IsEntryOf, row_at, sets_group};
-ghost use Rattle.filterset_answers.specs.declared.setting.OverrideEntry as declared;
+ghost use Rattle.filterset_answers.specs.Profile.{IsEntryOf, IsProfileOf, row_at};
 
 use crate::entries::{ConfiguredTexts, place_at};
 use crate::place::FilePlace;
 use crate::setting::OverrideEntry;
 use crate::text::TextEntry;
-use filterset_profiles::RankedOverride;
+use filterset_overrides::AskedProfile;
+use filterset_profiles::{Profile, RankedOverride};
 use filterset_sources::ConfiguredFilterset;
 use nextest_filtering::FiltersetKind;
 use std::alloc::{AllocError, Global};
@@ -73,53 +73,61 @@ fn filter_entry<'t>(
     Ok(Some(entry_at(configured, path, kind, text.as_str())))
 }
 
-/// Makes the entry of an override, which sets this group.
+/// Makes the entry of an override.
 fn override_entry<'t>(
     alloc: Global,
     configured: ConfiguredTexts<'t>,
     ranked: &'t RankedOverride<'t>,
-    group: &'t str,
 ) -> Result<OverrideEntry<'t>, AllocError>
-    ensures { option_map (λ g. string_bytes g) ranked.entry.now.read.now.test_group ≡ Some group.entry.now
-        → IfOk result (IsEntryOf configured.entry ranked.entry.now) }
+    ensures { IfOk result (IsEntryOf configured.entry ranked.entry.now) }
 {
+    let filter = filter_entry(alloc, configured, ranked)?;
+    let read = ranked.read;
     Ok(OverrideEntry {
         path: ranked.path.as_str(),
-        filter: filter_entry(alloc, configured, ranked)?,
+        filter,
         for_target: ranked.for_target,
         for_host: ranked.for_host,
-        group,
+        group: read.test_group.as_deref(),
+        settings: read.settings.as_slice(),
     })
 }
 
-/// Adds the entry of an override, if it sets the group of tests.
-fn push_override<'t>(
-    entries: &mut Vec<OverrideEntry<'t>>,
-    alloc: Global,
-    configured: ConfiguredTexts<'t>,
-    ranked: &'t RankedOverride<'t>,
-) -> Result<(), AllocError>
-    ensures { OnOk result ((more : List declared.OverrideEntry) × (entries.new.items ≡ entries.old.items ++ more)
-        × AllZip (IsEntryOf configured.entry) (filter sets_group (ranked.entry.now ∷ [])) more) }
-{
-    let Some(group) = &ranked.read.test_group else {
-        return Ok(());
-    };
-    entries.push(override_entry(alloc, configured, ranked, group.as_str())?)?;
-    Ok(())
-}
-
-/// Makes an entry of each override that sets the group of tests.
+/// Makes an entry of each override, whatever it sets: nextest compiles the filter of each.
 pub fn override_entries<'t>(
     alloc: Global,
     configured: ConfiguredTexts<'t>,
     ranked: &'t [RankedOverride<'t>],
 ) -> Result<Vec<OverrideEntry<'t>>, AllocError>
-    ensures { IfOk result (λ entries. AllZip (IsEntryOf configured.entry) (filter sets_group ranked.entry.now) entries.items) }
+    ensures { IfOk result (λ entries. AllZip (IsEntryOf configured.entry) ranked.entry.now entries.items) }
 {
-    let mut entries = Vec::new(alloc);
+    let mut entries = Vec::with_capacity(alloc, ranked.len())?;
     for one in ranked {
-        push_override(&mut entries, alloc, configured, one)?;
+        entries.push(override_entry(alloc, configured, one)?)?;
     }
     Ok(entries)
+}
+
+/// Returns a profile with the keys that it sets.
+fn asked_profile(profile: &Profile) -> AskedProfile<'_>
+    ensures { IsProfileOf profile.now result }
+{
+    AskedProfile {
+        name: profile.name.as_str(),
+        settings: profile.settings.as_slice(),
+    }
+}
+
+/// Returns each profile with the keys that it sets.
+pub fn asked_profiles<'t>(
+    alloc: Global,
+    profiles: &[&'t Profile],
+) -> Result<Vec<AskedProfile<'t>>, AllocError>
+    ensures { IfOk result (λ asked. AllZip IsProfileOf (map (λ p. p.now) profiles.now) asked.items) }
+{
+    let mut asked = Vec::with_capacity(alloc, profiles.len())?;
+    for profile in profiles {
+        asked.push(asked_profile(profile))?;
+    }
+    Ok(asked)
 }

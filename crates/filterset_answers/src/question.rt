@@ -14,4 +14,9 @@ pub enum Question<'t> {
         second: &'t str,
         has_names: bool,
     },
+    /// Which overrides apply to the tests that at least one of these filtersets picks, or to all tests if there is no
+    /// filterset, and which of their settings they give. The default filter is ignored.
+    Overrides {
+        filters: &'t [&'t str],
+    },
 }

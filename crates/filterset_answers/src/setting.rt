@@ -1,8 +1,9 @@
 //! What questions about a workspace are asked under.
 use crate::text::TextEntry;
+use filterset_overrides::AskedProfile;
 use nextest_filtering::{KnownGroups, PackageGraph};
 
-/// An override of a configuration that sets the group of tests.
+/// An override of a configuration.
 #[derive(Debug, Drop)]
 pub struct OverrideEntry<'t> {
     /// Its path in the configuration.
@@ -13,7 +14,10 @@ pub struct OverrideEntry<'t> {
     pub for_target: Option<bool>,
     /// Whether its platforms apply to tests that are built for the host, if that is known.
     pub for_host: Option<bool>,
-    pub group: &'t str,
+    /// The group that it puts its tests in, if it sets one.
+    pub group: Option<&'t str>,
+    /// The keys that it sets.
+    pub settings: &'t [String],
 }
 
 /// What a question is asked under.
@@ -25,6 +29,8 @@ pub struct Setting<'t> {
     pub groups: &'t KnownGroups,
     /// The value of `default()`.
     pub default: &'t TextEntry<'t>,
-    /// The overrides that set groups. The first that applies to a test decides.
+    /// The overrides. Of those that set something, the first that applies to a test decides.
     pub overrides: &'t [OverrideEntry<'t>],
+    /// The profile, and those that it falls back on, in order.
+    pub profiles: &'t [AskedProfile<'t>],
 }

@@ -3,4 +3,4 @@ use Rattle.filterset_answers.proofs.GroupingLemmas.{compiled_text}
 use Rattle.filterset_answers.proofs.grouping.group_override.Goals as goal
 
 pub returns : goal.returns
-returns c setting is = (refl, refl, refl, refl, compiled_text setting c.args.entry.now c.args.filter.now _ c.expression_of.ensures is)
+returns c setting is sets = (refl, sets, refl, refl, compiled_text setting c.args.entry.now c.args.made.now _ c.expression_of.ensures is)

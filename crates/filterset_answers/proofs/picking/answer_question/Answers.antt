@@ -1,7 +1,9 @@
 use Rattle.std.proofs.Common.{map, string_bytes, subst, sym}
 use Rattle.std.specs.Prelude.{option_map}
+use Rattle.std.specs.List.{AllZip}
 use Rattle.std.proofs.lemmas.Result.{IfOk-weaker}
 use Rattle.serde_json.specs.View.{view}
+use Rattle.filterset_answers.specs.Compiled.{IsAskedFor}
 use Rattle.filterset_answers.specs.Entries.{question_rows}
 use Rattle.filterset_answers.specs.Picking.{Tells, parsed_of}
 use Rattle.filterset_answers.proofs.PickingLemmas.{basis_of, compiled_trees, trees_of}
@@ -42,3 +44,23 @@ returns-in-Compare c =
           (let own = rw c.as_slice-in-Compare.ensures.value at compares in own setting basis (sym c.new-context.ensures) (sym c.as_slice-overrides.ensures.value) (compiled_trees setting.graph.now setting.groups.now rows made.filters.items are.filters)),
     ))
     c.answer_compare.ensures
+
+pub returns-in_ok-asked-in-Overrides : goal.returns-in_ok-asked-in-Overrides
+returns-in_ok-asked-in-Overrides c =
+    let setting = c.args.setting.now in
+    let made = c.args.filtersets in
+    let are = c.requires.filtersets in
+    let rows = question_rows c.args.question.now in
+    let grouped = rw c.as_slice.ensures.value at c.in_ok-made.ensures in
+    let basis = basis_of setting rows made c.in_ok-made.made.items are (grouped setting are.overrides) in
+    let trees = map parsed_of made.filters.items in
+    let asked = rw c.as_slice-in-Overrides.ensures.value at c.in_ok-asked-in-Overrides.ensures in
+    IfOk-weaker c.answer_overrides.result _ _ (λ answer counts. (
+      basis,
+      trees,
+      trees_of setting rows made.filters.items are.filters,
+      subst (λ question. Tells setting question (option_map view c.args.kept) c.args.binaries.now basis trees answer.ending (string_bytes answer.text)) (sym c.in-Overrides.is)
+          (counts setting basis trees (sym c.new-context.ensures) (sym c.as_slice-overrides.ensures.value) (are.default.no_default c.requires.kind) (compiled_trees setting.graph.now setting.groups.now rows made.filters.items are.filters)
+          (subst (AllZip (IsAskedFor setting) setting.overrides.now) (sym c.as_slice-asked.ensures.value) (asked setting are.overrides))),
+    ))
+    c.answer_overrides.ensures

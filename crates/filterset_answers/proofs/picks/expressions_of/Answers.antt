@@ -3,7 +3,7 @@ use Rattle.std.proofs.lemmas.Iterator.Adapters.{YieldsList-from_vec}
 use Rattle.std.proofs.lemmas.Iterator.Consumers.{YieldsList-end}
 use Rattle.std.proofs.lemmas.List.{map-append, map-id}
 use Rattle.filterset_answers.specs.Picking.{compiled_of}
-use Rattle.filterset_answers.proofs.picking.expressions_of.Goals as goal
+use Rattle.filterset_answers.proofs.picks.expressions_of.Goals as goal
 
 pub loop-filterset-preserved : goal.loop-filterset-preserved
 loop-filterset-preserved c =

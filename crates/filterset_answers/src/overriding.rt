@@ -1,0 +1,266 @@
+//! How the overrides of a setting apply to tests, and which of their settings they give.
+ghost use Rattle.std.specs.Prelude.{◌≡◌, ◌++◌, [], All, IfOk, List, OnOk, false, length, map, string_bytes};
+ghost use Rattle.std.specs.List.{AllZip, count_by, sum_by};
+ghost use Rattle.filterset_expression.specs.Contexts.{default_of};
+ghost use Rattle.filterset_expression.specs.Expression.{has_leaf, is_default};
+ghost use Rattle.filterset_expression.specs.Meaning.{IsCompiled};
+ghost use Rattle.filterset_faults.specs.declared.kind.FiltersetKind.TheVariants as kinds;
+ghost use Rattle.filterset_faults.specs.declared.span.SourceSpan.{SourceSpan};
+ghost use Rattle.filterset_grammar.specs.Tree.{Tree};
+ghost use Rattle.filterset_graph.specs.declared.package.PackageMetadata.{PackageMetadata};
+ghost use Rattle.filterset_language.specs.Views.{tree_of};
+ghost use Rattle.filterset_listing.specs.Explaining.{IsExplanation};
+ghost use Rattle.filterset_listing.specs.ExplanationText.{explanation_text};
+ghost use Rattle.filterset_listing.specs.ListText.{is_open};
+ghost use Rattle.filterset_listing.specs.declared.explaining.Explanation as explanations;
+ghost use Rattle.filterset_listing.specs.declared.explaining.candidate.Candidate.TheVariants.{Test};
+ghost use Rattle.filterset_overrides.specs.Applying.{IsCompiledOf};
+ghost use Rattle.nextest_filtering.specs.Groups.{IsKnown};
+ghost use Rattle.filterset_answers.specs.Compiled.{AreFiltersets, Basis, IsAskedFor, IsTreeOf};
+ghost use Rattle.filterset_answers.specs.Overriding.{AnswersOverrides, Counts, CountsOverrides, IsListed, IsReasonFor, TellsOverrides};
+ghost use Rattle.filterset_answers.specs.Overriding.{is_unknown, skipped_line, uncounted_text, unknown_line};
+ghost use Rattle.filterset_answers.specs.Picking.{compiled_of};
+ghost use Rattle.filterset_answers.specs.declared.setting.Setting as settings;
+
+use crate::compiling::{CompiledTexts, QuestionFiltersets, compile_texts};
+use crate::form::Form;
+use crate::grouping::asked_overrides;
+use crate::picks::picks_of;
+use crate::setting::Setting;
+use crate::text::{Answer, Ending, unknown_ending};
+use filterset_listing::{
+    AskedBinary, BinaryPicks, Candidate, GroupOverride, explain, explain_text, lists_unknown,
+};
+use filterset_overrides::{
+    AskedOverride, ListedBinary, OverrideTable, any_unknown, any_unknown_test, count_overrides,
+    explain_overrides, override_table_text, test_overrides_text,
+};
+use nextest_filtering::{EvalContext, Filterset, PackageGraph, TestQuery};
+use std::alloc::{AllocError, Global};
+use std::fmt::Write;
+
+/// Returns a binary with the tests that are picked of it.
+fn listed_binary<'a>(picks: &'a BinaryPicks<'_, '_>) -> ListedBinary<'a>
+    ensures { IsListed picks.entry.now result }
+{
+    ListedBinary {
+        query: picks.binary.query,
+        tests: picks.tests.as_slice(),
+    }
+}
+
+/// Returns each binary with the tests that are picked of it.
+fn listed_binaries<'a>(
+    alloc: Global,
+    all: &'a [BinaryPicks<'_, '_>],
+) -> Result<Vec<ListedBinary<'a>>, AllocError>
+    ensures { IfOk result (λ listed. AllZip IsListed all.entry.now listed.items) }
+{
+    let mut listed = Vec::with_capacity(alloc, all.len())?;
+    for picks in all {
+        listed.push(listed_binary(picks))?;
+    }
+    Ok(listed)
+}
+
+/// Counts the tests of which it is unknown whether they are picked. A sum that a `usize` cannot hold counts as out of
+/// memory: memory cannot hold so many tests.
+fn unknown_count(all: &[BinaryPicks<'_, '_>]) -> Result<usize, AllocError>
+    ensures { IfOk result (λ count. count ≡ sum_by (λ s. length s.unknown.items) all.now) }
+{
+    let mut count = 0usize;
+    for picks in all {
+        count = count.checked_add(picks.unknown.len()).ok_or(AllocError)?;
+    }
+    Ok(count)
+}
+
+/// Counts the binaries that nextest skipped, and that are not left out.
+fn skipped_count(all: &[BinaryPicks<'_, '_>]) -> usize
+    ensures { result ≡ count_by is_open all.now }
+{
+    all.iter()
+        .filter(|picks| picks.binary.is_skipped && !picks.is_left_out)
+        .count()
+}
+
+/// Writes how many tests may be picked, and are not counted, if there are any.
+fn push_unknown(output: &mut String, count: usize) -> Result<(), AllocError>
+    ensures { OnOk result (string_bytes output.new ≡ string_bytes output.old ++ unknown_line count) }
+{
+    if count == 0 {
+        return Ok(());
+    }
+    writeln!(output, "not counted: {count} tests that -E may pick")
+}
+
+/// Writes of how many skipped binaries the tests are not counted, if there are any.
+fn push_skipped(output: &mut String, count: usize) -> Result<(), AllocError>
+    ensures { OnOk result (string_bytes output.new ≡ string_bytes output.old ++ skipped_line count) }
+{
+    if count == 0 {
+        return Ok(());
+    }
+    writeln!(output, "not counted: tests of {count} skipped binaries")
+}
+
+/// Writes which tests are not counted, though they may be picked.
+fn push_uncounted(output: &mut String, all: &[BinaryPicks<'_, '_>]) -> Result<(), AllocError>
+    ensures { OnOk result (string_bytes output.new ≡ string_bytes output.old ++ uncounted_text all.now) }
+{
+    push_unknown(output, unknown_count(all)?)?;
+    push_skipped(output, skipped_count(all))
+}
+
+/// Returns whether it is unknown of a test whether one of the overrides applies to it, or whether it is picked.
+fn is_unknown(table: &OverrideTable<'_>, all: &[BinaryPicks<'_, '_>]) -> bool
+    ensures { result ≡ is_unknown table.now all.now }
+{
+    any_unknown_test(table) || lists_unknown(all)
+}
+
+/// Answers how overrides apply to the tests that are picked.
+fn answer_picked(
+    alloc: Global,
+    asked: &[AskedOverride<'_>],
+    context: &EvalContext<'_>,
+    all: &[BinaryPicks<'_, '_>],
+) -> Result<Answer, AllocError>
+    ensures { IfOk result (λ answer. (packages : List PackageMetadata) → All (IsCompiledOf packages) asked.now
+        → Counts packages (default_of context.now) asked.now all.now answer.ending (string_bytes answer.text)) }
+{
+    let listed = listed_binaries(alloc, all)?;
+    let table = count_overrides(alloc, asked, context, listed.as_slice())?;
+    let mut text = override_table_text(alloc, &table)?;
+    push_uncounted(&mut text, all)?;
+    Ok(Answer {
+        text,
+        ending: unknown_ending(is_unknown(&table, all)),
+    })
+}
+
+/// Answers how overrides apply to the tests that at least one of these filtersets picks, or to all tests if there is no
+/// filterset. `groups` says in which groups tests are.
+pub fn answer_overrides(
+    alloc: Global,
+    filters: Vec<Filterset>,
+    context: &EvalContext<'_>,
+    groups: &[GroupOverride<'_>],
+    asked: &[AskedOverride<'_>],
+    binaries: &[AskedBinary<'_>],
+) -> Result<Answer, AllocError>
+    ensures { IfOk result (λ answer. (setting : settings.Setting) (basis : Basis setting)
+        (trees : List (Tree SourceSpan)) → basis.default ≡ default_of context.now → basis.overrides ≡ groups.now
+        → has_leaf is_default basis.default ≡ false
+        → AllZip (IsCompiled setting.graph.now) trees (map compiled_of filters.items)
+        → AllZip (IsAskedFor setting) setting.overrides.now asked.now
+        → CountsOverrides setting binaries.now basis trees answer.ending (string_bytes answer.text)) }
+{
+    let all = picks_of(alloc, filters, true, context, groups, binaries)?;
+    answer_picked(alloc, asked, context, all.as_slice())
+}
+
+/// Explains the filter of an override for a test.
+fn explain_filter(
+    alloc: Global,
+    graph: &PackageGraph,
+    filter: &Filterset,
+    context: &EvalContext<'_>,
+    query: &TestQuery<'_>,
+) -> Result<String, AllocError>
+    ensures { IfOk result (λ reason. IsCompiled graph.now (tree_of filter.now.parsed) filter.now.compiled
+        → (explanation : explanations.Explanation) × IsExplanation (Test query.now) [] graph.now (default_of context.now)
+        (tree_of filter.now.parsed) explanation × (string_bytes reason ≡ explanation_text explanation)) }
+{
+    let candidate = Candidate::Test(*query);
+    let (tree, compiled) = (&filter.parsed, &filter.compiled);
+    let explanation = explain(alloc, graph, tree, compiled, context, &[], candidate)?;
+    explain_text(alloc, &explanation)
+}
+
+/// Explains the filter of an override for a test, if it has one.
+fn reason_of(
+    alloc: Global,
+    setting: &Setting<'_>,
+    made: &Option<Filterset>,
+    context: &EvalContext<'_>,
+    query: &TestQuery<'_>,
+) -> Result<String, AllocError>
+    ensures { IfOk result (λ reason.
+        IsReasonFor query.now setting.now (default_of context.now) made.now (string_bytes reason)) }
+{
+    match made {
+        Some(filter) => explain_filter(alloc, setting.graph, filter, context, query),
+        None => Ok(String::new(alloc)),
+    }
+}
+
+/// Explains the filter of each override for a test, if it has one.
+fn reasons_of(
+    alloc: Global,
+    setting: &Setting<'_>,
+    filters: &[Option<Filterset>],
+    context: &EvalContext<'_>,
+    query: &TestQuery<'_>,
+) -> Result<Vec<String>, AllocError>
+    ensures { IfOk result (λ reasons. AllZip
+        (λ made reason. IsReasonFor query.now setting.now (default_of context.now) made (string_bytes reason))
+        filters.now reasons.items) }
+{
+    let mut reasons = Vec::with_capacity(alloc, filters.len())?;
+    for made in filters {
+        reasons.push(reason_of(alloc, setting, made, context, query)?)?;
+    }
+    Ok(reasons)
+}
+
+/// Explains how the overrides apply to a test.
+fn explain_compiled(
+    alloc: Global,
+    setting: &Setting<'_>,
+    filtersets: &QuestionFiltersets,
+    query: &TestQuery<'_>,
+) -> Result<Answer, AllocError>
+    requires kind { setting.now.default.now.kind ≡ kinds.DefaultFilter }
+    requires filtersets { AreFiltersets setting.now.graph.now setting.now.groups.now setting.now [] filtersets.now }
+    ensures { IfOk result (λ answer. (basis : Basis setting.now) × (trees : List (Tree SourceSpan))
+        × AllZip (IsTreeOf setting.now) [] trees
+        × TellsOverrides query.now setting.now basis trees answer.ending (string_bytes answer.text)) }
+{
+    let context = EvalContext::new(&filtersets.setting.default.compiled);
+    let filters = filtersets.setting.overrides.as_slice();
+    let asked = asked_overrides(alloc, setting.overrides, filters)?;
+    let asked = asked.as_slice();
+    let explained = explain_overrides(alloc, asked, setting.profiles, &context, query)?;
+    let reasons = reasons_of(alloc, setting, filters, &context, query)?;
+    Ok(Answer {
+        text: test_overrides_text(alloc, &explained, reasons.as_slice())?,
+        ending: unknown_ending(any_unknown(&explained)),
+    })
+}
+
+/// Explains how each override of a setting applies to a test and what gives the test each of its settings, or writes the
+/// faults of the setting's texts.
+///
+/// Below each override is why its filter picks the test or not. Returns an error only if out of memory.
+pub fn explain_test_overrides(
+    alloc: Global,
+    form: Form,
+    setting: &Setting<'_>,
+    query: &TestQuery<'_>,
+) -> Result<Answer, AllocError>
+    requires default { setting.now.default.now.kind ≡ kinds.DefaultFilter }
+    requires groups { IsKnown setting.now.groups.now }
+    ensures { IfOk result (λ answer.
+        AnswersOverrides form setting.now query.now answer.ending (string_bytes answer.text)) }
+{
+    match compile_texts(alloc, form, setting, &[])? {
+        CompiledTexts::Filtersets(filtersets) => {
+            explain_compiled(alloc, setting, &filtersets, query)
+        }
+        CompiledTexts::Faults(text) => Ok(Answer {
+            text,
+            ending: Ending::Faulty,
+        }),
+    }
+}

@@ -1,0 +1,50 @@
+//! The tests that a runner runs under a setting.
+ghost use Rattle.std.specs.Prelude.{◌≡◌, IfOk, List, false, map};
+ghost use Rattle.std.specs.List.{AllZip};
+ghost use Rattle.filterset_expression.specs.Contexts.{default_of};
+ghost use Rattle.filterset_expression.specs.Expression.{has_leaf, is_default};
+ghost use Rattle.filterset_expression.specs.Meaning.{IsCompiled};
+ghost use Rattle.filterset_faults.specs.declared.span.SourceSpan.{SourceSpan};
+ghost use Rattle.filterset_grammar.specs.Tree.{Tree};
+ghost use Rattle.filterset_answers.specs.Compiled.{Basis};
+ghost use Rattle.filterset_answers.specs.Picking.{compiled_of};
+ghost use Rattle.filterset_answers.specs.Picks.{ArePicks};
+ghost use Rattle.filterset_answers.specs.declared.setting.Setting as settings;
+
+use filterset_listing::{AskedBinary, BinaryPicks, GroupOverride, list, selection_of};
+use nextest_filtering::{CompiledExpr, EvalContext, Filterset};
+use std::alloc::{AllocError, Global};
+
+/// Takes the compiled expressions of filtersets.
+fn expressions_of(
+    alloc: Global,
+    filtersets: Vec<Filterset>,
+) -> Result<Vec<CompiledExpr>, AllocError>
+    ensures { IfOk result (λ exprs. exprs.items ≡ map compiled_of filtersets.items) }
+{
+    let mut exprs = Vec::with_capacity(alloc, filtersets.len())?;
+    for filterset in filtersets {
+        exprs.push(filterset.compiled)?;
+    }
+    Ok(exprs)
+}
+
+/// Returns the tests of each binary that a runner runs, given these filtersets and overrides.
+pub fn picks_of<'s, 'g>(
+    alloc: Global,
+    filters: Vec<Filterset>,
+    ignores_default: bool,
+    context: &EvalContext<'_>,
+    overrides: &[GroupOverride<'g>],
+    binaries: &[AskedBinary<'s>],
+) -> Result<Vec<BinaryPicks<'s, 'g>>, AllocError>
+    ensures { IfOk result (λ all. (setting : settings.Setting) (basis : Basis setting) (trees : List (Tree SourceSpan))
+        → basis.default ≡ default_of context.now → basis.overrides ≡ overrides.now
+        → has_leaf is_default basis.default ≡ false
+        → AllZip (IsCompiled setting.graph.now) trees (map compiled_of filters.items)
+        → ArePicks setting ignores_default binaries.now basis trees all.items) }
+{
+    let exprs = expressions_of(alloc, filters)?;
+    let selection = selection_of(alloc, exprs, ignores_default)?;
+    list(alloc, &selection, context, overrides, binaries)
+}
