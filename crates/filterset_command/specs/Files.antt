@@ -17,9 +17,13 @@ use Rattle.filterset_command.specs.declared.fault.FileRole.TheVariants.{Configur
 abbrev pub is_input : Text → Bool
 is_input path = bytes_eq path (codes "-")
 
+-- what faults call standard input
+abbrev pub input_name : Text
+input_name = codes "standard input"
+
 -- what faults call the file at a path
 abbrev pub name_of : FileRole → Text → Text
-name_of Configuration path = if is_input path then codes "standard input" else path
+name_of Configuration path = if is_input path then input_name else path
 name_of role path = path
 
 -- what the configuration at a path is read from, where standard input has this text

@@ -1,25 +1,26 @@
 -- What is answered to each request.
 use Rattle.std.specs.Prelude.{◌≡◌, ◌⊎◌, ◌||◌, Bool, true, false, IsTrue, ℕ, List, Option, codes, map}
+use Rattle.std.specs.Borrow.{Bor}
 use Rattle.std.specs.Option.{option_map_or}
 use Rattle.std.specs.Str.{IsUtf8}
-use Rattle.std.specs.Str.Lines.{lines}
 use Rattle.std.specs.declared.io.Error.{Error}
 use Rattle.clap.specs.declared.error.kind.ErrorKind.{ErrorKind}
 use Rattle.clap.specs.declared.error.kind.ErrorKind.TheVariants.{DisplayHelp, DisplayVersion}
 use Rattle.filterset_answers.specs.Answers.{FormatsTexts}
 use Rattle.filterset_answers.specs.Checked.{TextRow}
 use Rattle.filterset_answers.specs.Endings.{ending_of}
-use Rattle.filterset_answers.specs.Entries.{numbered_rows}
+use Rattle.filterset_answers.specs.Entries.{line_rows, numbered_rows}
 use Rattle.filterset_answers.specs.declared.text.Ending.{Ending}
 use Rattle.filterset_answers.specs.declared.text.Ending.TheVariants.{Fine}
 use Rattle.filterset_drawing.specs.Columns.{Text}
+use Rattle.filterset_drawing.specs.declared.source.Source.{Source}
 use Rattle.filterset_faults.specs.declared.kind.FiltersetKind.{FiltersetKind}
 use Rattle.filterset_faults.specs.declared.kind.FiltersetKind.TheVariants as kinds
 use Rattle.filterset_io.specs.Runs.{AreLeft}
 use Rattle.filterset_io.specs.declared.fault.RunFault.TheVariants.{Read}
 use Rattle.filterset_command.specs.Asking.{AnswersAsked, IsAskedFault}
 use Rattle.filterset_command.specs.Checking.{AnswersCheck, IsCheckFault}
-use Rattle.filterset_command.specs.Files.{is_input}
+use Rattle.filterset_command.specs.Files.{input_name, is_input}
 use Rattle.filterset_command.specs.declared.fault.CommandFault.{CommandFault}
 use Rattle.filterset_command.specs.declared.fault.CommandFault.TheVariants.{NotText, Run}
 use Rattle.filterset_command.specs.declared.request.Request.{Request}
@@ -43,10 +44,14 @@ takes_input (Show text) = false
 abbrev pub IsInput : Request → Option Text → Text → Type 0
 IsInput request left input = takes_input request ≡ true → AreLeft left input
 
+-- standard input, which has this text, as a file in which faults are drawn
+abbrev pub IsInputFile : Text → Source → Type 0
+IsInputFile input file = (file.origin.now ≡ input_name) × (file.text.now ≡ input)
+
 -- the rows of the filtersets: the arguments, as `argument 2`, or the lines of standard input, as `line 7`
-abbrev pub rows_of : FiltersetKind → Texts → Text → List TextRow
-rows_of kind (Given texts) input = numbered_rows (codes "argument") kind (map (λ t. t.now) texts.now)
-rows_of kind StandardInput input = numbered_rows (codes "line") kind (lines input)
+abbrev pub rows_of : FiltersetKind → Texts → Bor Source → List TextRow
+rows_of kind (Given texts) file = numbered_rows (codes "argument") kind (map (λ t. t.now) texts.now)
+rows_of kind StandardInput file = line_rows file kind
 
 -- the words of the command line ask for the help or the version
 abbrev pub IsShown : ErrorKind → Type 0
@@ -54,9 +59,10 @@ IsShown kind = (kind ≡ DisplayHelp) ⊎ (kind ≡ DisplayVersion)
 
 -- the answer to a request, and how the command ends, where files have these contents and standard input has this text
 abbrev pub Answers : (Text → Option Text) → Text → Request → Ending → Text → Type 0
-Answers content input (Check kind form texts paths) = AnswersCheck content input form paths (rows_of kind texts input)
-Answers content input (Format form texts) = λ ending text. (faulty : ℕ)
-    × FormatsTexts form (rows_of kinds.Test texts input) faulty text × (ending ≡ ending_of faulty)
+Answers content input (Check kind form texts paths) = λ ending text. (file : Bor Source) × IsInputFile input file.now
+    × AnswersCheck content input form paths (rows_of kind texts file) ending text
+Answers content input (Format form texts) = λ ending text. (file : Bor Source) × (faulty : ℕ) × IsInputFile input file.now
+    × FormatsTexts form (rows_of kinds.Test texts file) faulty text × (ending ≡ ending_of faulty)
 Answers content input (Ask asked) = AnswersAsked content input asked
 Answers content input (Show shown) = λ ending text. (ending ≡ Fine) × (text ≡ shown.now)
 

@@ -1,19 +1,17 @@
 //! The answers to requests.
-ghost use Rattle.std.specs.Prelude.{◌≡◌, IfErr, IfOk, OnOk, map, string_bytes, true};
-ghost use Rattle.filterset_answers.specs.Checked.{text_row};
+ghost use Rattle.std.specs.Prelude.{◌≡◌, IfErr, IfOk, OnOk, string_bytes, true};
 ghost use Rattle.filterset_command.specs.Files.{OrMemory};
-ghost use Rattle.filterset_command.specs.Requests.{Answers, Faults, IsAnswered, IsFaultOf, IsInput, IsInputFault, rows_of, takes_input};
+ghost use Rattle.filterset_command.specs.Requests.{Answers, Faults, IsAnswered, IsFaultOf, IsInput, IsInputFault, takes_input};
 
 use crate::asking::ask;
-use crate::checking::check_texts;
 use crate::fault::CommandFault;
 use crate::files::FileSource;
 use crate::input::read_input;
-use crate::request::{Request, Texts};
-use filterset_answers::{Answer, Ending, TextEntry, format_texts, given_entries, line_entries};
+use crate::request::Request;
+use crate::texts::{check_given, format_given, input_file};
+use filterset_answers::{Answer, Ending};
 use filterset_io::Source;
-use nextest_filtering::FiltersetKind;
-use std::alloc::{AllocError, Global};
+use std::alloc::Global;
 
 /// Answers a request. It may read standard input and files.
 pub fn answer<F: FileSource, R: Source>(
@@ -68,32 +66,17 @@ fn answer_with<F: FileSource>(
             texts,
             paths,
         } => {
-            let given = entries_of(alloc, *kind, texts, input)?;
-            check_texts(alloc, files, input, *form, paths, given)
+            let file = input_file(alloc, input)?;
+            check_given(alloc, files, input, *form, paths, *kind, texts, &file)
         }
         Request::Format { form, texts } => {
-            let entries = entries_of(alloc, FiltersetKind::Test, texts, input)?;
-            Ok(format_texts(alloc, *form, entries.as_slice())?)
+            let file = input_file(alloc, input)?;
+            Ok(format_given(alloc, *form, texts, &file)?)
         }
         Request::Ask(asked) => ask(alloc, files, input, asked),
         Request::Show(text) => Ok(Answer {
             text: String::from_str(alloc, text)?,
             ending: Ending::Fine,
         }),
-    }
-}
-
-/// Makes the entries of the filtersets: the arguments, or the lines of standard input, which has the text `input`.
-fn entries_of<'t>(
-    alloc: Global,
-    kind: FiltersetKind,
-    texts: &Texts<'t>,
-    input: &'t str,
-) -> Result<Vec<TextEntry<'t>>, AllocError>
-    ensures { IfOk result (λ entries. map text_row entries.items ≡ rows_of kind texts.now input.now) }
-{
-    match texts {
-        Texts::Given(texts) => given_entries(alloc, "argument", kind, texts),
-        Texts::StandardInput => line_entries(alloc, kind, input),
     }
 }

@@ -2,7 +2,7 @@
 ghost use Rattle.std.specs.Prelude.{◌≡◌, ◌≢◌, alloc_error};
 ghost use Rattle.filterset_command.specs.Files.{IsFaultAt, OrMemory, name_of};
 
-use crate::input::is_input;
+use crate::input::{INPUT_NAME, is_input};
 use clap::Error;
 use filterset_io::RunFault;
 use filterset_profiles::LineageFault;
@@ -31,7 +31,7 @@ impl FileRole {
         ensures { result.now ≡ name_of self path.now }
     {
         match self {
-            FileRole::Configuration if is_input(path) => "standard input",
+            FileRole::Configuration if is_input(path) => INPUT_NAME,
             _ => path,
         }
     }
@@ -219,8 +219,9 @@ impl fmt::Display for CommandFault {
             CommandFault::NoWords => f.write_str(
                 "error: the command line is not UTF-8\nhelp: write filtersets, paths and names in UTF-8",
             ),
-            CommandFault::NotText => f.write_str(
-                "error: standard input is not UTF-8\nhelp: `-` takes filtersets, one a line, or a configuration, in UTF-8",
+            CommandFault::NotText => write!(
+                f,
+                "error: {INPUT_NAME} is not UTF-8\nhelp: `-` takes filtersets, one a line, or a configuration, in UTF-8",
             ),
             CommandFault::TwoInputs => f.write_str(
                 "error: `-` stands for the filtersets and for the configuration\nhelp: give one of them as an argument or a file",

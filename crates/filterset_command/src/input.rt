@@ -8,6 +8,9 @@ use crate::fault::CommandFault;
 use filterset_io::{Source, read_all};
 use std::alloc::Global;
 
+/// What faults call standard input.
+pub const INPUT_NAME: &str = "standard input";
+
 /// Returns whether a path of the configuration stands for standard input.
 pub fn is_input(path: &str) -> bool
     ensures { result ≡ is_input path.now }

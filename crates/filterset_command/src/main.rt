@@ -17,6 +17,7 @@ mod profile;
 mod profiled;
 mod request;
 mod run;
+mod texts;
 mod workspace;
 
 use command_line::CommandLine;

@@ -1,16 +1,47 @@
-use Rattle.std.proofs.Common.{◌≡◌, List, map, string_bytes, subst, sym}
+use Rattle.std.proofs.Common.{◌≡◌, ℕ, Option, string_bytes, subst, sym}
 use Rattle.std.proofs.lemmas.Result.{IfOk-weaker}
-use Rattle.filterset_answers.specs.Checked.{TextRow, text_row}
+use Rattle.std.specs.Borrow.{Bor}
+use Rattle.filterset_answers.specs.Answers.{FormatsTexts}
+use Rattle.filterset_answers.specs.Endings.{ending_of}
+use Rattle.filterset_answers.specs.declared.form.Form.{Form}
+use Rattle.filterset_answers.specs.declared.text.Ending.{Ending}
+use Rattle.filterset_drawing.specs.Columns.{Text}
+use Rattle.filterset_drawing.specs.declared.source.Source.{Source}
+use Rattle.filterset_faults.specs.declared.kind.FiltersetKind.{FiltersetKind}
+use Rattle.filterset_faults.specs.declared.kind.FiltersetKind.TheVariants as kinds
 use Rattle.filterset_command.specs.Checking.{AnswersCheck}
-use Rattle.filterset_command.specs.Requests.{Answers, rows_of}
+use Rattle.filterset_command.specs.Requests.{Answers, IsInputFile, rows_of}
+use Rattle.filterset_command.specs.declared.checking.CheckPaths.{CheckPaths}
+use Rattle.filterset_command.specs.declared.request.Request.{Request}
+use Rattle.filterset_command.specs.declared.request.Request.TheVariants.{Check, Format}
+use Rattle.filterset_command.specs.declared.request.Texts.{Texts}
 use Rattle.filterset_command.proofs.answering.answer_with.Goals as goal
 
-pub returns-in_ok-given-in-Check-clause-answered : goal.returns-in_ok-given-in-Check-clause-answered
-returns-in_ok-given-in-Check-clause-answered g c =
+-- the answer to a check is about standard input as this file
+checked : (content : Text → Option Text) (input : Text) (kind : FiltersetKind) (form : Form) (texts : Texts) (paths : CheckPaths) (file : Bor Source)
+    (ending : Ending) (text : Text) (request : Request) → request ≡ Check kind form texts paths → IsInputFile input file.now
+    → AnswersCheck content input form paths (rows_of kind texts file) ending text → Answers content input request ending text
+checked content input kind form texts paths file ending text request is named answers =
+    subst (λ r. Answers content input r ending text) (sym is) (file, named, answers)
+
+pub returns-in_ok-file-in-Check-clause-answered : goal.returns-in_ok-file-in-Check-clause-answered
+returns-in_ok-file-in-Check-clause-answered g c =
     let content = g.F.FileSource.content c.args.files.now in
-    let input = c.args.input.now in
-    let rows : map text_row c.in_ok-given-in-Check.given.items ≡ rows_of c.in-Check.kind c.in-Check.texts input = c.in_ok-given-in-Check.ensures in
-    IfOk-weaker c.check_texts.result _ _ (λ answer answers.
-    subst (λ request. Answers content input request answer.ending (string_bytes answer.text)) (sym c.in-Check.is)
-    (subst (λ (given : List TextRow). AnswersCheck content input c.in-Check.form c.in-Check.paths given answer.ending (string_bytes answer.text)) rows answers))
-    c.check_texts.ensures.answered
+    IfOk-weaker c.check_given.result _ _ (λ answer.
+    checked content c.args.input.now c.in-Check.kind c.in-Check.form c.in-Check.texts c.in-Check.paths _ answer.ending (string_bytes answer.text) c.args.request.now
+    c.in-Check.is c.in_ok-file-in-Check.ensures)
+    c.check_given.ensures.answered
+
+-- the answer to a request to format is about standard input as this file
+formatted : (content : Text → Option Text) (input : Text) (form : Form) (texts : Texts) (file : Bor Source)
+    (ending : Ending) (text : Text) (request : Request) → request ≡ Format form texts → IsInputFile input file.now
+    → ((faulty : ℕ) × FormatsTexts form (rows_of kinds.Test texts file) faulty text × (ending ≡ ending_of faulty))
+    → Answers content input request ending text
+formatted content input form texts file ending text request is named answers =
+    subst (λ r. Answers content input r ending text) (sym is) (file, answers.0, named, answers.1, answers.2)
+
+pub returns-in_ok-format_given-in-Format-clause-answered : goal.returns-in_ok-format_given-in-Format-clause-answered
+returns-in_ok-format_given-in-Format-clause-answered g c =
+    let answer = c.in_ok-format_given-in-Format.field-0 in
+    formatted (g.F.FileSource.content c.args.files.now) c.args.input.now c.in-Format.form c.in-Format.texts _ answer.ending (string_bytes answer.text) c.args.request.now
+    c.in-Format.is c.in_ok-file-in-Format.ensures c.in_ok-format_given-in-Format.ensures
