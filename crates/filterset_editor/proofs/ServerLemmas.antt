@@ -3,13 +3,13 @@ use Rattle.std.proofs.Common.{◌≡◌, List, Option, None, Some, sym, subst}
 use Rattle.std.specs.Option.{MatchOption}
 use Rattle.serde_json.specs.Data.{Data}
 use Rattle.filterset_editor.specs.Documents.{IsRevised, document_of, put_document}
-use Rattle.filterset_editor.specs.Machine.{Publishes}
+use Rattle.filterset_editor.specs.Machine.{Diagnosis, Publishes}
 use Rattle.filterset_editor.specs.Positions.{Text}
 use Rattle.filterset_editor.specs.declared.documents.Document.{Document}
 use Rattle.filterset_editor.specs.declared.documents.Revision.{Revision}
 use Rattle.filterset_editor.specs.declared.positions.Encoding.{Encoding}
 
-pub changed-is : (Has : Encoding → Text → Text → List Data → Type 0) (e : Encoding) (uri : Text) (revision : Revision)
+pub changed-is : (Has : Diagnosis) (e : Encoding) (uri : Text) (revision : Revision)
     (old new : List Document) (document revised : Document) (answer : Option Data) → document_of uri old ≡ Some document
     → IsRevised e document revision revised → Publishes Has e revised answer → new ≡ put_document revised old
     → MatchOption (document_of uri old) ((answer ≡ None) × (new ≡ old))

@@ -11,8 +11,8 @@ use Rattle.std.specs.declared.alloc.Global.{Global}
 use Rattle.std.specs.declared.alloc.AllocError.{AllocError}
 use Rattle.std.proofs.lemmas.List.{append-nil}
 use Rattle.filterset_editor.specs.Frames.{Bytes, IsFrame, IsTaken, framed}
-use Rattle.filterset_editor.specs.Machine.{State}
-use Rattle.filterset_editor.specs.Sessions.{AddsExchange, Advances, Diagnosis, Exchange, IsEnding, IsServing, Served, Session, Splits, Writes}
+use Rattle.filterset_editor.specs.Machine.{Diagnosis, State}
+use Rattle.filterset_editor.specs.Sessions.{AddsExchange, Advances, Exchange, IsEnding, IsServing, Served, Session, Splits, Writes}
 use Rattle.filterset_editor.specs.declared.ending.Ending.{Ending}
 use Rattle.filterset_editor.specs.declared.phase.Phase.TheVariants.{New}
 use Rattle.filterset_editor.specs.declared.session.Turn.{Turn}

@@ -8,6 +8,16 @@ use Rattle.filterset_editor.specs.declared.documents.Document.{Document}
 use Rattle.filterset_editor.specs.declared.documents.Revision.{Revision}
 use Rattle.filterset_editor.specs.declared.positions.Encoding.{Encoding}
 
+-- what answers about a document go by
+pub record DocumentRow : Type 0 where
+  pub uri : Text
+  pub language : Text
+  pub text : Text
+
+abbrev pub row_of : Document → DocumentRow
+row_of document =
+    record { uri = string_bytes document.uri; language = string_bytes document.language; text = string_bytes document.text }
+
 -- where the document of this address is
 abbrev pub place_of : Text → List Document → Option ℕ
 place_of uri documents = position (λ d. bytes_eq (string_bytes d.uri) uri) documents
@@ -33,5 +43,6 @@ without_document uri documents = without_at documents (place_of uri documents)
 -- the next version of a document: its text is the one that the changes give
 abbrev pub IsRevised : Encoding → Document → Revision → Document → Type 0
 IsRevised encoding old revision new =
-    (string_bytes new.uri ≡ string_bytes old.uri) × (new.version ≡ revision.version)
+    (string_bytes new.uri ≡ string_bytes old.uri) × (string_bytes new.language ≡ string_bytes old.language)
+    × (new.version ≡ revision.version)
     × AreChanged encoding (string_bytes old.text) revision.changes.items (string_bytes new.text)

@@ -3,7 +3,7 @@ use Rattle.std.specs.Prelude.{◌≡◌, ℤ, negsuc, Bool, true, false, List, O
 use Rattle.serde_json.specs.Data.{Data, null, number, unsigned, boolean, string, array, object, no_items, member, no_members}
 use Rattle.serde_json.specs.Find.{of_integer}
 use Rattle.serde_json.specs.View.{view, items_of}
-use Rattle.filterset_editor.specs.Documents.{IsRevised, document_of, put_document, without_document}
+use Rattle.filterset_editor.specs.Documents.{DocumentRow, IsRevised, document_of, put_document, row_of, without_document}
 use Rattle.filterset_editor.specs.Positions.{Text}
 use Rattle.filterset_editor.specs.declared.documents.Document.{Document}
 use Rattle.filterset_editor.specs.declared.message.Asked.{Asked}
@@ -88,14 +88,18 @@ cleared_data uri =
     (member (codes "method") (string (codes "textDocument/publishDiagnostics"))
     (member (codes "params") (object (member (codes "diagnostics") (array no_items) (member (codes "uri") (string uri) no_members))) no_members)))
 
--- the diagnostics that a document has, of which `Has` says which they are by its encoding, address and text
-abbrev pub Publishes : (Encoding → Text → Text → List Data → Type 0) → Encoding → Document → Option Data → Type 0
+-- which diagnostics documents have
+abbrev pub Diagnosis : Type 1
+Diagnosis = Encoding → DocumentRow → List Data → Type 0
+
+-- the diagnostics that a document has
+abbrev pub Publishes : Diagnosis → Encoding → Document → Option Data → Type 0
 Publishes Has encoding document answer =
-    (diagnostics : List Data) × Has encoding (string_bytes document.uri) (string_bytes document.text) diagnostics
+    (diagnostics : List Data) × Has encoding (row_of document) diagnostics
     × (answer ≡ Some (published_data (string_bytes document.uri) document.version diagnostics))
 
 -- what is answered to a notification about documents, and the documents behind it
-abbrev pub Notifies : (Encoding → Text → Text → List Data → Type 0) → Encoding → Notice → List Document → Option Data → List Document → Type 0
+abbrev pub Notifies : Diagnosis → Encoding → Notice → List Document → Option Data → List Document → Type 0
 Notifies Has encoding (Opened document) old answer new =
     Publishes Has encoding document answer × (new ≡ put_document document old)
 Notifies Has encoding (Changed revision) old answer new =
@@ -126,12 +130,12 @@ phase_ended (Over in_order) = Over in_order
 phase_ended phase = Over (is_stopped phase)
 
 -- documents are kept while the session goes on
-abbrev pub Keeps : (Encoding → Text → Text → List Data → Type 0) → Phase → Notice → List Document → Option Data → List Document → Type 0
+abbrev pub Keeps : Diagnosis → Phase → Notice → List Document → Option Data → List Document → Type 0
 Keeps Has (Running encoding) notice old answer new = Notifies Has encoding notice old answer new
 Keeps Has phase notice old answer new = (answer ≡ None) × (new ≡ old)
 
 -- what is answered to a message, and the state behind it
-abbrev pub Answers : (Encoding → Text → Text → List Data → Type 0) → State → Incoming → Option Data → State → Type 0
+abbrev pub Answers : Diagnosis → State → Incoming → Option Data → State → Type 0
 Answers Has old (Request id asked) answer new =
     ((reply : Data) × Replies old.phase asked (view id) reply × (answer ≡ Some reply))
     × (new.phase ≡ phase_behind old.phase asked) × (new.documents ≡ old.documents)

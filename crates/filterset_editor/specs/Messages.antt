@@ -5,6 +5,7 @@ use Rattle.serde_json.specs.Data.{Data, Items, no_items, item}
 use Rattle.serde_json.specs.Find.{as_array, as_i64, as_number, as_str, as_u64, get, pointer}
 use Rattle.serde_json.specs.Read.{read}
 use Rattle.serde_json.specs.View.{view}
+use Rattle.filterset_editor.specs.Documents.{DocumentRow, row_of}
 use Rattle.filterset_editor.specs.Positions.{Text}
 use Rattle.filterset_editor.specs.declared.edits.Change.{Change}
 use Rattle.filterset_editor.specs.declared.message.Incoming.{Incoming}
@@ -67,13 +68,13 @@ changes_in (item d ds) = option_and_then (λ change. option_map (λ changes. cha
 -- what a notification says
 pub data Said : Type 0 where
   exits : Said
-  opens : Text → ℤ → Text → Said
+  opens : DocumentRow → ℤ → Said
   changes : Text → ℤ → List ChangeRow → Said
   closes : Text → Said
 
 abbrev pub said_of : Notice → Option Said
 said_of notices.Exit = Some exits
-said_of (notices.Opened document) = Some (opens (string_bytes document.uri) document.version (string_bytes document.text))
+said_of (notices.Opened document) = Some (opens (row_of document) document.version)
 said_of (notices.Changed revision) =
     Some (changes (string_bytes revision.uri) revision.version (map change_row revision.changes.items))
 said_of (notices.Closed uri) = Some (closes (string_bytes uri))
@@ -86,8 +87,9 @@ abbrev pub version_in : Data → Option ℤ
 version_in d = integer_at (codes "/params/textDocument/version") d
 
 abbrev pub opened_in : Data → Option Said
-opened_in d = option_and_then (λ uri. option_and_then (λ version. option_map (λ text. opens uri version text)
-    (text_at (codes "/params/textDocument/text") d)) (version_in d)) (uri_in d)
+opened_in d = option_and_then (λ uri. option_and_then (λ language. option_and_then (λ version. option_map (λ text.
+    opens (record { uri = uri; language = language; text = text }) version) (text_at (codes "/params/textDocument/text") d))
+    (version_in d)) (text_at (codes "/params/textDocument/languageId") d)) (uri_in d)
 
 abbrev pub changed_in : Data → Option Said
 changed_in d = option_and_then (λ uri. option_and_then (λ version. option_map (λ list. changes uri version list)

@@ -4,20 +4,14 @@ use Rattle.std.specs.Io.KnownBytes.{Appends, Consumes}
 use Rattle.serde_json.specs.Data.{Data}
 use Rattle.serde_json.specs.Written.{compact_text, has_float}
 use Rattle.filterset_editor.specs.Frames.{Bytes, IsFrame, IsMalformed, framed}
-use Rattle.filterset_editor.specs.Machine.{Answers, State}
+use Rattle.filterset_editor.specs.Machine.{Answers, Diagnosis, State}
 use Rattle.filterset_editor.specs.Messages.{IsIncoming}
-use Rattle.filterset_editor.specs.Positions.{Text}
 use Rattle.filterset_editor.specs.declared.ending.Ending.{Ending}
 use Rattle.filterset_editor.specs.declared.ending.Ending.TheVariants.{Exit, InputEnded, Malformed}
 use Rattle.filterset_editor.specs.declared.message.Incoming.{Incoming}
 use Rattle.filterset_editor.specs.declared.phase.Phase.TheVariants.{New, Over}
-use Rattle.filterset_editor.specs.declared.positions.Encoding.{Encoding}
 use Rattle.filterset_editor.specs.declared.session.Turn.{Turn}
 use Rattle.filterset_editor.specs.declared.session.Turn.TheVariants.{Answered, Waiting, Ended}
-
--- which diagnostics documents have
-abbrev pub Diagnosis : Type 1
-Diagnosis = Encoding → Text → Text → List Data → Type 0
 
 -- the stream is these messages, each in a frame, and then the rest
 abbrev pub Splits : Bytes → List Bytes → Bytes → Type 0

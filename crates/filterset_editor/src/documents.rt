@@ -12,6 +12,8 @@ use std::alloc::{AllocError, Global};
 #[derive(Debug, Drop)]
 pub struct Document {
     pub uri: String,
+    /// What the client says that the text is written in, as `toml`.
+    pub language: String,
     pub version: i64,
     pub text: String,
 }
@@ -96,6 +98,7 @@ pub fn revise_document(
     let text = change_text(alloc, encoding, document.text.as_str(), changes)?;
     Ok(Document {
         uri: String::from_str(alloc, document.uri.as_str())?,
+        language: String::from_str(alloc, document.language.as_str())?,
         version: revision.version,
         text,
     })

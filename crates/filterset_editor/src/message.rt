@@ -155,6 +155,9 @@ fn opened_in(alloc: Global, message: &Value) -> Result<Notice, AllocError>
     let Some(uri) = text_at(message, "/params/textDocument/uri") else {
         return Ok(Notice::Ignored);
     };
+    let Some(language) = text_at(message, "/params/textDocument/languageId") else {
+        return Ok(Notice::Ignored);
+    };
     let Some(version) = integer_at(message, "/params/textDocument/version") else {
         return Ok(Notice::Ignored);
     };
@@ -163,6 +166,7 @@ fn opened_in(alloc: Global, message: &Value) -> Result<Notice, AllocError>
     };
     Ok(Notice::Opened(Document {
         uri: String::from_str(alloc, uri)?,
+        language: String::from_str(alloc, language)?,
         version,
         text: String::from_str(alloc, text)?,
     }))

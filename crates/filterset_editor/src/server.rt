@@ -9,31 +9,12 @@ ghost use Rattle.filterset_editor.specs.Documents.{IsRevised, without_document};
 use crate::documents::{
     Document, Revision, document_of, put_document, remove_document, revise_document,
 };
+use crate::language::Language;
 use crate::message::{Asked, Incoming, Notice};
 use crate::phase::{Phase, phase_behind, phase_ended};
 use crate::positions::Encoding;
 use serde_json::{Value, json};
 use std::alloc::{AllocError, Global};
-
-/// What a server says of documents.
-pub trait Diagnose {
-    ghost use Rattle.std.specs.Prelude.{List, ℕ};
-    ghost use Rattle.serde_json.specs.Data.{Data};
-    ghost use Rattle.filterset_editor.specs.declared.positions.Encoding.{Encoding};
-
-    /// The diagnostics of the document of an address with this text, with ranges in this encoding.
-    ghost has: { Self → Encoding → List ℕ → List ℕ → List Data → Type 0 };
-
-    /// Makes the diagnostics of a document. Returns an error only if out of memory.
-    fn diagnose(
-        &self,
-        alloc: Global,
-        encoding: Encoding,
-        uri: &str,
-        text: &str,
-    ) -> Result<Vec<Value>, AllocError>
-        ensures { IfOk result (λ diagnostics. has self.now encoding uri.now text.now (map view diagnostics.items)) };
-}
 
 /// A server: how far its session has come, and the documents that are open.
 #[derive(Debug, Drop)]
@@ -165,68 +146,67 @@ fn cleared(alloc: Global, uri: &str) -> Result<Value, AllocError>
 }
 
 /// Makes the diagnostics of a document.
-fn publish<D: Diagnose>(
-    diagnose: &D,
+fn publish<L: Language>(
+    language: &L,
     alloc: Global,
     encoding: Encoding,
     document: &Document,
 ) -> Result<Value, AllocError>
-    ensures { IfOk result (λ value. Publishes (D.has diagnose.now) encoding document.now (Some (view value))) }
+    ensures { IfOk result (λ value. Publishes (L.has language.now) encoding document.now (Some (view value))) }
 {
-    let uri = document.uri.as_str();
-    let diagnostics = diagnose.diagnose(alloc, encoding, uri, document.text.as_str())?;
-    published(alloc, uri, document.version, diagnostics)
+    let diagnostics = language.diagnose(alloc, encoding, document)?;
+    published(alloc, document.uri.as_str(), document.version, diagnostics)
 }
 
 /// Makes the next version of a document that is open, and its diagnostics.
-fn revise<D: Diagnose>(
-    diagnose: &D,
+fn revise<L: Language>(
+    language: &L,
     alloc: Global,
     encoding: Encoding,
     document: &Document,
     revision: &Revision,
 ) -> Result<(Document, Value), AllocError>
     ensures revised { IfOk result (λ made. IsRevised encoding document.now revision.now made.0) }
-    ensures value { IfOk result (λ made. Publishes (D.has diagnose.now) encoding made.0 (Some (view made.1))) }
+    ensures value { IfOk result (λ made. Publishes (L.has language.now) encoding made.0 (Some (view made.1))) }
 {
     let revised = revise_document(alloc, encoding, document, revision)?;
-    let value = publish(diagnose, alloc, encoding, &revised)?;
+    let value = publish(language, alloc, encoding, &revised)?;
     Ok((revised, value))
 }
 
 /// Takes a document that is opened.
-fn open<D: Diagnose>(
+fn open<L: Language>(
     documents: &mut Vec<Document>,
-    diagnose: &D,
+    language: &L,
     alloc: Global,
     encoding: Encoding,
     document: Document,
 ) -> Result<Option<Value>, AllocError>
-    ensures ok { IfOk result (λ answer. Notifies (D.has diagnose.now) encoding (Notice.Opened document) documents.old.items
+    ensures ok { IfOk result (λ answer. Notifies (L.has language.now) encoding (Notice.Opened document) documents.old.items
         (option_map view answer) documents.new.items) }
     ensures err { OnErr result (documents.new.items ≡ documents.old.items) }
 {
-    let value = publish(diagnose, alloc, encoding, &document)?;
+    let value = publish(language, alloc, encoding, &document)?;
     put_document(documents, document)?;
     Ok(Some(value))
 }
 
 /// Takes changes of a document.
-fn change<D: Diagnose>(
+fn change<L: Language>(
     documents: &mut Vec<Document>,
-    diagnose: &D,
+    language: &L,
     alloc: Global,
     encoding: Encoding,
     revision: Revision,
 ) -> Result<Option<Value>, AllocError>
-    ensures ok { IfOk result (λ answer. Notifies (D.has diagnose.now) encoding (Notice.Changed revision) documents.old.items
+    ensures ok { IfOk result (λ answer. Notifies (L.has language.now) encoding (Notice.Changed revision) documents.old.items
         (option_map view answer) documents.new.items) }
     ensures err { OnErr result (documents.new.items ≡ documents.old.items) }
 {
     let Some(document) = document_of(documents.as_slice(), revision.uri.as_str()) else {
         return Ok(None);
     };
-    let (revised, value) = revise(diagnose, alloc, encoding, document, &revision)?;
+    let (revised, value) = revise(language, alloc, encoding, document, &revision)?;
     put_document(documents, revised)?;
     Ok(Some(value))
 }
@@ -247,39 +227,39 @@ fn close(
 }
 
 /// Answers a notification about documents while the session goes on.
-fn notify<D: Diagnose>(
+fn notify<L: Language>(
     documents: &mut Vec<Document>,
-    diagnose: &D,
+    language: &L,
     alloc: Global,
     encoding: Encoding,
     notice: Notice,
 ) -> Result<Option<Value>, AllocError>
-    ensures ok { IfOk result (λ answer. Notifies (D.has diagnose.now) encoding notice documents.old.items
+    ensures ok { IfOk result (λ answer. Notifies (L.has language.now) encoding notice documents.old.items
         (option_map view answer) documents.new.items) }
     ensures err { OnErr result (documents.new.items ≡ documents.old.items) }
 {
     match notice {
-        Notice::Opened(document) => open(documents, diagnose, alloc, encoding, document),
-        Notice::Changed(revision) => change(documents, diagnose, alloc, encoding, revision),
+        Notice::Opened(document) => open(documents, language, alloc, encoding, document),
+        Notice::Changed(revision) => change(documents, language, alloc, encoding, revision),
         Notice::Closed(uri) => close(documents, alloc, uri),
         Notice::Exit | Notice::Ignored => Ok(None),
     }
 }
 
 /// Answers a notification that does not end the session.
-fn keep<D: Diagnose>(
+fn keep<L: Language>(
     documents: &mut Vec<Document>,
-    diagnose: &D,
+    language: &L,
     alloc: Global,
     phase: Phase,
     notice: Notice,
 ) -> Result<Option<Value>, AllocError>
-    ensures ok { IfOk result (λ answer. Keeps (D.has diagnose.now) phase notice documents.old.items
+    ensures ok { IfOk result (λ answer. Keeps (L.has language.now) phase notice documents.old.items
         (option_map view answer) documents.new.items) }
     ensures err { OnErr result (documents.new.items ≡ documents.old.items) }
 {
     match phase {
-        Phase::Running(encoding) => notify(documents, diagnose, alloc, encoding, notice),
+        Phase::Running(encoding) => notify(documents, language, alloc, encoding, notice),
         Phase::New | Phase::Stopped | Phase::Over { .. } => Ok(None),
     }
 }
@@ -297,13 +277,13 @@ impl Server {
     }
 
     /// Answers a notification, if there is an answer.
-    fn take<D: Diagnose>(
+    fn take<L: Language>(
         &mut self,
-        diagnose: &D,
+        language: &L,
         alloc: Global,
         notice: Notice,
     ) -> Result<Option<Value>, AllocError>
-        ensures ok { IfOk result (λ answer. Answers (D.has diagnose.now) (state_of self.old) (Incoming.Notification notice)
+        ensures ok { IfOk result (λ answer. Answers (L.has language.now) (state_of self.old) (Incoming.Notification notice)
             (option_map view answer) (state_of self.new)) }
         ensures err { OnErr result (state_of self.new ≡ state_of self.old) }
     {
@@ -312,18 +292,18 @@ impl Server {
                 self.phase = phase_ended(self.phase);
                 Ok(None)
             }
-            notice => keep(&mut self.documents, diagnose, alloc, self.phase, notice),
+            notice => keep(&mut self.documents, language, alloc, self.phase, notice),
         }
     }
 
     /// Answers a message, if there is an answer. Returns an error only if out of memory, and then nothing changed.
-    pub fn answer<D: Diagnose>(
+    pub fn answer<L: Language>(
         &mut self,
-        diagnose: &D,
+        language: &L,
         alloc: Global,
         incoming: Incoming,
     ) -> Result<Option<Value>, AllocError>
-        ensures ok { IfOk result (λ answer. Answers (D.has diagnose.now) (state_of self.old) incoming (option_map view answer)
+        ensures ok { IfOk result (λ answer. Answers (L.has language.now) (state_of self.old) incoming (option_map view answer)
             (state_of self.new)) }
         ensures err { OnErr result (state_of self.new ≡ state_of self.old) }
     {
@@ -333,7 +313,7 @@ impl Server {
                 self.phase = phase_behind(self.phase, asked);
                 Ok(Some(value))
             }
-            Incoming::Notification(notice) => self.take(diagnose, alloc, notice),
+            Incoming::Notification(notice) => self.take(language, alloc, notice),
             Incoming::Response => Ok(None),
             Incoming::NotJson => Ok(Some(error(alloc, Value::Null, PARSE_ERROR, "not JSON")?)),
             Incoming::NotMessage => Ok(Some(error(

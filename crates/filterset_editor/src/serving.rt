@@ -6,7 +6,7 @@ ghost use Rattle.filterset_editor.specs.Machine.{state_of};
 ghost use Rattle.filterset_editor.specs.Sessions.{Advances, IsEnding, Served};
 
 use crate::ending::Ending;
-use crate::server::Diagnose;
+use crate::language::Language;
 use crate::session::Session;
 use filterset_io::{RunFault, Sink, Source, write_all};
 use std::alloc::Global;
@@ -15,33 +15,33 @@ use std::alloc::Global;
 const PIECE: usize = 16 * 1024;
 
 /// Takes a piece of the stream, and writes what is written for the messages that have come whole.
-fn step<D: Diagnose, W: Sink>(
+fn step<L: Language, W: Sink>(
     session: &mut Session,
-    diagnose: &D,
+    language: &L,
     alloc: Global,
     piece: &[u8],
     output: &mut W,
 ) -> Result<Option<Ending>, RunFault>
-    ensures advances { IfOk result (λ _. (written : Bytes) × Advances (D.has diagnose.now) (state_of session.old.server)
+    ensures advances { IfOk result (λ _. (written : Bytes) × Advances (L.has language.now) (state_of session.old.server)
         (session.old.frames.waiting.items ++ piece.now) [] (state_of session.new.server) session.new.frames.waiting.items written
         × Appends (W.taken output.old) (W.taken output.new) written) }
     ensures ends { IfOk result (λ ended. IfSome ended (λ ending.
         IsEnding ending (state_of session.new.server) session.new.frames.waiting.items)) }
 {
     let mut written = String::new(alloc);
-    let ended = session.advance(diagnose, alloc, piece, &mut written)?;
+    let ended = session.advance(language, alloc, piece, &mut written)?;
     write_all(output, written.as_bytes())?;
     Ok(ended)
 }
 
 /// Answers the messages of a client until the session ends. Fails if a read or a write fails, or out of memory.
-pub fn serve<D: Diagnose, R: Source, W: Sink>(
-    diagnose: &D,
+pub fn serve<L: Language, R: Source, W: Sink>(
+    language: &L,
     alloc: Global,
     input: &mut R,
     output: &mut W,
 ) -> Result<Ending, RunFault>
-    ensures { IfOk result (Served (D.has diagnose.now) (R.left input.old) (R.left input.new) (W.taken output.old)
+    ensures { IfOk result (Served (L.has language.now) (R.left input.old) (R.left input.new) (W.taken output.old)
         (W.taken output.new)) }
 {
     let mut session = Session::new(alloc);
@@ -53,7 +53,7 @@ pub fn serve<D: Diagnose, R: Source, W: Sink>(
         if count == 0 {
             return Ok(Ending::InputEnded);
         }
-        if let Some(ending) = step(&mut session, diagnose, alloc, &piece[..count], output)? {
+        if let Some(ending) = step(&mut session, language, alloc, &piece[..count], output)? {
             return Ok(ending);
         }
     }

@@ -7,9 +7,10 @@ ghost use Rattle.filterset_editor.specs.Sessions.{AddsExchange, Advances, Exchan
 
 use crate::ending::Ending;
 use crate::frames::{FrameFault, Frames, push_frame};
+use crate::language::Language;
 use crate::message::read_message;
 use crate::phase::Phase;
-use crate::server::{Diagnose, Server};
+use crate::server::Server;
 use serde_json::Value;
 use std::alloc::{AllocError, Global};
 
@@ -36,17 +37,17 @@ fn frame_of(alloc: Global, answer: Option<Value>) -> Result<String, AllocError>
 }
 
 /// Answers a message, and makes what is written for it.
-fn exchange<D: Diagnose>(
+fn exchange<L: Language>(
     server: &mut Server,
-    diagnose: &D,
+    language: &L,
     alloc: Global,
     message: &[u8],
 ) -> Result<String, AllocError>
-    ensures { IfOk result (λ written. Exchange (D.has diagnose.now) (state_of server.old) message.now
+    ensures { IfOk result (λ written. Exchange (L.has language.now) (state_of server.old) message.now
         (string_bytes written) (state_of server.new)) }
 {
     let incoming = read_message(alloc, message)?;
-    let answer = server.answer(diagnose, alloc, incoming)?;
+    let answer = server.answer(language, alloc, incoming)?;
     frame_of(alloc, answer)
 }
 
@@ -71,18 +72,18 @@ enum Turn {
 }
 
 /// Answers a message, and adds what is written for it.
-fn answer_message<D: Diagnose>(
+fn answer_message<L: Language>(
     server: &mut Server,
-    diagnose: &D,
+    language: &L,
     alloc: Global,
     message: &[u8],
     output: &mut String,
 ) -> Result<Turn, AllocError>
-    ensures written { OnOk result (AddsExchange (D.has diagnose.now) (state_of server.old) message.now
+    ensures written { OnOk result (AddsExchange (L.has language.now) (state_of server.old) message.now
         (string_bytes output.old) (state_of server.new) (string_bytes output.new)) }
     ensures ends { IfOk result (λ turn. (rest : Bytes) → IsTurn (state_of server.new) rest turn) }
 {
-    let written = exchange(server, diagnose, alloc, message)?;
+    let written = exchange(server, language, alloc, message)?;
     output.push_str(written.as_str())?;
     match ending_of(server) {
         Some(ending) => Ok(Turn::Ended(ending)),
@@ -91,20 +92,20 @@ fn answer_message<D: Diagnose>(
 }
 
 /// Answers the next message, if it has come whole, and adds what is written for it.
-fn take_turn<D: Diagnose>(
+fn take_turn<L: Language>(
     server: &mut Server,
     frames: &mut Frames,
-    diagnose: &D,
+    language: &L,
     alloc: Global,
     output: &mut String,
 ) -> Result<Turn, AllocError>
-    ensures advances { OnOk result (Advances (D.has diagnose.now) (state_of server.old) frames.old.waiting.items
+    ensures advances { OnOk result (Advances (L.has language.now) (state_of server.old) frames.old.waiting.items
         (string_bytes output.old) (state_of server.new) frames.new.waiting.items (string_bytes output.new)) }
     ensures ends { IfOk result (IsTurn (state_of server.new) frames.new.waiting.items) }
 {
     match frames.take(alloc) {
         Ok(taken) => match taken {
-            Some(message) => answer_message(server, diagnose, alloc, message.as_slice(), output),
+            Some(message) => answer_message(server, language, alloc, message.as_slice(), output),
             None => Ok(Turn::Waiting),
         },
         Err(FrameFault::Malformed) => Ok(Turn::Ended(Ending::Malformed)),
@@ -113,20 +114,20 @@ fn take_turn<D: Diagnose>(
 }
 
 /// Answers the messages that have come whole, and adds what is written for them.
-fn answer_waiting<D: Diagnose>(
+fn answer_waiting<L: Language>(
     server: &mut Server,
     frames: &mut Frames,
-    diagnose: &D,
+    language: &L,
     alloc: Global,
     output: &mut String,
 ) -> Result<Option<Ending>, AllocError>
-    ensures advances { OnOk result (Advances (D.has diagnose.now) (state_of server.old) frames.old.waiting.items
+    ensures advances { OnOk result (Advances (L.has language.now) (state_of server.old) frames.old.waiting.items
         (string_bytes output.old) (state_of server.new) frames.new.waiting.items (string_bytes output.new)) }
     ensures ends { IfOk result (λ ended. IfSome ended (λ ending.
         IsEnding ending (state_of server.new) frames.new.waiting.items)) }
 {
     for _turn in 0..u64::MAX {
-        match take_turn(server, frames, diagnose, alloc, output)? {
+        match take_turn(server, frames, language, alloc, output)? {
             Turn::Answered => {}
             Turn::Waiting => return Ok(None),
             Turn::Ended(ending) => return Ok(Some(ending)),
@@ -148,20 +149,20 @@ impl Session {
     }
 
     /// Takes more of the stream, and adds what is written for the messages that have come whole.
-    pub fn advance<D: Diagnose>(
+    pub fn advance<L: Language>(
         &mut self,
-        diagnose: &D,
+        language: &L,
         alloc: Global,
         piece: &[u8],
         output: &mut String,
     ) -> Result<Option<Ending>, AllocError>
-        ensures advances { OnOk result (Advances (D.has diagnose.now) (state_of self.old.server)
+        ensures advances { OnOk result (Advances (L.has language.now) (state_of self.old.server)
             (self.old.frames.waiting.items ++ piece.now) (string_bytes output.old) (state_of self.new.server)
             self.new.frames.waiting.items (string_bytes output.new)) }
         ensures ends { IfOk result (λ ended. IfSome ended (λ ending.
             IsEnding ending (state_of self.new.server) self.new.frames.waiting.items)) }
     {
         self.frames.feed(piece)?;
-        answer_waiting(&mut self.server, &mut self.frames, diagnose, alloc, output)
+        answer_waiting(&mut self.server, &mut self.frames, language, alloc, output)
     }
 }

@@ -1,5 +1,5 @@
 //! Sessions of a language server as data: what it writes for what a client wrote, however the stream is cut.
-use filterset_editor::{Diagnose, Encoding, Session, push_frame};
+use filterset_editor::{Document, Encoding, Inquiry, Language, Session, push_frame};
 use serde_json::Value;
 use std::alloc::{AllocError, Global};
 use std::test::Fail;
@@ -7,19 +7,30 @@ use std::test::Fail;
 /// Says of a document what its text is.
 struct Echo;
 
-impl Diagnose for Echo {
-    ghost has = { λ _ _ _ _ _. Unit {0} };
+impl Language for Echo {
+    ghost has = { λ _ _ _ _. Unit {0} };
+
+    ghost gives = { λ _ _ _ _ _. Unit {0} };
 
     fn diagnose(
         &self,
         alloc: Global,
         _encoding: Encoding,
-        _uri: &str,
-        text: &str,
+        document: &Document,
     ) -> Result<Vec<Value>, AllocError> {
         let mut diagnostics = Vec::new(alloc);
-        diagnostics.push(Value::String(String::from_str(alloc, text)?))?;
+        diagnostics.push(Value::String(String::from_str(alloc, document.text.as_str())?))?;
         Ok(diagnostics)
+    }
+
+    fn respond(
+        &self,
+        _alloc: Global,
+        _encoding: Encoding,
+        _document: &Document,
+        _inquiry: Inquiry,
+    ) -> Result<Value, AllocError> {
+        Ok(Value::Null)
     }
 }
 
@@ -47,7 +58,7 @@ const MESSAGES: [&str; 12] = [
     r#"{"id":1,"method":"shutdown"}"#,
     r#"{"id":2,"method":"initialize","params":{"capabilities":{"general":{"positionEncodings":["utf-7","utf-32","utf-8"]}}}}"#,
     r#"{"method":"initialized","params":{}}"#,
-    r#"{"method":"textDocument/didOpen","params":{"textDocument":{"uri":"a","version":1,"text":"\u00e9\ud83d\ude00x\r\nb"}}}"#,
+    r#"{"method":"textDocument/didOpen","params":{"textDocument":{"uri":"a","languageId":"t","version":1,"text":"\u00e9\ud83d\ude00x\r\nb"}}}"#,
     r#"{"method":"textDocument/didChange","params":{"textDocument":{"uri":"a","version":2},"contentChanges":[{"range":{"start":{"line":0,"character":2},"end":{"line":0,"character":9}},"text":"y"},{"range":{"start":{"line":1,"character":0},"end":{"line":1,"character":0}},"text":"z"}]}}"#,
     r#"{"method":"textDocument/didChange","params":{"textDocument":{"uri":"a","version":3},"contentChanges":[{"text":"w"}]}}"#,
     r#"{"id":"three","method":"textDocument/hover"}"#,

@@ -4,5 +4,5 @@ use Rattle.filterset_editor.proofs.serving.serve.Given as goal
 
 abbrev pub invariant-loop-piece : goal.invariant-loop-piece
 invariant-loop-piece g l =
-    IsServing (g.D.Diagnose.has l.diagnose) (g.R.Source.left l.initial.input) (g.R.Source.left l.input) (g.W.Sink.taken l.initial.output) (g.W.Sink.taken l.output)
+    IsServing (g.L.Language.has l.language) (g.R.Source.left l.initial.input) (g.R.Source.left l.input) (g.W.Sink.taken l.initial.output) (g.W.Sink.taken l.output)
     (state_of l.session.server) l.session.frames.waiting.items

@@ -5,4 +5,4 @@ use Rattle.filterset_editor.proofs.session.answer_waiting.Given as goal
 
 abbrev pub invariant-loop-turn : goal.invariant-loop-turn
 invariant-loop-turn g l =
-    Advances (g.D.Diagnose.has l.diagnose) (state_of l.fn.server) l.fn.frames.waiting.items (string_bytes l.fn.output) (state_of l.server) l.frames.waiting.items (string_bytes l.output)
+    Advances (g.L.Language.has l.language) (state_of l.fn.server) l.fn.frames.waiting.items (string_bytes l.fn.output) (state_of l.server) l.frames.waiting.items (string_bytes l.output)

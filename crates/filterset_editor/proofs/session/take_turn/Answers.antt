@@ -6,7 +6,7 @@ use Rattle.filterset_editor.proofs.session.take_turn.Goals as goal
 
 pub returns-in-Some-clause-advances : goal.returns-in-Some-clause-advances
 returns-in-Some-clause-advances g c =
-    Advances-taken (g.D.Diagnose.has c.args.diagnose.now) c.answer_message.result (state_of c.args.server.now) (state_of c.answer_message.new.server) c.args.frames.now.waiting.items
+    Advances-taken (g.L.Language.has c.args.language.now) c.answer_message.result (state_of c.args.server.now) (state_of c.answer_message.new.server) c.args.frames.now.waiting.items
     (string_bytes c.args.output.now) c.take.new.self.waiting.items (string_bytes c.answer_message.new.output) c.as_slice.result.now c.in-Ok.taken
     c.in-Some.message c.in-Ok.ensures.taken c.in-Some.is c.as_slice.ensures.value c.answer_message.ensures.written
 
