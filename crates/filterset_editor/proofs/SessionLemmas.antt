@@ -11,7 +11,7 @@ use Rattle.std.specs.declared.alloc.Global.{Global}
 use Rattle.std.specs.declared.alloc.AllocError.{AllocError}
 use Rattle.std.proofs.lemmas.List.{append-nil}
 use Rattle.filterset_editor.specs.Frames.{Bytes, IsFrame, IsTaken, framed}
-use Rattle.filterset_editor.specs.Machine.{Diagnosis, State}
+use Rattle.filterset_editor.specs.Machine.{Says, State}
 use Rattle.filterset_editor.specs.Sessions.{AddsExchange, Advances, Exchange, IsEnding, IsServing, Served, Session, Splits, Writes}
 use Rattle.filterset_editor.specs.declared.ending.Ending.{Ending}
 use Rattle.filterset_editor.specs.declared.phase.Phase.TheVariants.{New}
@@ -44,66 +44,66 @@ Consumes-then (Some xs) (Some ys) None front more h k = absurd k
 Consumes-then (Some xs) (Some ys) (Some zs) front more h k = h ∙ ap (λ bs. front ++ bs) k ∙ sym (append_assoc front more zs)
 
 -- messages, and then more messages
-pub Session-then : (Has : Diagnosis) (messages others : List Bytes) (old mid new : State) (written more : Bytes) → Session Has old messages written mid
-    → Session Has mid others more new → Session Has old (messages ++ others) (written ++ more) new
-Session-then Has [] others old mid new written more h k =
-    let P : State → Type 0 = λ p. Session Has p others more new in
-    let Q : Bytes → Type 0 = λ w. Session Has old others (w ++ more) new in
+pub Session-then : (S : Says) (messages others : List Bytes) (old mid new : State) (written more : Bytes) → Session S old messages written mid
+    → Session S mid others more new → Session S old (messages ++ others) (written ++ more) new
+Session-then S [] others old mid new written more h k =
+    let P : State → Type 0 = λ p. Session S p others more new in
+    let Q : Bytes → Type 0 = λ w. Session S old others (w ++ more) new in
     subst Q (sym h.0) (subst P h.1 k)
-Session-then Has (m ∷ ms) others old mid new written more (front, rest, next, is, first, later) k =
-    (front, rest ++ more, next, ap (λ w. w ++ more) is ∙ append_assoc front rest more, first, Session-then Has ms others next mid new rest more later k)
+Session-then S (m ∷ ms) others old mid new written more (front, rest, next, is, first, later) k =
+    (front, rest ++ more, next, ap (λ w. w ++ more) is ∙ append_assoc front rest more, first, Session-then S ms others next mid new rest more later k)
 
 -- nothing came, and nothing was written
-pub Advances-same : (Has : Diagnosis) (phase : State) (stream text rest grown : Bytes) → rest ≡ stream → grown ≡ text → Advances Has phase stream text phase rest grown
-Advances-same Has phase stream text rest grown e f = ([], [], sym e, (refl, refl), f ∙ sym (append-nil text))
+pub Advances-same : (S : Says) (phase : State) (stream text rest grown : Bytes) → rest ≡ stream → grown ≡ text → Advances S phase stream text phase rest grown
+Advances-same S phase stream text rest grown e f = ([], [], sym e, (refl, refl), f ∙ sym (append-nil text))
 
 -- one message was answered
-pub Advances-one : (Has : Diagnosis) (old new : State) (stream text rest grown message written : Bytes) → Exchange Has old message written new
-    → Splits stream (message ∷ []) rest → grown ≡ text ++ written → Advances Has old stream text new rest grown
-Advances-one Has old new stream text rest grown message written exchange splits e =
+pub Advances-one : (S : Says) (old new : State) (stream text rest grown message written : Bytes) → Exchange S old message written new
+    → Splits stream (message ∷ []) rest → grown ≡ text ++ written → Advances S old stream text new rest grown
+Advances-one S old new stream text rest grown message written exchange splits e =
     (message ∷ [], written, splits, (written, [], new, sym (append-nil written), exchange, (refl, refl)), e)
 
-pub Advances-then : (Has : Diagnosis) (old mid new : State) (stream text between grown rest more : Bytes) → Advances Has old stream text mid between grown
-    → Advances Has mid between grown new rest more → Advances Has old stream text new rest more
-Advances-then Has old mid new stream text between grown rest more (ms, w, splits, session, e) (ns, v, splits', session', f) = (
+pub Advances-then : (S : Says) (old mid new : State) (stream text between grown rest more : Bytes) → Advances S old stream text mid between grown
+    → Advances S mid between grown new rest more → Advances S old stream text new rest more
+Advances-then S old mid new stream text between grown rest more (ms, w, splits, session, e) (ns, v, splits', session', f) = (
   ms ++ ns,
   w ++ v,
   Splits-then ms ns stream between rest splits splits',
-  Session-then Has ms ns old mid new w v session session',
+  Session-then S ms ns old mid new w v session session',
   f ∙ ap (λ t. t ++ v) e ∙ append_assoc text w v,
 )
 
 -- a session serves on
-pub IsServing-step : (Has : Diagnosis) (left now later taken grown more : Option Bytes) (phase new : State) (waiting rest piece written : Bytes)
-    → IsServing Has left now taken grown phase waiting → Consumes now later piece
-    → Advances Has phase (waiting ++ piece) [] new rest written → Appends grown more written
-    → IsServing Has left later taken more new rest
-IsServing-step Has left now later taken grown more phase new waiting rest piece written (read, ms, w, consumed, splits, session, appended) consumes (ns, v, splits', session', e) appends =
+pub IsServing-step : (S : Says) (left now later taken grown more : Option Bytes) (phase new : State) (waiting rest piece written : Bytes)
+    → IsServing S left now taken grown phase waiting → Consumes now later piece
+    → Advances S phase (waiting ++ piece) [] new rest written → Appends grown more written
+    → IsServing S left later taken more new rest
+IsServing-step S left now later taken grown more phase new waiting rest piece written (read, ms, w, consumed, splits, session, appended) consumes (ns, v, splits', session', e) appends =
     let R : Bytes → Type 0 = λ t. Appends grown more t in (
       read ++ piece,
       ms ++ ns,
       w ++ v,
       Consumes-then left now later read piece consumed consumes,
       Splits-then ms ns (read ++ piece) (waiting ++ piece) rest (Splits-append ms read piece waiting splits) splits',
-      Session-then Has ms ns begun phase new w v session session',
+      Session-then S ms ns begun phase new w v session session',
       Appends-then taken grown more w v appended (subst R e appends),
     )
 
 -- the next message was answered
-pub Advances-taken : (Has : Diagnosis) (r : Result Turn AllocError) (old new : State) (stream text rest grown message : Bytes) (taken : Option (Vec ℕ Global)) (v : Vec ℕ Global)
+pub Advances-taken : (S : Says) (r : Result Turn AllocError) (old new : State) (stream text rest grown message : Bytes) (taken : Option (Vec ℕ Global)) (v : Vec ℕ Global)
     → IsTaken stream taken rest → taken ≡ Some v → message ≡ v.items
-    → OnOk r (AddsExchange Has old message text new grown) → OnOk r (Advances Has old stream text new rest grown)
-Advances-taken Has (Err e) old new stream text rest grown message taken v is some same adds = tt
-Advances-taken Has (Ok turn) old new stream text rest grown message taken v is some same (written, exchange, e) =
+    → OnOk r (AddsExchange S old message text new grown) → OnOk r (Advances S old stream text new rest grown)
+Advances-taken S (Err e) old new stream text rest grown message taken v is some same adds = tt
+Advances-taken S (Ok turn) old new stream text rest grown message taken v is some same (written, exchange, e) =
     let P : Option (Vec ℕ Global) → Type 0 = λ o. IsTaken stream o rest in
     let (frame, framed, is_front) = subst P some is in
     let Q : Bytes → Type 0 = λ m. IsFrame frame m in
-    Advances-one Has old new stream text rest grown message written exchange (frame, rest, subst Q (sym same) framed, is_front, refl) e
+    Advances-one S old new stream text rest grown message written exchange (frame, rest, subst Q (sym same) framed, is_front, refl) e
 
 -- a session that ends has served
-pub Served-ended : (Has : Diagnosis) (left now taken grown : Option Bytes) (phase : State) (rest : Bytes) (ending : Ending)
-    → IsServing Has left now taken grown phase rest → IsEnding ending phase rest → Served Has left now taken grown ending
-Served-ended Has left now taken grown phase rest ending (read, ms, w, consumed, splits, session, appended) ends =
+pub Served-ended : (S : Says) (left now taken grown : Option Bytes) (phase : State) (rest : Bytes) (ending : Ending)
+    → IsServing S left now taken grown phase rest → IsEnding ending phase rest → Served S left now taken grown ending
+Served-ended S left now taken grown phase rest ending (read, ms, w, consumed, splits, session, appended) ends =
     (read, ms, rest, w, phase, consumed, splits, session, appended, ends)
 
 -- an answer was written

@@ -2,7 +2,9 @@ pub mod Documents
 pub mod Edits
 pub mod Frames
 pub mod Heads
+pub mod Inquiries
 pub mod Machine
 pub mod Messages
 pub mod Positions
 pub mod Sessions
+pub mod Values

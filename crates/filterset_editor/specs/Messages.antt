@@ -2,45 +2,27 @@
 use Rattle.std.specs.Prelude.{◌≡◌, ℕ, ℤ, List, [], ◌∷◌, Option, None, Some, IsSome, IsUtf8, codes, map, option_and_then, option_map, string_bytes, unwrap_or, if◌then◌else◌}
 use Rattle.std.specs.Str.{bytes_eq}
 use Rattle.serde_json.specs.Data.{Data, Items, no_items, item}
-use Rattle.serde_json.specs.Find.{as_array, as_i64, as_number, as_str, as_u64, get, pointer}
+use Rattle.serde_json.specs.Find.{as_array, as_str, get, pointer}
 use Rattle.serde_json.specs.Read.{read}
 use Rattle.serde_json.specs.View.{view}
 use Rattle.filterset_editor.specs.Documents.{DocumentRow, row_of}
+use Rattle.filterset_editor.specs.Inquiries.{feature_named, inquiry_in}
 use Rattle.filterset_editor.specs.Positions.{Text}
+use Rattle.filterset_editor.specs.Values.{integer_at, range_in, text_at}
 use Rattle.filterset_editor.specs.declared.edits.Change.{Change}
 use Rattle.filterset_editor.specs.declared.message.Incoming.{Incoming}
 use Rattle.filterset_editor.specs.declared.message.Incoming.TheVariants.{Request, Notification, Response, NotJson, NotMessage}
 use Rattle.filterset_editor.specs.declared.message.Asked.{Asked}
-use Rattle.filterset_editor.specs.declared.message.Asked.TheVariants.{Initialize, Shutdown, Unknown}
+use Rattle.filterset_editor.specs.declared.message.Asked.TheVariants.{Initialize, Shutdown, About, Wrong, Unknown}
 use Rattle.filterset_editor.specs.declared.message.Notice.{Notice}
 use Rattle.filterset_editor.specs.declared.message.Notice.TheVariants as notices
+use Rattle.filterset_editor.specs.declared.inquiry.Feature.{Feature}
+use Rattle.filterset_editor.specs.declared.inquiry.Inquiry.{Inquiry}
 use Rattle.filterset_editor.specs.declared.positions.Encoding.{Encoding}
 use Rattle.filterset_editor.specs.declared.positions.Encoding.TheVariants.{Utf8, Utf16, Utf32}
-use Rattle.filterset_editor.specs.declared.positions.Position.{Position}
 use Rattle.filterset_editor.specs.declared.positions.Range.{Range}
 
--- the text at a path of keys, if it is one
-abbrev pub text_at : Text → Data → Option Text
-text_at path d = option_and_then as_str (pointer path d)
-
-abbrev pub natural_at : Text → Data → Option ℕ
-natural_at path d = option_and_then (λ e. option_and_then as_u64 (as_number e)) (pointer path d)
-
-abbrev pub integer_at : Text → Data → Option ℤ
-integer_at path d = option_and_then (λ e. option_and_then as_i64 (as_number e)) (pointer path d)
-
 -- ---- changes
-
-abbrev pub position_in : Data → Option Position
-position_in d = option_and_then (λ line. option_map (λ character. record { line = line; character = character })
-    (natural_at (codes "/character") d)) (natural_at (codes "/line") d)
-
-abbrev pub position_at : Text → Data → Option Position
-position_at path d = option_and_then position_in (pointer path d)
-
-abbrev pub range_in : Data → Option Range
-range_in d = option_and_then (λ start. option_map (λ end. record { start = start; end = end }) (position_at (codes "/end") d))
-    (position_at (codes "/start") d)
 
 -- a change as the protocol has it: the range that is replaced, if not all is, and the new text
 pub record ChangeRow : Type 0 where
@@ -122,11 +104,36 @@ abbrev pub encoding_in : Data → Encoding
 encoding_in d = unwrap_or (option_map first_known
     (option_and_then as_array (pointer (codes "/params/capabilities/general/positionEncodings") d))) Utf16
 
-abbrev pub asked_in : Text → Data → Asked
+-- what a request asks for
+pub data AskedRow : Type 0 where
+  begins : Encoding → AskedRow
+  shuts_down : AskedRow
+  asks_about : Text → Inquiry → AskedRow
+  is_wrong : Feature → AskedRow
+  is_unknown : AskedRow
+
+abbrev pub asked_row : Asked → AskedRow
+asked_row (Initialize encoding) = begins encoding
+asked_row Shutdown = shuts_down
+asked_row (About uri inquiry) = asks_about (string_bytes uri) inquiry
+asked_row (Wrong feature) = is_wrong feature
+asked_row Unknown = is_unknown
+
+-- a request for a feature asks about the document of an address
+abbrev pub about_in : Feature → Data → AskedRow
+about_in feature d = unwrap_or (option_and_then (λ uri. option_map (λ inquiry. asks_about uri inquiry) (inquiry_in feature d)) (uri_in d))
+    (is_wrong feature)
+
+-- what a request of a method that may be for a feature asks for
+abbrev pub featured_in : Text → Data → AskedRow
+featured_in method d = unwrap_or (option_map (λ feature. about_in feature d) (feature_named method)) is_unknown
+
+-- what the request of this method asks for
+abbrev pub asked_in : Text → Data → AskedRow
 asked_in method d =
-    if bytes_eq method (codes "initialize") then Initialize (encoding_in d)
-    else if bytes_eq method (codes "shutdown") then Shutdown
-    else Unknown
+    if bytes_eq method (codes "initialize") then begins (encoding_in d)
+    else if bytes_eq method (codes "shutdown") then shuts_down
+    else featured_in method d
 
 -- ---- messages
 
@@ -137,7 +144,7 @@ method_of d = option_and_then as_str (get (codes "method") d)
 -- it has an id.
 abbrev pub IsSaid : Data → Incoming → Type 0
 IsSaid d (Request id asked) =
-    (get (codes "id") d ≡ Some (view id)) × ((method : Text) × (method_of d ≡ Some method) × (asked ≡ asked_in method d))
+    (get (codes "id") d ≡ Some (view id)) × ((method : Text) × (method_of d ≡ Some method) × (asked_row asked ≡ asked_in method d))
 IsSaid d (Notification notice) =
     (get (codes "id") d ≡ None) × ((method : Text) × (method_of d ≡ Some method) × (said_of notice ≡ said_in method d))
 IsSaid d Response = (method_of d ≡ None) × IsSome (get (codes "id") d)

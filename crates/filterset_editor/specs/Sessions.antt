@@ -4,7 +4,7 @@ use Rattle.std.specs.Io.KnownBytes.{Appends, Consumes}
 use Rattle.serde_json.specs.Data.{Data}
 use Rattle.serde_json.specs.Written.{compact_text, has_float}
 use Rattle.filterset_editor.specs.Frames.{Bytes, IsFrame, IsMalformed, framed}
-use Rattle.filterset_editor.specs.Machine.{Answers, Diagnosis, State}
+use Rattle.filterset_editor.specs.Machine.{Answers, Says, State}
 use Rattle.filterset_editor.specs.Messages.{IsIncoming}
 use Rattle.filterset_editor.specs.declared.ending.Ending.{Ending}
 use Rattle.filterset_editor.specs.declared.ending.Ending.TheVariants.{Exit, InputEnded, Malformed}
@@ -25,16 +25,16 @@ Writes None written = written ≡ []
 Writes (Some d) written = (text : Bytes) × (has_float d ≡ false → text ≡ compact_text d) × (written ≡ framed text)
 
 -- what is written for a message, and the state behind it
-abbrev pub Exchange : Diagnosis → State → Bytes → Bytes → State → Type 0
-Exchange Has old message written new =
-    (incoming : Incoming) × (answer : Option Data) × IsIncoming message incoming × Answers Has old incoming answer new × Writes answer written
+abbrev pub Exchange : Says → State → Bytes → Bytes → State → Type 0
+Exchange S old message written new =
+    (incoming : Incoming) × (answer : Option Data) × IsIncoming message incoming × Answers S old incoming answer new × Writes answer written
 
 -- what is written for messages, one behind the other
-abbrev pub Session : Diagnosis → State → List Bytes → Bytes → State → Type 0
-Session Has old [] written new = (written ≡ []) × (new ≡ old)
-Session Has old (message ∷ messages) written new =
+abbrev pub Session : Says → State → List Bytes → Bytes → State → Type 0
+Session S old [] written new = (written ≡ []) × (new ≡ old)
+Session S old (message ∷ messages) written new =
     (front : Bytes) × (rest : Bytes) × (mid : State) × (written ≡ front ++ rest)
-    × Exchange Has old message front mid × Session Has mid messages rest new
+    × Exchange S old message front mid × Session S mid messages rest new
 
 -- how a session ends in a state, before this rest of its stream
 abbrev pub IsEnding : Ending → State → Bytes → Type 0
@@ -43,24 +43,24 @@ IsEnding InputEnded state rest = Unit {0}
 IsEnding Malformed state rest = IsMalformed rest
 
 -- What was read are messages and a rest; what was written is what is written for these messages, and so the session ends.
-abbrev pub Served : Diagnosis → Option Bytes → Option Bytes → Option Bytes → Option Bytes → Ending → Type 0
-Served Has left_old left_new taken_old taken_new ending =
+abbrev pub Served : Says → Option Bytes → Option Bytes → Option Bytes → Option Bytes → Ending → Type 0
+Served S left_old left_new taken_old taken_new ending =
     (read : Bytes) × (messages : List Bytes) × (rest : Bytes) × (written : Bytes) × (state : State)
     × Consumes left_old left_new read × Splits read messages rest
-    × Session Has (record { phase = New; documents = [] }) messages written state
+    × Session S (record { phase = New; documents = [] }) messages written state
     × Appends taken_old taken_new written × IsEnding ending state rest
 
 -- ---- a part of a session
 
 -- the text grew by what is written for a message
-abbrev pub AddsExchange : Diagnosis → State → Bytes → Bytes → State → Bytes → Type 0
-AddsExchange Has old message text new grown = (written : Bytes) × Exchange Has old message written new × (grown ≡ text ++ written)
+abbrev pub AddsExchange : Says → State → Bytes → Bytes → State → Bytes → Type 0
+AddsExchange S old message text new grown = (written : Bytes) × Exchange S old message written new × (grown ≡ text ++ written)
 
 -- from the one state to the other the messages of a stream were answered, up to this rest, and the text grew by what is
 -- written for them
-abbrev pub Advances : Diagnosis → State → Bytes → Bytes → State → Bytes → Bytes → Type 0
-Advances Has old stream text new rest grown =
-    (messages : List Bytes) × (written : Bytes) × Splits stream messages rest × Session Has old messages written new
+abbrev pub Advances : Says → State → Bytes → Bytes → State → Bytes → Bytes → Type 0
+Advances S old stream text new rest grown =
+    (messages : List Bytes) × (written : Bytes) × Splits stream messages rest × Session S old messages written new
     × (grown ≡ text ++ written)
 
 -- if a turn ends a session, it ends so
@@ -70,8 +70,8 @@ IsTurn state rest Waiting = Unit {0}
 IsTurn state rest (Ended ending) = IsEnding ending state rest
 
 -- what is served so far, while the session goes on
-abbrev pub IsServing : Diagnosis → Option Bytes → Option Bytes → Option Bytes → Option Bytes → State → Bytes → Type 0
-IsServing Has left_old left_new taken_old taken_new state rest =
+abbrev pub IsServing : Says → Option Bytes → Option Bytes → Option Bytes → Option Bytes → State → Bytes → Type 0
+IsServing S left_old left_new taken_old taken_new state rest =
     (read : Bytes) × (messages : List Bytes) × (written : Bytes)
     × Consumes left_old left_new read × Splits read messages rest
-    × Session Has (record { phase = New; documents = [] }) messages written state × Appends taken_old taken_new written
+    × Session S (record { phase = New; documents = [] }) messages written state × Appends taken_old taken_new written

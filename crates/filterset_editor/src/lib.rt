@@ -2,6 +2,7 @@
 //! the session.
 #![tactic(auto)]
 
+mod abilities;
 mod documents;
 mod edits;
 mod ending;
@@ -13,15 +14,18 @@ mod lines;
 mod message;
 mod phase;
 mod positions;
+mod replies;
 mod server;
 mod serving;
 mod session;
+mod values;
 
+pub use abilities::Abilities;
 pub use documents::{Document, Revision};
 pub use edits::{Change, change_text};
 pub use ending::Ending;
 pub use frames::{FrameFault, Frames, push_frame};
-pub use inquiry::Inquiry;
+pub use inquiry::{Feature, Inquiry};
 pub use language::Language;
 pub use lines::Lines;
 pub use message::{Asked, Incoming, Notice, read_message};

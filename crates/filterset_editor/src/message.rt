@@ -1,24 +1,29 @@
 //! Reads what messages of a client say.
 ghost use Rattle.std.specs.Prelude.{◌≡◌, IfOk, Some, codes, map, option_and_then, option_map};
-ghost use Rattle.std.specs.Str.{bytes_eq};
 ghost use Rattle.serde_json.specs.Find.{as_array, as_str, get, pointer};
 ghost use Rattle.serde_json.specs.View.{items_view, view};
 ghost use Rattle.filterset_editor.specs.Messages as spec;
-ghost use Rattle.filterset_editor.specs.Messages.{IsIncoming, IsSaid, change_row, said_of};
+ghost use Rattle.filterset_editor.specs.Messages.{IsIncoming, IsSaid, asked_row, change_row, said_of};
 
 use crate::documents::{Document, Revision};
 use crate::edits::Change;
-use crate::positions::{Encoding, Position, Range};
+use crate::inquiry::{Feature, Inquiry, feature_named, inquiry_in};
+use crate::positions::{Encoding, Range};
+use crate::values::{integer_at, is_same, range_in, text_at};
 use serde_json::Value;
 use std::alloc::{AllocError, Global};
 
 /// What a request asks for.
-#[derive(Clone, Copy, Debug, PartialEq, Eq)]
+#[derive(Debug, Drop)]
 pub enum Asked {
     /// To begin. Columns are to be counted in this encoding.
     Initialize(Encoding),
     Shutdown,
-    /// What the server does not do.
+    /// What a feature says of the document of this address.
+    About { uri: String, inquiry: Inquiry },
+    /// The same, with wrong parameters.
+    Wrong(Feature),
+    /// What no server does.
     Unknown,
 }
 
@@ -42,67 +47,6 @@ pub enum Incoming {
     NotJson,
     /// JSON, but no message.
     NotMessage,
-}
-
-/// Returns the text at a path of keys.
-fn text_at<'v>(value: &'v Value, path: &str) -> Option<&'v str>
-    ensures { option_map (λ t. t.now) result ≡ spec.text_at path.now (view value.now) }
-{
-    match value.pointer(path) {
-        Some(found) => found.as_str(),
-        None => None,
-    }
-}
-
-/// Returns the natural number at a path of keys.
-fn natural_at(value: &Value, path: &str) -> Option<usize>
-    ensures { result ≡ spec.natural_at path.now (view value.now) }
-{
-    match value.pointer(path) {
-        Some(found) => match found.as_u64() {
-            Some(number) => Some(number as usize),
-            None => None,
-        },
-        None => None,
-    }
-}
-
-/// Returns the integer at a path of keys.
-fn integer_at(value: &Value, path: &str) -> Option<i64>
-    ensures { result ≡ spec.integer_at path.now (view value.now) }
-{
-    match value.pointer(path) {
-        Some(found) => found.as_i64(),
-        None => None,
-    }
-}
-
-/// Reads a position.
-fn position_in(value: &Value) -> Option<Position>
-    ensures { result ≡ spec.position_in (view value.now) }
-{
-    let line = natural_at(value, "/line")?;
-    let character = natural_at(value, "/character")?;
-    Some(Position { line, character })
-}
-
-/// Reads the position at a path of keys.
-fn position_at(value: &Value, path: &str) -> Option<Position>
-    ensures { result ≡ spec.position_at path.now (view value.now) }
-{
-    match value.pointer(path) {
-        Some(found) => position_in(found),
-        None => None,
-    }
-}
-
-/// Reads a range.
-fn range_in(value: &Value) -> Option<Range>
-    ensures { result ≡ spec.range_in (view value.now) }
-{
-    let start = position_at(value, "/start")?;
-    let end = position_at(value, "/end")?;
-    Some(Range { start, end })
 }
 
 /// Reads the range of a change, which may have none.
@@ -216,13 +160,6 @@ fn closed_in(alloc: Global, message: &Value) -> Result<Notice, AllocError>
     }
 }
 
-/// Returns whether two texts are the same.
-fn is_same(a: &str, b: &str) -> bool
-    ensures { result ≡ bytes_eq a.now b.now }
-{
-    a == b
-}
-
 /// Reads what the notification of this method says.
 fn notice_in(alloc: Global, method: &str, message: &Value) -> Result<Notice, AllocError>
     ensures { IfOk result (λ notice. said_of notice ≡ spec.said_in method.now (view message.now)) }
@@ -298,16 +235,42 @@ fn encoding_in(message: &Value) -> Encoding
     }
 }
 
-/// Returns what the request of this method asks for.
-fn asked_in(method: &str, message: &Value) -> Asked
-    ensures { result ≡ spec.asked_in method.now (view message.now) }
+/// Reads what a request for a feature asks for.
+fn about_in(alloc: Global, feature: Feature, message: &Value) -> Result<Asked, AllocError>
+    ensures { IfOk result (λ asked. asked_row asked ≡ spec.about_in feature (view message.now)) }
+{
+    let Some(uri) = text_at(message, "/params/textDocument/uri") else {
+        return Ok(Asked::Wrong(feature));
+    };
+    let Some(inquiry) = inquiry_in(feature, message) else {
+        return Ok(Asked::Wrong(feature));
+    };
+    Ok(Asked::About {
+        uri: String::from_str(alloc, uri)?,
+        inquiry,
+    })
+}
+
+/// Reads what a request of a method that may be for a feature asks for.
+fn featured_in(alloc: Global, method: &str, message: &Value) -> Result<Asked, AllocError>
+    ensures { IfOk result (λ asked. asked_row asked ≡ spec.featured_in method.now (view message.now)) }
+{
+    match feature_named(method) {
+        Some(feature) => about_in(alloc, feature, message),
+        None => Ok(Asked::Unknown),
+    }
+}
+
+/// Reads what the request of this method asks for.
+fn asked_in(alloc: Global, method: &str, message: &Value) -> Result<Asked, AllocError>
+    ensures { IfOk result (λ asked. asked_row asked ≡ spec.asked_in method.now (view message.now)) }
 {
     if is_same(method, "initialize") {
-        Asked::Initialize(encoding_in(message))
+        Ok(Asked::Initialize(encoding_in(message)))
     } else if is_same(method, "shutdown") {
-        Asked::Shutdown
+        Ok(Asked::Shutdown)
     } else {
-        Asked::Unknown
+        featured_in(alloc, method, message)
     }
 }
 
@@ -343,10 +306,10 @@ fn named_in(
     ensures { IfOk result (IsSaid (view message.now)) }
 {
     match id {
-        Some(id) => Ok(Incoming::Request {
-            id,
-            asked: asked_in(method, message),
-        }),
+        Some(id) => {
+            let asked = asked_in(alloc, method, message)?;
+            Ok(Incoming::Request { id, asked })
+        }
         None => Ok(Incoming::Notification(notice_in(alloc, method, message)?)),
     }
 }

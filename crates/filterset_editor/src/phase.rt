@@ -18,11 +18,11 @@ pub enum Phase {
 }
 
 /// Returns the phase behind a request.
-pub fn phase_behind(phase: Phase, asked: Asked) -> Phase
-    ensures { result ≡ spec.phase_behind phase asked }
+pub fn phase_behind(phase: Phase, asked: &Asked) -> Phase
+    ensures { result ≡ spec.phase_behind phase asked.now }
 {
     match (phase, asked) {
-        (Phase::New, Asked::Initialize(encoding)) => Phase::Running(encoding),
+        (Phase::New, Asked::Initialize(encoding)) => Phase::Running(*encoding),
         (Phase::Running(_), Asked::Shutdown) => Phase::Stopped,
         (phase, _) => phase,
     }

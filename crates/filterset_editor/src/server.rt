@@ -1,18 +1,17 @@
 //! The server as a machine: messages in, messages out.
 ghost use Rattle.std.specs.Prelude.{◌≡◌, IfOk, OnErr, Some, [], map, option_map, string_bytes};
-ghost use Rattle.serde_json.specs.Data.{null};
 ghost use Rattle.serde_json.specs.View.{view};
-ghost use Rattle.filterset_editor.specs.Machine as spec;
-ghost use Rattle.filterset_editor.specs.Machine.{Answers, Keeps, Notifies, Publishes, Replies, error_data, published_data, cleared_data, result_data, state_of};
+ghost use Rattle.filterset_editor.specs.Machine.{Answers, Keeps, Notifies, Publishes, published_data, cleared_data, says, state_of};
 ghost use Rattle.filterset_editor.specs.Documents.{IsRevised, without_document};
 
 use crate::documents::{
     Document, Revision, document_of, put_document, remove_document, revise_document,
 };
 use crate::language::Language;
-use crate::message::{Asked, Incoming, Notice};
+use crate::message::{Incoming, Notice};
 use crate::phase::{Phase, phase_behind, phase_ended};
 use crate::positions::Encoding;
+use crate::replies::{INVALID_REQUEST, PARSE_ERROR, error, reply};
 use serde_json::{Value, json};
 use std::alloc::{AllocError, Global};
 
@@ -21,99 +20,6 @@ use std::alloc::{AllocError, Global};
 pub struct Server {
     pub phase: Phase,
     pub documents: Vec<Document>,
-}
-
-// The codes of errors that JSON-RPC and the protocol have.
-const PARSE_ERROR: i64 = -32700;
-
-const INVALID_REQUEST: i64 = -32600;
-
-const METHOD_NOT_FOUND: i64 = -32601;
-
-const SERVER_NOT_INITIALIZED: i64 = -32002;
-
-/// Makes an answer that is an error.
-fn error(alloc: Global, id: Value, code: i64, message: &str) -> Result<Value, AllocError>
-    ensures { IfOk result (λ value. view value ≡ error_data (view id) code message.now) }
-{
-    json!(in alloc; {
-        "error": { "code": code, "message": message },
-        "id": id,
-        "jsonrpc": "2.0"
-    })
-}
-
-fn encoding_name(encoding: Encoding) -> &'static str
-    ensures { result.now ≡ spec.encoding_name encoding }
-{
-    match encoding {
-        Encoding::Utf8 => "utf-8",
-        Encoding::Utf16 => "utf-16",
-        Encoding::Utf32 => "utf-32",
-    }
-}
-
-/// Makes the value of what the server can do.
-fn initialized(alloc: Global, encoding: Encoding) -> Result<Value, AllocError>
-    ensures { IfOk result (λ value. view value ≡ spec.initialized encoding) }
-{
-    let encoding = encoding_name(encoding);
-    json!(in alloc; {
-        "capabilities": {
-            "positionEncoding": encoding,
-            "textDocumentSync": { "change": 2u8, "openClose": true }
-        },
-        "serverInfo": { "name": "filterset" }
-    })
-}
-
-/// Makes an answer that is a result.
-fn result_value(alloc: Global, id: Value, value: Value) -> Result<Value, AllocError>
-    ensures { IfOk result (λ made. view made ≡ result_data (view id) (view value)) }
-{
-    json!(in alloc; { "id": id, "jsonrpc": "2.0", "result": value })
-}
-
-/// Makes the answer to a request before the session begins.
-fn reply_new(alloc: Global, id: Value, asked: Asked) -> Result<Value, AllocError>
-    ensures { IfOk result (λ value. Replies Phase.New asked (view id) (view value)) }
-{
-    match asked {
-        Asked::Initialize(encoding) => {
-            let able = initialized(alloc, encoding)?;
-            result_value(alloc, id, able)
-        }
-        Asked::Shutdown | Asked::Unknown => {
-            error(alloc, id, SERVER_NOT_INITIALIZED, "not initialized")
-        }
-    }
-}
-
-/// Makes the answer to a request while the session goes on.
-fn reply_running(
-    alloc: Global,
-    encoding: Encoding,
-    id: Value,
-    asked: Asked,
-) -> Result<Value, AllocError>
-    ensures { IfOk result (λ value. Replies (Phase.Running encoding) asked (view id) (view value)) }
-{
-    match asked {
-        Asked::Initialize(_) => error(alloc, id, INVALID_REQUEST, "initialized already"),
-        Asked::Shutdown => result_value(alloc, id, Value::Null),
-        Asked::Unknown => error(alloc, id, METHOD_NOT_FOUND, "unknown method"),
-    }
-}
-
-/// Makes the answer to a request.
-fn reply(alloc: Global, phase: Phase, id: Value, asked: Asked) -> Result<Value, AllocError>
-    ensures { IfOk result (λ value. Replies phase asked (view id) (view value)) }
-{
-    match phase {
-        Phase::New => reply_new(alloc, id, asked),
-        Phase::Running(encoding) => reply_running(alloc, encoding, id, asked),
-        Phase::Stopped | Phase::Over { .. } => error(alloc, id, INVALID_REQUEST, "shut down"),
-    }
 }
 
 /// Makes the notification of a document's diagnostics.
@@ -283,8 +189,8 @@ impl Server {
         alloc: Global,
         notice: Notice,
     ) -> Result<Option<Value>, AllocError>
-        ensures ok { IfOk result (λ answer. Answers (L.has language.now) (state_of self.old) (Incoming.Notification notice)
-            (option_map view answer) (state_of self.new)) }
+        ensures ok { IfOk result (λ answer. Answers (says (L.has language.now) (L.gives language.now) (L.can language.now))
+            (state_of self.old) (Incoming.Notification notice) (option_map view answer) (state_of self.new)) }
         ensures err { OnErr result (state_of self.new ≡ state_of self.old) }
     {
         match notice {
@@ -303,22 +209,23 @@ impl Server {
         alloc: Global,
         incoming: Incoming,
     ) -> Result<Option<Value>, AllocError>
-        ensures ok { IfOk result (λ answer. Answers (L.has language.now) (state_of self.old) incoming (option_map view answer)
-            (state_of self.new)) }
+        ensures ok { IfOk result (λ answer. Answers (says (L.has language.now) (L.gives language.now) (L.can language.now))
+            (state_of self.old) incoming (option_map view answer) (state_of self.new)) }
         ensures err { OnErr result (state_of self.new ≡ state_of self.old) }
     {
         match incoming {
             Incoming::Request { id, asked } => {
-                let value = reply(alloc, self.phase, id, asked)?;
-                self.phase = phase_behind(self.phase, asked);
+                let documents = self.documents.as_slice();
+                let value = reply(language, alloc, self.phase, documents, &id, &asked)?;
+                self.phase = phase_behind(self.phase, &asked);
                 Ok(Some(value))
             }
             Incoming::Notification(notice) => self.take(language, alloc, notice),
             Incoming::Response => Ok(None),
-            Incoming::NotJson => Ok(Some(error(alloc, Value::Null, PARSE_ERROR, "not JSON")?)),
+            Incoming::NotJson => Ok(Some(error(alloc, &Value::Null, PARSE_ERROR, "not JSON")?)),
             Incoming::NotMessage => Ok(Some(error(
                 alloc,
-                Value::Null,
+                &Value::Null,
                 INVALID_REQUEST,
                 "no message",
             )?)),

@@ -2,7 +2,7 @@
 ghost use Rattle.std.specs.Prelude.{◌≡◌, ◌++◌, IfOk, IfSome, []};
 ghost use Rattle.std.specs.Io.KnownBytes.{Appends};
 ghost use Rattle.filterset_editor.specs.Frames.{Bytes};
-ghost use Rattle.filterset_editor.specs.Machine.{state_of};
+ghost use Rattle.filterset_editor.specs.Machine.{says, state_of};
 ghost use Rattle.filterset_editor.specs.Sessions.{Advances, IsEnding, Served};
 
 use crate::ending::Ending;
@@ -22,7 +22,8 @@ fn step<L: Language, W: Sink>(
     piece: &[u8],
     output: &mut W,
 ) -> Result<Option<Ending>, RunFault>
-    ensures advances { IfOk result (λ _. (written : Bytes) × Advances (L.has language.now) (state_of session.old.server)
+    ensures advances { IfOk result (λ _. (written : Bytes)
+        × Advances (says (L.has language.now) (L.gives language.now) (L.can language.now)) (state_of session.old.server)
         (session.old.frames.waiting.items ++ piece.now) [] (state_of session.new.server) session.new.frames.waiting.items written
         × Appends (W.taken output.old) (W.taken output.new) written) }
     ensures ends { IfOk result (λ ended. IfSome ended (λ ending.
@@ -41,8 +42,8 @@ pub fn serve<L: Language, R: Source, W: Sink>(
     input: &mut R,
     output: &mut W,
 ) -> Result<Ending, RunFault>
-    ensures { IfOk result (Served (L.has language.now) (R.left input.old) (R.left input.new) (W.taken output.old)
-        (W.taken output.new)) }
+    ensures { IfOk result (Served (says (L.has language.now) (L.gives language.now) (L.can language.now))
+        (R.left input.old) (R.left input.new) (W.taken output.old) (W.taken output.new)) }
 {
     let mut session = Session::new(alloc);
     let mut piece = [0u8; PIECE];

@@ -2,7 +2,7 @@
 ghost use Rattle.std.specs.Prelude.{◌≡◌, ◌++◌, IfOk, IfSome, OnOk, [], option_map, string_bytes};
 ghost use Rattle.serde_json.specs.View.{view};
 ghost use Rattle.filterset_editor.specs.Frames.{Bytes};
-ghost use Rattle.filterset_editor.specs.Machine.{state_of};
+ghost use Rattle.filterset_editor.specs.Machine.{says, state_of};
 ghost use Rattle.filterset_editor.specs.Sessions.{AddsExchange, Advances, Exchange, IsEnding, IsTurn, Writes};
 
 use crate::ending::Ending;
@@ -43,8 +43,8 @@ fn exchange<L: Language>(
     alloc: Global,
     message: &[u8],
 ) -> Result<String, AllocError>
-    ensures { IfOk result (λ written. Exchange (L.has language.now) (state_of server.old) message.now
-        (string_bytes written) (state_of server.new)) }
+    ensures { IfOk result (λ written. Exchange (says (L.has language.now) (L.gives language.now) (L.can language.now))
+        (state_of server.old) message.now (string_bytes written) (state_of server.new)) }
 {
     let incoming = read_message(alloc, message)?;
     let answer = server.answer(language, alloc, incoming)?;
@@ -79,8 +79,8 @@ fn answer_message<L: Language>(
     message: &[u8],
     output: &mut String,
 ) -> Result<Turn, AllocError>
-    ensures written { OnOk result (AddsExchange (L.has language.now) (state_of server.old) message.now
-        (string_bytes output.old) (state_of server.new) (string_bytes output.new)) }
+    ensures written { OnOk result (AddsExchange (says (L.has language.now) (L.gives language.now) (L.can language.now))
+        (state_of server.old) message.now (string_bytes output.old) (state_of server.new) (string_bytes output.new)) }
     ensures ends { IfOk result (λ turn. (rest : Bytes) → IsTurn (state_of server.new) rest turn) }
 {
     let written = exchange(server, language, alloc, message)?;
@@ -99,8 +99,9 @@ fn take_turn<L: Language>(
     alloc: Global,
     output: &mut String,
 ) -> Result<Turn, AllocError>
-    ensures advances { OnOk result (Advances (L.has language.now) (state_of server.old) frames.old.waiting.items
-        (string_bytes output.old) (state_of server.new) frames.new.waiting.items (string_bytes output.new)) }
+    ensures advances { OnOk result (Advances (says (L.has language.now) (L.gives language.now) (L.can language.now))
+        (state_of server.old) frames.old.waiting.items (string_bytes output.old) (state_of server.new)
+        frames.new.waiting.items (string_bytes output.new)) }
     ensures ends { IfOk result (IsTurn (state_of server.new) frames.new.waiting.items) }
 {
     match frames.take(alloc) {
@@ -121,8 +122,9 @@ fn answer_waiting<L: Language>(
     alloc: Global,
     output: &mut String,
 ) -> Result<Option<Ending>, AllocError>
-    ensures advances { OnOk result (Advances (L.has language.now) (state_of server.old) frames.old.waiting.items
-        (string_bytes output.old) (state_of server.new) frames.new.waiting.items (string_bytes output.new)) }
+    ensures advances { OnOk result (Advances (says (L.has language.now) (L.gives language.now) (L.can language.now))
+        (state_of server.old) frames.old.waiting.items (string_bytes output.old) (state_of server.new)
+        frames.new.waiting.items (string_bytes output.new)) }
     ensures ends { IfOk result (λ ended. IfSome ended (λ ending.
         IsEnding ending (state_of server.new) frames.new.waiting.items)) }
 {
@@ -156,9 +158,9 @@ impl Session {
         piece: &[u8],
         output: &mut String,
     ) -> Result<Option<Ending>, AllocError>
-        ensures advances { OnOk result (Advances (L.has language.now) (state_of self.old.server)
-            (self.old.frames.waiting.items ++ piece.now) (string_bytes output.old) (state_of self.new.server)
-            self.new.frames.waiting.items (string_bytes output.new)) }
+        ensures advances { OnOk result (Advances (says (L.has language.now) (L.gives language.now) (L.can language.now))
+            (state_of self.old.server) (self.old.frames.waiting.items ++ piece.now) (string_bytes output.old)
+            (state_of self.new.server) self.new.frames.waiting.items (string_bytes output.new)) }
         ensures ends { IfOk result (λ ended. IfSome ended (λ ending.
             IsEnding ending (state_of self.new.server) self.new.frames.waiting.items)) }
     {

@@ -1,0 +1,31 @@
+-- Values that messages have at paths of keys.
+use Rattle.std.specs.Prelude.{ℕ, ℤ, Option, codes, option_and_then, option_map}
+use Rattle.serde_json.specs.Data.{Data}
+use Rattle.serde_json.specs.Find.{as_i64, as_number, as_str, as_u64, pointer}
+use Rattle.filterset_editor.specs.Positions.{Text}
+use Rattle.filterset_editor.specs.declared.positions.Position.{Position}
+use Rattle.filterset_editor.specs.declared.positions.Range.{Range}
+
+-- the text at a path of keys, if it is one
+abbrev pub text_at : Text → Data → Option Text
+text_at path d = option_and_then as_str (pointer path d)
+
+abbrev pub natural_at : Text → Data → Option ℕ
+natural_at path d = option_and_then (λ e. option_and_then as_u64 (as_number e)) (pointer path d)
+
+abbrev pub integer_at : Text → Data → Option ℤ
+integer_at path d = option_and_then (λ e. option_and_then as_i64 (as_number e)) (pointer path d)
+
+abbrev pub position_in : Data → Option Position
+position_in d = option_and_then (λ line. option_map (λ character. record { line = line; character = character })
+    (natural_at (codes "/character") d)) (natural_at (codes "/line") d)
+
+abbrev pub position_at : Text → Data → Option Position
+position_at path d = option_and_then position_in (pointer path d)
+
+abbrev pub range_in : Data → Option Range
+range_in d = option_and_then (λ start. option_map (λ end. record { start = start; end = end }) (position_at (codes "/end") d))
+    (position_at (codes "/start") d)
+
+abbrev pub range_at : Text → Data → Option Range
+range_at path d = option_and_then range_in (pointer path d)

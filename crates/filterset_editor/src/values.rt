@@ -1,0 +1,86 @@
+//! Reads values of messages.
+ghost use Rattle.std.specs.Prelude.{◌≡◌, option_map};
+ghost use Rattle.std.specs.Str.{bytes_eq};
+ghost use Rattle.serde_json.specs.View.{view};
+ghost use Rattle.filterset_editor.specs.Values as spec;
+
+use crate::positions::{Position, Range};
+use serde_json::Value;
+
+/// Returns whether two texts are the same.
+pub fn is_same(a: &str, b: &str) -> bool
+    ensures { result ≡ bytes_eq a.now b.now }
+{
+    a == b
+}
+
+/// Returns the text at a path of keys.
+pub fn text_at<'v>(value: &'v Value, path: &str) -> Option<&'v str>
+    ensures { option_map (λ t. t.now) result ≡ spec.text_at path.now (view value.now) }
+{
+    match value.pointer(path) {
+        Some(found) => found.as_str(),
+        None => None,
+    }
+}
+
+/// Returns the natural number at a path of keys.
+fn natural_at(value: &Value, path: &str) -> Option<usize>
+    ensures { result ≡ spec.natural_at path.now (view value.now) }
+{
+    match value.pointer(path) {
+        Some(found) => match found.as_u64() {
+            Some(number) => Some(number as usize),
+            None => None,
+        },
+        None => None,
+    }
+}
+
+/// Returns the integer at a path of keys.
+pub fn integer_at(value: &Value, path: &str) -> Option<i64>
+    ensures { result ≡ spec.integer_at path.now (view value.now) }
+{
+    match value.pointer(path) {
+        Some(found) => found.as_i64(),
+        None => None,
+    }
+}
+
+/// Reads a position.
+fn position_in(value: &Value) -> Option<Position>
+    ensures { result ≡ spec.position_in (view value.now) }
+{
+    let line = natural_at(value, "/line")?;
+    let character = natural_at(value, "/character")?;
+    Some(Position { line, character })
+}
+
+/// Reads the position at a path of keys.
+pub fn position_at(value: &Value, path: &str) -> Option<Position>
+    ensures { result ≡ spec.position_at path.now (view value.now) }
+{
+    match value.pointer(path) {
+        Some(found) => position_in(found),
+        None => None,
+    }
+}
+
+/// Reads a range.
+pub fn range_in(value: &Value) -> Option<Range>
+    ensures { result ≡ spec.range_in (view value.now) }
+{
+    let start = position_at(value, "/start")?;
+    let end = position_at(value, "/end")?;
+    Some(Range { start, end })
+}
+
+/// Reads the range at a path of keys.
+pub fn range_at(value: &Value, path: &str) -> Option<Range>
+    ensures { result ≡ spec.range_at path.now (view value.now) }
+{
+    match value.pointer(path) {
+        Some(found) => range_in(found),
+        None => None,
+    }
+}
