@@ -8,7 +8,7 @@ use Rattle.std.specs.List.{slice_range}
 use Rattle.std.specs.Option.{option_map_or}
 use Rattle.filterset_editor.specs.declared.head.Head.{Head}
 use Rattle.filterset_editor.specs.declared.head.Head.TheVariants.{Partial, Malformed, Whole}
-use Rattle.filterset_editor.specs.Frames.{Bytes, IsFrame, IsHead, IsMalformed, IsPartial, behind_line, line_len, most_of_head}
+use Rattle.filterset_editor.specs.Frames.{Bytes, IsFrame, IsHead, IsMalformed, IsPartial, MayCome, behind_line, line_len, most_of_head}
 use Rattle.filterset_editor.specs.Frames.IsHead.{end_of_head, next_line}
 use Rattle.filterset_editor.specs.Heads.{ended, front, head_from, head_of}
 use Rattle.filterset_editor.proofs.HeadLemmas.{head_from-line}
@@ -284,6 +284,33 @@ message-found stream h l found room fits =
     let P : Bytes → Type 0 = λ t. IsHead None t (length (slice_range stream h (h + l))) in
     let Q : ℕ → Type 0 = λ n. IsHead None (take k (front stream)) n in
     (take h stream, subst P start (subst Q (sym size) head), omega arith, take-add h l stream ∙ ap (λ t. take h stream ++ t) (sym message))
+
+-- a head has come, but not all of its message
+pub message-coming : (stream : Bytes) (h l : ℕ) → head_of (front stream) ≡ Whole h l → length stream - h < l → h ≤ length stream → MayCome stream
+message-coming stream h l found short fits =
+    let (k, place, within, head) = head_from-sound (suc (length (front stream))) 0 None (front stream) h l found in
+    let same : k ≡ h = omega arith in
+    let small : length (front stream) ≤ most_of_head = (front-length stream).1 in
+    let start : take k (front stream) ≡ take h stream = ap (λ n. take n (front stream)) same ∙ take-take h most_of_head stream (omega arith) in
+    let start_size : length (take h stream) ≡ h = length-take-le h stream fits in
+    let rest_size : length (drop h stream) ≡ length stream - h = length-drop h stream in
+    let P : Bytes → Type 0 = λ t. IsHead None t l in
+    inr (take h stream, drop h stream, l, subst P start head, omega arith, sym (take-append-drop h stream), omega arith)
+
+-- ---- frames have bytes
+
+head-some : {found : Option ℕ} {head : Bytes} {l : ℕ} → IsHead found head l → 0 < length head
+head-some end_of_head = omega arith
+head-some (next_line line rest break is later) = omega (arith, length-append line (13 ∷ 10 ∷ rest))
+
+pub frame-some : (frame message : Bytes) → IsFrame frame message → 0 < length frame
+frame-some frame message (head, is, small, e) = let some = head-some is in omega (arith, ap length e, length-append head message)
+
+pub empty-partial : (stream : Bytes) → stream ≡ [] → IsPartial stream
+empty-partial stream none frame message rest is e =
+    let some = frame-some frame message is in
+    let size : length stream ≡ 0 = ap length none in
+    omega (arith, ap length e, length-append frame rest)
 
 -- ---- one stream has one message at its front
 

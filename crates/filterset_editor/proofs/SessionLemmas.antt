@@ -1,8 +1,8 @@
 -- Sessions that go on.
-use Rattle.std.proofs.Common.{◌≡◌, ℕ, List, [], ◌∷◌, ◌++◌, Option, None, Some, refl, sym, ap, ◌∙◌, subst, append_assoc}
+use Rattle.std.proofs.Common.{◌≡◌, ℕ, ◌<◌, List, [], ◌∷◌, ◌++◌, length, Option, None, Some, refl, sym, ap, ◌∙◌, subst, append_assoc, arith, length-append}
 use Rattle.std.proofs.Common.{Vec, Result, Ok, Err}
 use Rattle.std.specs.Prelude.{false, option_map}
-use Rattle.std.specs.Result.{OnOk}
+use Rattle.std.specs.Result.{IfOk, OnOk}
 use Rattle.serde_json.specs.View.{view}
 use Rattle.serde_json.specs.Written.{compact_text, has_float}
 use Rattle.serde_json.specs.declared.value.Value.{Value}
@@ -10,10 +10,12 @@ use Rattle.std.specs.Io.KnownBytes.{Appends, Consumes}
 use Rattle.std.specs.declared.alloc.Global.{Global}
 use Rattle.std.specs.declared.alloc.AllocError.{AllocError}
 use Rattle.std.proofs.lemmas.List.{append-nil}
-use Rattle.filterset_editor.specs.Frames.{Bytes, IsFrame, IsTaken, framed}
+use Rattle.filterset_editor.proofs.FrameLemmas.{frame-some}
+use Rattle.filterset_editor.specs.Frames.{Bytes, IsFrame, IsTaken, Waits, framed}
 use Rattle.filterset_editor.specs.Machine.{Says, State}
-use Rattle.filterset_editor.specs.Sessions.{AddsExchange, Advances, Exchange, IsEnding, IsServing, Served, Session, Splits, Writes}
+use Rattle.filterset_editor.specs.Sessions.{AddsExchange, Advances, Ends, Exchange, IsEnding, IsServing, IsTurn, Served, Session, Splits, Writes}
 use Rattle.filterset_editor.specs.declared.ending.Ending.{Ending}
+use Rattle.filterset_editor.specs.declared.ending.Ending.TheVariants.{Exit, InputEnded, Malformed}
 use Rattle.filterset_editor.specs.declared.phase.Phase.TheVariants.{New}
 use Rattle.filterset_editor.specs.declared.session.Turn.{Turn}
 
@@ -100,11 +102,34 @@ Advances-taken S (Ok turn) old new stream text rest grown message taken v is som
     let Q : Bytes → Type 0 = λ m. IsFrame frame m in
     Advances-one S old new stream text rest grown message written exchange (frame, rest, subst Q (sym same) framed, is_front, refl) e
 
--- a session that ends has served
-pub Served-ended : (S : Says) (left now taken grown : Option Bytes) (phase : State) (rest : Bytes) (ending : Ending)
-    → IsServing S left now taken grown phase rest → IsEnding ending phase rest → Served S left now taken grown ending
-Served-ended S left now taken grown phase rest ending (read, ms, w, consumed, splits, session, appended) ends =
-    (read, ms, rest, w, phase, consumed, splits, session, appended, ends)
+-- no message was taken, so one may still come
+pub Waits-taken : (stream rest : Bytes) (taken : Option (Vec ℕ Global)) → IsTaken stream taken rest → taken ≡ None → Waits rest
+Waits-taken stream rest taken is none =
+    let P : Option (Vec ℕ Global) → Type 0 = λ o. IsTaken stream o rest in
+    let (waits, same) = subst P none is in
+    subst Waits (sym same) waits
+
+-- the next message was taken, so less of the stream is left
+pub IsTurn-taken : (r : Result Turn AllocError) (state : State) (stream rest : Bytes) (taken : Option (Vec ℕ Global)) (v : Vec ℕ Global)
+    → IsTaken stream taken rest → taken ≡ Some v
+    → IfOk r (λ turn. (s : Bytes) → (t : Bytes) → length t < length s → IsTurn s state t turn) → IfOk r (IsTurn stream state rest)
+IsTurn-taken (Err e) state stream rest taken v is some turns = tt
+IsTurn-taken (Ok turn) state stream rest taken v is some turns =
+    let P : Option (Vec ℕ Global) → Type 0 = λ o. IsTaken stream o rest in
+    let (frame, framed, is_front) = subst P some is in
+    let more = frame-some frame v.items framed in
+    turns stream rest (omega (arith, ap length is_front, length-append frame rest))
+
+Ends-ending : (ending : Ending) (state : State) (rest : Bytes) → Ends ending state rest → IsEnding ending state rest
+Ends-ending (Exit in_order) state rest h = h
+Ends-ending InputEnded state rest h = absurd h
+Ends-ending Malformed state rest h = h
+
+-- a session that messages end has served
+pub Served-ended : (S : Says) (left now taken grown : Option Bytes) (state : State) (rest : Bytes) (ending : Ending)
+    → IsServing S left now taken grown state rest → Ends ending state rest → Served S left now taken grown ending
+Served-ended S left now taken grown state rest ending (read, ms, w, consumed, splits, session, appended) ends =
+    (read, ms, rest, w, state, consumed, splits, session, appended, Ends-ending ending state rest ends)
 
 -- an answer was written
 pub Writes-some : (answer : Option Value) (value : Value) (old text shown new : Bytes) → answer ≡ Some value → old ≡ [] → shown ≡ text

@@ -1,5 +1,5 @@
 -- Messages on a stream, as the protocol frames them: a head of lines, the empty one last, and as many bytes as the head says.
-use Rattle.std.specs.Prelude.{◌≡◌, ◌≤◌, ◌==◌, ◌&&◌, ◌||◌, ◌+◌, ◌*◌, ◌-◌, ◌++◌, ℕ, suc, Bool, List, [], ◌∷◌, Option, None, Some, Vec, codes, decimal, drop, is_some, length, nat_le, option_and_then, option_map, position, slice_index, slice_range, take, if◌then◌else◌}
+use Rattle.std.specs.Prelude.{◌≡◌, ◌≤◌, ◌<◌, ◌==◌, ◌&&◌, ◌||◌, ◌⊎◌, ◌+◌, ◌*◌, ◌-◌, ◌++◌, ℕ, suc, Bool, List, [], ◌∷◌, Option, None, Some, Vec, codes, decimal, drop, is_some, length, nat_le, option_and_then, option_map, position, slice_index, slice_range, take, if◌then◌else◌}
 use Rattle.std.specs.Char.{is_ascii_digit}
 use Rattle.std.specs.List.{prefix_len}
 use Rattle.std.specs.Str.{str_eq_ignore_ascii_case}
@@ -75,16 +75,27 @@ IsPartial stream = (frame message rest : Bytes) → IsFrame frame message → st
 abbrev pub IsMalformed : Bytes → Type 0
 IsMalformed stream = (more : Bytes) → IsPartial (stream ++ more)
 
+-- a message may still come: less has come than a head may have, or a head has come, but not all of its message
+abbrev pub MayCome : Bytes → Type 0
+MayCome stream =
+    (length stream < most_of_head)
+    ⊎ ((head : Bytes) × (rest : Bytes) × (size : ℕ) × IsHead None head size × (length head ≤ most_of_head)
+    × (stream ≡ head ++ rest) × (length rest < size))
+
+-- no message has come whole, and one may still come
+abbrev pub Waits : Bytes → Type 0
+Waits stream = IsPartial stream × MayCome stream
+
 -- what is at the front of a stream
 abbrev pub IsNext : Bytes → next.Next → Type 0
-IsNext stream next.TheVariants.Partial = IsPartial stream
+IsNext stream next.TheVariants.Partial = Waits stream
 IsNext stream next.TheVariants.Malformed = IsMalformed stream
 IsNext stream (next.TheVariants.Message from to) =
     (from ≤ to) × (to ≤ length stream) × IsFrame (take to stream) (slice_range stream from to)
 
--- the next message was taken from the stream, or none has come whole, and nothing changed
+-- the next message was taken from the stream, or none has come whole but may come, and nothing changed
 abbrev pub IsTaken : Bytes → Option (Vec ℕ Global) → Bytes → Type 0
-IsTaken old None new = IsPartial old × (new ≡ old)
+IsTaken old None new = Waits old × (new ≡ old)
 IsTaken old (Some message) new = (frame : Bytes) × IsFrame frame message.items × (old ≡ frame ++ new)
 
 -- the frame that is written of a message

@@ -1,9 +1,9 @@
 -- Whole sessions: what is written for the messages of a stream.
-use Rattle.std.specs.Prelude.{◌≡◌, ◌++◌, false, List, [], ◌∷◌, Option, Some, None}
+use Rattle.std.specs.Prelude.{◌≡◌, ◌<◌, ◌++◌, false, List, [], ◌∷◌, length, Option, Some, None}
 use Rattle.std.specs.Io.KnownBytes.{Appends, Consumes}
 use Rattle.serde_json.specs.Data.{Data}
 use Rattle.serde_json.specs.Written.{compact_text, has_float}
-use Rattle.filterset_editor.specs.Frames.{Bytes, IsFrame, IsMalformed, framed}
+use Rattle.filterset_editor.specs.Frames.{Bytes, IsFrame, IsMalformed, IsPartial, Waits, framed}
 use Rattle.filterset_editor.specs.Machine.{Answers, Says, State}
 use Rattle.filterset_editor.specs.Messages.{IsIncoming}
 use Rattle.filterset_editor.specs.declared.ending.Ending.{Ending}
@@ -36,11 +36,16 @@ Session S old (message ∷ messages) written new =
     (front : Bytes) × (rest : Bytes) × (mid : State) × (written ≡ front ++ rest)
     × Exchange S old message front mid × Session S mid messages rest new
 
--- how a session ends in a state, before this rest of its stream
+-- how messages end a session in a state, before this rest of its stream
+abbrev pub Ends : Ending → State → Bytes → Type 0
+Ends (Exit in_order) state rest = state.phase ≡ Over in_order
+Ends Malformed state rest = IsMalformed rest
+Ends InputEnded state rest = ⊥
+
+-- so a session ends, or behind the input's end, if each message that came whole is answered
 abbrev pub IsEnding : Ending → State → Bytes → Type 0
-IsEnding (Exit in_order) state rest = state.phase ≡ Over in_order
-IsEnding InputEnded state rest = Unit {0}
-IsEnding Malformed state rest = IsMalformed rest
+IsEnding InputEnded state rest = IsPartial rest
+IsEnding ending state rest = Ends ending state rest
 
 -- What was read are messages and a rest; what was written is what is written for these messages, and so the session ends.
 abbrev pub Served : Says → Option Bytes → Option Bytes → Option Bytes → Option Bytes → Ending → Type 0
@@ -63,11 +68,16 @@ Advances S old stream text new rest grown =
     (messages : List Bytes) × (written : Bytes) × Splits stream messages rest × Session S old messages written new
     × (grown ≡ text ++ written)
 
--- if a turn ends a session, it ends so
-abbrev pub IsTurn : State → Bytes → Turn → Type 0
-IsTurn state rest Answered = Unit {0}
-IsTurn state rest Waiting = Unit {0}
-IsTurn state rest (Ended ending) = IsEnding ending state rest
+-- behind a part of its stream a session waits for more of this rest, or it has ended
+abbrev pub IsBehind : Option Ending → State → Bytes → Type 0
+IsBehind None state rest = Waits rest
+IsBehind (Some ending) state rest = Ends ending state rest
+
+-- a turn answers a message of the stream, waits for more of it, or ends the session
+abbrev pub IsTurn : Bytes → State → Bytes → Turn → Type 0
+IsTurn stream state rest Answered = length rest < length stream
+IsTurn stream state rest Waiting = Waits rest
+IsTurn stream state rest (Ended ending) = Ends ending state rest
 
 -- what is served so far, while the session goes on
 abbrev pub IsServing : Says → Option Bytes → Option Bytes → Option Bytes → Option Bytes → State → Bytes → Type 0

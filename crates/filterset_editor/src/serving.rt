@@ -1,15 +1,15 @@
 //! The loop of a server.
-ghost use Rattle.std.specs.Prelude.{◌≡◌, ◌++◌, IfOk, IfSome, []};
+ghost use Rattle.std.specs.Prelude.{◌≡◌, ◌++◌, IfOk, IsTrue, []};
 ghost use Rattle.std.specs.Io.KnownBytes.{Appends};
 ghost use Rattle.filterset_editor.specs.Frames.{Bytes};
 ghost use Rattle.filterset_editor.specs.Machine.{says, state_of};
-ghost use Rattle.filterset_editor.specs.Sessions.{Advances, IsEnding, Served};
+ghost use Rattle.filterset_editor.specs.Sessions.{Advances, IsBehind, Served};
 
 use crate::ending::Ending;
 use crate::language::Language;
 use crate::session::Session;
 use filterset_io::{RunFault, Sink, Source, write_all};
-use std::alloc::Global;
+use std::alloc::{AllocError, Global};
 
 /// How many bytes to ask for at a time.
 const PIECE: usize = 16 * 1024;
@@ -26,8 +26,8 @@ fn step<L: Language, W: Sink>(
         × Advances (says (L.has language.now) (L.gives language.now) (L.can language.now)) (state_of session.old.server)
         (session.old.frames.waiting.items ++ piece.now) [] (state_of session.new.server) session.new.frames.waiting.items written
         × Appends (W.taken output.old) (W.taken output.new) written) }
-    ensures ends { IfOk result (λ ended. IfSome ended (λ ending.
-        IsEnding ending (state_of session.new.server) session.new.frames.waiting.items)) }
+    ensures behind { IfOk result (λ ended.
+        IsBehind ended (state_of session.new.server) session.new.frames.waiting.items) }
 {
     let mut written = String::new(alloc);
     let ended = session.advance(language, alloc, piece, &mut written)?;
@@ -35,15 +35,17 @@ fn step<L: Language, W: Sink>(
     Ok(ended)
 }
 
-/// Answers the messages of a client until the session ends. Fails if a read or a write fails, or out of memory.
+/// Answers the messages of a client until the session ends. Fails if a read or a write fails, or out of memory, which an input
+/// without end comes to.
 pub fn serve<L: Language, R: Source, W: Sink>(
     language: &L,
     alloc: Global,
     input: &mut R,
     output: &mut W,
 ) -> Result<Ending, RunFault>
-    ensures { IfOk result (Served (says (L.has language.now) (L.gives language.now) (L.can language.now))
+    ensures served { IfOk result (Served (says (L.has language.now) (L.gives language.now) (L.can language.now))
         (R.left input.old) (R.left input.new) (W.taken output.old) (W.taken output.new)) }
+    ensures ended { IfOk result (λ ending. ending ≡ Ending.InputEnded → IsTrue (R.ended input.new)) }
 {
     let mut session = Session::new(alloc);
     let mut piece = [0u8; PIECE];
@@ -58,5 +60,5 @@ pub fn serve<L: Language, R: Source, W: Sink>(
             return Ok(ending);
         }
     }
-    Ok(Ending::InputEnded)
+    Err(RunFault::Memory(AllocError))
 }

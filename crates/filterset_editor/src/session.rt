@@ -1,9 +1,9 @@
 //! A session: a stream of messages in, a stream of answers out.
-ghost use Rattle.std.specs.Prelude.{◌≡◌, ◌++◌, IfOk, IfSome, OnOk, [], option_map, string_bytes};
+ghost use Rattle.std.specs.Prelude.{◌≡◌, ◌<◌, ◌++◌, IfOk, IfSome, OnOk, [], length, option_map, string_bytes};
 ghost use Rattle.serde_json.specs.View.{view};
 ghost use Rattle.filterset_editor.specs.Frames.{Bytes};
 ghost use Rattle.filterset_editor.specs.Machine.{says, state_of};
-ghost use Rattle.filterset_editor.specs.Sessions.{AddsExchange, Advances, Exchange, IsEnding, IsTurn, Writes};
+ghost use Rattle.filterset_editor.specs.Sessions.{AddsExchange, Advances, Ends, Exchange, IsBehind, IsTurn, Writes};
 
 use crate::ending::Ending;
 use crate::frames::{FrameFault, Frames, push_frame};
@@ -53,7 +53,7 @@ fn exchange<L: Language>(
 
 /// Returns how a session ends in a phase, if it does.
 fn ending_of(server: &Server) -> Option<Ending>
-    ensures { IfSome result (λ ending. (rest : Bytes) → IsEnding ending (state_of server.now) rest) }
+    ensures { IfSome result (λ ending. (rest : Bytes) → Ends ending (state_of server.now) rest) }
 {
     match server.phase {
         Phase::Over { in_order } => Some(Ending::Exit { in_order }),
@@ -81,7 +81,8 @@ fn answer_message<L: Language>(
 ) -> Result<Turn, AllocError>
     ensures written { OnOk result (AddsExchange (says (L.has language.now) (L.gives language.now) (L.can language.now))
         (state_of server.old) message.now (string_bytes output.old) (state_of server.new) (string_bytes output.new)) }
-    ensures ends { IfOk result (λ turn. (rest : Bytes) → IsTurn (state_of server.new) rest turn) }
+    ensures turn { IfOk result (λ turn. (stream : Bytes) → (rest : Bytes) → length rest < length stream
+        → IsTurn stream (state_of server.new) rest turn) }
 {
     let written = exchange(server, language, alloc, message)?;
     output.push_str(written.as_str())?;
@@ -102,7 +103,7 @@ fn take_turn<L: Language>(
     ensures advances { OnOk result (Advances (says (L.has language.now) (L.gives language.now) (L.can language.now))
         (state_of server.old) frames.old.waiting.items (string_bytes output.old) (state_of server.new)
         frames.new.waiting.items (string_bytes output.new)) }
-    ensures ends { IfOk result (IsTurn (state_of server.new) frames.new.waiting.items) }
+    ensures turn { IfOk result (IsTurn frames.old.waiting.items (state_of server.new) frames.new.waiting.items) }
 {
     match frames.take(alloc) {
         Ok(taken) => match taken {
@@ -125,17 +126,15 @@ fn answer_waiting<L: Language>(
     ensures advances { OnOk result (Advances (says (L.has language.now) (L.gives language.now) (L.can language.now))
         (state_of server.old) frames.old.waiting.items (string_bytes output.old) (state_of server.new)
         frames.new.waiting.items (string_bytes output.new)) }
-    ensures ends { IfOk result (λ ended. IfSome ended (λ ending.
-        IsEnding ending (state_of server.new) frames.new.waiting.items)) }
+    ensures behind { IfOk result (λ ended. IsBehind ended (state_of server.new) frames.new.waiting.items) }
 {
-    for _turn in 0..u64::MAX {
+    'turns: loop {
         match take_turn(server, frames, language, alloc, output)? {
             Turn::Answered => {}
             Turn::Waiting => return Ok(None),
             Turn::Ended(ending) => return Ok(Some(ending)),
         }
     }
-    Ok(None)
 }
 
 impl Session {
@@ -161,8 +160,8 @@ impl Session {
         ensures advances { OnOk result (Advances (says (L.has language.now) (L.gives language.now) (L.can language.now))
             (state_of self.old.server) (self.old.frames.waiting.items ++ piece.now) (string_bytes output.old)
             (state_of self.new.server) self.new.frames.waiting.items (string_bytes output.new)) }
-        ensures ends { IfOk result (λ ended. IfSome ended (λ ending.
-            IsEnding ending (state_of self.new.server) self.new.frames.waiting.items)) }
+        ensures behind { IfOk result (λ ended.
+            IsBehind ended (state_of self.new.server) self.new.frames.waiting.items) }
     {
         self.frames.feed(piece)?;
         answer_waiting(&mut self.server, &mut self.frames, language, alloc, output)

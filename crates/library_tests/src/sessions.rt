@@ -1,5 +1,7 @@
 //! Sessions of a language server as data: what it writes for what a client wrote, however the stream is cut.
-use filterset_editor::{Abilities, Document, Encoding, Inquiry, Language, Session, push_frame};
+use filterset_editor::{
+    Abilities, Document, Encoding, Ending, Inquiry, Language, Session, push_frame,
+};
 use serde_json::{Value, json};
 use std::alloc::{AllocError, Global};
 use std::test::Fail;
@@ -174,5 +176,32 @@ fn answers_requests_about_documents(rt: HostRuntime) -> Result<(), Fail> {
     let wanted = stream_of(alloc, RESULTS.as_slice())?;
     let written = answers_to(alloc, stream.as_bytes(), stream.len())?;
     assert_eq!(rt; written.as_str(), wanted.as_str());
+    Ok(())
+}
+
+/// Returns how a session ends by this stream, if it does.
+fn ending_by(alloc: Global, stream: &[u8]) -> Result<Option<Ending>, AllocError> {
+    let mut session = Session::new(alloc);
+    let mut written = String::new(alloc);
+    session.advance(&Echo, alloc, stream, &mut written)
+}
+
+#[test]
+fn long_heads_and_messages_are_malformed(rt: HostRuntime) -> Result<(), Fail> {
+    let alloc = rt.alloc();
+    // Heads of 8 KiB, and of a byte more.
+    for (blanks, wanted) in [(8172, None), (8173, Some(Ending::Malformed))] {
+        let mut head = String::from_str(alloc, "Content-Length:")?;
+        for _ in 0..blanks {
+            head.push(' ')?;
+        }
+        head.push_str("1\r\n\r\n")?;
+        assert_eq!(rt; ending_by(alloc, head.as_bytes())?, wanted);
+    }
+    // Messages of 64 MiB, and of a byte more.
+    let whole = ending_by(alloc, b"Content-Length: 67108864\r\n\r\n")?;
+    assert_eq!(rt; whole, None);
+    let longer = ending_by(alloc, b"Content-Length: 67108865\r\n\r\n")?;
+    assert_eq!(rt; longer, Some(Ending::Malformed));
     Ok(())
 }

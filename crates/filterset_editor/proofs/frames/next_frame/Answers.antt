@@ -1,6 +1,6 @@
-use Rattle.std.proofs.Common.{◌≤◌, length, sym, ap, ◌∙◌, arith}
+use Rattle.std.proofs.Common.{◌≤◌, length, inl, sym, ap, ◌∙◌, arith}
 use Rattle.filterset_editor.specs.Heads.{head_of}
-use Rattle.filterset_editor.proofs.FrameLemmas.{front-within, message-found, no_end, no_head, no_message, too_short}
+use Rattle.filterset_editor.proofs.FrameLemmas.{front-within, message-coming, message-found, no_end, no_head, no_message, too_short}
 use Rattle.filterset_editor.proofs.frames.next_frame.Goals as goal
 
 pub overflow_sub-stream : goal.overflow_sub-stream
@@ -8,10 +8,15 @@ overflow_sub-stream c = front-within c.args.stream.now c.in-Whole.head _ c.front
 
 pub returns-then-stream-head : goal.returns-then-stream-head
 returns-then-stream-head c =
-    too_short c.args.stream.now c.in-Whole.head c.in-Whole.length (sym (c.in-Whole.ensures.value ∙ ap head_of c.front.ensures)) c.if-stream-head.true
+    let found = sym (c.in-Whole.ensures.value ∙ ap head_of c.front.ensures) in
+    let within = front-within c.args.stream.now c.in-Whole.head _ c.front.ensures c.in-Whole.ensures.within.0 in (
+      too_short c.args.stream.now c.in-Whole.head c.in-Whole.length found c.if-stream-head.true,
+      message-coming c.args.stream.now c.in-Whole.head c.in-Whole.length found c.if-stream-head.true within,
+    )
 
 pub returns-then-stream-lt-MOST_OF_HEAD : goal.returns-then-stream-lt-MOST_OF_HEAD
-returns-then-stream-lt-MOST_OF_HEAD c = no_head c.args.stream.now (sym (c.in-Partial.ensures.value ∙ ap head_of c.front.ensures))
+returns-then-stream-lt-MOST_OF_HEAD c =
+    (no_head c.args.stream.now (sym (c.in-Partial.ensures.value ∙ ap head_of c.front.ensures)), inl c.if-stream-lt-MOST_OF_HEAD.true)
 
 pub returns-else-stream-lt-MOST_OF_HEAD : goal.returns-else-stream-lt-MOST_OF_HEAD
 returns-else-stream-lt-MOST_OF_HEAD c =

@@ -1,12 +1,12 @@
 use Rattle.std.proofs.Common.{drop, refl, ap, ◌∙◌, subst}
 use Rattle.std.proofs.lemmas.List.{take_rest}
 use Rattle.std.specs.List.{slice_range}
-use Rattle.filterset_editor.specs.Frames.{IsMalformed, IsPartial}
+use Rattle.filterset_editor.specs.Frames.{IsMalformed, Waits}
 use Rattle.filterset_editor.proofs.FrameLemmas.{taken-frame}
 use Rattle.filterset_editor.proofs.frames.Frames.take.Goals as goal
 
 pub returns-in-Partial-clause-taken : goal.returns-in-Partial-clause-taken
-returns-in-Partial-clause-taken c = (subst IsPartial c.as_slice.ensures.value c.in-Partial.ensures, refl)
+returns-in-Partial-clause-taken c = (subst Waits c.as_slice.ensures.value c.in-Partial.ensures, refl)
 
 pub returns-in-Malformed-clause-malformed : goal.returns-in-Malformed-clause-malformed
 returns-in-Malformed-clause-malformed c = λ _. subst IsMalformed c.as_slice.ensures.value c.in-Malformed.ensures
