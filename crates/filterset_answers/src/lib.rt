@@ -23,14 +23,17 @@ mod text;
 
 pub use binaries::asked_binaries;
 pub use checking::{check, check_configured};
-pub use entries::{ConfiguredTexts, default_entry, given_entries, line_entries};
+pub use entries::{
+    ConfiguredTexts, configured_entries, default_entry, given_entries, line_entries,
+};
 pub use explaining::explain_filterset;
+pub use faults::faults_of;
 pub use form::Form;
 pub use formatting::format_texts;
 pub use names::Names;
 pub use overriding::explain_test_overrides;
 pub use picking::ask_workspace;
-pub use place::{FilePlace, Spot};
+pub use place::{FilePlace, Spot, file_part};
 pub use profile::{asked_profiles, entry_at, override_entries};
 pub use question::Question;
 pub use setting::{OverrideEntry, Setting};
