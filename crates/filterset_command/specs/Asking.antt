@@ -31,6 +31,7 @@ use Rattle.filterset_profiles.specs.declared.defaults.DefaultFilter as defaults
 use Rattle.filterset_profiles.specs.declared.defaults.DefaultFilter.TheVariants.{All, Set, Unknown}
 use Rattle.filterset_profiles.specs.declared.profiles.Profile.{Profile}
 use Rattle.filterset_profiles.specs.declared.ranking.RankedOverride.{RankedOverride}
+use Rattle.filterset_sources.specs.Platforms.{ArePlatforms}
 use Rattle.filterset_sources.specs.declared.list.Suite.{Suite}
 use Rattle.filterset_sources.specs.declared.platforms.BuildPlatforms.{BuildPlatforms}
 use Rattle.nextest_filtering.specs.Groups.{IsGlobalOnly}
@@ -38,7 +39,7 @@ use Rattle.nextest_filtering.specs.declared.compile.context.KnownGroups.{KnownGr
 use Rattle.filterset_command.specs.Configurations.{AreKnown, AreProfilesIn, AreTextsOf, IsProfileFault}
 use Rattle.filterset_command.specs.Explaining.{IsCandidate, IsMissing}
 use Rattle.filterset_command.specs.Files.{content_of, name_of}
-use Rattle.filterset_command.specs.Workspaces.{IsWorkspaceFault, IsWorkspaceIn}
+use Rattle.filterset_command.specs.Workspaces.{IsPlatformsFault, IsWorkspaceFault, IsWorkspaceIn}
 use Rattle.filterset_command.specs.declared.asking.Asked.{Asked}
 use Rattle.filterset_command.specs.declared.asking.Asked.TheVariants.{Explanation, Question}
 use Rattle.filterset_command.specs.declared.asking.AskedWorkspace.{AskedWorkspace}
@@ -114,14 +115,15 @@ AnswersConfigured content input Answers packages given profile built ending text
     × AreTextsOf (name_of Configuration profile.configuration.now) (string_bytes file.text) file.filtersets.items file.places texts
     × AnswersProfile Answers packages given profile.name.now file.profiles.items file.groups texts known ending text
 
--- what is answered of the workspace that the files describe, under no profile or the one that is asked for
+-- what is answered of the workspace that the files describe: under no profile, or under the one that is asked for, on the
+-- platforms of the list
 abbrev pub AnswersAsked : (Text → Option Text) → Text → WorkspaceRequest → Ending → Text → Type 0
 AnswersAsked content input request ending text = (workspace : Workspace) × IsWorkspaceIn content request.paths workspace
     × (let Answers = AnswersUnder request workspace.list.suites.items (kept_of request.form (view workspace.value)) in
     MatchOption request.profile
     ((setting : Setting) × IsPlain workspace.graph (given_row request.default_filter) setting × Answers setting ending text)
-    (λ profile. AnswersConfigured content input Answers workspace.graph (given_row request.default_filter) profile
-    workspace.platforms ending text))
+    (λ profile. (built : BuildPlatforms) × ArePlatforms (view workspace.value) built
+    × AnswersConfigured content input Answers workspace.graph (given_row request.default_filter) profile built ending text))
 
 -- the list of suites lacks the binary or the test that is to be explained
 abbrev pub LacksIn : Text → Asked → List Suite → CommandFault → Type 0
@@ -147,9 +149,11 @@ IsChosen texts given filter (chosens.Entry entry) =
     (chosen texts given filter ≡ Ok (text_row entry)) × (entry.kind ≡ DefaultFilter)
 IsChosen texts given filter (chosens.Unknown path) = chosen texts given filter ≡ Err (string_bytes path)
 
--- a file is not used, or the workspace lacks the binary or the test, or the configuration the profile
+-- a file is not used, or the configuration lacks the profile, or the workspace the binary or the test; or the platforms of
+-- the list are wrong, and there is a profile
 abbrev pub IsAskedFault : (Text → Option Text) → (Text → Error → Type 0) → Text → WorkspaceRequest → CommandFault → Type 0
 IsAskedFault content fails input request fault = IsWorkspaceFault content fails request.paths fault
     ⊎ IsSomeAnd request.profile (λ profile. IsProfileFault content fails input profile fault)
     ⊎ ((workspace : Workspace) × IsWorkspaceIn content request.paths workspace
-    × LacksIn request.paths.list.now request.asked workspace.list.suites.items fault)
+    × (LacksIn request.paths.list.now request.asked workspace.list.suites.items fault
+    ⊎ IsSomeAnd request.profile (λ profile. IsPlatformsFault request.paths.list.now (view workspace.value) fault)))

@@ -1,5 +1,5 @@
 -- What files say about a workspace.
-use Rattle.std.specs.Prelude.{◌≡◌, ◌⊎◌, List, All, Option, Some}
+use Rattle.std.specs.Prelude.{◌≡◌, ◌≢◌, ◌⊎◌, List, All, Option, Some, alloc_error}
 use Rattle.std.specs.declared.io.Error.{Error}
 use Rattle.serde_json.specs.Data.{Data}
 use Rattle.serde_json.specs.Read.{read}
@@ -8,16 +8,17 @@ use Rattle.filterset_drawing.specs.Columns.{Text}
 use Rattle.filterset_graph.specs.Packages.{ids}
 use Rattle.filterset_graph.specs.declared.package.PackageMetadata.{PackageMetadata}
 use Rattle.filterset_sources.specs.Metadata.{IsMetadata, RefusesMetadata}
-use Rattle.filterset_sources.specs.Platforms.{ArePlatforms, WrongPlatforms}
+use Rattle.filterset_sources.specs.Platforms.{WrongPlatforms}
 use Rattle.filterset_sources.specs.Refusals.{Refuses, RefusesJson}
 use Rattle.filterset_sources.specs.Suites.{IsOfPackage, IsTestList, WrongPackages, WrongTestList}
 use Rattle.filterset_sources.specs.declared.list.Suite.{Suite}
 use Rattle.filterset_sources.specs.declared.list.TestList.{TestList}
-use Rattle.filterset_sources.specs.declared.platforms.BuildPlatforms.{BuildPlatforms}
 use Rattle.filterset_sources.specs.declared.refusal.SourceRefusal.{SourceRefusal}
-use Rattle.filterset_command.specs.Files.{BySource, IsContent, IsFileFault}
+use Rattle.filterset_sources.specs.declared.refusal.SourceRefusal.TheVariants.{OutOfMemory}
+use Rattle.filterset_command.specs.Files.{BySource, IsContent, IsFaultAt, IsFileFault}
 use Rattle.filterset_command.specs.declared.fault.CommandFault.{CommandFault}
 use Rattle.filterset_command.specs.declared.fault.FileFault.{FileFault}
+use Rattle.filterset_command.specs.declared.fault.FileFault.TheVariants.{Refused}
 use Rattle.filterset_command.specs.declared.fault.FileRole.TheVariants as roles
 use Rattle.filterset_command.specs.declared.workspace.Workspace.{Workspace}
 use Rattle.filterset_command.specs.declared.workspace.WorkspacePaths.{WorkspacePaths}
@@ -30,15 +31,15 @@ IsJsonOf content d = (bytes : Text) × IsContent content bytes × (read bytes �
 abbrev pub ArePackagesIn : Option Text → List PackageMetadata → Type 0
 ArePackagesIn content packages = (d : Data) × IsJsonOf content d × IsMetadata d packages
 
--- the file is this JSON value, which lists these suites, each of one of the packages, and has these platforms
-abbrev pub IsListIn : Option Text → List PackageMetadata → Data → List Suite → BuildPlatforms → Type 0
-IsListIn content packages d suites platforms = IsJsonOf content d × IsTestList d suites
-    × All (IsOfPackage (ids packages)) suites × ArePlatforms d platforms
+-- the file is this JSON value, which lists these suites, each of one of the packages
+abbrev pub IsListIn : Option Text → List PackageMetadata → Data → List Suite → Type 0
+IsListIn content packages d suites =
+    IsJsonOf content d × IsTestList d suites × All (IsOfPackage (ids packages)) suites
 
 -- what the files at the paths say of the workspace
 abbrev pub IsWorkspaceIn : (Text → Option Text) → WorkspacePaths → Workspace → Type 0
 IsWorkspaceIn content paths workspace = ArePackagesIn (content paths.metadata.now) workspace.graph
-    × IsListIn (content paths.list.now) workspace.graph (view workspace.value) workspace.list.suites.items workspace.platforms
+    × IsListIn (content paths.list.now) workspace.graph (view workspace.value) workspace.list.suites.items
 
 -- the text is no JSON, or its value is refused
 abbrev pub RefusesValue : (Data → SourceRefusal → Type 0) → Text → FileFault → Type 0
@@ -47,7 +48,7 @@ RefusesValue refuses =
 
 -- a value of the list is wrong, the first one; or the package of a test binary, the first one that is none of the packages
 abbrev pub RefusesList : List PackageMetadata → Data → SourceRefusal → Type 0
-RefusesList packages d refusal = Refuses (WrongTestList d) refusal ⊎ Refuses (WrongPlatforms d) refusal
+RefusesList packages d refusal = Refuses (WrongTestList d) refusal
     ⊎ ((list : TestList) × IsTestList d list.suites.items × Refuses (WrongPackages (ids packages) list.suites.items) refusal)
 
 -- one of the files at the paths is not used: the one of the packages, or the list of their tests
@@ -56,3 +57,8 @@ IsWorkspaceFault content fails paths fault =
     IsFileFault content fails roles.Metadata (RefusesValue RefusesMetadata) paths.metadata.now fault
     ⊎ ((packages : List PackageMetadata) × ArePackagesIn (content paths.metadata.now) packages
     × IsFileFault content fails roles.List (RefusesValue (RefusesList packages)) paths.list.now fault)
+
+-- the fault names the list at this path, and what is wrong among the platforms of its JSON value
+abbrev pub IsPlatformsFault : Text → Data → CommandFault → Type 0
+IsPlatformsFault path d fault = (refusal : SourceRefusal) × IsFaultAt roles.List path (Refused refusal) fault
+    × Refuses (WrongPlatforms d) refusal × (refusal ≢ OutOfMemory alloc_error)

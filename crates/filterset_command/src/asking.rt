@@ -13,7 +13,7 @@ use crate::fault::CommandFault;
 use crate::files::FileSource;
 use crate::profile::ProfileRequest;
 use crate::profiled::ask_configured;
-use crate::workspace::{Workspace, WorkspacePaths, read_workspace};
+use crate::workspace::{Workspace, WorkspacePaths, platforms_of, read_workspace};
 use filterset_answers::{
     Answer, Form, OverrideEntry, Question, Setting, TextEntry, ask_workspace, asked_binaries,
     default_entry, explain_filterset,
@@ -177,19 +177,15 @@ pub fn ask<F: FileSource>(
     ensures refused { IfErr result (OrMemory
         (IsAskedFault (F.content files.now) (F.fails files.now) input.now request.now)) }
 {
-    let Workspace {
-        graph,
-        list,
-        platforms,
-        value,
-    } = read_workspace(alloc, files, &request.paths)?;
-    let kept = kept_of(request.form, value);
+    let Workspace { graph, list, value } = read_workspace(alloc, files, &request.paths)?;
     let asked = AskedWorkspace::new(request, &graph, list.suites.as_slice());
     let given = given_default(alloc, request)?;
     match request.profile {
-        None => ask_plainly(alloc, &asked, given, kept),
-        Some(profile) => ask_configured(
-            alloc, files, input, &asked, &profile, platforms, given, kept,
-        ),
+        None => ask_plainly(alloc, &asked, given, kept_of(request.form, value)),
+        Some(profile) => {
+            let built = platforms_of(alloc, request.paths.list, &value)?;
+            let kept = kept_of(request.form, value);
+            ask_configured(alloc, files, input, &asked, &profile, built, given, kept)
+        }
     }
 }

@@ -7,7 +7,7 @@ ghost use Rattle.filterset_sources.specs.Metadata.{RefusesMetadata};
 ghost use Rattle.filterset_sources.specs.Platforms.{ArePlatforms};
 ghost use Rattle.filterset_sources.specs.Refusals.{RefusesJson};
 ghost use Rattle.filterset_command.specs.Files.{BySource, IsFileFault, OrMemory};
-ghost use Rattle.filterset_command.specs.Workspaces.{ArePackagesIn, IsJsonOf, IsListIn, IsWorkspaceFault, IsWorkspaceIn, RefusesList, RefusesValue};
+ghost use Rattle.filterset_command.specs.Workspaces.{ArePackagesIn, IsJsonOf, IsListIn, IsPlatformsFault, IsWorkspaceFault, IsWorkspaceIn, RefusesList, RefusesValue};
 
 use crate::fault::{CommandFault, FileRole};
 use crate::files::{FileSource, read_text};
@@ -28,12 +28,11 @@ pub struct WorkspacePaths<'w> {
     pub list: &'w str,
 }
 
-/// A workspace: its packages, and nextest's list of its tests, with the platforms of the build.
+/// A workspace: its packages, and nextest's list of its tests.
 #[derive(Drop)]
 pub struct Workspace {
     pub graph: PackageGraph,
     pub list: TestList,
-    pub platforms: BuildPlatforms,
     /// The JSON value of the list.
     pub value: Value,
 }
@@ -74,37 +73,33 @@ pub fn read_graph<F: FileSource>(
     }
 }
 
-/// Reads nextest's list, whose test binaries have to be built of these packages, and the platforms of the build.
-fn list_of(
-    alloc: Global,
-    value: &Value,
-    graph: &PackageGraph,
-) -> Result<(TestList, BuildPlatforms), SourceRefusal>
-    ensures read { IfOk result (λ both. IsTestList (view value.now) both.0.suites.items
-        × All (IsOfPackage (ids graph.now)) both.0.suites.items × ArePlatforms (view value.now) both.1) }
+/// Reads nextest's list, whose test binaries have to be built of these packages.
+fn list_of(alloc: Global, value: &Value, graph: &PackageGraph) -> Result<TestList, SourceRefusal>
+    ensures read { IfOk result (λ list. IsTestList (view value.now) list.suites.items
+        × All (IsOfPackage (ids graph.now)) list.suites.items) }
     ensures refused { IfErr result (RefusesList graph.now (view value.now)) }
 {
     let list = read_test_list(alloc, value)?;
     check_packages(alloc, &list, graph)?;
-    Ok((list, read_platforms(alloc, value)?))
+    Ok(list)
 }
 
-/// Reads nextest's list of a workspace of these packages, and the platforms, and returns its JSON value too.
+/// Reads nextest's list of a workspace of these packages, and returns its JSON value too.
 fn read_list<F: FileSource>(
     alloc: Global,
     files: &F,
     path: &str,
     graph: &PackageGraph,
-) -> Result<(TestList, BuildPlatforms, Value), CommandFault>
-    ensures read { IfOk result (λ all. IsListIn (F.content files.now path.now) graph.now
-        (view all.2) all.0.suites.items all.1) }
+) -> Result<(TestList, Value), CommandFault>
+    ensures read { IfOk result (λ both. IsListIn (F.content files.now path.now) graph.now
+        (view both.1) both.0.suites.items) }
     ensures refused { IfErr result (OrMemory (IsFileFault (F.content files.now) (F.fails files.now)
         FileRole.List (RefusesValue (RefusesList graph.now)) path.now)) }
 {
     let role = FileRole::List;
     let value = read_value(alloc, files, role, path)?;
     match list_of(alloc, &value, graph) {
-        Ok((list, platforms)) => Ok((list, platforms, value)),
+        Ok(list) => Ok((list, value)),
         Err(refusal) => Err(CommandFault::from_refusal(alloc, role, path, refusal)),
     }
 }
@@ -119,11 +114,17 @@ pub fn read_workspace<F: FileSource>(
     ensures refused { IfErr result (OrMemory (IsWorkspaceFault (F.content files.now) (F.fails files.now) paths.now)) }
 {
     let graph = read_graph(alloc, files, paths.metadata)?;
-    let (list, platforms, value) = read_list(alloc, files, paths.list, &graph)?;
-    Ok(Workspace {
-        graph,
-        list,
-        platforms,
-        value,
-    })
+    let (list, value) = read_list(alloc, files, paths.list, &graph)?;
+    Ok(Workspace { graph, list, value })
+}
+
+/// Reads the platforms of the build in nextest's list, the file at this path with this JSON value.
+pub fn platforms_of(alloc: Global, path: &str, list: &Value) -> Result<BuildPlatforms, CommandFault>
+    ensures read { IfOk result (ArePlatforms (view list.now)) }
+    ensures refused { IfErr result (OrMemory (IsPlatformsFault path.now (view list.now))) }
+{
+    match read_platforms(alloc, list) {
+        Ok(built) => Ok(built),
+        Err(refusal) => Err(CommandFault::from_refusal(alloc, FileRole::List, path, refusal)),
+    }
 }
