@@ -1,5 +1,5 @@
--- What `list`, `compare` and `explain` answer about the workspace that files describe.
-use Rattle.std.specs.Prelude.{◌≡◌, ◌⊎◌, List, [], Option, Some, None, Result, Ok, Err, MatchOption, MatchResult, IsSomeAnd, codes, filter, flat_map, option_map, string_bytes, unwrap_or}
+-- What `list`, `compare`, `explain` and `overrides` answer about the workspace that files describe.
+use Rattle.std.specs.Prelude.{◌≡◌, ◌⊎◌, List, [], Option, Some, None, Result, Ok, Err, MatchOption, MatchResult, IsSomeAnd, codes, flat_map, option_map, string_bytes, unwrap_or}
 use Rattle.std.specs.Borrow.{Bor}
 use Rattle.std.specs.List.{AllZip}
 use Rattle.std.specs.declared.io.Error.{Error}
@@ -11,7 +11,7 @@ use Rattle.filterset_answers.specs.Endings.{AnswersUnknown}
 use Rattle.filterset_answers.specs.Entries.{default_row}
 use Rattle.filterset_answers.specs.Explained.{AnswersExplanation}
 use Rattle.filterset_answers.specs.Picking.{AnswersQuestion}
-use Rattle.filterset_answers.specs.Profile.{IsEntryOf, row_at, sets_group}
+use Rattle.filterset_answers.specs.Profile.{IsEntryOf, IsProfileOf, row_at}
 use Rattle.filterset_answers.specs.declared.entries.ConfiguredTexts.{ConfiguredTexts}
 use Rattle.filterset_answers.specs.declared.form.Form.{Form}
 use Rattle.filterset_answers.specs.declared.form.Form.TheVariants.{Json}
@@ -24,6 +24,7 @@ use Rattle.filterset_faults.specs.declared.kind.FiltersetKind.TheVariants.{Defau
 use Rattle.filterset_graph.specs.declared.package.PackageMetadata.{PackageMetadata}
 use Rattle.filterset_listing.specs.declared.binary.AskedBinary.{AskedBinary}
 use Rattle.filterset_listing.specs.declared.explaining.candidate.Candidate.{Candidate}
+use Rattle.filterset_overrides.specs.declared.asked.AskedProfile.{AskedProfile}
 use Rattle.filterset_platforms.specs.Trees.{facts_of}
 use Rattle.filterset_profiles.specs.Lineages.{Lineage}
 use Rattle.filterset_profiles.specs.Ranking.{IsDefaultFilter, IsRanked, placed}
@@ -39,9 +40,10 @@ use Rattle.nextest_filtering.specs.declared.compile.context.KnownGroups.{KnownGr
 use Rattle.filterset_command.specs.Configurations.{AreKnown, AreProfilesIn, AreTextsOf, IsProfileFault}
 use Rattle.filterset_command.specs.Explaining.{IsCandidate, IsMissing}
 use Rattle.filterset_command.specs.Files.{content_of, name_of}
+use Rattle.filterset_command.specs.Overriding.{AnswersOverridesOf, LacksTests}
 use Rattle.filterset_command.specs.Workspaces.{IsPlatformsFault, IsWorkspaceFault, IsWorkspaceIn}
 use Rattle.filterset_command.specs.declared.asking.Asked.{Asked}
-use Rattle.filterset_command.specs.declared.asking.Asked.TheVariants.{Explanation, Question}
+use Rattle.filterset_command.specs.declared.asking.Asked.TheVariants.{Explanation, Overrides, Question}
 use Rattle.filterset_command.specs.declared.asking.AskedWorkspace.{AskedWorkspace}
 use Rattle.filterset_command.specs.declared.asking.WorkspaceRequest.{WorkspaceRequest}
 use Rattle.filterset_command.specs.declared.fault.CommandFault.{CommandFault}
@@ -58,12 +60,15 @@ abbrev pub kept_of : Form → Data → Option Data
 kept_of Json list = Some list
 kept_of form list = None
 
--- the answer under a setting: to a question, or why the filterset picks the binary with the id, or its test with the name
+-- the answer under a setting: to a question, or why the filterset picks the binary with the id, or its test with the name;
+-- or how overrides apply to tests
 abbrev pub AnswersOf : Form → Asked → Setting → List AskedBinary → Option Data → Ending → Text → Type 0
 AnswersOf form (Question question) setting binaries kept = AnswersQuestion form setting question kept binaries
 AnswersOf form (Explanation filter id test) setting binaries kept = λ ending text.
     (candidate : Candidate) × IsCandidate binaries id.now test candidate
     × AnswersExplanation form setting filter.now candidate ending text
+AnswersOf form (Overrides filters binary test) setting binaries kept =
+    AnswersOverridesOf form setting binaries filters binary test
 
 abbrev pub AnswersUnder : WorkspaceRequest → List Suite → Option Data → Setting → Ending → Text → Type 0
 AnswersUnder request suites kept setting ending text = (binaries : List AskedBinary) × AllZip IsAsked suites binaries
@@ -72,10 +77,11 @@ AnswersUnder request suites kept setting ending text = (binaries : List AskedBin
 abbrev pub given_row : Option (Bor Text) → Option TextRow
 given_row given = option_map (λ t. default_row t.now) given
 
--- without a profile: under the default filter that is given, or else all tests, and no override
+-- without a profile: under the default filter that is given, or else all tests, and no overrides or profiles
 abbrev pub IsPlain : List PackageMetadata → Option TextRow → Setting → Type 0
 IsPlain packages given setting = (setting.graph.now ≡ packages) × IsGlobalOnly setting.groups.now
     × (text_row setting.default.now ≡ unwrap_or given (default_row (codes "all()"))) × (setting.overrides.now ≡ [])
+    × (setting.profiles.now ≡ [])
 
 -- the default filter that is given, or else that of the profile, or all tests; or the path that it is not known by
 abbrev pub chosen : ConfiguredTexts → Option TextRow → defaults.DefaultFilter → Result TextRow Text
@@ -84,18 +90,20 @@ chosen texts None (Set path text) = Ok (row_at texts (string_bytes path) Default
 chosen texts None (Unknown path) = Err (string_bytes path)
 chosen texts None All = Ok (default_row (codes "all()"))
 
--- under a setting with this default filter and these groups, and with the overrides that set groups
+-- under a setting with this default filter and these groups, with the overrides, and with the profiles of the lineage
 abbrev pub AnswersWith : (Setting → Ending → Text → Type 0) → List PackageMetadata → KnownGroups → ConfiguredTexts
-    → List RankedOverride → TextRow → Ending → Text → Type 0
-AnswersWith Answers packages groups texts ranked row ending text = (setting : Setting) × (setting.graph.now ≡ packages)
-    × (setting.groups.now ≡ groups) × (text_row setting.default.now ≡ row)
-    × AllZip (IsEntryOf texts) (filter sets_group ranked) setting.overrides.now × Answers setting ending text
+    → List Profile → List RankedOverride → TextRow → Ending → Text → Type 0
+AnswersWith Answers packages groups texts lineage ranked row ending text = (setting : Setting)
+    × (setting.graph.now ≡ packages) × (setting.groups.now ≡ groups) × (text_row setting.default.now ≡ row)
+    × AllZip (IsEntryOf texts) ranked setting.overrides.now × AllZip IsProfileOf lineage setting.profiles.now
+    × Answers setting ending text
 
 -- under the default filter that is given, or that follows from overrides
 abbrev pub AnswersBy : (Setting → Ending → Text → Type 0) → List PackageMetadata → Option TextRow → KnownGroups
-    → ConfiguredTexts → List RankedOverride → defaults.DefaultFilter → Ending → Text → Type 0
-AnswersBy Answers packages given groups texts ranked filter ending text = MatchResult (chosen texts given filter)
-    (λ row. AnswersWith Answers packages groups texts ranked row ending text) (λ path. AnswersUnknown path ending text)
+    → ConfiguredTexts → List Profile → List RankedOverride → defaults.DefaultFilter → Ending → Text → Type 0
+AnswersBy Answers packages given groups texts lineage ranked filter ending text = MatchResult (chosen texts given filter)
+    (λ row. AnswersWith Answers packages groups texts lineage ranked row ending text)
+    (λ path. AnswersUnknown path ending text)
 
 -- under the profile of this name: by its lineage, the overrides of that in their order, and the default filter that follows
 abbrev pub AnswersProfile : (Setting → Ending → Text → Type 0) → List PackageMetadata → Option TextRow → Text
@@ -104,7 +112,8 @@ AnswersProfile Answers packages given name profiles groups texts known ending te
     (lineage : List Profile) × (ranked : List RankedOverride) × (filter : defaults.DefaultFilter)
     × Lineage profiles name lineage
     × AllZip (IsRanked (facts_of known.host) (facts_of known.target)) (flat_map placed lineage) ranked
-    × IsDefaultFilter ranked lineage filter × AnswersBy Answers packages given groups texts ranked filter ending text
+    × IsDefaultFilter ranked lineage filter
+    × AnswersBy Answers packages given groups texts lineage ranked filter ending text
 
 -- under the profile that is asked for, of the configuration and for the platforms that the files describe
 abbrev pub AnswersConfigured : (Text → Option Text) → Text → (Setting → Ending → Text → Type 0) → List PackageMetadata
@@ -125,16 +134,21 @@ AnswersAsked content input request ending text = (workspace : Workspace) × IsWo
     (λ profile. (built : BuildPlatforms) × ArePlatforms (view workspace.value) built
     × AnswersConfigured content input Answers workspace.graph (given_row request.default_filter) profile built ending text))
 
--- the list of suites lacks the binary or the test that is to be explained
+-- the binaries lack the one that is asked about, or its test
+abbrev pub LacksOf : Text → Asked → List AskedBinary → CommandFault → Type 0
+LacksOf list (Question question) binaries fault = ⊥
+LacksOf list (Explanation filter id test) binaries fault = IsMissing list binaries id.now test fault
+LacksOf list (Overrides filters binary test) binaries fault = LacksTests list binaries binary test fault
+
+-- so do the binaries of the suites
 abbrev pub LacksIn : Text → Asked → List Suite → CommandFault → Type 0
-LacksIn list (Question question) suites fault = ⊥
-LacksIn list (Explanation filter id test) suites fault =
-    (binaries : List AskedBinary) × AllZip IsAsked suites binaries × IsMissing list binaries id.now test fault
+LacksIn list asked suites fault =
+    (binaries : List AskedBinary) × AllZip IsAsked suites binaries × LacksOf list asked binaries fault
 
 -- the setting has these parts
-abbrev pub HasParts : List PackageMetadata → KnownGroups → TextEntry → List OverrideEntry → Setting → Type 0
-HasParts packages groups default overrides setting = (setting.graph.now ≡ packages) × (setting.groups.now ≡ groups)
-    × (setting.default.now ≡ default) × (setting.overrides.now ≡ overrides)
+abbrev pub HasParts : List PackageMetadata → KnownGroups → TextEntry → List OverrideEntry → List AskedProfile → Setting → Type 0
+HasParts packages groups default overrides profiles setting = (setting.graph.now ≡ packages) × (setting.groups.now ≡ groups)
+    × (setting.default.now ≡ default) × (setting.overrides.now ≡ overrides) × (setting.profiles.now ≡ profiles)
 
 -- the same of what is asked of a workspace
 abbrev pub AnswersIn : AskedWorkspace → Option Data → Setting → Ending → Text → Type 0

@@ -3,6 +3,7 @@ pub mod Files
 pub mod Configurations
 pub mod Workspaces
 pub mod Explaining
+pub mod Overriding
 pub mod Asking
 pub mod Checking
 pub mod Requests

@@ -16,7 +16,7 @@ use Rattle.filterset_faults.specs.declared.kind.FiltersetKind.{FiltersetKind}
 use Rattle.filterset_faults.specs.declared.kind.FiltersetKind.TheVariants as kinds
 use Rattle.filterset_command.specs.declared.fault.CommandFault.{CommandFault}
 use Rattle.filterset_command.specs.declared.asking.Asked.{Asked}
-use Rattle.filterset_command.specs.declared.asking.Asked.TheVariants.{Explanation, Question as Asking}
+use Rattle.filterset_command.specs.declared.asking.Asked.TheVariants.{Explanation, Overrides, Question as Asking}
 use Rattle.filterset_command.specs.declared.fault.CommandFault.TheVariants.{Missing, TwoInputs}
 use Rattle.filterset_command.specs.declared.profile.ProfileRequest.{ProfileRequest}
 use Rattle.filterset_command.specs.declared.request.Request.{Request}
@@ -94,7 +94,7 @@ IsProfileAsked found (Some profile) =
     IsTextAsked found (codes "config") profile.configuration.now × IsTextAsked found (codes "profile") profile.name.now
     × IsOptionAsked found (codes "target-cfg") profile.target_cfg × IsOptionAsked found (codes "host-cfg") profile.host_cfg
 
--- what `list`, `compare` or `explain` asks, and the form of the answer
+-- what `list`, `compare`, `explain` or `overrides` asks, and the form of the answer
 abbrev pub IsQuestionAsked : Text → Found → Form → Asked → Type 0
 IsQuestionAsked name found form (Asking (questions.List filters ignores_default)) =
     (name ≡ codes "list") × IsFormAsked found form
@@ -103,9 +103,14 @@ IsQuestionAsked name found form (Asking (questions.List filters ignores_default)
 IsQuestionAsked name found form (Asking (questions.Compare first second has_names)) =
     (name ≡ codes "compare") × IsDrawnAsked found form × IsTextAsked found (codes "first") first.now
     × IsTextAsked found (codes "second") second.now × IsFlagAsked found (codes "tests") has_names
+IsQuestionAsked name found form (Asking (questions.Overrides filters)) = ⊥
 IsQuestionAsked name found form (Explanation filter binary test) =
     (name ≡ codes "explain") × IsDrawnAsked found form × IsTextAsked found (codes "filterset") filter.now
     × IsTextAsked found (codes "binary") binary.now × IsOptionAsked found (codes "test") test
+IsQuestionAsked name found form (Overrides filters binary test) =
+    (name ≡ codes "overrides") × IsDrawnAsked found form
+    × (map (λ t. t.now) filters.now ≡ values_of found (codes "filterset"))
+    × IsOptionAsked found (codes "binary") binary × IsOptionAsked found (codes "test") test
 
 -- the command with this name and these arguments asks for this
 abbrev pub IsAskedBy : Text → Found → Request → Type 0

@@ -130,11 +130,8 @@ fn cfg<'a>(alloc: Global, name: &'a str, help: &'a str) -> Arg<'a> {
         .help(help)
 }
 
-/// Adds the options of the configuration and its profile.
+/// Adds the options of the profile, and of the platforms that its overrides ask about.
 fn with_profile<'a>(alloc: Global, command: Command<'a>) -> Result<Command<'a>, AllocError> {
-    let command = command.arg(config(alloc).help(
-        "nextest's configuration, or `-` for standard input: the default filter and the groups of its profile count",
-    ))?;
     let command = with_argument(command, profile(alloc).requires_arg("config"))?;
     let target = cfg(
         alloc,
@@ -150,12 +147,19 @@ fn with_profile<'a>(alloc: Global, command: Command<'a>) -> Result<Command<'a>, 
     with_argument(command, host.requires_arg("config"))
 }
 
-/// Adds the options of the workspace, its default filter and the profile.
+/// Adds the options of the workspace and its default filter.
 fn with_workspace<'a>(alloc: Global, command: Command<'a>) -> Result<Command<'a>, AllocError> {
-    let command = command
+    command
         .arg(metadata(alloc).required(true))?
         .arg(nextest_list(alloc))?
-        .arg(default_filter(alloc))?;
+        .arg(default_filter(alloc))
+}
+
+/// Adds the options of the workspace, its default filter and the profile.
+fn with_setting<'a>(alloc: Global, command: Command<'a>) -> Result<Command<'a>, AllocError> {
+    let command = with_workspace(alloc, command)?.arg(config(alloc).help(
+        "nextest's configuration, or `-` for standard input: the default filter and the groups of its profile count",
+    ))?;
     with_profile(alloc, command)
 }
 
@@ -187,7 +191,7 @@ fn list<'a>(alloc: Global) -> Result<Command<'a>, AllocError> {
                 "a filterset; of several the union, and without any the default filter",
             ),
         )?;
-    with_workspace(alloc, command)?
+    with_setting(alloc, command)?
         .arg(ignore_default_filter(alloc))?
         .arg(message_format(alloc, FORMATS.as_slice()).help(
             "how the tests are written; `json` is nextest's own shape",
@@ -218,11 +222,18 @@ fn compare<'a>(alloc: Global) -> Result<Command<'a>, AllocError> {
         .after_help(
             "Example: filterset compare --cargo-metadata metadata.json --nextest-list list.json --tests 'all()' 'not test(~slow)'",
         );
-    with_workspace(alloc, command)?
+    with_setting(alloc, command)?
         .arg(tests(alloc))?
         .arg(color(alloc))?
         .arg(required_text(alloc, "first", "A", "a filterset"))?
         .arg(required_text(alloc, "second", "B", "another filterset"))
+}
+
+/// Makes the argument of a test binary.
+fn binary<'a>(alloc: Global) -> Arg<'a> {
+    Arg::new(alloc, "binary")
+        .value_name("BINARY_ID")
+        .help("the id of a test binary")
 }
 
 /// Makes the argument of the test that is explained.
@@ -242,10 +253,35 @@ fn explain<'a>(alloc: Global) -> Result<Command<'a>, AllocError> {
             "Example: filterset explain --cargo-metadata metadata.json --nextest-list list.json -E 'test(~slow)' parser tests::deep",
         )
         .arg(filterset(alloc).required(true).help("a filterset"))?;
-    with_workspace(alloc, command)?
+    with_setting(alloc, command)?
         .arg(color(alloc))?
-        .arg(required_text(alloc, "binary", "BINARY_ID", "the id of a test binary"))?
+        .arg(binary(alloc).required(true))?
         .arg(test(alloc))
+}
+
+/// Makes the command `overrides`.
+fn overrides<'a>(alloc: Global) -> Result<Command<'a>, AllocError> {
+    let command = Command::new(alloc, "overrides")
+        .about(
+            "Counts the tests that each override of a profile applies to, or shows what gives a test its settings",
+        )
+        .after_help(
+            "Example: filterset overrides --config .config/nextest.toml --cargo-metadata metadata.json --nextest-list list.json",
+        )
+        .arg(
+            filterset(alloc).action(ArgAction::Append).help(
+                "a filterset of the tests to count; of several the union, and without any all tests",
+            ),
+        )?;
+    let command = with_workspace(alloc, command)?.arg(
+        config(alloc).required(true).help(
+            "nextest's configuration, or `-` for standard input: the overrides of its profile apply",
+        ),
+    )?;
+    let command = with_profile(alloc, command)?
+        .arg(color(alloc))?
+        .arg(binary(alloc))?;
+    with_argument(command, test(alloc).conflicts_with("filterset"))
 }
 
 /// Adds an argument, if it could be made.
@@ -278,5 +314,6 @@ pub fn arguments<'a>(alloc: Global) -> Result<Command<'a>, AllocError> {
     let command = with_command(command, format(alloc))?;
     let command = with_command(command, list(alloc))?;
     let command = with_command(command, compare(alloc))?;
-    with_command(command, explain(alloc))
+    let command = with_command(command, explain(alloc))?;
+    with_command(command, overrides(alloc))
 }

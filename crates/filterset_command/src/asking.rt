@@ -1,16 +1,18 @@
-//! The commands `list`, `compare` and `explain`: what filtersets pick of the workspace that files describe, and why.
+//! The commands `list`, `compare`, `explain` and `overrides`: what filtersets pick of the workspace that files describe, and
+//! why, and how overrides apply to its tests.
 ghost use Rattle.std.specs.Prelude.{◌≡◌, IfErr, IfOk, IfSome, option_map, string_bytes};
 ghost use Rattle.serde_json.specs.View.{view};
 ghost use Rattle.filterset_answers.specs.Checked.{text_row};
 ghost use Rattle.filterset_answers.specs.declared.setting.Setting as settings;
 ghost use Rattle.filterset_faults.specs.declared.kind.FiltersetKind.TheVariants as kinds;
 ghost use Rattle.nextest_filtering.specs.Groups.{IsKnown};
-ghost use Rattle.filterset_command.specs.Asking.{AnswersAsked, AnswersIn, HasParts, IsAskedFault, IsPlain, Lacks, given_row, kept_of};
+ghost use Rattle.filterset_command.specs.Asking.{AnswersAsked, AnswersIn, AnswersOf, HasParts, IsAskedFault, IsPlain, Lacks, LacksOf, given_row, kept_of};
 ghost use Rattle.filterset_command.specs.Files.{OrMemory};
 
 use crate::explaining::candidate_of;
 use crate::fault::CommandFault;
 use crate::files::FileSource;
+use crate::overriding::ask_overrides;
 use crate::profile::ProfileRequest;
 use crate::profiled::ask_configured;
 use crate::workspace::{Workspace, WorkspacePaths, platforms_of, read_workspace};
@@ -19,6 +21,8 @@ use filterset_answers::{
     default_entry, explain_filterset,
 };
 use filterset_graph::PackageGraph;
+use filterset_listing::AskedBinary;
+use filterset_overrides::AskedProfile;
 use filterset_sources::Suite;
 use nextest_filtering::KnownGroups;
 use serde_json::Value;
@@ -34,6 +38,15 @@ pub enum Asked<'w> {
         /// The id of the binary.
         binary: &'w str,
         /// The name of a test of the binary, if the filterset is explained for that.
+        test: Option<&'w str>,
+    },
+    /// How overrides apply to tests, and what gives these their settings.
+    Overrides {
+        /// The filtersets that pick the tests to count.
+        filters: &'w [&'w str],
+        /// The id of the binary of the tests, if not all are counted.
+        binary: Option<&'w str>,
+        /// The name of a test of the binary, if the overrides are explained for that.
         test: Option<&'w str>,
     },
 }
@@ -86,35 +99,26 @@ impl<'a, 'w> AskedWorkspace<'a, 'w> {
     }
 }
 
-/// Answers under a default filter and overrides. `kept` is nextest's list, if the answer has its shape.
-pub fn ask_under(
+/// Answers what is asked of binaries under a setting. `kept` is nextest's list, if the answer has its shape. The fault names
+/// the list at the path `list`.
+fn answer_asked(
     alloc: Global,
-    asked: &AskedWorkspace<'_, '_>,
-    groups: &KnownGroups,
-    default: &TextEntry<'_>,
-    overrides: &[OverrideEntry<'_>],
+    form: Form,
+    list: &str,
+    setting: &Setting<'_>,
+    asked: &Asked<'_>,
     kept: Option<Value>,
+    binaries: &[AskedBinary<'_>],
 ) -> Result<Answer, CommandFault>
-    requires kind { default.now.kind ≡ kinds.DefaultFilter }
-    requires groups { IsKnown groups.now }
-    ensures answered { IfOk result (λ answer. (setting : settings.Setting)
-        × HasParts asked.now.graph.now groups.now default.now overrides.now setting
-        × AnswersIn asked.now (option_map view kept) setting answer.ending (string_bytes answer.text)) }
-    ensures missing { IfErr result (OrMemory (Lacks asked.now)) }
+    requires kind { setting.now.default.now.kind ≡ kinds.DefaultFilter }
+    requires groups { IsKnown setting.now.groups.now }
+    ensures answered { IfOk result (λ answer. AnswersOf form asked.now setting.now binaries.now (option_map view kept)
+        answer.ending (string_bytes answer.text)) }
+    ensures missing { IfErr result (OrMemory (LacksOf list.now asked.now binaries.now)) }
 {
-    let binaries = asked_binaries(alloc, asked.suites)?;
-    let binaries = binaries.as_slice();
-    let setting = Setting {
-        graph: asked.graph,
-        groups,
-        default,
-        overrides,
-    };
-    let request = asked.request;
-    let (form, list) = (request.form, request.paths.list);
-    match &request.asked {
+    match asked {
         Asked::Question(question) => {
-            Ok(ask_workspace(alloc, form, &setting, question, kept, binaries)?)
+            Ok(ask_workspace(alloc, form, setting, question, kept, binaries)?)
         }
         Asked::Explanation {
             filter,
@@ -122,9 +126,53 @@ pub fn ask_under(
             test,
         } => {
             let candidate = candidate_of(alloc, list, binary, *test, binaries)?;
-            Ok(explain_filterset(alloc, form, &setting, filter, candidate)?)
+            Ok(explain_filterset(alloc, form, setting, filter, candidate)?)
         }
+        Asked::Overrides {
+            filters,
+            binary,
+            test,
+        } => ask_overrides(
+            alloc, form, list, setting, *filters, *binary, *test, binaries,
+        ),
     }
+}
+
+/// Answers under a default filter, overrides and profiles. `kept` is nextest's list, if the answer has its shape.
+pub fn ask_under(
+    alloc: Global,
+    asked: &AskedWorkspace<'_, '_>,
+    groups: &KnownGroups,
+    default: &TextEntry<'_>,
+    overrides: &[OverrideEntry<'_>],
+    profiles: &[AskedProfile<'_>],
+    kept: Option<Value>,
+) -> Result<Answer, CommandFault>
+    requires kind { default.now.kind ≡ kinds.DefaultFilter }
+    requires groups { IsKnown groups.now }
+    ensures answered { IfOk result (λ answer. (setting : settings.Setting)
+        × HasParts asked.now.graph.now groups.now default.now overrides.now profiles.now setting
+        × AnswersIn asked.now (option_map view kept) setting answer.ending (string_bytes answer.text)) }
+    ensures missing { IfErr result (OrMemory (Lacks asked.now)) }
+{
+    let binaries = asked_binaries(alloc, asked.suites)?;
+    let setting = Setting {
+        graph: asked.graph,
+        groups,
+        default,
+        overrides,
+        profiles,
+    };
+    let request = asked.request;
+    answer_asked(
+        alloc,
+        request.form,
+        request.paths.list,
+        &setting,
+        &request.asked,
+        kept,
+        binaries.as_slice(),
+    )
 }
 
 /// Makes the entry of the default filter that is given, if one is.
@@ -156,10 +204,10 @@ fn ask_plainly(
 {
     let groups = KnownGroups::global_only(alloc);
     match given {
-        Some(default) => ask_under(alloc, asked, &groups, &default, &[], kept),
+        Some(default) => ask_under(alloc, asked, &groups, &default, &[], &[], kept),
         None => {
             let default = default_entry(alloc, "all()")?;
-            ask_under(alloc, asked, &groups, &default, &[], kept)
+            ask_under(alloc, asked, &groups, &default, &[], &[], kept)
         }
     }
 }

@@ -1,5 +1,7 @@
-//! Which binary or test `explain` is about.
-ghost use Rattle.std.specs.Prelude.{◌≡◌, IfErr, IfOk, option_map};
+//! Which binary or test `explain` and `overrides` are about.
+ghost use Rattle.std.specs.Prelude.{◌≡◌, IfErr, IfOk, Option, option_map};
+ghost use Rattle.std.specs.Borrow.{Bor};
+ghost use Rattle.filterset_drawing.specs.Columns.{Text};
 ghost use Rattle.filterset_command.specs.Explaining.{IsCandidate, IsMissing, binary_called, name_called};
 ghost use Rattle.filterset_command.specs.Files.{OrMemory};
 
@@ -24,6 +26,51 @@ fn test_called<'s>(tests: &'s [TestCaseName], name: &str) -> Option<&'s TestCase
     tests.iter().find(|test| test.as_str() == name)
 }
 
+/// Returns the first binary with this id. The fault names the list at the path `list`.
+pub fn find_binary<'b, 's>(
+    alloc: Global,
+    list: &str,
+    id: &str,
+    binaries: &'b [AskedBinary<'s>],
+) -> Result<&'b AskedBinary<'s>, CommandFault>
+    ensures found { IfOk result (λ binary. binary_called id.now binaries.now ≡ Some binary.now) }
+    ensures missing { IfErr result (λ fault. (test : Option (Bor Text))
+        → OrMemory (IsMissing list.now binaries.now id.now test) fault) }
+{
+    let Some(binary) = binary_called(binaries, id) else {
+        return Err(CommandFault::NoBinary {
+            list: String::from_str(alloc, list)?,
+            binary: String::from_str(alloc, id)?,
+        });
+    };
+    Ok(binary)
+}
+
+/// Returns the test with this name of the binary with this id. The fault names the list at the path `list`.
+pub fn find_test<'s>(
+    alloc: Global,
+    list: &str,
+    id: &str,
+    test: &str,
+    binaries: &[AskedBinary<'s>],
+) -> Result<TestQuery<'s>, CommandFault>
+    ensures found { IfOk result (λ query. IsCandidate binaries.now id.now (Some test.entry) (Candidate.Test query)) }
+    ensures missing { IfErr result (OrMemory (IsMissing list.now binaries.now id.now (Some test.entry))) }
+{
+    let binary = find_binary(alloc, list, id, binaries)?;
+    let Some(test_name) = test_called(binary.tests, test) else {
+        return Err(CommandFault::NoTest {
+            list: String::from_str(alloc, list)?,
+            binary: String::from_str(alloc, id)?,
+            test: String::from_str(alloc, test)?,
+        });
+    };
+    Ok(TestQuery {
+        binary_query: binary.query,
+        test_name,
+    })
+}
+
 /// Returns the binary with this id, or its test with this name. The fault names the list at the path `list`.
 pub fn candidate_of<'s>(
     alloc: Global,
@@ -35,24 +82,14 @@ pub fn candidate_of<'s>(
     ensures found { IfOk result (IsCandidate binaries.now id.now test.entry) }
     ensures missing { IfErr result (OrMemory (IsMissing list.now binaries.now id.now test.entry)) }
 {
-    let Some(binary) = binary_called(binaries, id) else {
-        return Err(CommandFault::NoBinary {
-            list: String::from_str(alloc, list)?,
-            binary: String::from_str(alloc, id)?,
-        });
-    };
-    let Some(test) = test else {
-        return Ok(Candidate::Binary(binary.query));
-    };
-    let Some(test_name) = test_called(binary.tests, test) else {
-        return Err(CommandFault::NoTest {
-            list: String::from_str(alloc, list)?,
-            binary: String::from_str(alloc, id)?,
-            test: String::from_str(alloc, test)?,
-        });
-    };
-    Ok(Candidate::Test(TestQuery {
-        binary_query: binary.query,
-        test_name,
-    }))
+    match test {
+        None => {
+            let binary = find_binary(alloc, list, id, binaries)?;
+            Ok(Candidate::Binary(binary.query))
+        }
+        Some(test) => {
+            let query = find_test(alloc, list, id, test, binaries)?;
+            Ok(Candidate::Test(query))
+        }
+    }
 }

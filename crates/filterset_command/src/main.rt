@@ -1,5 +1,5 @@
 //! The program for people: checks filtersets and draws their faults, prints them, and shows which tests of a workspace they
-//! pick, how two differ, and why one picks a test or not.
+//! pick, how two differ, why one picks a test or not, and how the overrides of a profile apply to tests.
 #![tactic(auto)]
 
 mod answering;
@@ -13,6 +13,7 @@ mod explaining;
 mod fault;
 mod files;
 mod input;
+mod overriding;
 mod profile;
 mod profiled;
 mod request;

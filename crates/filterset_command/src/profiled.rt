@@ -17,7 +17,8 @@ use crate::profile::{
     KnownPlatforms, ProfileRequest, ProfilesFile, lineage_of, read_facts, read_profiles_file,
 };
 use filterset_answers::{
-    Answer, ConfiguredTexts, TextEntry, answer_unknown, default_entry, entry_at, override_entries,
+    Answer, ConfiguredTexts, TextEntry, answer_unknown, asked_profiles, default_entry, entry_at,
+    override_entries,
 };
 use filterset_drawing::Source;
 use filterset_profiles::{DefaultFilter, Profile, RankedOverride, default_filter, rank_overrides};
@@ -57,12 +58,13 @@ fn choose<'t>(
     }
 }
 
-/// Answers under a default filter and the overrides of a profile.
+/// Answers under a default filter, the profiles of a lineage and their overrides.
 fn ask_with(
     alloc: Global,
     asked: &AskedWorkspace<'_, '_>,
     groups: &KnownGroups,
     texts: ConfiguredTexts<'_>,
+    lineage: &[&Profile],
     ranked: &[RankedOverride<'_>],
     default: &TextEntry<'_>,
     kept: Option<Value>,
@@ -70,11 +72,21 @@ fn ask_with(
     requires kind { default.now.kind ≡ FiltersetKind.DefaultFilter }
     requires groups { IsKnown groups.now }
     ensures answered { IfOk result (λ answer. AnswersWith (AnswersIn asked.now (option_map view kept)) asked.now.graph.now
-        groups.now texts.entry ranked.now (text_row default.now) answer.ending (string_bytes answer.text)) }
+        groups.now texts.entry (map (λ p. p.now) lineage.now) ranked.now (text_row default.now) answer.ending
+        (string_bytes answer.text)) }
     ensures missing { IfErr result (OrMemory (Lacks asked.now)) }
 {
     let overrides = override_entries(alloc, texts, ranked)?;
-    ask_under(alloc, asked, groups, default, overrides.as_slice(), kept)
+    let profiles = asked_profiles(alloc, lineage)?;
+    ask_under(
+        alloc,
+        asked,
+        groups,
+        default,
+        overrides.as_slice(),
+        profiles.as_slice(),
+        kept,
+    )
 }
 
 /// Answers under the overrides of a lineage.
@@ -93,13 +105,13 @@ fn ask_ranked<'p>(
     ensures answered { IfOk result (λ answer. (filter : filters.DefaultFilter)
         × IsDefaultFilter ranked.now (map (λ p. p.now) lineage.now) filter
         × AnswersBy (AnswersIn asked.now (option_map view kept)) asked.now.graph.now (option_map text_row given.entry)
-        groups.now texts.entry ranked.now filter answer.ending (string_bytes answer.text)) }
+        groups.now texts.entry (map (λ p. p.now) lineage.now) ranked.now filter answer.ending (string_bytes answer.text)) }
     ensures missing { IfErr result (OrMemory (Lacks asked.now)) }
 {
     let filter = default_filter(alloc, lineage, ranked)?;
     match choose(alloc, texts, given, filter)? {
         ChosenFilter::Entry(default) => {
-            ask_with(alloc, asked, groups, texts, ranked, &default, kept)
+            ask_with(alloc, asked, groups, texts, lineage, ranked, &default, kept)
         }
         ChosenFilter::Unknown(path) => Ok(answer_unknown(alloc, path.as_str())?),
     }

@@ -62,7 +62,7 @@ pub enum Request<'w> {
         form: Form,
         texts: Texts<'w>,
     },
-    /// `list`, `compare` or `explain`.
+    /// `list`, `compare`, `explain` or `overrides`.
     Ask(WorkspaceRequest<'w>),
     /// To write this text: the help or the version.
     Show(&'w str),
@@ -98,6 +98,7 @@ pub fn request_of<'m>(matches: &'m ArgMatches<'_>) -> Result<Request<'m>, Comman
         Some(("list", own)) => list_of(own),
         Some(("compare", own)) => compare_of(own),
         Some(("explain", own)) => explain_of(own),
+        Some(("overrides", own)) => overrides_of(own),
         _ => Err(CommandFault::Missing("COMMAND")),
     }
 }
@@ -185,6 +186,19 @@ fn explain_of<'m>(matches: &'m ArgMatches<'_>) -> Result<Request<'m>, CommandFau
     let asked = Asked::Explanation {
         filter: text_of(matches, "filterset")?,
         binary: text_of(matches, "binary")?,
+        test: matches.get_str("test"),
+    };
+    ask_of(matches, Form::Drawn(color_of(matches)), asked)
+}
+
+/// Returns what `overrides` asks for.
+fn overrides_of<'m>(matches: &'m ArgMatches<'_>) -> Result<Request<'m>, CommandFault>
+    ensures asked { IfOk result (IsAskedBy (codes "overrides") (found_of matches.now)) }
+    ensures missing { IfErr result (LacksArgument (found_of matches.now)) }
+{
+    let asked = Asked::Overrides {
+        filters: matches.get_strs("filterset").unwrap_or(&[]),
+        binary: matches.get_str("binary"),
         test: matches.get_str("test"),
     };
     ask_of(matches, Form::Drawn(color_of(matches)), asked)

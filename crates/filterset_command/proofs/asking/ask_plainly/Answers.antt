@@ -18,6 +18,7 @@ returns-in-Some-clause-answered c =
         subst IsGlobalOnly (sym told.1.1) c.global_only-groups.ensures.global,
         ap text_row told.1.2 ∙ sym (ap row_or_all c.in-Some.is),
         told.1.3,
+        told.1.4,
       ),
       told.2,
     )) c.ask_under.ensures.answered
@@ -31,6 +32,7 @@ returns-clause-answered c =
         subst IsGlobalOnly (sym told.1.1) c.global_only-groups.ensures.global,
         ap text_row told.1.2 ∙ (c.in_ok-default-in-None.ensures ∙ sym (ap row_or_all c.in-None.is)),
         told.1.3,
+        told.1.4,
       ),
       told.2,
     )) c.ask_under-in-None.ensures.answered

@@ -1,38 +1,25 @@
-use Rattle.std.proofs.Common.{option_map, refl, string_bytes, subst, sym}
-use Rattle.serde_json.specs.View.{view}
+use Rattle.std.proofs.Common.{refl}
+use Rattle.std.proofs.lemmas.Result.{IfErr-weaker, IfOk-weaker}
 use Rattle.filterset_answers.specs.declared.setting.Setting.{Setting}
-use Rattle.filterset_command.specs.Asking.{AnswersOf}
+use Rattle.filterset_command.specs.Asking.{Lacks, LacksOf}
+use Rattle.filterset_command.proofs.FaultLemmas.{OrMemory-weaker}
 use Rattle.filterset_command.proofs.asking.ask_under.Goals as goal
 
-pub returns-in_ok-ask_workspace-in-Question-clause-answered : goal.returns-in_ok-ask_workspace-in-Question-clause-answered
-returns-in_ok-ask_workspace-in-Question-clause-answered c =
-    let setting : Setting = record { graph = c.args.asked.now.graph; groups = c.args.groups; default = c.args.default; overrides = c.args.overrides } in
-    let form = c.args.asked.now.request.now.form in
-    let binaries = c.in_ok-binaries.binaries.items in
-    let answer = c.in_ok-ask_workspace-in-Question.field-0 in
-    let told = rw c.as_slice-binaries.ensures.value at c.in_ok-ask_workspace-in-Question.ensures in (
+pub returns-clause-answered : goal.returns-clause-answered
+returns-clause-answered c =
+    let setting : Setting = record { graph = c.args.asked.now.graph; groups = c.args.groups; default = c.args.default; overrides = c.args.overrides; profiles = c.args.profiles } in
+    let told = rw c.as_slice.ensures.value at c.answer_asked.ensures.answered in
+    IfOk-weaker c.answer_asked.result _ _ (λ answer answers. (
       setting,
-      (refl, refl, refl, refl),
-      (
-        binaries,
-        c.in_ok-binaries.ensures,
-        subst (λ asked. AnswersOf form asked setting binaries (option_map view c.args.kept) answer.ending (string_bytes answer.text)) (sym c.in-Question.is) told,
-      ),
-    )
+      (refl, refl, refl, refl, refl),
+      (c.in_ok-binaries.binaries.items, c.in_ok-binaries.ensures, answers),
+    )) told
 
-pub returns-in_ok-explain_filterset-in-Explanation-clause-answered : goal.returns-in_ok-explain_filterset-in-Explanation-clause-answered
-returns-in_ok-explain_filterset-in-Explanation-clause-answered c =
-    let setting : Setting = record { graph = c.args.asked.now.graph; groups = c.args.groups; default = c.args.default; overrides = c.args.overrides } in
-    let form = c.args.asked.now.request.now.form in
+pub returns-clause-missing : goal.returns-clause-missing
+returns-clause-missing c =
+    let asked = c.args.asked.now in
+    let request = asked.request.now in
     let binaries = c.in_ok-binaries.binaries.items in
-    let answer = c.in_ok-explain_filterset-in-Explanation.field-0 in
-    let found = rw c.as_slice-binaries.ensures.value at c.in_ok-candidate-in-Explanation.ensures.found in (
-      setting,
-      (refl, refl, refl, refl),
-      (
-        binaries,
-        c.in_ok-binaries.ensures,
-        subst (λ asked. AnswersOf form asked setting binaries (option_map view c.args.kept) answer.ending (string_bytes answer.text)) (sym c.in-Explanation.is)
-            (c.in_ok-candidate-in-Explanation.candidate, found, c.in_ok-explain_filterset-in-Explanation.ensures),
-      ),
-    )
+    let told = rw c.as_slice.ensures.value at c.answer_asked.ensures.missing in
+    IfErr-weaker c.answer_asked.result _ _ (OrMemory-weaker (LacksOf request.paths.list.now request.asked binaries) (Lacks asked)
+    (λ fault lacks. (binaries, c.in_ok-binaries.ensures, lacks))) told

@@ -43,3 +43,8 @@ pub returns-in-Some-explain-default-clause-asked : goal.returns-in-Some-explain-
 returns-in-Some-explain-default-clause-asked c =
     IfOk-weaker c.explain_of.result _ _ (λ request asked.
     asked_by c.args.matches.now c.in-Some-explain-default.field-0-0.now c.in-Some-explain-default.own.now (codes "explain") request c.in-Some-explain-default.ensures.name c.in-Some-explain-default.ensures.rows c.in-Some-explain-default.is-explain asked) c.explain_of.ensures.asked
+
+pub returns-in-Some-overrides-default-clause-asked : goal.returns-in-Some-overrides-default-clause-asked
+returns-in-Some-overrides-default-clause-asked c =
+    IfOk-weaker c.overrides_of.result _ _ (λ request asked.
+    asked_by c.args.matches.now c.in-Some-overrides-default.field-0-0.now c.in-Some-overrides-default.own.now (codes "overrides") request c.in-Some-overrides-default.ensures.name c.in-Some-overrides-default.ensures.rows c.in-Some-overrides-default.is-overrides asked) c.overrides_of.ensures.asked
