@@ -1,7 +1,11 @@
 -- The exit status of the program.
-use Rattle.std.specs.Prelude.{ℕ, Result, Ok, Err}
+use Rattle.std.specs.Prelude.{ℕ, true, false, Result, Ok, Err}
 use Rattle.filterset_answers.specs.declared.text.Ending.{Ending}
 use Rattle.filterset_answers.specs.declared.text.Ending.TheVariants.{Fine, Faulty, Differing, Unknown}
+use Rattle.filterset_editor.specs.declared.ending.Ending.{Ending as SessionEnding}
+use Rattle.filterset_editor.specs.declared.ending.Ending.TheVariants.{Exit, InputEnded, Malformed}
+use Rattle.filterset_command.specs.declared.ending.Ended.{Ended}
+use Rattle.filterset_command.specs.declared.ending.Ended.TheVariants.{Answered, Served}
 use Rattle.filterset_command.specs.declared.fault.CommandFault.{CommandFault}
 use Rattle.filterset_command.specs.declared.fault.CommandFault.TheVariants.{File, Run}
 use Rattle.filterset_command.specs.declared.fault.FileFault.{FileFault}
@@ -12,12 +16,24 @@ abbrev pub file_status : FileFault → ℕ
 file_status (Unread error) = 3
 file_status _ = 2
 
+-- the exit status after an answer
+abbrev pub answer_status : Ending → ℕ
+answer_status Fine = 0
+answer_status Faulty = 1
+answer_status Differing = 1
+answer_status Unknown = 4
+
+-- the exit status after the session of an editor, which is in order only by `exit` after `shutdown`
+abbrev pub session_status : SessionEnding → ℕ
+session_status (Exit true) = 0
+session_status (Exit false) = 1
+session_status InputEnded = 1
+session_status Malformed = 2
+
 -- the exit status of a command
-abbrev pub status_of : Result Ending CommandFault → ℕ
-status_of (Ok Fine) = 0
-status_of (Ok Faulty) = 1
-status_of (Ok Differing) = 1
-status_of (Ok Unknown) = 4
+abbrev pub status_of : Result Ended CommandFault → ℕ
+status_of (Ok (Answered ending)) = answer_status ending
+status_of (Ok (Served ending)) = session_status ending
 status_of (Err (File role path fault)) = file_status fault
 status_of (Err (Run fault)) = 3
 status_of (Err _) = 2

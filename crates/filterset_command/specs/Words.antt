@@ -21,6 +21,8 @@ use Rattle.filterset_command.specs.declared.fault.CommandFault.TheVariants.{Miss
 use Rattle.filterset_command.specs.declared.profile.ProfileRequest.{ProfileRequest}
 use Rattle.filterset_command.specs.declared.request.Request.{Request}
 use Rattle.filterset_command.specs.declared.request.Request.TheVariants.{Ask, Check, Format, Show}
+use Rattle.filterset_command.specs.declared.request.Task.{Task}
+use Rattle.filterset_command.specs.declared.request.Task.TheVariants.{Answer, Serve}
 use Rattle.filterset_command.specs.declared.request.Texts.{Texts}
 use Rattle.filterset_command.specs.declared.request.Texts.TheVariants.{Given, StandardInput}
 use Rattle.filterset_command.specs.declared.workspace.WorkspacePaths.{WorkspacePaths}
@@ -129,6 +131,11 @@ abbrev pub IsAsked : ArgMatches → Request → Type 0
 IsAsked matches request =
     (name : Text) × (found : Found) × (subcommand_name_of matches ≡ Some name)
     × (option_map (λ p. p.1) (subcommand_rows_of matches) ≡ Some (rows_of found)) × IsAskedBy name found request
+
+-- the words ask for a request, or to serve an editor
+abbrev pub IsTask : ArgMatches → Task → Type 0
+IsTask matches (Answer request) = IsAsked matches request
+IsTask matches Serve = subcommand_name_of matches ≡ Some (codes "lsp")
 
 -- standard input is to be the filtersets, and the configuration too
 abbrev pub TakesTwo : Found → Type 0

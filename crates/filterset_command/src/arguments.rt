@@ -284,6 +284,15 @@ fn overrides<'a>(alloc: Global) -> Result<Command<'a>, AllocError> {
     with_argument(command, test(alloc).conflicts_with("filterset"))
 }
 
+/// Makes the command `lsp`.
+fn lsp<'a>(alloc: Global) -> Result<Command<'a>, AllocError> {
+    Ok(
+        Command::new(alloc, "lsp")
+            .about("Shows an editor the faults of filtersets, over standard input and output")
+            .after_help("Editors start it: it speaks the Language Server Protocol"),
+    )
+}
+
 /// Adds an argument, if it could be made.
 fn with_argument<'a>(
     command: Command<'a>,
@@ -315,5 +324,6 @@ pub fn arguments<'a>(alloc: Global) -> Result<Command<'a>, AllocError> {
     let command = with_command(command, list(alloc))?;
     let command = with_command(command, compare(alloc))?;
     let command = with_command(command, explain(alloc))?;
-    with_command(command, overrides(alloc))
+    let command = with_command(command, overrides(alloc))?;
+    with_command(command, lsp(alloc))
 }

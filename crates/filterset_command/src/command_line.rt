@@ -6,7 +6,7 @@ ghost use Rattle.filterset_command.specs.Requests.{IsShown};
 
 use crate::arguments::arguments;
 use crate::fault::CommandFault;
-use crate::request::{Request, request_of};
+use crate::request::{Request, Task, task_of};
 use clap::error::ErrorKind;
 use clap::{ArgMatches, Error};
 use filterset_io::RunFault;
@@ -40,10 +40,10 @@ impl<'w> CommandLine<'w> {
     }
 
     /// Returns what the command line asks for.
-    pub fn request(&self) -> Result<Request<'_>, CommandFault> {
+    pub fn task(&self) -> Result<Task<'_>, CommandFault> {
         match self {
-            CommandLine::Command(matches) => request_of(matches),
-            CommandLine::Show(text) => Ok(Request::Show(text.as_str())),
+            CommandLine::Command(matches) => task_of(matches),
+            CommandLine::Show(text) => Ok(Task::Answer(Request::Show(text.as_str()))),
         }
     }
 }

@@ -1,9 +1,17 @@
 //! The exit status of the program.
 ghost use Rattle.std.specs.Prelude.{◌≡◌};
-ghost use Rattle.filterset_command.specs.Ending.{file_status, status_of};
+ghost use Rattle.filterset_command.specs.Ending.{answer_status, file_status, session_status, status_of};
 
 use crate::fault::{CommandFault, FileFault};
 use filterset_answers::Ending;
+use filterset_editor::Ending as SessionEnding;
+
+/// How what the command line asks for ended.
+#[derive(Clone, Copy, Debug)]
+pub enum Ended {
+    Answered(Ending),
+    Served(SessionEnding),
+}
 
 /// Returns the exit status after a fault of a file: 3 if reading it failed, and 2 if its content is rejected.
 fn file_status(fault: &FileFault) -> u8
@@ -15,14 +23,35 @@ fn file_status(fault: &FileFault) -> u8
     }
 }
 
+/// Returns the exit status after an answer.
+fn answer_status(ending: Ending) -> u8
+    ensures { result ≡ answer_status ending }
+{
+    match ending {
+        Ending::Fine => 0,
+        Ending::Faulty | Ending::Differing => 1,
+        Ending::Unknown => 4,
+    }
+}
+
+/// Returns the exit status after the session of an editor.
+fn session_status(ending: SessionEnding) -> u8
+    ensures { result ≡ session_status ending }
+{
+    match ending {
+        SessionEnding::Exit { in_order: true } => 0,
+        SessionEnding::Exit { in_order: false } | SessionEnding::InputEnded => 1,
+        SessionEnding::Malformed => 2,
+    }
+}
+
 /// Returns the exit status of a command.
-pub fn status(ended: &Result<Ending, CommandFault>) -> u8
+pub fn status(ended: &Result<Ended, CommandFault>) -> u8
     ensures { result ≡ status_of ended.now }
 {
     match ended {
-        Ok(Ending::Fine) => 0,
-        Ok(Ending::Faulty) | Ok(Ending::Differing) => 1,
-        Ok(Ending::Unknown) => 4,
+        Ok(Ended::Answered(ending)) => answer_status(*ending),
+        Ok(Ended::Served(ending)) => session_status(*ending),
         Err(CommandFault::File { fault, .. }) => file_status(fault),
         Err(CommandFault::Run(_)) => 3,
         Err(_) => 2,

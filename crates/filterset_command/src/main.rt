@@ -1,5 +1,5 @@
 //! The program for people: checks filtersets and draws their faults, prints them, and shows which tests of a workspace they
-//! pick, how two differ, why one picks a test or not, and how the overrides of a profile apply to tests.
+//! pick, how two differ, why one picks a test or not, and how the overrides of a profile apply to tests; and serves editors.
 #![tactic(auto)]
 
 mod answering;
@@ -18,16 +18,19 @@ mod profile;
 mod profiled;
 mod request;
 mod run;
+mod serving;
 mod texts;
 mod workspace;
 
 use command_line::CommandLine;
-use ending::status;
+use ending::{Ended, status};
 use fault::CommandFault;
 use files::HostFiles;
-use filterset_answers::Ending;
+use filterset_editor::Ending as SessionEnding;
 use filterset_io::{FromReader, RunFault, ToWriter};
+use request::Task;
 use run::run;
+use serving::serve_editor;
 use std::alloc::AllocError;
 use std::process::ExitCode;
 use std::{env, io};
@@ -43,35 +46,43 @@ fn words_of(rt: &HostRuntime) -> Result<Vec<String>, CommandFault> {
     }
 }
 
-/// Runs the command of the command line.
-fn run_command(rt: &HostRuntime) -> Result<Ending, CommandFault> {
+/// Does what the command line asks for.
+fn perform(rt: &HostRuntime, task: &Task<'_>) -> Result<Ended, CommandFault> {
     let alloc = rt.alloc();
-    let words = words_of(rt)?;
-    let line = CommandLine::read(alloc, words.as_slice())?;
-    let request = line.request()?;
     let mut input = FromReader::new(rt.stdin());
     let mut output = ToWriter::new(rt.stdout());
-    run(
-        alloc,
-        &request,
-        &HostFiles { runtime: rt },
-        &mut input,
-        &mut output,
-    )
+    match task {
+        Task::Answer(request) => {
+            let files = HostFiles { runtime: rt };
+            let ending = run(alloc, request, &files, &mut input, &mut output)?;
+            Ok(Ended::Answered(ending))
+        }
+        Task::Serve => Ok(Ended::Served(serve_editor(alloc, &mut input, &mut output)?)),
+    }
 }
 
-/// Writes a fault on standard error. A failed write is ignored.
-fn report(rt: &HostRuntime, fault: &CommandFault) {
-    let _ = match fault {
-        CommandFault::Words(error) => error.print(rt),
-        other => eprintln!(rt; "{other}"),
+/// Runs the command of the command line.
+fn run_command(rt: &HostRuntime) -> Result<Ended, CommandFault> {
+    let words = words_of(rt)?;
+    let line = CommandLine::read(rt.alloc(), words.as_slice())?;
+    let task = line.task()?;
+    perform(rt, &task)
+}
+
+/// Writes on standard error why a command failed, if it did. A failed write is ignored.
+fn report(rt: &HostRuntime, ended: &Result<Ended, CommandFault>) {
+    let _ = match ended {
+        Err(CommandFault::Words(error)) => error.print(rt),
+        Err(fault) => eprintln!(rt; "{fault}"),
+        Ok(Ended::Served(SessionEnding::Malformed)) => eprintln!(rt;
+            "error: standard input has no message of the Language Server Protocol\nhelp: `filterset lsp` is for editors, which start it",
+        ),
+        Ok(_) => Ok(()),
     };
 }
 
 fn main(rt: HostRuntime) -> ExitCode {
     let ended = run_command(&rt);
-    if let Err(fault) = &ended {
-        report(&rt, fault);
-    }
+    report(&rt, &ended);
     ExitCode::from(status(&ended))
 }

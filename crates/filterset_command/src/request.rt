@@ -5,7 +5,7 @@ ghost use Rattle.filterset_drawing.specs.Columns.{Text};
 ghost use Rattle.std.specs.Option.{option_map_or};
 ghost use Rattle.filterset_command.specs.Files.{is_input};
 ghost use Rattle.filterset_command.specs.Requests.{are_lines, takes_input};
-ghost use Rattle.filterset_command.specs.Words.{ArePathsAsked, AreTextsAsked, IsAsked, IsAskedBy, IsColorAsked, IsFormAsked, IsKindAsked, IsProfileAsked, IsQuestionAsked, IsTextAsked, IsWordsFault, LacksArgument, TakesTwo};
+ghost use Rattle.filterset_command.specs.Words.{ArePathsAsked, AreTextsAsked, IsAsked, IsAskedBy, IsColorAsked, IsFormAsked, IsKindAsked, IsProfileAsked, IsQuestionAsked, IsTask, IsTextAsked, IsWordsFault, LacksArgument, TakesTwo};
 
 use crate::asking::{Asked, WorkspaceRequest};
 use crate::checking::CheckPaths;
@@ -87,8 +87,27 @@ impl Request<'_> {
     }
 }
 
+/// What the command line asks for.
+#[derive(Clone, Copy)]
+pub enum Task<'w> {
+    Answer(Request<'w>),
+    /// To serve an editor.
+    Serve,
+}
+
 /// Returns what matched words ask for.
-pub fn request_of<'m>(matches: &'m ArgMatches<'_>) -> Result<Request<'m>, CommandFault>
+pub fn task_of<'m>(matches: &'m ArgMatches<'_>) -> Result<Task<'m>, CommandFault>
+    ensures asked { IfOk result (IsTask matches.now) }
+    ensures refused { IfErr result (IsWordsFault matches.now) }
+{
+    match matches.subcommand_matches("lsp") {
+        Some(_) => Ok(Task::Serve),
+        None => Ok(Task::Answer(request_of(matches)?)),
+    }
+}
+
+/// Returns the request of matched words.
+fn request_of<'m>(matches: &'m ArgMatches<'_>) -> Result<Request<'m>, CommandFault>
     ensures asked { IfOk result (IsAsked matches.now) }
     ensures refused { IfErr result (IsWordsFault matches.now) }
 {
