@@ -4,12 +4,14 @@
     scripts/trusted.py              prints the list
     scripts/trusted.py --write      writes it into docs/TRUST.md
     scripts/trusted.py --check      fails if docs/TRUST.md has another list
+    scripts/trusted.py --kit        prints the names of the kit that the definitions cite
     scripts/trusted.py --unreached  prints the definitions of specs/ that no public clause reaches
     scripts/trusted.py --why NAME   prints how public clauses come to reach a definition or a type
 
 Names are followed from the public clauses: the contracts of public functions, the ghost members of public traits and of
 impls of public types, what the record's program's impl of `Program` says, and the contracts of the programs' `run` and
-`status`. What proves something where it is used (an invariant, the laws of an `==`) is not followed: the prover checks it.
+`status`, and of what serves an editor. What proves something where it is used (an invariant, the laws of an `==`) is not
+followed: the prover checks it.
 """
 
 import re
@@ -21,12 +23,24 @@ from sources import TOP, crate_of, crates, files, operator_parts, text_of, words
 PAGE, BEGIN, END = "docs/TRUST.md", "<!-- trusted.py begins -->\n", "<!-- trusted.py ends -->\n"
 # The crate that other programs name; the program that reads a record, with the crate of its run; the program for people.
 LIBRARY, PROGRAM, PROGRAMS, COMMAND = "nextest_filtering", "filterset_cli", "filterset_io", "filterset_command"
-# What only configurations mean: crates, files of specs/, definitions and types.
-CONFIGURED = {
-    "filterset_platforms", "filterset_profiles", "filterset_sources/specs/Platforms", "filterset_listing/specs/Groups",
-    "filterset_answers/specs/Profile", "filterset_command/specs/Configurations", "AnswersConfigured", "AnswersProfile",
-    "AnswersWith", "BuildPlatforms", "GroupOverride", "IsOverrideFor", "IsUnknownOn", "KnownPlatforms", "NamesOverride",
-    "OverrideEntry", "ProfileRequest", "ProfilesFile", "TestAnswer", "UnknownTest", "chosen", "filter_row", "unknown_line",
+# What its command `lsp` alone uses, and the call that serves an editor.
+EDITORS, SERVE = ("filterset_editor", "filterset_server"), "serve_editor"
+# What only these mean: crates, files, definitions and types.
+ONLY = {
+    "profiles, overrides and platforms of a configuration": {
+        "filterset_platforms", "filterset_profiles", "filterset_overrides", "filterset_sources/specs/Platforms",
+        "filterset_listing/specs/Groups", "filterset_answers/specs/Overriding", "filterset_answers/specs/Profile",
+        "filterset_command/specs/Configurations", "filterset_command/specs/Overriding", "AnswersBy", "AnswersConfigured",
+        "AnswersProfile", "AnswersWith", "BuildPlatforms", "GroupOverride", "IsAskedFor", "IsOverrideFor",
+        "IsPlatformsFault", "IsUnknownOn", "KnownPlatforms", "NamesOverride", "OverrideEntry", "ProfileRequest",
+        "ProfilesFile", "TestAnswer", "UnknownTest", "chosen", "filter_row", "sets_group", "unknown_line",
+    },
+    "the filtersets of a configuration and their places": {
+        "filterset_sources/specs/Configurations", "filterset_sources/src/configuration", "filterset_places/specs/Numbers",
+        "filterset_places/specs/Pieces", "filterset_places/specs/Places", "filterset_places/specs/Strings",
+        "filterset_places/src/content", "filterset_places/src/place", "filterset_places/src/places", "ConfiguredTexts",
+        "KnownConfiguration", "file_row", "placed_row", "placement_at", "rows_in",
+    },
 }
 # Ghost members that prove something where they are used.
 PROVED_MEMBERS = {"laws", "xor_laws", "total", "matches_partial_cmp", "matches_eq", "respects_eq", "coded", "invariant"}
@@ -182,22 +196,28 @@ class Sources:
             if one.clauses and one.name not in PROVED_MEMBERS and (block.trait or one.is_pub):
                 yield Public(crate, path, f"{shown}::{one.name}", one, block.uses)
 
+    def called(self, crate, *names):
+        return [Public(crate, path, item.name, item, {}) for path, _, item in self.items(crate)
+                if item.kind == "fn" and item.name in names]
+
     def parts(self):
         """Returns what is relied on: who relies on a part relies on those before it. Programs promise their run and status."""
         library, record = self.below(LIBRARY), self.below(PROGRAM)
-        beside = [crate for crate in self.crates if crate in self.below(COMMAND) - record - library - {COMMAND}]
-        runs = {crate: [Public(crate, path, item.name, item, {}) for path, _, item in self.items(crate)
-                        if item.kind == "fn" and item.name in ("run", "status")] for crate in (PROGRAMS, COMMAND)}
+        beside = [crate for crate in self.crates if crate in self.below(COMMAND) - record - library - {COMMAND, *EDITORS}]
+        runs = {crate: self.called(crate, "run", "status") for crate in (PROGRAMS, COMMAND)}
+        serve = self.called(COMMAND, SERVE)
         own = [one for crate in sorted(record) for path, _, block in self.items(crate) if block.kind == "impl Program"
                for one in self.members(crate, path, block)]
-        if [len(found) for found in runs.values()] != [2, 2] or not own:
-            raise LookupError("a program has not one run and one status, or no impl of Program")
+        if [len(found) for found in runs.values()] != [2, 2] or not own or len(serve) != 1:
+            raise LookupError("a program has not one run and one status, or no impl of Program, or no call that serves")
         return [
             (f"the library: `{LIBRARY}` and the crates below it",
              [one for crate in self.crates if crate in library for one in self.public(crate)]),
             (f"and the program that reads a record, `{PROGRAM}`", runs[PROGRAMS] + own),
             (f"and the program for people, `{COMMAND}`, with {', '.join(f'`{crate}`' for crate in beside)}",
              [one for crate in beside for one in self.public(crate)] + runs[COMMAND]),
+            (f"and its command `lsp`, with {', '.join(f'`{crate}`' for crate in EDITORS)}",
+             [one for crate in EDITORS for one in self.public(crate)] + serve),
         ]
 
     def roots(self):
@@ -214,7 +234,7 @@ class Trusted:
         self.reached = sorted(self.ways, key=lambda node: (node.path, node.spans))
 
     def of_crate(self, crate):
-        """Returns a row: the crate's clauses, its definitions by file with their lines, and its types."""
+        """Returns a row: the crate's clauses, the lines reached of its files of definitions, and its types."""
         clauses = [clause for public in self.roots if public.crate == crate for clause in public.item.clauses]
         files, types = defaultdict(int), []
         for node in self.reached:
@@ -222,29 +242,32 @@ class Trusted:
                 files[node.path] += lines_of([node])
             elif crate_of(node.path) == crate:
                 types.append(f"`{node.name}`")
-        whole = {path: counted(path, [(one.first, one.last) for one in self.sources.specs[path].definitions]) for path in files}
-        shown = [f"`{path.split('/specs/')[1][:-5]}` {lines}" + f" of {whole[path]}" * (lines != whole[path]) for path, lines in files.items()]
+        shown = [f"`{path.split('/specs/')[1][:-5]}` {lines}" for path, lines in files.items()]
         lines = sum(clause.last - clause.first + 1 for clause in clauses)
         return f"| `{crate}` | {lines} | {', '.join(shown)} | {', '.join(types)} |" if clauses or shown or types else ""
 
     def block(self):
-        roots, parts, kit = [], [], []
+        roots, parts = [], []
         for what, publics in self.sources.parts():
             roots += publics
             parts.append(f"| {what} | {lines_of(self.sources.ways(roots))} |")
-        configured = [node for node in self.reached
-                      if CONFIGURED & {crate_of(node.path), node.path[len("crates/"):-len(".antt")], node.name}]
-        parts.append(f"| of these, what only configurations mean | {lines_of(configured)} |")
-        for crate, names in sorted(self.sources.external.items()):
-            shown = sorted(name for name in names if name and "◌" not in name and name != "[]")
-            kit += [f"| `{crate}` | {', '.join(f'`{name}`' for name in shown)} |"] if shown else []
+        for what, names in ONLY.items():
+            meant = [node for node in self.reached
+                     if names & {crate_of(node.path), node.path[len("crates/"):].partition(".")[0], node.name}]
+            parts.append(f"| of these, what only {what} mean | {lines_of(meant)} |")
         total, specs = (lines_of(node for node in self.reached if node.path.endswith(ending)) for ending in ("", ".antt"))
         return "\n".join([
             f"\n**{total} lines**: {specs} of definitions, and {total - specs} of types, views and traits, without comments.\n",
             "| who relies on | reads lines |\n|---|---:|", *parts,
             "\n| crate | lines of clauses | files of `specs/`, with the lines reached | types, views and traits |\n|---|---:|---|---|",
             *filter(None, map(self.of_crate, self.sources.crates)),
-            "\nNames of the kit that they cite, operators aside:\n\n| from | names |\n|---|---|", *kit, ""])
+            f"\nThey cite {sum(map(len, self.kit().values()))} names of the kit, operators aside (`--kit` prints them).", ""])
+
+    def kit(self):
+        """Returns the names of each crate of the kit that are cited, operators aside."""
+        cited = {crate: sorted(name for name in names if name and "◌" not in name and name != "[]")
+                 for crate, names in sorted(self.sources.external.items())}
+        return {crate: names for crate, names in cited.items() if names}
 
     def unreached(self):
         held = {(node.path, node.spans[0][0]) for node in self.reached}
@@ -269,6 +292,8 @@ def main(arguments):
         return int(text != current)
     if arguments == ["--write"]:
         (TOP / PAGE).write_text(current, encoding="utf-8")
+    elif arguments == ["--kit"]:
+        print("\n".join(f"{crate}: {', '.join(names)}" for crate, names in trusted.kit().items()))
     elif arguments == ["--unreached"]:
         trusted.unreached()
     elif arguments[:1] == ["--why"] and len(arguments) == 2:
