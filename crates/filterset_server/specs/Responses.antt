@@ -12,7 +12,7 @@ use Rattle.filterset_editor.specs.Documents.{DocumentRow}
 use Rattle.filterset_editor.specs.Positions.{Text}
 use Rattle.filterset_editor.specs.declared.abilities.Abilities.{Abilities}
 use Rattle.filterset_editor.specs.declared.inquiry.Inquiry.{Inquiry}
-use Rattle.filterset_editor.specs.declared.inquiry.Inquiry.TheVariants.{Symbols}
+use Rattle.filterset_editor.specs.declared.inquiry.Inquiry.TheVariants.{Formatting, Symbols}
 use Rattle.filterset_editor.specs.declared.positions.Encoding.{Encoding}
 use Rattle.filterset_editor.specs.declared.positions.Range.{Range}
 use Rattle.filterset_faults.specs.declared.kind.FiltersetKind.TheVariants as kinds
@@ -20,6 +20,7 @@ use Rattle.filterset_sources.specs.Configurations.{IsConfiguration, RefusesConfi
 use Rattle.filterset_sources.specs.declared.configuration.Configuration.{Configuration}
 use Rattle.filterset_sources.specs.declared.refusal.SourceRefusal.{SourceRefusal}
 use Rattle.filterset_server.specs.Filtersets.{AreTextsOf, SaysWhy, is_list, place_span}
+use Rattle.filterset_server.specs.Formatting.{FormatsConfiguration, FormatsList}
 use Rattle.filterset_server.specs.Ranges.{IsRangeOf, range_data}
 
 -- what the server can do
@@ -28,7 +29,7 @@ abilities = record {
   hover = false;
   completion = false;
   code_actions = false;
-  formatting = false;
+  formatting = true;
   folding = false;
   semantic_tokens = false;
   symbols = true;
@@ -65,10 +66,12 @@ ConfigurationSymbols encoding text d =
 
 -- ---- requests
 
--- the result of a request about a text in a language: what the server can't do has none
+-- The result of a request about a text in a language. For formatting it may be `null`; for what the server can't do it is.
 abbrev pub RespondsTo : Encoding → Text → Text → Inquiry → Data → Type 0
 RespondsTo encoding language text Symbols d =
     MatchBool (is_list language) (ListSymbols encoding text d) (ConfigurationSymbols encoding text d)
+RespondsTo encoding language text Formatting d =
+    MatchBool (is_list language) (FormatsList encoding text d) (FormatsConfiguration encoding text d) ⊎ (d ≡ null)
 RespondsTo encoding language text inquiry d = d ≡ null
 
 abbrev pub Responds : Encoding → DocumentRow → Inquiry → Data → Type 0

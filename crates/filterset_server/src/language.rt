@@ -6,6 +6,7 @@ ghost use Rattle.filterset_server.specs.Filtersets.{is_list};
 ghost use Rattle.filterset_server.specs.Responses.{RespondsTo};
 
 use crate::configuration::diagnose_configuration;
+use crate::formatting::{format_configuration, format_list};
 use crate::list::diagnose_list;
 use crate::ranges::Shown;
 use crate::symbols::{configuration_symbols, list_symbols};
@@ -49,6 +50,18 @@ fn symbols_of(alloc: Global, shown: &Shown<'_>, language: &str) -> Result<Value,
     }
 }
 
+/// Makes the edits that format a text.
+fn edits_of(alloc: Global, shown: &Shown<'_>, language: &str) -> Result<Value, AllocError>
+    ensures { IfOk result (λ value. RespondsTo shown.now.encoding language.now shown.now.lines.text.now
+        Inquiry.Formatting (view value)) }
+{
+    if is_list(language) {
+        format_list(alloc, shown)
+    } else {
+        format_configuration(alloc, shown)
+    }
+}
+
 /// Makes the result of a request about a text.
 fn respond_to(
     alloc: Global,
@@ -61,10 +74,10 @@ fn respond_to(
 {
     match inquiry {
         Inquiry::Symbols => symbols_of(alloc, shown, language),
+        Inquiry::Formatting => edits_of(alloc, shown, language),
         Inquiry::Hover(_)
         | Inquiry::Completion(_)
         | Inquiry::CodeActions(_)
-        | Inquiry::Formatting
         | Inquiry::FoldingRanges
         | Inquiry::SemanticTokens => Ok(Value::Null),
     }
@@ -85,7 +98,7 @@ impl Language for FiltersetLanguage {
             hover: false,
             completion: false,
             code_actions: false,
-            formatting: false,
+            formatting: true,
             folding: false,
             semantic_tokens: false,
             symbols: true,

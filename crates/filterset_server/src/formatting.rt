@@ -1,0 +1,292 @@
+//! How filtersets are formatted.
+ghost use Rattle.std.specs.Prelude.{◌≡◌, ◌⊎◌, IfOk, IfSome, List, map, string_bytes};
+ghost use Rattle.std.specs.Bool.{OnTrue};
+ghost use Rattle.std.specs.Borrow.{Bor};
+ghost use Rattle.std.specs.List.{AllZip};
+ghost use Rattle.std.specs.Str.Lines.{lines};
+ghost use Rattle.serde_json.specs.Data.{Data, array, null};
+ghost use Rattle.serde_json.specs.View.{items_of, view};
+ghost use Rattle.filterset_answers.specs.Checked.{text_row};
+ghost use Rattle.filterset_answers.specs.Entries.{line_rows, rows_in};
+ghost use Rattle.filterset_answers.specs.declared.entries.ConfiguredTexts.{ConfiguredTexts};
+ghost use Rattle.filterset_drawing.specs.declared.source.Source.{Source};
+ghost use Rattle.filterset_sources.specs.Configurations.{IsConfiguration, configured_rows};
+ghost use Rattle.filterset_server.specs.Edits.{AreInOrder, edit_row, edited};
+ghost use Rattle.filterset_server.specs.Filtersets.{AreTexts, AreTextsOf};
+ghost use Rattle.filterset_server.specs.Formatting.{ConfiguredEdits, FormatsConfiguration, FormatsList, IsEdit, IsFormatted, IsFormattedRow, IsParsed, IsPrinted, LineEdits};
+
+use crate::edits::{Edit, edit_text, edit_values, is_same, ordered_edits};
+use crate::places::configured_texts;
+use crate::ranges::Shown;
+use filterset_answers::{TextEntry, configured_entries, line_entries};
+use filterset_drawing::Source;
+use filterset_language::{Parsed, ParsedExpr};
+use filterset_places::Places;
+use filterset_sources::{Configuration, ConfiguredFilterset, SourceRefusal, read_configuration};
+use nextest_filtering::FiltersetKind;
+use serde_json::Value;
+use std::alloc::{AllocError, Global};
+
+/// Parses a text, and returns its tree if there are no faults.
+fn parse_text(alloc: Global, text: &str) -> Result<Option<ParsedExpr>, AllocError>
+    ensures { IfOk result (IsParsed text.now) }
+{
+    let Parsed { tree, faults } = ParsedExpr::parse_with_faults(alloc, text)?;
+    match tree {
+        Some(tree) if faults.is_empty() => Ok(Some(tree)),
+        _ => Ok(None),
+    }
+}
+
+/// Makes a text as it prints, if it reads as a tree, and else a copy of it.
+fn print_text(alloc: Global, text: &str) -> Result<String, AllocError>
+    ensures { IfOk result (λ new. IsPrinted text.now (string_bytes new)) }
+{
+    match parse_text(alloc, text)? {
+        Some(tree) => format!(in alloc; "{tree}"),
+        None => String::from_str(alloc, text),
+    }
+}
+
+/// Makes the text that a filterset gets.
+fn format_entry(alloc: Global, entry: &TextEntry<'_>) -> Result<String, AllocError>
+    ensures { IfOk result (λ new. IsFormatted (text_row entry.now) (string_bytes new)) }
+{
+    match entry.place {
+        Some(_) => print_text(alloc, entry.text),
+        None => String::from_str(alloc, entry.text),
+    }
+}
+
+/// Makes the texts that filtersets get.
+fn format_entries(alloc: Global, entries: &[TextEntry<'_>]) -> Result<Vec<String>, AllocError>
+    ensures { IfOk result (λ texts.
+        AllZip IsFormatted (map text_row entries.now) (map (λ s. string_bytes s) texts.items)) }
+{
+    let mut texts = Vec::with_capacity(alloc, entries.len())?;
+    for entry in entries {
+        texts.push(format_entry(alloc, entry)?)?;
+    }
+    Ok(texts)
+}
+
+/// Returns whether a filterset has the name and the kind of another, and this text.
+fn is_formatted(entry: &TextEntry<'_>, text: &str, other: &ConfiguredFilterset) -> bool
+    ensures { OnTrue result ((string_bytes other.now.path ≡ string_bytes entry.now.origin)
+        × (other.now.kind ≡ entry.now.kind) × (string_bytes other.now.text ≡ text.now)) }
+{
+    is_same(other.path.as_str(), entry.origin.as_str())
+        && other.kind == entry.kind
+        && is_same(other.text.as_str(), text)
+}
+
+/// Returns whether filtersets have the names and kinds of others, and the texts that these get.
+fn are_formatted(
+    entries: &[TextEntry<'_>],
+    texts: &[String],
+    others: &[ConfiguredFilterset],
+) -> bool
+    requires { AllZip IsFormatted (map text_row entries.now) (map (λ s. string_bytes s) texts.now) }
+    ensures { OnTrue result (AllZip IsFormattedRow (map text_row entries.now) (configured_rows others.now)) }
+{
+    if entries.len() != others.len() || texts.len() != others.len() {
+        return false;
+    }
+    for (i, other) in others.iter().enumerate() {
+        if !is_formatted(&entries[i], texts[i].as_str(), other) {
+            return false;
+        }
+    }
+    true
+}
+
+/// Returns whether texts are the same as others.
+fn are_same(texts: &[String], others: &[String]) -> bool
+    ensures { OnTrue result (map (λ s. string_bytes s) texts.now ≡ map (λ s. string_bytes s) others.now) }
+{
+    if texts.len() != others.len() {
+        return false;
+    }
+    for (i, text) in texts.iter().enumerate() {
+        if !is_same(text.as_str(), others[i].as_str()) {
+            return false;
+        }
+    }
+    true
+}
+
+/// Returns whether these are the lines of a text.
+fn are_lines(text: &str, expected: &[String]) -> bool
+    ensures { OnTrue result (lines text.now ≡ map (λ s. string_bytes s) expected.now) }
+{
+    let mut count = 0;
+    for line in text.lines() {
+        if count >= expected.len() {
+            return false;
+        }
+        if !is_same(line, expected[count].as_str()) {
+            return false;
+        }
+        count += 1;
+    }
+    count == expected.len()
+}
+
+/// Makes the value of edits.
+fn edits_value(alloc: Global, shown: &Shown<'_>, edits: &[Edit]) -> Result<Value, AllocError>
+    ensures { IfOk result (λ value. (values : List Data)
+        × AllZip (IsEdit shown.now.encoding shown.now.lines.text.now) (map edit_row edits.now) values
+        × (view value ≡ array (items_of values))) }
+{
+    Ok(Value::Array(edit_values(alloc, shown, edits)?))
+}
+
+/// Makes the edits that format lines of the text, each a filterset. Returns `null` if it would not have these lines.
+fn line_edits(
+    alloc: Global,
+    shown: &Shown<'_>,
+    entries: &[TextEntry<'_>],
+) -> Result<Value, AllocError>
+    ensures { IfOk result (λ value. LineEdits shown.now.encoding shown.now.lines.text.now (map text_row entries.now)
+        (view value) ⊎ (view value ≡ null)) }
+{
+    let texts = format_entries(alloc, entries)?;
+    let edits = ordered_edits(alloc, entries, texts.as_slice())?;
+    let Some(edited) = edit_text(alloc, shown.lines.text, edits.as_slice())? else {
+        return Ok(Value::Null);
+    };
+    if are_lines(edited.as_str(), texts.as_slice()) {
+        edits_value(alloc, shown, edits.as_slice())
+    } else {
+        Ok(Value::Null)
+    }
+}
+
+/// Makes the edits that format the lines of a file, each a filterset.
+fn file_edits(alloc: Global, shown: &Shown<'_>, file: &Source<'_>) -> Result<Value, AllocError>
+    ensures { IfOk result (λ value. (listed : Bor Source) × (listed.now ≡ file.now)
+        × (LineEdits shown.now.encoding shown.now.lines.text.now (line_rows listed FiltersetKind.Test) (view value)
+        ⊎ (view value ≡ null))) }
+{
+    let entries = line_entries(alloc, FiltersetKind::Test, file)?;
+    line_edits(alloc, shown, entries.as_slice())
+}
+
+/// Makes the edits that format a text of which each line is a filterset, or `null`.
+pub(crate) fn format_list(alloc: Global, shown: &Shown<'_>) -> Result<Value, AllocError>
+    ensures { IfOk result (λ value.
+        FormatsList shown.now.encoding shown.now.lines.text.now (view value) ⊎ (view value ≡ null)) }
+{
+    let file = Source::new(alloc, "", shown.lines.text)?;
+    file_edits(alloc, shown, &file)
+}
+
+/// Reads the configuration that a text is with edits, if it is one.
+fn edited_configuration(
+    alloc: Global,
+    text: &str,
+    edits: &[Edit],
+) -> Result<Option<Configuration>, AllocError>
+    ensures in_order { IfOk result (λ o. IfSome o (λ _. AreInOrder (map edit_row edits.now))) }
+    ensures configuration { IfOk result (λ o. IfSome o (IsConfiguration (edited text.now (map edit_row edits.now)))) }
+{
+    let Some(edited) = edit_text(alloc, text, edits)? else {
+        return Ok(None);
+    };
+    match read_configuration(alloc, edited.as_str()) {
+        Ok(configuration) => Ok(Some(configuration)),
+        Err(SourceRefusal::OutOfMemory(refused)) => Err(refused),
+        Err(_) => Ok(None),
+    }
+}
+
+/// Returns whether a configuration has these groups, and the filtersets with the texts that they get.
+fn is_formatted_as(
+    other: &Configuration,
+    groups: &[String],
+    entries: &[TextEntry<'_>],
+    texts: &[String],
+) -> bool
+    requires { AllZip IsFormatted (map text_row entries.now) (map (λ s. string_bytes s) texts.now) }
+    ensures groups { OnTrue result (map (λ s. string_bytes s) other.now.groups.items
+        ≡ map (λ s. string_bytes s) groups.now) }
+    ensures filtersets { OnTrue result (AllZip IsFormattedRow (map text_row entries.now)
+        (configured_rows other.now.filtersets.items)) }
+{
+    are_same(other.groups.as_slice(), groups)
+        && are_formatted(entries, texts, other.filtersets.as_slice())
+}
+
+/// Makes the edits that format filtersets of a configuration with these groups. Returns `null` if the text would not be a
+/// configuration with the formatted ones.
+fn configured_edits(
+    alloc: Global,
+    shown: &Shown<'_>,
+    groups: &[String],
+    entries: &[TextEntry<'_>],
+) -> Result<Value, AllocError>
+    ensures { IfOk result (λ value. ConfiguredEdits shown.now.encoding shown.now.lines.text.now
+        (map (λ s. string_bytes s) groups.now) (map text_row entries.now) (view value) ⊎ (view value ≡ null)) }
+{
+    let texts = format_entries(alloc, entries)?;
+    let edits = ordered_edits(alloc, entries, texts.as_slice())?;
+    let Some(other) = edited_configuration(alloc, shown.lines.text, edits.as_slice())? else {
+        return Ok(Value::Null);
+    };
+    if is_formatted_as(&other, groups, entries, texts.as_slice()) {
+        edits_value(alloc, shown, edits.as_slice())
+    } else {
+        Ok(Value::Null)
+    }
+}
+
+/// Makes the edits that format the filtersets of a configuration, which have these places in a file.
+fn placed_edits(
+    alloc: Global,
+    shown: &Shown<'_>,
+    file: &Source<'_>,
+    configuration: &Configuration,
+    places: &Places,
+) -> Result<Value, AllocError>
+    ensures { IfOk result (λ value. (texts : ConfiguredTexts)
+        × AreTexts file.now configuration.now.filtersets.items places.now texts
+        × (ConfiguredEdits shown.now.encoding shown.now.lines.text.now
+        (map (λ s. string_bytes s) configuration.now.groups.items) (rows_in texts) (view value) ⊎ (view value ≡ null))) }
+{
+    let filtersets = configuration.filtersets.as_slice();
+    let configured = configured_texts(file, filtersets, places);
+    let entries = configured_entries(alloc, configured)?;
+    configured_edits(
+        alloc,
+        shown,
+        configuration.groups.as_slice(),
+        entries.as_slice(),
+    )
+}
+
+/// Makes the edits that format the filtersets of a configuration that was read from the text.
+fn filterset_edits(
+    alloc: Global,
+    shown: &Shown<'_>,
+    configuration: &Configuration,
+) -> Result<Value, AllocError>
+    ensures { let text = shown.now.lines.text.now in IfOk result (λ value. (texts : ConfiguredTexts)
+        × AreTextsOf text configuration.now texts × (ConfiguredEdits shown.now.encoding text
+        (map (λ s. string_bytes s) configuration.now.groups.items) (rows_in texts) (view value) ⊎ (view value ≡ null))) }
+{
+    let places = Places::of(alloc, shown.lines.text, configuration)?;
+    let file = Source::new(alloc, "", shown.lines.text)?;
+    placed_edits(alloc, shown, &file, configuration, &places)
+}
+
+/// Makes the edits that format nextest's configuration, or `null` for a text that is none.
+pub(crate) fn format_configuration(alloc: Global, shown: &Shown<'_>) -> Result<Value, AllocError>
+    ensures { IfOk result (λ value.
+        FormatsConfiguration shown.now.encoding shown.now.lines.text.now (view value) ⊎ (view value ≡ null)) }
+{
+    match read_configuration(alloc, shown.lines.text) {
+        Ok(configuration) => filterset_edits(alloc, shown, &configuration),
+        Err(SourceRefusal::OutOfMemory(refused)) => Err(refused),
+        Err(_) => Ok(Value::Null),
+    }
+}
