@@ -12,7 +12,7 @@ use Rattle.filterset_editor.specs.Documents.{DocumentRow}
 use Rattle.filterset_editor.specs.Positions.{Text}
 use Rattle.filterset_editor.specs.declared.abilities.Abilities.{Abilities}
 use Rattle.filterset_editor.specs.declared.inquiry.Inquiry.{Inquiry}
-use Rattle.filterset_editor.specs.declared.inquiry.Inquiry.TheVariants.{Formatting, Symbols}
+use Rattle.filterset_editor.specs.declared.inquiry.Inquiry.TheVariants.{Formatting, Hover, Symbols}
 use Rattle.filterset_editor.specs.declared.positions.Encoding.{Encoding}
 use Rattle.filterset_editor.specs.declared.positions.Range.{Range}
 use Rattle.filterset_faults.specs.declared.kind.FiltersetKind.TheVariants as kinds
@@ -21,12 +21,13 @@ use Rattle.filterset_sources.specs.declared.configuration.Configuration.{Configu
 use Rattle.filterset_sources.specs.declared.refusal.SourceRefusal.{SourceRefusal}
 use Rattle.filterset_server.specs.Filtersets.{AreTextsOf, SaysWhy, is_list, place_span}
 use Rattle.filterset_server.specs.Formatting.{FormatsConfiguration, FormatsList}
+use Rattle.filterset_server.specs.Hover.{Hovers}
 use Rattle.filterset_server.specs.Ranges.{IsRangeOf, range_data}
 
 -- what the server can do
 abbrev pub abilities : Abilities
 abilities = record {
-  hover = false;
+  hover = true;
   completion = false;
   code_actions = false;
   formatting = true;
@@ -72,6 +73,7 @@ RespondsTo encoding language text Symbols d =
     MatchBool (is_list language) (ListSymbols encoding text d) (ConfigurationSymbols encoding text d)
 RespondsTo encoding language text Formatting d =
     MatchBool (is_list language) (FormatsList encoding text d) (FormatsConfiguration encoding text d) ⊎ (d ≡ null)
+RespondsTo encoding language text (Hover position) d = Hovers encoding language text position d
 RespondsTo encoding language text inquiry d = d ≡ null
 
 abbrev pub Responds : Encoding → DocumentRow → Inquiry → Data → Type 0

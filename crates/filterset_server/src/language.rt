@@ -3,14 +3,16 @@ ghost use Rattle.std.specs.Prelude.{◌≡◌, IfOk, map};
 ghost use Rattle.serde_json.specs.View.{view};
 ghost use Rattle.filterset_server.specs.Diagnostics.{DiagnosesText};
 ghost use Rattle.filterset_server.specs.Filtersets.{is_list};
+ghost use Rattle.filterset_server.specs.Hover.{Hovers};
 ghost use Rattle.filterset_server.specs.Responses.{RespondsTo};
 
 use crate::configuration::diagnose_configuration;
 use crate::formatting::{format_configuration, format_list};
+use crate::hover::{hover_configuration, hover_list};
 use crate::list::diagnose_list;
 use crate::ranges::Shown;
 use crate::symbols::{configuration_symbols, list_symbols};
-use filterset_editor::{Abilities, Document, Encoding, Inquiry, Language, Lines};
+use filterset_editor::{Abilities, Document, Encoding, Inquiry, Language, Lines, Position};
 use serde_json::Value;
 use std::alloc::{AllocError, Global};
 
@@ -62,6 +64,23 @@ fn edits_of(alloc: Global, shown: &Shown<'_>, language: &str) -> Result<Value, A
     }
 }
 
+/// Makes the hover at a position of a text.
+fn hover_of(
+    alloc: Global,
+    shown: &Shown<'_>,
+    language: &str,
+    position: Position,
+) -> Result<Value, AllocError>
+    ensures { IfOk result (λ value.
+        Hovers shown.now.encoding language.now shown.now.lines.text.now position (view value)) }
+{
+    if is_list(language) {
+        hover_list(alloc, shown, position)
+    } else {
+        hover_configuration(alloc, shown, position)
+    }
+}
+
 /// Makes the result of a request about a text.
 fn respond_to(
     alloc: Global,
@@ -75,8 +94,8 @@ fn respond_to(
     match inquiry {
         Inquiry::Symbols => symbols_of(alloc, shown, language),
         Inquiry::Formatting => edits_of(alloc, shown, language),
-        Inquiry::Hover(_)
-        | Inquiry::Completion(_)
+        Inquiry::Hover(position) => hover_of(alloc, shown, language, position),
+        Inquiry::Completion(_)
         | Inquiry::CodeActions(_)
         | Inquiry::FoldingRanges
         | Inquiry::SemanticTokens => Ok(Value::Null),
@@ -95,7 +114,7 @@ impl Language for FiltersetLanguage {
 
     fn abilities(&self) -> Abilities {
         Abilities {
-            hover: false,
+            hover: true,
             completion: false,
             code_actions: false,
             formatting: true,

@@ -1,11 +1,12 @@
 //! What a language server says of documents with filtersets, which are nextest's configuration and lists of filtersets:
-//! their faults, where they are, and the edits that format them.
+//! their faults, where they are, the edits that format them, and what their predicates mean.
 #![tactic(auto)]
 
 mod configuration;
 mod diagnostics;
 mod edits;
 mod formatting;
+mod hover;
 mod language;
 mod list;
 mod message;
@@ -14,5 +15,6 @@ mod quoting;
 mod ranges;
 mod rows;
 mod symbols;
+mod words;
 
 pub use language::FiltersetLanguage;

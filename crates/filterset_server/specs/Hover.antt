@@ -1,0 +1,104 @@
+-- What the server shows of the predicate at a position.
+use Rattle.std.specs.Prelude.{◌≡◌, ◌⊎◌, ◌-◌, ◌&&◌, ℕ, Bool, List, MatchBool, MatchOption, Option, Some, None, codes, find, nat_le, false}
+use Rattle.std.specs.Borrow.{Bor}
+use Rattle.serde_json.specs.Data.{Data, string, object, member, no_members, null}
+use Rattle.filterset_answers.specs.Checked.{TextRow}
+use Rattle.filterset_answers.specs.Entries.{line_rows, rows_in}
+use Rattle.filterset_answers.specs.Placements.{Placement, file_part}
+use Rattle.filterset_answers.specs.declared.entries.ConfiguredTexts.{ConfiguredTexts}
+use Rattle.filterset_drawing.specs.declared.source.FileSpan.{FileSpan}
+use Rattle.filterset_drawing.specs.declared.source.Source.{Source}
+use Rattle.filterset_editor.specs.Positions.{IsOffset, Text}
+use Rattle.filterset_editor.specs.declared.positions.Encoding.{Encoding}
+use Rattle.filterset_editor.specs.declared.positions.Position.{Position}
+use Rattle.filterset_faults.specs.Span.{length_of, offset_of}
+use Rattle.filterset_faults.specs.declared.error.ParseSingleError.{ParseSingleError}
+use Rattle.filterset_faults.specs.declared.kind.FiltersetKind.TheVariants as kinds
+use Rattle.filterset_faults.specs.declared.span.SourceSpan.{SourceSpan}
+use Rattle.filterset_grammar.specs.Tree.{Leaf, Tree, tree_leaves}
+use Rattle.filterset_language.specs.Faults.{leaf_span}
+use Rattle.filterset_language.specs.Parsed.{IsUnreadWith, Reads}
+use Rattle.filterset_sources.specs.Configurations.{IsConfiguration, RefusesConfiguration}
+use Rattle.filterset_sources.specs.declared.configuration.Configuration.{Configuration}
+use Rattle.filterset_sources.specs.declared.refusal.SourceRefusal.{SourceRefusal}
+use Rattle.filterset_server.specs.Filtersets.{AreTextsOf, SaysWhy, is_list, stretch_at, stretch_span}
+use Rattle.filterset_server.specs.Ranges.{IsRange}
+use Rattle.filterset_server.specs.Words.{leaf_text}
+
+-- the offset is in the span, or at its end, since positions are between characters
+abbrev pub is_in : SourceSpan → ℕ → Bool
+is_in span offset = nat_le (offset_of span) offset && nat_le (offset - offset_of span) (length_of span)
+
+-- ---- predicates
+
+-- a text in Markdown about a range
+abbrev pub hover_data : Text → Data → Data
+hover_data text range =
+    object (member (codes "contents") (object (member (codes "kind") (string (codes "markdown"))
+    (member (codes "value") (string text) no_members))) (member (codes "range") range no_members))
+
+-- the span of the file that a predicate's span in a text at this place was read from
+abbrev pub leaf_part : Option Placement → Leaf SourceSpan → Option FileSpan
+leaf_part place leaf = file_part place (leaf_span leaf)
+
+abbrev pub is_in_part : Option FileSpan → ℕ → Bool
+is_in_part None offset = false
+is_in_part (Some part) offset = is_in part.span offset
+
+-- the predicate has a span, which holds this offset of the file
+abbrev pub is_leaf_at : Option Placement → ℕ → Leaf SourceSpan → Bool
+is_leaf_at place offset leaf = is_in_part (leaf_part place leaf) offset
+
+-- the hover of a predicate: what it means, for the range of its span in the file
+abbrev pub HoversLeaf : Encoding → Text → Option Placement → Leaf SourceSpan → Data → Type 0
+HoversLeaf encoding text place leaf d = MatchOption (leaf_part place leaf) (d ≡ null)
+    (λ part. (range : Data) × IsRange encoding text part.span range × (d ≡ hover_data (leaf_text leaf) range))
+
+-- the hover of the first predicate of the tree at this offset of the file, or `null` without one
+abbrev pub HoversTree : Encoding → Text → Option Placement → ℕ → Tree SourceSpan → Data → Type 0
+HoversTree encoding text place offset e d =
+    MatchOption (find (is_leaf_at place offset) (tree_leaves e)) (d ≡ null) (λ leaf. HoversLeaf encoding text place leaf d)
+
+-- ---- filtersets
+
+-- the hover of a filterset at this offset of the file: that of the tree that its text reads as, or `null` if it reads as none
+abbrev pub HoversRow : Encoding → Text → ℕ → TextRow → Data → Type 0
+HoversRow encoding text offset row d =
+    ((e : Tree SourceSpan) × Reads row.text e × HoversTree encoding text row.place offset e d)
+    ⊎ ((faults : List ParseSingleError) × IsUnreadWith row.text faults × (d ≡ null))
+
+-- the string that is read as a filterset at this place, or its line, holds this offset of the file
+abbrev pub is_placed_at : Option Placement → ℕ → Bool
+is_placed_at None offset = false
+is_placed_at (Some at) offset = is_in (stretch_span (stretch_at at.spot)) offset
+
+abbrev pub is_row_at : ℕ → TextRow → Bool
+is_row_at offset row = is_placed_at row.place offset
+
+-- the hover of the first filterset that is at the position, or `null` without one
+abbrev pub HoversRows : Encoding → Text → Position → List TextRow → Data → Type 0
+HoversRows encoding text position rows d = (offset : ℕ) × IsOffset encoding text position offset
+    × MatchOption (find (is_row_at offset) rows) (d ≡ null) (λ row. HoversRow encoding text offset row d)
+
+-- ---- documents
+
+abbrev pub HoversList : Encoding → Text → Position → Data → Type 0
+HoversList encoding text position d = (file : Bor Source) × (file.now.text.now ≡ text)
+    × HoversRows encoding text position (line_rows file kinds.Test) d
+
+-- the hover in the filtersets of a configuration that was read from the text
+abbrev pub HoversFiltersets : Encoding → Text → Position → Configuration → Data → Type 0
+HoversFiltersets encoding text position configuration d = (texts : ConfiguredTexts)
+    × AreTextsOf text configuration texts × HoversRows encoding text position (rows_in texts) d
+
+-- the hover in a configuration, or `null` for a text that is none
+abbrev pub HoversConfiguration : Encoding → Text → Position → Data → Type 0
+HoversConfiguration encoding text position d =
+    ((configuration : Configuration) × IsConfiguration text configuration
+    × HoversFiltersets encoding text position configuration d)
+    ⊎ ((refusal : SourceRefusal) × RefusesConfiguration text refusal × SaysWhy refusal × (d ≡ null))
+
+-- the hover at a position of a text in a language: what the predicate there means, or `null`
+abbrev pub Hovers : Encoding → Text → Text → Position → Data → Type 0
+Hovers encoding language text position d =
+    MatchBool (is_list language) (HoversList encoding text position d) (HoversConfiguration encoding text position d)

@@ -1,0 +1,278 @@
+//! What the predicate at a position means.
+ghost use Rattle.std.specs.Prelude.{◌≡◌, IfOk, List, MatchOption, Some, filter, find, map, option_map};
+ghost use Rattle.std.specs.Borrow.{Bor};
+ghost use Rattle.serde_json.specs.View.{view};
+ghost use Rattle.filterset_answers.specs.Checked.{text_row};
+ghost use Rattle.filterset_answers.specs.Entries.{line_rows, rows_in};
+ghost use Rattle.filterset_answers.specs.Placements.{placement_of};
+ghost use Rattle.filterset_answers.specs.declared.entries.ConfiguredTexts.{ConfiguredTexts};
+ghost use Rattle.filterset_drawing.specs.declared.source.Source.{Source};
+ghost use Rattle.filterset_faults.specs.declared.error.ParseSingleError.{ParseSingleError};
+ghost use Rattle.filterset_grammar.specs.Tree.{tree_leaves};
+ghost use Rattle.filterset_language.specs.Faults.{leaf_span};
+ghost use Rattle.filterset_language.specs.Parsed.{IsUnreadWith, Reads};
+ghost use Rattle.filterset_language.specs.Views.{leaf_of, tree_of};
+ghost use Rattle.filterset_server.specs.Filtersets.{AreTexts};
+ghost use Rattle.filterset_server.specs.Hover.{HoversConfiguration, HoversFiltersets, HoversLeaf, HoversList, HoversRow, HoversRows, HoversTree};
+ghost use Rattle.filterset_server.specs.Hover.{hover_data, is_in, is_in_part, is_leaf_at, is_placed_at, is_row_at, leaf_part};
+
+use crate::places::{configured_texts, stretch_at, stretch_span};
+use crate::ranges::{Shown, span_value};
+use crate::words::leaf_text;
+use filterset_answers::{FilePlace, TextEntry, configured_entries, file_part, line_entries};
+use filterset_drawing::{FileSpan, Source};
+use filterset_editor::Position;
+use filterset_faults::SourceSpan;
+use filterset_language::{Parsed, ParsedExpr, ParsedLeaf};
+use filterset_places::Places;
+use filterset_sources::{Configuration, ConfiguredFilterset, SourceRefusal, read_configuration};
+use nextest_filtering::FiltersetKind;
+use serde_json::{Value, json};
+use std::alloc::{AllocError, Global};
+
+/// Returns whether an offset is in a span or at its end.
+fn is_in(span: SourceSpan, offset: usize) -> bool
+    ensures { result ≡ is_in span offset }
+{
+    span.offset() <= offset && offset - span.offset() <= span.len()
+}
+
+/// Returns whether an offset is in a part of the file or at its end.
+fn is_in_part(part: Option<FileSpan<'_>>, offset: usize) -> bool
+    ensures { result ≡ is_in_part part.entry offset }
+{
+    match part {
+        Some(part) => is_in(part.span, offset),
+        None => false,
+    }
+}
+
+/// Returns the span of a predicate, if it has one.
+fn leaf_span(leaf: &ParsedLeaf) -> Option<SourceSpan>
+    ensures { result ≡ leaf_span (leaf_of leaf.now) }
+{
+    match leaf {
+        ParsedLeaf::Package(_, span)
+        | ParsedLeaf::Deps(_, span)
+        | ParsedLeaf::Rdeps(_, span)
+        | ParsedLeaf::Kind(_, span)
+        | ParsedLeaf::Binary(_, span)
+        | ParsedLeaf::BinaryId(_, span)
+        | ParsedLeaf::Test(_, span)
+        | ParsedLeaf::Group(_, span)
+        | ParsedLeaf::Platform(_, span)
+        | ParsedLeaf::Default(span) => Some(*span),
+        ParsedLeaf::All | ParsedLeaf::None => None,
+    }
+}
+
+/// Returns the span of the file that a predicate's span in a text at this place was read from.
+fn leaf_part<'t>(place: Option<FilePlace<'t>>, leaf: &ParsedLeaf) -> Option<FileSpan<'t>>
+    ensures { result ≡ leaf_part (option_map placement_of place.entry) (leaf_of leaf.now) }
+{
+    file_part(place, leaf_span(leaf))
+}
+
+/// Returns whether a predicate of a text at this place has a span that holds this offset of the file.
+fn is_leaf_at(place: Option<FilePlace<'_>>, offset: usize, leaf: &ParsedLeaf) -> bool
+    ensures { result ≡ is_leaf_at (option_map placement_of place.entry) offset (leaf_of leaf.now) }
+{
+    is_in_part(leaf_part(place, leaf), offset)
+}
+
+/// Makes the value of a text in Markdown about a range.
+fn hover_value(alloc: Global, text: &str, range: Value) -> Result<Value, AllocError>
+    ensures { IfOk result (λ value. view value ≡ hover_data text.now (view range)) }
+{
+    json!(in alloc; { "contents": { "kind": "markdown", "value": text }, "range": range })
+}
+
+/// Makes the hover of a predicate of a text at this place.
+fn hover_leaf(
+    alloc: Global,
+    shown: &Shown<'_>,
+    place: Option<FilePlace<'_>>,
+    leaf: &ParsedLeaf,
+) -> Result<Value, AllocError>
+    ensures { IfOk result (λ value. HoversLeaf shown.now.encoding shown.now.lines.text.now
+        (option_map placement_of place.entry) (leaf_of leaf.now) (view value)) }
+{
+    let Some(part) = leaf_part(place, leaf) else {
+        return Ok(Value::Null);
+    };
+    let range = span_value(alloc, shown, part.span)?;
+    let text = leaf_text(alloc, leaf)?;
+    hover_value(alloc, text.as_str(), range)
+}
+
+/// Returns the predicates of a tree of a text at this place that are at this offset of the file.
+fn leaves_at<'e>(
+    alloc: Global,
+    place: Option<FilePlace<'_>>,
+    offset: usize,
+    tree: &'e ParsedExpr,
+) -> Result<Vec<&'e ParsedLeaf>, AllocError>
+    ensures { IfOk result (λ found. map (λ leaf. leaf_of leaf.now) found.items
+        ≡ filter (is_leaf_at (option_map placement_of place.entry) offset) (tree_leaves (tree_of tree.entry.now))) }
+{
+    tree.leaves_where(alloc, |leaf| is_leaf_at(place, offset, leaf))
+}
+
+/// Makes the hover of the first predicate at this offset of the file, in the tree of a text at this place.
+fn hover_tree(
+    alloc: Global,
+    shown: &Shown<'_>,
+    place: Option<FilePlace<'_>>,
+    offset: usize,
+    tree: &ParsedExpr,
+) -> Result<Value, AllocError>
+    ensures { IfOk result (λ value. HoversTree shown.now.encoding shown.now.lines.text.now
+        (option_map placement_of place.entry) offset (tree_of tree.now) (view value)) }
+{
+    let leaves = leaves_at(alloc, place, offset, tree)?;
+    match leaves.first() {
+        Some(leaf) => hover_leaf(alloc, shown, place, leaf),
+        None => Ok(Value::Null),
+    }
+}
+
+/// Returns the tree that a text reads as, if it has no faults.
+fn read_tree(alloc: Global, text: &str) -> Result<Option<ParsedExpr>, AllocError>
+    ensures { IfOk result (λ tree. MatchOption tree
+        ((faults : List ParseSingleError) × IsUnreadWith text.now faults) (λ tree. Reads text.now (tree_of tree))) }
+{
+    let Parsed { tree, faults } = ParsedExpr::parse_with_faults(alloc, text)?;
+    match tree {
+        Some(tree) if faults.is_empty() => Ok(Some(tree)),
+        _ => Ok(None),
+    }
+}
+
+/// Makes the hover of a filterset that is at this offset of the file.
+fn hover_entry(
+    alloc: Global,
+    shown: &Shown<'_>,
+    offset: usize,
+    entry: &TextEntry<'_>,
+) -> Result<Value, AllocError>
+    ensures { IfOk result (λ value. HoversRow shown.now.encoding shown.now.lines.text.now offset (text_row entry.now)
+        (view value)) }
+{
+    match read_tree(alloc, entry.text)? {
+        Some(tree) => hover_tree(alloc, shown, entry.place, offset, &tree),
+        None => Ok(Value::Null),
+    }
+}
+
+/// Returns whether a filterset at this place is at this offset of the file.
+fn is_placed_at(place: Option<FilePlace<'_>>, offset: usize) -> bool
+    ensures { result ≡ is_placed_at (option_map placement_of place.entry) offset }
+{
+    match place {
+        Some(at) => is_in(stretch_span(stretch_at(at.spot)), offset),
+        None => false,
+    }
+}
+
+/// Returns the first filterset that is at this offset of the file.
+fn entry_at<'e, 't>(entries: &'e [TextEntry<'t>], offset: usize) -> Option<&'e TextEntry<'t>>
+    ensures { option_map (λ e. e.now) result ≡ find (λ e. is_row_at offset (text_row e)) entries.now }
+{
+    entries
+        .iter()
+        .find(|entry| is_placed_at(entry.place, offset))
+}
+
+/// Makes the hover at a position of filtersets.
+fn hover_entries(
+    alloc: Global,
+    shown: &Shown<'_>,
+    position: Position,
+    entries: &[TextEntry<'_>],
+) -> Result<Value, AllocError>
+    ensures { IfOk result (λ value. HoversRows shown.now.encoding shown.now.lines.text.now position
+        (map text_row entries.now) (view value)) }
+{
+    let offset = shown.lines.offset(shown.encoding, position);
+    match entry_at(entries, offset) {
+        Some(entry) => hover_entry(alloc, shown, offset, entry),
+        None => Ok(Value::Null),
+    }
+}
+
+/// Makes the hover at a position of a file whose lines are filtersets.
+fn hover_lines(
+    alloc: Global,
+    shown: &Shown<'_>,
+    position: Position,
+    file: &Source<'_>,
+) -> Result<Value, AllocError>
+    ensures { IfOk result (λ value. (listed : Bor Source) × (listed.now ≡ file.now)
+        × HoversRows shown.now.encoding shown.now.lines.text.now position (line_rows listed FiltersetKind.Test)
+        (view value)) }
+{
+    let entries = line_entries(alloc, FiltersetKind::Test, file)?;
+    hover_entries(alloc, shown, position, entries.as_slice())
+}
+
+/// Makes the hover at a position of a text whose lines are filtersets.
+pub(crate) fn hover_list(
+    alloc: Global,
+    shown: &Shown<'_>,
+    position: Position,
+) -> Result<Value, AllocError>
+    ensures { IfOk result (λ value.
+        HoversList shown.now.encoding shown.now.lines.text.now position (view value)) }
+{
+    let file = Source::new(alloc, "", shown.lines.text)?;
+    hover_lines(alloc, shown, position, &file)
+}
+
+/// Makes the hover at a position of filtersets that have these places in a file.
+fn hover_placed(
+    alloc: Global,
+    shown: &Shown<'_>,
+    position: Position,
+    file: &Source<'_>,
+    filtersets: &[ConfiguredFilterset],
+    places: &Places,
+) -> Result<Value, AllocError>
+    ensures { IfOk result (λ value. (texts : ConfiguredTexts) × AreTexts file.now filtersets.now places.now texts
+        × HoversRows shown.now.encoding shown.now.lines.text.now position (rows_in texts) (view value)) }
+{
+    let configured = configured_texts(file, filtersets, places);
+    let entries = configured_entries(alloc, configured)?;
+    hover_entries(alloc, shown, position, entries.as_slice())
+}
+
+/// Makes the hover at a position of a configuration that was read from the text.
+fn hover_filtersets(
+    alloc: Global,
+    shown: &Shown<'_>,
+    position: Position,
+    configuration: &Configuration,
+) -> Result<Value, AllocError>
+    ensures { IfOk result (λ value.
+        HoversFiltersets shown.now.encoding shown.now.lines.text.now position configuration.now (view value)) }
+{
+    let places = Places::of(alloc, shown.lines.text, configuration)?;
+    let file = Source::new(alloc, "", shown.lines.text)?;
+    let filtersets = configuration.filtersets.as_slice();
+    hover_placed(alloc, shown, position, &file, filtersets, &places)
+}
+
+/// Makes the hover at a position of nextest's configuration.
+pub(crate) fn hover_configuration(
+    alloc: Global,
+    shown: &Shown<'_>,
+    position: Position,
+) -> Result<Value, AllocError>
+    ensures { IfOk result (λ value.
+        HoversConfiguration shown.now.encoding shown.now.lines.text.now position (view value)) }
+{
+    match read_configuration(alloc, shown.lines.text) {
+        Ok(configuration) => hover_filtersets(alloc, shown, position, &configuration),
+        Err(SourceRefusal::OutOfMemory(refused)) => Err(refused),
+        Err(_) => Ok(Value::Null),
+    }
+}
