@@ -288,8 +288,10 @@ fn overrides<'a>(alloc: Global) -> Result<Command<'a>, AllocError> {
 fn lsp<'a>(alloc: Global) -> Result<Command<'a>, AllocError> {
     Ok(
         Command::new(alloc, "lsp")
-            .about("Shows an editor the faults of filtersets, over standard input and output")
-            .after_help("Editors start it: it speaks the Language Server Protocol"),
+            .about(
+                "Serves an editor over standard input and output, by the Language Server Protocol",
+            )
+            .after_help("Example: filterset lsp"),
     )
 }
 
