@@ -1,16 +1,14 @@
 -- The lines of a text, one after the other.
-use Rattle.std.proofs.Common.{◌≡◌, ℕ, zero, suc, ◌+◌, ◌<◌, ◌≤◌, Bool, true, false, cond, List, [], ◌∷◌, ◌++◌, length, map, take, drop, get_or, refl, sym, ap, ap₂, subst, ◌∙◌, ◌==◌, arith, add-zero, zero-add}
+use Rattle.std.proofs.Common.{◌≡◌, ℕ, zero, suc, ◌+◌, ◌-◌, ◌<◌, ◌≤◌, Bool, true, false, cond, List, [], ◌∷◌, ◌++◌, length, map, take, drop, get_or, refl, sym, ap, ap₂, subst, ◌∙◌, ◌==◌, arith, add-zero, zero-add, ⊎_elim}
 use Rattle.std.specs.Prelude.{sum_by}
 use Rattle.std.specs.List.{onto_first, slice_split}
-use Rattle.std.proofs.lemmas.Bool.{leb-false, leb-true}
-use Rattle.std.proofs.lemmas.List.{drop_more, get_or-map, length-map, length-take-le, map-append, take-append-drop, take_all}
+use Rattle.std.proofs.lemmas.Bool.{cases_lt}
+use Rattle.std.proofs.lemmas.List.{drop_more, get_or-map, length-map, length-take-le, map-append, take-append-drop}
 use Rattle.std.proofs.lemmas.List.Sums.{sum_by-cons, sum_by_more}
 use Rattle.filterset_drawing.specs.Columns.{Text}
-use Rattle.filterset_drawing.specs.Cutting.{line_row, lines_of, numbered, reaches}
-use Rattle.filterset_drawing.specs.Lines.{IsLine, LineRow, column_of, pieces}
-use Rattle.filterset_drawing.specs.Locations.{StandsIn}
+use Rattle.filterset_drawing.specs.Cutting.{line_row, lines_of, numbered}
+use Rattle.filterset_drawing.specs.Lines.{IsIn, IsLine, LineRow, pieces}
 use Rattle.filterset_drawing.specs.declared.line.Line.{Line}
-use Rattle.filterset_drawing.specs.declared.source.Location.{Location}
 
 -- the bytes of these lines, with the position at the end of each
 abbrev pub extent : List Text → ℕ
@@ -79,7 +77,7 @@ pub length-lines : (text : Text) (lines : List Line) → map line_row lines ≡ 
 length-lines text lines cut = sym (length-map lines line_row) ∙ ap length cut ∙ length-numbered 1 0 (pieces text)
 
 -- the line at a position of a text that is cut into these
-line-at : (text : Text) (lines : List Line) (k : ℕ) (d : Line) → map line_row lines ≡ lines_of text → k < length lines → line_row (get_or lines k d) ≡ row (1 + k) (extent (take k (pieces text))) (get_or (pieces text) k [])
+pub line-at : (text : Text) (lines : List Line) (k : ℕ) (d : Line) → map line_row lines ≡ lines_of text → k < length lines → line_row (get_or lines k d) ≡ row (1 + k) (extent (take k (pieces text))) (get_or (pieces text) k [])
 line-at text lines k d cut lt =
     let texts = pieces text in
     let size = length-lines text lines cut in
@@ -99,35 +97,49 @@ row-is_line text k lt =
       start_is = refl;
     }
 
-is-line : (text : Text) (lines : List Line) (k : ℕ) (d : Line) → map line_row lines ≡ lines_of text → k < length lines → IsLine text (line_row (get_or lines k d))
+pub is-line : (text : Text) (lines : List Line) (k : ℕ) (d : Line) → map line_row lines ≡ lines_of text → k < length lines → IsLine text (line_row (get_or lines k d))
 is-line text lines k d cut lt =
     subst (IsLine text) (sym (line-at text lines k d cut lt)) (row-is_line text k (omega (arith, length-lines text lines cut)))
 
--- the first line that reaches a position is the one in which it stands
-pub stands : (text : Text) (lines : List Line) (k from position : ℕ) (d : Line) (location : Location) → map line_row lines ≡ lines_of text → k < length lines → extent (take k (pieces text)) ≤ from → reaches from (line_row (get_or lines k d)) ≡ true → location.line ≡ (get_or lines k d).number → location.column ≡ column_of (line_row (get_or lines k d)) position + 1 → StandsIn text from position location
-stands text lines k from position d location cut lt passed reached number_is column_is =
-    let line = get_or lines k d in
-    let start : line.start ≡ extent (take k (pieces text)) = ap (λ l. l.start) (line-at text lines k d cut lt) in
-    let end : from ≤ line.start + length line.text.now = leb-true from (line.start + length line.text.now) reached in
-    (line_row line, is-line text lines k d cut lt, (omega arith, end), number_is, column_is)
+-- what stands before a line ends before what stands before a later one
+extent-le : (texts : List Text) (i j : ℕ) → i ≤ j → extent (take i texts) ≤ extent (take j texts)
+extent-le [] zero j h = omega arith
+extent-le [] (suc i) zero h = omega arith
+extent-le [] (suc i) (suc j) h = omega arith
+extent-le (t ∷ texts) zero j h = omega arith
+extent-le (t ∷ texts) (suc i) zero h = absurd (omega arith)
+extent-le (t ∷ texts) (suc i) (suc j) h =
+    omega (arith, extent-cons t (take i texts), extent-cons t (take j texts), extent-le texts i j (omega arith))
 
--- a line that does not reach a position is passed
-pub passed-more : (text : Text) (lines : List Line) (k from : ℕ) (d : Line) → map line_row lines ≡ lines_of text → k < length lines → reaches from (line_row (get_or lines k d)) ≡ false → extent (take (k + 1) (pieces text)) ≤ from
-passed-more text lines k from d cut lt missed =
-    let texts = pieces text in
-    let line = get_or lines k d in
-    let here = line-at text lines k d cut lt in
-    let size : length lines ≡ length texts = length-lines text lines cut in
-    let more = sum_by_more (λ (t : Text). length t + 1) texts k [] (omega arith) in
-    let start : line.start ≡ extent (take k texts) = ap (λ l. l.start) here in
-    let bytes : length line.text.now ≡ length (get_or texts k []) = ap (λ l. length l.text) here in
-    let past : line.start + length line.text.now < from = leb-false from (line.start + length line.text.now) missed in
-    omega (arith, more)
-
--- the last line reaches the end of the text
-pub not_past : (text : Text) (lines : List Line) (k from : ℕ) → map line_row lines ≡ lines_of text → length lines ≤ k → extent (take k (pieces text)) ≤ from → from ≤ length text → ⊥
-not_past text lines k from cut all passed within =
+-- a line ends before a later one begins
+pub ends-before : (text : Text) (lines : List Line) (i j : ℕ) (d : Line) → map line_row lines ≡ lines_of text → i < j → j < length lines → (get_or lines i d).start + length (get_or lines i d).text.now < (get_or lines j d).start
+ends-before text lines i j d cut lt within =
     let texts = pieces text in
     let size : length lines ≡ length texts = length-lines text lines cut in
-    let whole : take k texts ≡ texts = take_all k texts (omega arith) in
-    omega (arith, extent-slice_split (λ b. b == 10) text, ap extent whole)
+    let here = line-at text lines i d cut (omega arith) in
+    let there = line-at text lines j d cut within in
+    let start : (get_or lines i d).start ≡ extent (take i texts) = ap (λ l. l.start) here in
+    let bytes : length (get_or lines i d).text.now ≡ length (get_or texts i []) = ap (λ l. length l.text) here in
+    let onward : (get_or lines j d).start ≡ extent (take j texts) = ap (λ l. l.start) there in
+    let more = sum_by_more (λ (t : Text). length t + 1) texts i [] (omega arith) in
+    let before = extent-le texts (i + 1) j (omega arith) in
+    omega (arith, more, before)
+
+-- a position of these lines is in one of them
+some-piece : (texts : List Text) (at : ℕ) → at < extent texts → (k : ℕ) × (k < length texts) × (extent (take k texts) ≤ at) × (at ≤ extent (take k texts) + length (get_or texts k []))
+some-piece [] at h = absurd (omega arith)
+some-piece (t ∷ texts) at h =
+    ⊎_elim
+    (λ (on : length t < at).
+    let (k, within, low, high) = some-piece texts (at - (length t + 1)) (omega (arith, extent-cons t texts)) in
+    let more = extent-cons t (take k texts) in
+    (suc k, omega arith, omega (arith, more), omega (arith, more)))
+    (λ (here : at ≤ length t). (0, omega arith, omega arith, omega arith))
+    (cases_lt (length t) at)
+
+-- a position of a text is in one of its lines
+pub some-line : (text : Text) (at : ℕ) → at ≤ length text → (line : LineRow) × IsLine text line × IsIn line at
+some-line text at within =
+    let texts = pieces text in
+    let (k, lt, low, high) = some-piece texts at (omega (arith, extent-slice_split (λ b. b == 10) text)) in
+    (row (1 + k) (extent (take k texts)) (get_or texts k []), row-is_line text k lt, (low, high))

@@ -1,6 +1,6 @@
--- How the code cuts a text into lines and picks those to draw. Only private contracts cite this; LineLemmas and MetLemmas
--- show that it finds the lines that Lines defines.
-use Rattle.std.specs.Prelude.{ℕ, ◌+◌, ◌&&◌, ◌||◌, Bool, nat_le, nat_lt, List, [], ◌∷◌, length}
+-- How the code cuts a text into lines. Only private contracts cite this; LineLemmas and MetLemmas show that it finds the
+-- lines that Lines defines.
+use Rattle.std.specs.Prelude.{ℕ, ◌+◌, Bool, nat_le, List, [], ◌∷◌, length}
 use Rattle.filterset_drawing.specs.declared.line.Line.{Line}
 use Rattle.filterset_drawing.specs.Columns.{Text}
 use Rattle.filterset_drawing.specs.Lines.{LineRow, pieces}
@@ -20,7 +20,3 @@ lines_of text = numbered 1 0 (pieces text)
 -- the line ends at this position or after it
 abbrev pub reaches : ℕ → LineRow → Bool
 reaches position line = nat_le position (line.start + length line.text)
-
--- the stretch begins in the line, or the line begins after that and before the end of the stretch
-abbrev pub is_touched : ℕ → ℕ → LineRow → Bool
-is_touched from to line = reaches from line && (nat_le line.start from || nat_lt line.start to)

@@ -1,10 +1,10 @@
 //! Faults drawn under their text.
-ghost use Rattle.std.specs.Prelude.{◌≡◌, ◌++◌, IfOk, OnOk, None, codes, filter, map, option_map, string_bytes};
+ghost use Rattle.std.specs.Prelude.{◌≡◌, ◌++◌, IfOk, OnOk, None, codes, map, option_map, string_bytes};
 ghost use Rattle.filterset_faults.specs.Faults.{span_of};
 ghost use Rattle.filterset_faults.specs.Label.{label_text, help_text};
 ghost use Rattle.filterset_drawing.specs.Columns.{Text};
 ghost use Rattle.filterset_drawing.specs.Drawings.{Drawing, DrawnSpan, bar, caret_line, header, label_part, location_part, margin_line, margin_of, marked_lines, remark_part, text_line};
-ghost use Rattle.filterset_drawing.specs.Cutting.{is_touched, line_row};
+ghost use Rattle.filterset_drawing.specs.Cutting.{line_row};
 
 use crate::color::Color;
 use crate::column::{push_drawn, push_repeated};
@@ -141,16 +141,11 @@ fn push_span(
     };
     push_location(drawing, margin, source, source.location(span))?;
     push_bar(drawing, margin)?;
-    push_lines(
-        drawing,
-        alloc,
-        margin,
-        source.lines.as_slice(),
-        source.stretch(span),
-    )
+    let stretch = source.stretch(span);
+    push_lines(drawing, alloc, margin, source.met_lines(stretch), stretch)
 }
 
-/// Writes the lines of a stretch of the text, each with its carets.
+/// Writes lines of the text, each with the carets of a stretch.
 fn push_lines(
     drawing: &mut String,
     alloc: Global,
@@ -159,14 +154,11 @@ fn push_lines(
     stretch: Stretch,
 ) -> Result<(), AllocError>
     ensures { OnOk result (string_bytes drawing.new
-        ≡ string_bytes drawing.old ++ marked_lines margin stretch.from stretch.to
-        (filter (is_touched stretch.from stretch.to) (map line_row lines.now))) }
+        ≡ string_bytes drawing.old ++ marked_lines margin stretch.from stretch.to (map line_row lines.now)) }
 {
     for line in lines {
-        if line.is_touched(stretch) {
-            push_text(drawing, alloc, margin, line)?;
-            push_marks(drawing, margin, line, stretch)?;
-        }
+        push_text(drawing, alloc, margin, line)?;
+        push_marks(drawing, margin, line, stretch)?;
     }
     Ok(())
 }

@@ -1,6 +1,6 @@
 //! The lines of a text.
 ghost use Rattle.std.specs.Prelude.{◌≡◌, ◌+◌, ◌*◌, ◌≤◌, IfOk, length, map};
-ghost use Rattle.filterset_drawing.specs.Cutting.{is_touched, line_row, lines_of, reaches};
+ghost use Rattle.filterset_drawing.specs.Cutting.{line_row, lines_of, reaches};
 ghost use Rattle.filterset_drawing.specs.Lines.{caret_count, column_of};
 
 use crate::column::columns_between;
@@ -30,13 +30,6 @@ impl Line<'_> {
         ensures { result ≡ reaches position (line_row self.now) }
     {
         position.saturating_sub(self.start) <= self.text.len()
-    }
-
-    /// Returns whether a stretch of the text has an offset in the line.
-    pub fn is_touched(&self, stretch: Stretch) -> bool
-        ensures { result ≡ is_touched stretch.from stretch.to (line_row self.now) }
-    {
-        self.reaches(stretch.from) && (self.start <= stretch.from || self.start < stretch.to)
     }
 
     /// Returns the number of the line's columns before an offset of the text.

@@ -1,7 +1,7 @@
 //! Texts under which faults are drawn.
-ghost use Rattle.std.specs.Prelude.{◌≡◌, ◌≤◌, IfOk, length, map};
+ghost use Rattle.std.specs.Prelude.{◌≡◌, ◌≤◌, IfOk, length, map, nat_le, not};
 ghost use Rattle.std.proofs.Props.{props};
-ghost use Rattle.filterset_drawing.specs.Cutting.{line_row, lines_of};
+ghost use Rattle.filterset_drawing.specs.Cutting.{line_row, lines_of, reaches};
 
 use crate::line::{Line, Stretch, lines_of};
 use filterset_faults::SourceSpan;
@@ -32,7 +32,7 @@ pub struct FileSpan<'s> {
 }
 
 impl<'t> Source<'t> {
-    ghost use Rattle.filterset_drawing.specs.Lines.{from_of, to_of};
+    ghost use Rattle.filterset_drawing.specs.Lines.{AreMet, from_of, to_of};
     ghost use Rattle.filterset_drawing.specs.Locations.{EndsAt, StandsAt, StandsIn};
 
     /// Splits a text into lines to draw faults under. Returns an error only if out of memory.
@@ -60,21 +60,35 @@ impl<'t> Source<'t> {
         }
     }
 
+    /// Returns the lines in which a stretch of the text has an offset, by two binary searches.
+    pub(crate) fn met_lines(&self, stretch: Stretch) -> &[Line<'t>]
+        ensures { AreMet self.now.text.now stretch.from stretch.to (map line_row result.now) }
+    {
+        let last = stretch.from.max(stretch.to.saturating_sub(1));
+        let lines = self.lines.as_slice();
+        let (begun, _) = lines.split_at(lines.partition_point(
+            |line: &Line| -> bool
+                ensures { result ≡ nat_le line.now.start last }
+            { line.start <= last },
+        ));
+        let (_, met) = begun.split_at(begun.partition_point(
+            |line: &Line| -> bool
+                ensures { result ≡ not (reaches stretch.from (line_row line.now)) }
+            { !line.reaches(stretch.from) },
+        ));
+        met
+    }
+
     /// Returns the location of an offset, by the line that has the offset `at`.
     fn location_of(&self, at: usize, offset: usize) -> Location
         requires { at ≤ length self.now.text.now }
         ensures { StandsIn self.now.text.now at offset result }
     {
-        for line in &self.lines {
-            if line.reaches(at) {
-                return Location {
-                    line: line.number,
-                    column: line.column(offset) + 1,
-                };
-            }
+        let line = &self.met_lines(Stretch { from: at, to: at })[0];
+        Location {
+            line: line.number,
+            column: line.column(offset) + 1,
         }
-        // The last line reaches the end of the text.
-        unreachable!()
     }
 
     /// Returns the location where a span begins, or the end of the text if it begins later.

@@ -1,11 +1,11 @@
-use Rattle.std.proofs.Common.{ap, ◌++◌, ◌∙◌, filter, map, string_bytes}
+use Rattle.std.proofs.Common.{ap, ◌++◌, ◌∙◌, map, string_bytes}
 use Rattle.std.proofs.lemmas.List.{take_all}
 use Rattle.filterset_drawing.specs.Drawings.{marked_lines}
-use Rattle.filterset_drawing.specs.Cutting.{is_touched, line_row}
+use Rattle.filterset_drawing.specs.Cutting.{line_row}
 use Rattle.filterset_drawing.proofs.drawing.push_lines.Goals as goal
 
 pub returns : goal.returns
 returns c =
     let from = c.args.stretch.from in
     let to = c.args.stretch.to in
-    c.loop-line.invariant ∙ ap (λ lines. string_bytes c.args.drawing.now ++ marked_lines c.args.margin from to (filter (is_touched from to) (map line_row lines))) (take_all c.loop-line.line-index c.args.lines.now c.loop-line-test.false)
+    c.loop-line.invariant ∙ ap (λ lines. string_bytes c.args.drawing.now ++ marked_lines c.args.margin from to (map line_row lines)) (take_all c.loop-line.line-index c.args.lines.now c.loop-line-test.false)

@@ -1,10 +1,10 @@
-use Rattle.std.proofs.Common.{◌≡◌, ◌++◌, filter, map, string_bytes, take}
+use Rattle.std.proofs.Common.{◌≡◌, ◌++◌, map, string_bytes, take}
 use Rattle.filterset_drawing.specs.Drawings.{marked_lines}
-use Rattle.filterset_drawing.specs.Cutting.{is_touched, line_row}
+use Rattle.filterset_drawing.specs.Cutting.{line_row}
 use Rattle.filterset_drawing.proofs.drawing.push_lines.Given as goal
 
--- the lines so far were drawn, those that the stretch concerns
+-- the lines so far were drawn
 abbrev pub invariant-loop-line : goal.invariant-loop-line
 invariant-loop-line l =
     string_bytes l.drawing ≡ string_bytes l.initial.drawing ++ marked_lines l.margin l.stretch.from l.stretch.to
-    (filter (is_touched l.stretch.from l.stretch.to) (map line_row (take l.line-index l.lines)))
+    (map line_row (take l.line-index l.lines))
