@@ -1,0 +1,34 @@
+# make              proves and builds the programs, as ./filterset does, and makes their manual pages
+# make install      copies them to PREFIX, below DESTDIR if that is given; with the library for C if that is built
+# make uninstall    removes what make install copied, and nothing else
+# make check        runs the gate
+# make dist         writes the sources as OUT/filterset-VERSION.tar.gz
+# docs/INSTALL.md has more.
+PREFIX = /usr/local
+DESTDIR =
+OUT = out
+VERSION := $(shell sed -n 's/^const VERSION: &str = "\(.*\)";$$/\1/p' crates/filterset_command/src/arguments.rt)
+
+.PHONY: all programs extras install uninstall check dist
+all: programs
+	@$(MAKE) --no-print-directory extras
+
+programs:
+	./filterset format 'all()' > /dev/null
+	./filterset < examples/first.json > /dev/null
+
+extras:
+	scripts/man.py '$(OUT)/man'
+
+install:
+	scripts/install.sh install '$(OUT)' '$(VERSION)' '$(PREFIX)' '$(DESTDIR)'
+
+uninstall:
+	scripts/install.sh uninstall '$(OUT)' '$(VERSION)' '$(PREFIX)' '$(DESTDIR)'
+
+check:
+	rt ci
+
+dist:
+	mkdir -p '$(OUT)'
+	git archive --prefix=filterset-$(VERSION)/ HEAD | gzip -9n > '$(OUT)/filterset-$(VERSION).tar.gz'
