@@ -50,8 +50,9 @@ put_library() {
     put 644 "$library/libfilterset.a" lib/libfilterset.a
     put 644 bindings/c/example.c share/doc/filterset/example.c
     if [ -f "$shared" ]; then
-        put 755 "$shared" "lib/libfilterset.so.$version"
-        for file in "$(soname_of "$shared")" libfilterset.so; do
+        put 644 "$shared" "lib/libfilterset.so.$version"
+        for file in $(soname_of "$shared") libfilterset.so; do
+            [ "$file" != "libfilterset.so.$version" ] || continue
             ln -sf "libfilterset.so.$version" "$top/lib/$file"
             made+=("lib/$file")
         done

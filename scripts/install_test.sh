@@ -109,7 +109,23 @@ try_stage() {
     holds "nothing is left below DESTDIR" has_only "$room/stage" ./usr
 }
 
-is_refused() { ! makes install; }
+# Tries an install that fails on its way, since a file is where a folder must be.
+try_broken() {
+    mkdir -p "$room/broken/share" && touch "$room/broken/share/man"
+    holds "make install where a file is in the way" is_refused "$room/broken"
+    holds "a program was copied before" test -x "$room/broken/bin/filterset"
+    holds "make uninstall after that" makes uninstall "$room/broken"
+    holds "only that file is left" has_only "$room/broken" ./share ./share/man
+}
+
+# Returns whether an archive of the sources has a file.
+archives() { makes dist && tar -tzf "$room"/made/filterset-*.tar.gz | grep "^filterset-[0-9.]*/$1$"; }
+
+try_archive() {
+    if git rev-parse HEAD > /dev/null 2>&1; then holds "make dist" archives crates.txt; else skip "make dist: there is no git here"; fi
+}
+
+is_refused() { ! makes install "$@"; }
 
 holds "make install before make" is_refused
 holds "make extras" makes extras
@@ -119,6 +135,8 @@ try_pages
 try_library
 try_uninstall
 try_stage
+try_broken
+try_archive
 
 [ "$skipped" -eq 0 ] && finish
 echo "$passed passed, $failed failed, $skipped skipped"

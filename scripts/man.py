@@ -74,10 +74,11 @@ def example(text):
     return [".PP", ".RS 4", ".nf", *guarded(literal(line) for line in text.rstrip("\n").split("\n")), ".fi", ".RE"]
 
 
-def table(text):
-    """Rows, each with its first cell as the tag; if there are several others, each is behind its column's head."""
-    heads, _, *rows = [[cell.strip() for cell in re.split(r"(?<!\\)\|", line)[1:-1]] for line in text.splitlines()]
-    roff = []
+def table(text, has_heads=True):
+    """Rows, each with its first cell as the tag. The heads are a row too, or, if there are three and more, before the cells."""
+    heads, _, *rows = [[cell.strip().replace(r"\|", "|") for cell in re.split(r"(?<!\\)\|", line)[1:-1]]
+                       for line in text.splitlines()]
+    roff = [".TP", rf"\fI{sentence(heads[0])}\fR", rf"\fI{sentence(heads[1])}\fR"] if has_heads and len(heads) == 2 else []
     for tag, *cells in rows:
         roff += [".TP", *filled(tag)] if tag else [".IP"]
         for i, cell in enumerate(cells):
@@ -171,7 +172,7 @@ def write_pages(folder, program):
                 ("COMMANDS", [line for name in commands
                               for line in [".TP", rf"\fBfilterset\-{name}\fR(1)", *filled(Help(program, name).about)]]),
                 ("OPTIONS", own.options()),
-                ("EXIT STATUS", table(statuses)),
+                ("EXIT STATUS", table(statuses, has_heads=False)),
                 ("FILES", roff_of(section_of("PROGRAM.md", "Files"))),
                 ("EXAMPLES", example(own.example)),
                 see(*((f"filterset-{name}", 1) for name in commands), ("filterset-record", 1), ("nextest-filterset", 7)))

@@ -61,7 +61,7 @@ describe_package() {
         "$version" "$version" "$maintainer" "$(date -uRd "@$SOURCE_DATE_EPOCH")" > "$doc/changelog.Debian"
     gzip -9n usr/share/man/man?/* "$doc/changelog.Debian"
     mkdir DEBIAN
-    [ ! -d usr/lib ] || echo 'activate-noawait ldconfig' > DEBIAN/triggers
+    if [ -e usr/lib/libfilterset.so ]; then describe_library; fi
     cat > DEBIAN/control << EOF
 Package: filterset
 Version: $version-1
@@ -76,6 +76,14 @@ Description: check and explain the filtersets of cargo-nextest
  that they pick, and shows why. Every function is proved to meet its contract.
 EOF
     find usr -type f | sort | xargs -d '\n' md5sum > DEBIAN/md5sums
+}
+
+# Says which package a program needs that was linked with the shared library.
+describe_library() {
+    local name
+    name=$(objdump -p usr/lib/libfilterset.so | awk '$1 == "SONAME" { print $2 }')
+    echo "libfilterset ${name#libfilterset.so.} filterset (>= $version-1)" > DEBIAN/shlibs
+    echo 'activate-noawait ldconfig' > DEBIAN/triggers
 }
 
 # Makes the archive and the package into a folder.
