@@ -1,0 +1,16 @@
+use Rattle.filterset_matchers.specs.Matcher.{MatchesName}
+use Rattle.filterset_matchers.specs.Matchers.{matcher_of}
+use Rattle.std.proofs.Common.{not, false}
+use Rattle.std.specs.Bool.{beq}
+use Rattle.filterset_deciding.proofs.Rules.{literal_refuted, only_known}
+use Rattle.filterset_deciding.proofs.inferring.infer_by_text.Goals as goal
+
+pub returns-in-Some-2 : goal.returns-in-Some-2
+returns-in-Some-2 c = λ text utf8 says.
+    let m = matcher_of c.args.matcher.now in
+    let n = matcher_of c.args.other.now in
+    let only = c.in-Some-2.text.now in
+    let hit = c.in_ok-hit.hit in
+    let alone = rw c.in-Some-2.is at c.in_ok-text-2.ensures in
+    only_known (not (beq hit c.args.value)) false c.only_if.result (MatchesName n text) c.only_if.ensures
+    (λ differ. literal_refuted m n only c.args.value hit alone c.in_ok-hit.ensures.matches differ text utf8 says)

@@ -1,0 +1,43 @@
+-- What is decided about filtersets.
+use Rattle.std.specs.Prelude.{◌≡◌, Bool, true, false, List, length, string_bytes}
+use Rattle.std.specs.List.{count_by}
+use Rattle.std.specs.Borrow.{Bor}
+use Rattle.filterset_expression.specs.declared.expression.CompiledExpr.{CompiledExpr}
+use Rattle.filterset_expression.specs.declared.query.TestQuery.{TestQuery}
+use Rattle.filterset_deciding.specs.AnyTest.{AnyTest, Picks, AreAnswers}
+use Rattle.filterset_deciding.specs.Question.{is_met}
+use Rattle.filterset_deciding.specs.declared.question.Question.{Question}
+use Rattle.filterset_deciding.specs.declared.witness.PossibleTest.{PossibleTest}
+
+-- the answer to the question, by which filtersets pick the test
+abbrev pub answer_of : Question → List Bool → Bool
+answer_of question answers = is_met question (count_by (λ x. x) answers) (length answers)
+
+-- the answer is yes for every test that the given filterset picks, whatever its group is
+abbrev pub IsAlwaysMet : Question → CompiledExpr → CompiledExpr → List (Bor CompiledExpr) → Type 0
+IsAlwaysMet question given default exprs =
+    (test : AnyTest) → Picks default test given
+    → (answers : List Bool) → AreAnswers default test exprs answers → answer_of question answers ≡ true
+
+-- the query is about the possible test
+pub record IsAbout (query : TestQuery) (possible : PossibleTest) : Type 0 where
+  pub package_id : query.binary_query.package_id.now ≡ possible.package_id
+  pub binary_id : query.binary_query.binary_id.now ≡ possible.binary_id
+  pub binary_name : query.binary_query.binary_name.now ≡ string_bytes possible.binary_name
+  pub kind : query.binary_query.kind.now ≡ possible.kind
+  pub platform : query.binary_query.platform ≡ possible.platform
+  pub test_name : query.test_name.now ≡ possible.test_name
+
+-- the test is the possible test, in its group
+pub record IsOf (test : AnyTest) (possible : PossibleTest) : Type 0 where
+  pub query : IsAbout test.query possible
+  pub group : test.group ≡ string_bytes possible.group
+
+-- the given filterset picks the possible test, these are the answers of the others, and the answer to the question is no
+pub record IsUnmetAt (question : Question) (given default : CompiledExpr) (exprs : List (Bor CompiledExpr))
+    (possible : PossibleTest) (answers : List Bool) : Type 0 where
+  pub test : AnyTest
+  pub is_of : IsOf test possible
+  pub is_given : Picks default test given
+  pub are : AreAnswers default test exprs answers
+  pub unmet : answer_of question answers ≡ false

@@ -1,0 +1,39 @@
+-- The search: what it looks for, and its branches.
+use Rattle.std.specs.Prelude.{◌≡◌, ◌↔◌, Bool, false, List, IsTrue}
+use Rattle.std.specs.List.{AllZip, flat_map, AllByRecursion}
+use Rattle.std.specs.declared.vec.Vec.{Vec}
+use Rattle.std.specs.declared.alloc.Global.{Global}
+use Rattle.filterset_expression.specs.Expression.{CompiledLeaf}
+use Rattle.filterset_expression.specs.FlatSteps.{Step, postfix}
+use Rattle.filterset_expression.specs.Formula.{Formula, TrueWhere}
+use Rattle.filterset_deciding.specs.AnyTest.{AnyTest, Says}
+use Rattle.filterset_deciding.specs.Judging.{met}
+use Rattle.filterset_deciding.specs.Known.{Agrees, steps_in}
+use Rattle.filterset_deciding.specs.declared.question.Question.{Question}
+use Rattle.filterset_deciding.specs.declared.running.ValuedStep.{ValuedStep}
+
+-- the steps of formulas, one after the other
+abbrev pub all_steps : List (Formula CompiledLeaf) → List (Step CompiledLeaf)
+all_steps formulas = flat_map postfix formulas
+
+-- The steps are those of formulas, the first is that of the given filterset and true of the test, and for the test the
+-- answer is no.
+pub record IsMissed (question : Question) (steps : List (Step CompiledLeaf)) (test : AnyTest) : Type 0 where
+  pub formulas : List (Formula CompiledLeaf)
+  pub made : steps ≡ all_steps formulas
+  pub answers : List Bool
+  pub are : AllZip (λ answer formula. IsTrue answer ↔ TrueWhere (Says test) formula) answers formulas
+  pub unmet : met question answers ≡ false
+
+-- the branch has these steps, and its values are what the leaves say of the test
+abbrev pub AgreesWith : AnyTest → List (Step CompiledLeaf) → List ValuedStep → Type 0
+AgreesWith test steps branch = (steps_in branch ≡ steps) × Agrees test branch
+
+-- no branch agrees with the test
+abbrev pub NoneAgrees : AnyTest → List (Step CompiledLeaf) → List (Vec ValuedStep Global) → Type 0
+NoneAgrees test steps branches = AllByRecursion (λ b. ¬ AgreesWith test steps b.items) branches
+
+-- no test for which the answer is no agrees with the branch
+abbrev pub Rejects : Question → List ValuedStep → Type 0
+Rejects question branch =
+    (test : AnyTest) (steps : List (Step CompiledLeaf)) → IsMissed question steps test → ¬ AgreesWith test steps branch

@@ -1,0 +1,85 @@
+//! Decides questions about filtersets.
+ghost use Rattle.std.specs.Prelude.{◌≡◌, ◌++◌, IfOk, OnOk};
+ghost use Rattle.filterset_expression.specs.Contexts.{default_of};
+ghost use Rattle.filterset_expression.specs.Expression.{with_default};
+ghost use Rattle.filterset_expression.specs.FlatSteps.{steps_of, postfix};
+ghost use Rattle.filterset_deciding.specs.Deciding.{IsAlwaysMet, IsUnmetAt};
+
+use crate::question::Question;
+use crate::searching::{Asked, Searched, search};
+use crate::witness::Witness;
+use filterset_expression::{CompiledExpr, EvalContext, FlatExpr, FlatStep};
+use std::alloc::{AllocError, Global};
+
+/// The answer to a question for every possible test.
+#[derive(Debug, Drop)]
+pub enum Verdict {
+    /// The answer is yes for every test.
+    Always,
+    /// The answer is no for this test.
+    Fails(Witness),
+    /// The search found no such test, but could not exclude that there is one.
+    Unknown,
+    /// The search came to the end of its budget.
+    Stopped,
+}
+
+/// Appends the steps of a filterset.
+fn push_steps<'a>(
+    alloc: Global,
+    steps: &mut Vec<FlatStep<'a>>,
+    expr: &'a CompiledExpr,
+    cx: &EvalContext<'a>,
+) -> Result<(), AllocError>
+    ensures { OnOk result (steps_of steps.new.items
+        ≡ steps_of steps.old.items ++ postfix (with_default (default_of cx.now) expr.now)) }
+{
+    let flat = FlatExpr::new(alloc, expr, cx)?;
+    steps.extend_from_slice(flat.steps())?;
+    Ok(())
+}
+
+/// Returns how many branches with this many steps a budget of steps allows.
+fn branches_of(budget: u64, steps: usize) -> u64 {
+    match steps {
+        0 => budget,
+        _ => budget / steps as u64,
+    }
+}
+
+/// Decides whether the answer to the question is yes for every test that the given filterset picks, whatever the test's
+/// name, binary and group are.
+///
+/// The search tries the values of leaves, in branches that each have all steps of the filtersets. `budget` limits how many
+/// steps it looks at, and so its time; its memory is at most proportional to that. The only error is out of memory.
+pub fn decide<'x>(
+    alloc: Global,
+    given: &'x CompiledExpr,
+    exprs: &[&'x CompiledExpr],
+    cx: &EvalContext<'x>,
+    question: Question,
+    budget: u64,
+) -> Result<Verdict, AllocError>
+    ensures always { IfOk result (λ verdict. verdict ≡ Verdict.Always
+        → IsAlwaysMet question given.now (default_of cx.now) exprs.now) }
+    ensures fails { IfOk result (λ verdict. (witness : Witness) → verdict ≡ Verdict.Fails witness
+        → IsUnmetAt question given.now (default_of cx.now) exprs.now witness.test witness.picks.items) }
+{
+    let mut steps = Vec::new(alloc);
+    push_steps(alloc, &mut steps, given, cx)?;
+    for expr in exprs {
+        push_steps(alloc, &mut steps, expr, cx)?;
+    }
+    let asked = Asked {
+        given,
+        exprs,
+        cx: *cx,
+        question,
+    };
+    match search(alloc, &asked, &steps, branches_of(budget, steps.len()))? {
+        Searched::Nothing => Ok(Verdict::Always),
+        Searched::Unknown => Ok(Verdict::Unknown),
+        Searched::Stopped => Ok(Verdict::Stopped),
+        Searched::Found(witness) => Ok(Verdict::Fails(witness)),
+    }
+}

@@ -1,0 +1,79 @@
+//! What the values of filtersets say about a question.
+ghost use Rattle.std.specs.Prelude.{◌≡◌, Bool, List, true, map, length};
+ghost use Rattle.std.specs.List.{count_by};
+ghost use Rattle.filterset_deciding.specs.Question.{is_met};
+ghost use Rattle.filterset_deciding.specs.Judging.{is_yes, is_maybe, Fits, met};
+
+use crate::question::Question;
+use crate::running::StackValue;
+
+/// What the values of a branch say about the question.
+#[derive(Clone, Copy)]
+pub(crate) enum Judgement {
+    /// The answer is yes, or the first filterset does not pick the test.
+    Met,
+    /// The answer is no.
+    Unmet,
+    /// The answer depends on the leaf at this position.
+    Open(usize),
+}
+
+/// Counts the filtersets that are true.
+fn count_yes(values: &[StackValue]) -> usize
+    ensures { result ≡ count_by (λ s. is_yes s.value) values.now }
+{
+    values
+        .iter()
+        .filter(|s| matches!(s.value, Some(true)))
+        .count()
+}
+
+/// Counts the filtersets that are not known to be false.
+fn count_maybe(values: &[StackValue]) -> usize
+    ensures { result ≡ count_by (λ s. is_maybe s.value) values.now }
+{
+    values
+        .iter()
+        .filter(|s| !matches!(s.value, Some(false)))
+        .count()
+}
+
+/// Returns the position of the leaf that the first unknown value depends on.
+fn find_open(values: &[StackValue]) -> usize {
+    for one in values {
+        if one.value.is_none() {
+            return one.waits_for;
+        }
+    }
+    0
+}
+
+/// Judges the question by the values of its filtersets.
+fn judge_given(question: Question, values: &[StackValue]) -> Judgement
+    ensures { result ≡ Judgement.Met → (answers : List Bool) → Fits answers (map (λ s. s.value) values.now)
+        → is_met question (count_by (λ x. x) answers) (length answers) ≡ true }
+{
+    let low = count_yes(values);
+    let high = count_maybe(values);
+    match question.settle(low, high, values.len()) {
+        Some(true) => Judgement::Met,
+        Some(false) => Judgement::Unmet,
+        None => Judgement::Open(find_open(values)),
+    }
+}
+
+/// Judges the question by these values: first that of the filterset that a test has to be in, then those of the question's
+/// filtersets.
+pub(crate) fn judge(question: Question, values: &[StackValue]) -> Judgement
+    ensures { result ≡ Judgement.Met → (answers : List Bool) → Fits answers (map (λ s. s.value) values.now)
+        → met question answers ≡ true }
+{
+    let [given, others @ ..] = values else {
+        return Judgement::Met;
+    };
+    match given.value {
+        Some(false) => Judgement::Met,
+        Some(true) => judge_given(question, others),
+        None => Judgement::Open(given.waits_for),
+    }
+}

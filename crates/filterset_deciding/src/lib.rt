@@ -1,0 +1,21 @@
+//! Decides questions about filtersets for every possible test: whether they pick the same tests, and whether each test is
+//! picked by at least one, by at most one, or by exactly one of them.
+#![tactic(auto)]
+
+mod branch;
+mod candidate;
+mod deciding;
+mod inferring;
+mod judging;
+pub mod laws;
+mod literals;
+mod packages;
+mod question;
+mod running;
+mod sample;
+mod searching;
+mod witness;
+
+pub use deciding::{Verdict, decide};
+pub use question::Question;
+pub use witness::{PossibleTest, Witness};

@@ -1,0 +1,168 @@
+//! Possible tests, and whether the answer to a question is no for one.
+ghost use Rattle.std.specs.Prelude.{◌≡◌, ◌↔◌, IfOk, IfSome, IsTrue, string_bytes};
+ghost use Rattle.std.specs.List.{count_by};
+ghost use Rattle.filterset_expression.specs.Contexts.{default_of};
+ghost use Rattle.filterset_deciding.specs.AnyTest.{in_group, AreAnswersAsked, HasTexts, PicksAsked};
+ghost use Rattle.filterset_deciding.specs.Deciding.{IsAbout, IsUnmetAt};
+
+use crate::question::Question;
+use filterset_expression::{
+    BinaryQuery, CompiledExpr, EvalContext, FlatExpr, GroupLookup, TestQuery,
+};
+use filterset_graph::{BuildPlatform, PackageId, RustBinaryId, RustTestBinaryKind, TestCaseName};
+use filterset_matchers::NameMatcher;
+use std::alloc::{AllocError, Global};
+
+/// A test that there could be: all that a filterset can ask about it.
+#[derive(Debug)]
+pub struct PossibleTest {
+    pub package_id: PackageId,
+    pub binary_id: RustBinaryId,
+    pub binary_name: String,
+    pub kind: RustTestBinaryKind,
+    pub platform: BuildPlatform,
+    pub test_name: TestCaseName,
+    /// The name of its group.
+    pub group: String,
+}
+
+// By hand, so that a function that drops one proves one call.
+impl Drop for PossibleTest {
+    fn drop(self) {
+        let PossibleTest {
+            package_id: _package_id,
+            binary_id: _binary_id,
+            binary_name: _binary_name,
+            kind: _kind,
+            platform: _,
+            test_name: _test_name,
+            group: _group,
+        } = self;
+    }
+}
+
+/// A possible test for which the answer to a question is no.
+#[derive(Debug)]
+pub struct Witness {
+    pub test: PossibleTest,
+    /// Whether each of the filtersets picks it.
+    pub picks: Vec<bool>,
+}
+
+// By hand, as for `PossibleTest`.
+impl Drop for Witness {
+    fn drop(self) {
+        let Witness {
+            test: _test,
+            picks: _picks,
+        } = self;
+    }
+}
+
+/// A lookup by which the test is in this group.
+#[derive(Clone, Copy, Debug)]
+pub(crate) struct InGroup<'a> {
+    group: &'a str,
+}
+
+impl GroupLookup for InGroup<'_> {
+    ghost matches_group = { λ known. in_group known.group.now };
+
+    fn is_member_test(
+        &self,
+        alloc: Global,
+        _test: &TestQuery<'_>,
+        matcher: &NameMatcher,
+    ) -> Result<bool, AllocError> {
+        matcher.is_match(alloc, self.group)
+    }
+}
+
+impl PossibleTest {
+    /// Returns the test as filtersets are asked about it.
+    pub fn query(&self) -> TestQuery<'_>
+        ensures is_of { IsAbout result self.now }
+        ensures texts { HasTexts result }
+    {
+        let _id = self.binary_id.as_str();
+        let _kind = self.kind.as_str();
+        let _name = self.test_name.as_str();
+        TestQuery {
+            binary_query: BinaryQuery {
+                package_id: &self.package_id,
+                binary_id: &self.binary_id,
+                binary_name: self.binary_name.as_str(),
+                kind: &self.kind,
+                platform: self.platform,
+            },
+            test_name: &self.test_name,
+        }
+    }
+}
+
+/// Returns whether the filterset picks the test in this group.
+fn picks(
+    alloc: Global,
+    expr: &CompiledExpr,
+    cx: &EvalContext<'_>,
+    query: &TestQuery<'_>,
+    lookup: &InGroup<'_>,
+) -> Result<bool, AllocError>
+    ensures { IfOk result (λ answer. IsTrue answer
+        ↔ PicksAsked (default_of cx.now) query.now lookup.now.group.now expr.now) }
+{
+    let flat = FlatExpr::new(alloc, expr, cx)?;
+    flat.matches_test_with_groups(alloc, query, lookup)
+}
+
+/// Returns whether each of the filtersets picks the test in this group.
+fn pick_all(
+    alloc: Global,
+    exprs: &[&CompiledExpr],
+    cx: &EvalContext<'_>,
+    query: &TestQuery<'_>,
+    lookup: &InGroup<'_>,
+) -> Result<Vec<bool>, AllocError>
+    ensures { IfOk result (λ all.
+        AreAnswersAsked (default_of cx.now) query.now lookup.now.group.now exprs.now all.items) }
+{
+    let mut all = Vec::with_capacity(alloc, exprs.len())?;
+    for expr in exprs {
+        all.push(picks(alloc, expr, cx, query, lookup)?)?;
+    }
+    Ok(all)
+}
+
+/// Counts the answers that are true.
+fn count_true(answers: &[bool]) -> usize
+    ensures { result ≡ count_by (λ x. x) answers.now }
+{
+    answers.iter().filter(|answer| **answer).count()
+}
+
+/// Returns which filtersets pick the test, if the given one does and the answer to the question is no. The only error is out
+/// of memory.
+pub(crate) fn check_test(
+    alloc: Global,
+    given: &CompiledExpr,
+    exprs: &[&CompiledExpr],
+    cx: &EvalContext<'_>,
+    question: Question,
+    test: &PossibleTest,
+) -> Result<Option<Vec<bool>>, AllocError>
+    ensures { IfOk result (λ found. IfSome found (λ all.
+        IsUnmetAt question given.now (default_of cx.now) exprs.now test.now all.items)) }
+{
+    let query = test.query();
+    let lookup = InGroup {
+        group: test.group.as_str(),
+    };
+    if !picks(alloc, given, cx, &query, &lookup)? {
+        return Ok(None);
+    }
+    let all = pick_all(alloc, exprs, cx, &query, &lookup)?;
+    if question.is_met(count_true(&all), all.len()) {
+        return Ok(None);
+    }
+    Ok(Some(all))
+}
