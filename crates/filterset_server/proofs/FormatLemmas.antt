@@ -10,7 +10,7 @@ use Rattle.filterset_profiles.proofs.Zips.{zip_push}
 use Rattle.filterset_sources.specs.Configurations.{configured_row, configured_rows}
 use Rattle.filterset_sources.specs.declared.configuration.ConfiguredFilterset.{ConfiguredFilterset}
 use Rattle.filterset_server.specs.Formatting.{IsFormatted, IsFormattedRow}
-use Rattle.filterset_server.proofs.JoinLemmas.{Zips-at, rows_more}
+use Rattle.filterset_documents.proofs.JoinLemmas.{Zips-at, rows_more}
 
 abbrev pub bytes_of : String Global → Text
 bytes_of s = string_bytes s

@@ -21,8 +21,8 @@ use Rattle.filterset_language.specs.Parsed.{IsUnreadWith, Reads}
 use Rattle.filterset_sources.specs.Configurations.{IsConfiguration, RefusesConfiguration}
 use Rattle.filterset_sources.specs.declared.configuration.Configuration.{Configuration}
 use Rattle.filterset_sources.specs.declared.refusal.SourceRefusal.{SourceRefusal}
-use Rattle.filterset_server.specs.Filtersets.{AreTextsOf, SaysWhy, is_list, stretch_at, stretch_span}
-use Rattle.filterset_server.specs.Ranges.{IsRange}
+use Rattle.filterset_documents.specs.Filtersets.{AreTextsOf, SaysWhy, is_list, stretch_at, stretch_span}
+use Rattle.filterset_documents.specs.Ranges.{IsRange}
 use Rattle.filterset_server.specs.Words.{leaf_text}
 
 -- the offset is in the span, or at its end, since positions are between characters

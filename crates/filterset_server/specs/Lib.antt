@@ -1,9 +1,4 @@
-pub mod Diagnostics
-pub mod Edits
-pub mod Filtersets
 pub mod Formatting
 pub mod Hover
-pub mod Joins
-pub mod Ranges
 pub mod Responses
 pub mod Words

@@ -19,10 +19,10 @@ use Rattle.filterset_faults.specs.declared.kind.FiltersetKind.TheVariants as kin
 use Rattle.filterset_sources.specs.Configurations.{IsConfiguration, RefusesConfiguration}
 use Rattle.filterset_sources.specs.declared.configuration.Configuration.{Configuration}
 use Rattle.filterset_sources.specs.declared.refusal.SourceRefusal.{SourceRefusal}
-use Rattle.filterset_server.specs.Filtersets.{AreTextsOf, SaysWhy, is_list, place_span}
+use Rattle.filterset_documents.specs.Filtersets.{AreTextsOf, SaysWhy, is_list, place_span}
 use Rattle.filterset_server.specs.Formatting.{FormatsConfiguration, FormatsList}
 use Rattle.filterset_server.specs.Hover.{Hovers}
-use Rattle.filterset_server.specs.Ranges.{IsRangeOf, range_data}
+use Rattle.filterset_documents.specs.Ranges.{IsRangeOf, range_data}
 
 -- what the server can do
 abbrev pub abilities : Abilities

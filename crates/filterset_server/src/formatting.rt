@@ -1,42 +1,30 @@
 //! How filtersets are formatted.
-ghost use Rattle.std.specs.Prelude.{◌≡◌, ◌⊎◌, IfOk, IfSome, List, map, string_bytes};
+ghost use Rattle.std.specs.Prelude.{◌≡◌, ◌⊎◌, IfOk, IfSome, map, string_bytes};
 ghost use Rattle.std.specs.Bool.{OnTrue};
 ghost use Rattle.std.specs.Borrow.{Bor};
 ghost use Rattle.std.specs.List.{AllZip};
 ghost use Rattle.std.specs.Str.Lines.{lines};
-ghost use Rattle.serde_json.specs.Data.{Data, array, null};
-ghost use Rattle.serde_json.specs.View.{items_of, view};
+ghost use Rattle.serde_json.specs.Data.{null};
+ghost use Rattle.serde_json.specs.View.{view};
 ghost use Rattle.filterset_answers.specs.Checked.{text_row};
 ghost use Rattle.filterset_answers.specs.Entries.{line_rows, rows_in};
 ghost use Rattle.filterset_answers.specs.declared.entries.ConfiguredTexts.{ConfiguredTexts};
 ghost use Rattle.filterset_drawing.specs.declared.source.Source.{Source};
 ghost use Rattle.filterset_sources.specs.Configurations.{IsConfiguration, configured_rows};
-ghost use Rattle.filterset_server.specs.Edits.{AreInOrder, edit_row, edited};
-ghost use Rattle.filterset_server.specs.Filtersets.{AreTexts, AreTextsOf};
-ghost use Rattle.filterset_server.specs.Formatting.{ConfiguredEdits, FormatsConfiguration, FormatsList, IsEdit, IsFormatted, IsFormattedRow, IsParsed, IsPrinted, LineEdits};
+ghost use Rattle.filterset_documents.specs.Edits.{AreInOrder, edit_row, edited};
+ghost use Rattle.filterset_documents.specs.Filtersets.{AreTexts, AreTextsOf};
+ghost use Rattle.filterset_server.specs.Formatting.{ConfiguredEdits, FormatsConfiguration, FormatsList, IsFormatted, IsFormattedRow, IsPrinted, LineEdits};
 
-use crate::edits::{Edit, edit_text, edit_values, is_same, ordered_edits};
-use crate::places::configured_texts;
-use crate::ranges::Shown;
 use filterset_answers::{TextEntry, configured_entries, line_entries};
+use filterset_documents::{
+    Edit, Shown, configured_texts, edit_text, edits_value, is_same, ordered_edits, parse_text,
+};
 use filterset_drawing::Source;
-use filterset_language::{Parsed, ParsedExpr};
 use filterset_places::Places;
 use filterset_sources::{Configuration, ConfiguredFilterset, SourceRefusal, read_configuration};
 use nextest_filtering::FiltersetKind;
 use serde_json::Value;
 use std::alloc::{AllocError, Global};
-
-/// Parses a text, and returns its tree if there are no faults.
-fn parse_text(alloc: Global, text: &str) -> Result<Option<ParsedExpr>, AllocError>
-    ensures { IfOk result (IsParsed text.now) }
-{
-    let Parsed { tree, faults } = ParsedExpr::parse_with_faults(alloc, text)?;
-    match tree {
-        Some(tree) if faults.is_empty() => Ok(Some(tree)),
-        _ => Ok(None),
-    }
-}
 
 /// Makes a text as it prints, if it reads as a tree, and else a copy of it.
 fn print_text(alloc: Global, text: &str) -> Result<String, AllocError>
@@ -130,15 +118,6 @@ fn are_lines(text: &str, expected: &[String]) -> bool
         count += 1;
     }
     count == expected.len()
-}
-
-/// Makes the value of edits.
-fn edits_value(alloc: Global, shown: &Shown<'_>, edits: &[Edit]) -> Result<Value, AllocError>
-    ensures { IfOk result (λ value. (values : List Data)
-        × AllZip (IsEdit shown.now.encoding shown.now.lines.text.now) (map edit_row edits.now) values
-        × (view value ≡ array (items_of values))) }
-{
-    Ok(Value::Array(edit_values(alloc, shown, edits)?))
 }
 
 /// Makes the edits that format lines of the text, each a filterset. Returns `null` if it would not have these lines.

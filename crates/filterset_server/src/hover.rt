@@ -1,5 +1,5 @@
 //! What the predicate at a position means.
-ghost use Rattle.std.specs.Prelude.{◌≡◌, IfOk, List, MatchOption, Some, filter, find, map, option_map};
+ghost use Rattle.std.specs.Prelude.{◌≡◌, IfOk, Some, filter, find, map, option_map};
 ghost use Rattle.std.specs.Borrow.{Bor};
 ghost use Rattle.serde_json.specs.View.{view};
 ghost use Rattle.filterset_answers.specs.Checked.{text_row};
@@ -7,23 +7,22 @@ ghost use Rattle.filterset_answers.specs.Entries.{line_rows, rows_in};
 ghost use Rattle.filterset_answers.specs.Placements.{placement_of};
 ghost use Rattle.filterset_answers.specs.declared.entries.ConfiguredTexts.{ConfiguredTexts};
 ghost use Rattle.filterset_drawing.specs.declared.source.Source.{Source};
-ghost use Rattle.filterset_faults.specs.declared.error.ParseSingleError.{ParseSingleError};
 ghost use Rattle.filterset_grammar.specs.Tree.{tree_leaves};
 ghost use Rattle.filterset_language.specs.Faults.{leaf_span};
-ghost use Rattle.filterset_language.specs.Parsed.{IsUnreadWith, Reads};
 ghost use Rattle.filterset_language.specs.Views.{leaf_of, tree_of};
-ghost use Rattle.filterset_server.specs.Filtersets.{AreTexts};
+ghost use Rattle.filterset_documents.specs.Filtersets.{AreTexts};
 ghost use Rattle.filterset_server.specs.Hover.{HoversConfiguration, HoversFiltersets, HoversLeaf, HoversList, HoversRow, HoversRows, HoversTree};
 ghost use Rattle.filterset_server.specs.Hover.{hover_data, is_in, is_in_part, is_leaf_at, is_placed_at, is_row_at, leaf_part};
 
-use crate::places::{configured_texts, stretch_at, stretch_span};
-use crate::ranges::{Shown, span_value};
 use crate::words::leaf_text;
 use filterset_answers::{FilePlace, TextEntry, configured_entries, file_part, line_entries};
+use filterset_documents::{
+    Shown, configured_texts, parse_text, span_value, stretch_at, stretch_span,
+};
 use filterset_drawing::{FileSpan, Source};
 use filterset_editor::Position;
 use filterset_faults::SourceSpan;
-use filterset_language::{Parsed, ParsedExpr, ParsedLeaf};
+use filterset_language::{ParsedExpr, ParsedLeaf};
 use filterset_places::Places;
 use filterset_sources::{Configuration, ConfiguredFilterset, SourceRefusal, read_configuration};
 use nextest_filtering::FiltersetKind;
@@ -136,18 +135,6 @@ fn hover_tree(
     }
 }
 
-/// Returns the tree that a text reads as, if it has no faults.
-fn read_tree(alloc: Global, text: &str) -> Result<Option<ParsedExpr>, AllocError>
-    ensures { IfOk result (λ tree. MatchOption tree
-        ((faults : List ParseSingleError) × IsUnreadWith text.now faults) (λ tree. Reads text.now (tree_of tree))) }
-{
-    let Parsed { tree, faults } = ParsedExpr::parse_with_faults(alloc, text)?;
-    match tree {
-        Some(tree) if faults.is_empty() => Ok(Some(tree)),
-        _ => Ok(None),
-    }
-}
-
 /// Makes the hover of a filterset that is at this offset of the file.
 fn hover_entry(
     alloc: Global,
@@ -158,7 +145,7 @@ fn hover_entry(
     ensures { IfOk result (λ value. HoversRow shown.now.encoding shown.now.lines.text.now offset (text_row entry.now)
         (view value)) }
 {
-    match read_tree(alloc, entry.text)? {
+    match parse_text(alloc, entry.text)? {
         Some(tree) => hover_tree(alloc, shown, entry.place, offset, &tree),
         None => Ok(Value::Null),
     }

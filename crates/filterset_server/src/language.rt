@@ -1,17 +1,15 @@
 //! What the server says of documents.
 ghost use Rattle.std.specs.Prelude.{◌≡◌, IfOk, map};
 ghost use Rattle.serde_json.specs.View.{view};
-ghost use Rattle.filterset_server.specs.Diagnostics.{DiagnosesText};
-ghost use Rattle.filterset_server.specs.Filtersets.{is_list};
+ghost use Rattle.filterset_documents.specs.Diagnostics.{DiagnosesText};
+ghost use Rattle.filterset_documents.specs.Filtersets.{is_list};
 ghost use Rattle.filterset_server.specs.Hover.{Hovers};
 ghost use Rattle.filterset_server.specs.Responses.{RespondsTo};
 
-use crate::configuration::diagnose_configuration;
 use crate::formatting::{format_configuration, format_list};
 use crate::hover::{hover_configuration, hover_list};
-use crate::list::diagnose_list;
-use crate::ranges::Shown;
 use crate::symbols::{configuration_symbols, list_symbols};
+use filterset_documents::{Shown, diagnose_configuration, diagnose_list};
 use filterset_editor::{Abilities, Document, Encoding, Inquiry, Language, Lines, Position};
 use serde_json::Value;
 use std::alloc::{AllocError, Global};
@@ -103,7 +101,7 @@ fn respond_to(
 }
 
 impl Language for FiltersetLanguage {
-    ghost use Rattle.filterset_server.specs.Diagnostics.{Diagnoses};
+    ghost use Rattle.filterset_documents.specs.Diagnostics.{Diagnoses};
     ghost use Rattle.filterset_server.specs.Responses.{Responds, abilities};
 
     ghost has = { λ _. Diagnoses };

@@ -2,18 +2,9 @@
 //! their faults, where they are, the edits that format them, and what their predicates mean.
 #![tactic(auto)]
 
-mod configuration;
-mod diagnostics;
-mod edits;
 mod formatting;
 mod hover;
 mod language;
-mod list;
-mod message;
-mod places;
-mod quoting;
-mod ranges;
-mod rows;
 mod symbols;
 mod words;
 

@@ -7,13 +7,12 @@ ghost use Rattle.filterset_answers.specs.Checked.{text_row};
 ghost use Rattle.filterset_answers.specs.declared.entries.ConfiguredTexts.{ConfiguredTexts};
 ghost use Rattle.filterset_answers.specs.Entries.{line_rows, rows_in};
 ghost use Rattle.filterset_drawing.specs.declared.source.Source.{Source};
-ghost use Rattle.filterset_server.specs.Filtersets.{AreTexts, AreTextsOf};
-ghost use Rattle.filterset_server.specs.Ranges.{range_data};
+ghost use Rattle.filterset_documents.specs.Filtersets.{AreTexts, AreTextsOf};
+ghost use Rattle.filterset_documents.specs.Ranges.{range_data};
 ghost use Rattle.filterset_server.specs.Responses.{AreSymbols, ConfigurationSymbols, IsSymbol, ListSymbols, symbol_data};
 
-use crate::places::{configured_texts, place_span};
-use crate::ranges::{Shown, range_of, range_value};
 use filterset_answers::{TextEntry, configured_entries, line_entries};
+use filterset_documents::{Shown, configured_texts, place_span, range_of, range_value};
 use filterset_drawing::Source;
 use filterset_editor::Range;
 use filterset_places::Places;

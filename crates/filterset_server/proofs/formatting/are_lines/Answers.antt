@@ -5,7 +5,7 @@ use Rattle.std.proofs.lemmas.Iterator.Splits.{YieldsList-from_lines}
 use Rattle.std.proofs.lemmas.List.{map-append, take_all}
 use Rattle.std.proofs.lemmas.Slice.Eq.{bytes_eq-Decides}
 use Rattle.filterset_server.proofs.FormatLemmas.{bytes_of, on_true}
-use Rattle.filterset_server.proofs.JoinLemmas.{rows_more}
+use Rattle.filterset_documents.proofs.JoinLemmas.{rows_more}
 use Rattle.filterset_server.proofs.formatting.are_lines.Goals as goal
 
 pub loop-line-preserved : goal.loop-line-preserved

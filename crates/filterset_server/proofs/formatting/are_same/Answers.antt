@@ -2,7 +2,7 @@ use Rattle.std.proofs.Common.{rules, arith, ◌≡◌, ◌<◌, [], ◌∷◌, �
 use Rattle.std.proofs.lemmas.List.{take_all}
 use Rattle.std.proofs.lemmas.Slice.Eq.{bytes_eq-Decides}
 use Rattle.filterset_server.proofs.FormatLemmas.{bytes_of}
-use Rattle.filterset_server.proofs.JoinLemmas.{rows_more}
+use Rattle.filterset_documents.proofs.JoinLemmas.{rows_more}
 use Rattle.filterset_server.proofs.formatting.are_same.Goals as goal
 
 pub loop-i-preserved : goal.loop-i-preserved

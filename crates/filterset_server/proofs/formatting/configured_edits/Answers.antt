@@ -6,9 +6,10 @@ use Rattle.std.specs.List.{AllZip}
 use Rattle.serde_json.specs.Data.{Data, array}
 use Rattle.serde_json.specs.View.{items_of, view}
 use Rattle.filterset_answers.specs.Checked.{text_row}
-use Rattle.filterset_server.specs.Edits.{edit_row}
-use Rattle.filterset_server.specs.Formatting.{AreEdits, IsEdit, IsFormatted}
-use Rattle.filterset_server.specs.declared.edits.Edit.{Edit}
+use Rattle.filterset_documents.specs.Edits.{edit_row}
+use Rattle.filterset_server.specs.Formatting.{IsFormatted}
+use Rattle.filterset_documents.specs.Edits.{AreEdits, IsEdit}
+use Rattle.filterset_documents.specs.declared.edits.Edit.{Edit}
 use Rattle.filterset_server.proofs.FormatLemmas.{bytes_of}
 use Rattle.filterset_server.proofs.formatting.configured_edits.Goals as goal
 

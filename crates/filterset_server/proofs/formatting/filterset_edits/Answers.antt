@@ -5,7 +5,7 @@ use Rattle.filterset_editor.specs.Positions.{Text}
 use Rattle.filterset_places.specs.Places.{ArePlaces}
 use Rattle.filterset_places.specs.declared.places.Places.{Places}
 use Rattle.filterset_sources.specs.Configurations.{configured_rows}
-use Rattle.filterset_server.specs.Filtersets.{AreTextsOf}
+use Rattle.filterset_documents.specs.Filtersets.{AreTextsOf}
 use Rattle.filterset_server.proofs.formatting.filterset_edits.Goals as goal
 
 pub returns : goal.returns

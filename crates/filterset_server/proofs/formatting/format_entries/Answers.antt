@@ -2,7 +2,7 @@ use Rattle.std.proofs.Common.{rules, arith, ◌≡◌, ◌<◌, length, get_or, 
 use Rattle.std.proofs.lemmas.List.{take_all}
 use Rattle.filterset_answers.specs.Checked.{text_row}
 use Rattle.filterset_server.specs.Formatting.{IsFormatted}
-use Rattle.filterset_server.proofs.JoinLemmas.{Zips-rows}
+use Rattle.filterset_documents.proofs.JoinLemmas.{Zips-rows}
 use Rattle.filterset_server.proofs.formatting.format_entries.Goals as goal
 
 pub returns : goal.returns

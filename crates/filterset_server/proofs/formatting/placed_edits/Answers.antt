@@ -4,7 +4,7 @@ use Rattle.serde_json.specs.Data.{null}
 use Rattle.serde_json.specs.View.{view}
 use Rattle.filterset_answers.specs.Checked.{TextRow, text_row}
 use Rattle.filterset_editor.specs.Positions.{Text}
-use Rattle.filterset_server.specs.Filtersets.{AreTexts}
+use Rattle.filterset_documents.specs.Filtersets.{AreTexts}
 use Rattle.filterset_server.specs.Formatting.{ConfiguredEdits}
 use Rattle.filterset_server.proofs.FormatLemmas.{bytes_of}
 use Rattle.filterset_server.proofs.formatting.placed_edits.Goals as goal

@@ -3,7 +3,7 @@ use Rattle.std.proofs.lemmas.List.{take_all}
 use Rattle.serde_json.specs.View.{view}
 use Rattle.filterset_answers.specs.Checked.{text_row}
 use Rattle.filterset_server.specs.Responses.{IsSymbol}
-use Rattle.filterset_server.proofs.JoinLemmas.{Zips-rows}
+use Rattle.filterset_documents.proofs.JoinLemmas.{Zips-rows}
 use Rattle.filterset_server.proofs.symbols.entry_symbols.Goals as goal
 
 pub returns : goal.returns

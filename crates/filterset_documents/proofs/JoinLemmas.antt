@@ -1,0 +1,47 @@
+-- The steps in which lists are made part by part.
+use Rattle.std.proofs.Common.{◌≡◌, ℕ, zero, suc, arith, ◌+◌, ◌<◌, List, [], ◌∷◌, ◌++◌, length, map, take, get_or, ◌∙◌, sym, ap, subst, append_assoc}
+use Rattle.std.proofs.lemmas.List.{append-nil, map-append, take_more}
+use Rattle.std.specs.List.{AllZip}
+use Rattle.filterset_profiles.proofs.Zips.{zip_push}
+use Rattle.filterset_documents.specs.Joins.{Joins, no_parts, next_part}
+
+-- the rows of one element more
+pub rows_more : {A B : Type 0} (f : A → B) (xs : List A) (i : ℕ) (x : A) → i < length xs → get_or xs i x ≡ x
+    → map f (take (i + 1) xs) ≡ map f (take i xs) ++ f x ∷ []
+rows_more f xs i x lt at =
+    ap (map f) (take_more xs i x lt ∙ ap (λ y. take i xs ++ y ∷ []) at) ∙ map-append f (take i xs) (x ∷ [])
+
+-- one more part
+Joins-push : {A B : Type 0} (P : A → List B → Type 0) (xs : List A) (x : A) (ys added : List B) → Joins P xs ys → P x added → Joins P (xs ++ x ∷ []) (ys ++ added)
+Joins-push P xs x ys added no_parts is = subst (Joins P (x ∷ [])) (append-nil added) (next_part is no_parts)
+Joins-push P xs x ys added (next_part {x = z} {xs = zs} {front} {rest} is_first are) is =
+    subst (Joins P (z ∷ (zs ++ x ∷ []))) (sym (append_assoc front rest added)) (next_part is_first (Joins-push P zs x rest added are is))
+
+-- the part of the next element of a list
+pub Joins-more : {A B C D : Type 0} (P : B → List D → Type 0) (f : A → B) (g : C → D) (xs : List A) (i : ℕ) (x : A) (ys added : List C)
+    → i < length xs → get_or xs i x ≡ x → Joins P (map f (take i xs)) (map g ys) → P (f x) (map g added)
+    → Joins P (map f (take (i + 1) xs)) (map g (ys ++ added))
+Joins-more P f g xs i x ys added lt at are is =
+    rw (rows_more f xs i x lt at, map-append g ys added) (Joins-push P (map f (take i xs)) (f x) (map g ys) (map g added) are is)
+
+-- one more pair, of what elements are seen as
+pub Zips-rows : {A B C D : Type 0} (R : B → D → Type 0) (f : A → B) (g : C → D) (xs : List A) (i : ℕ) (x : A) (ys : List C) (y : C)
+    → i < length xs → get_or xs i x ≡ x → AllZip R (map f (take i xs)) (map g ys) → R (f x) (g y)
+    → AllZip R (map f (take (i + 1) xs)) (map g (ys ++ y ∷ []))
+Zips-rows R f g xs i x ys y lt at are is =
+    rw (rows_more f xs i x lt at, map-append g ys (y ∷ [])) (zip_push R (map f (take i xs)) (map g ys) (f x) (g y) are is)
+
+-- one more pair
+pub Zips-next : {A B C : Type 0} (R : A → B → Type 0) (g : C → B) (xs : List A) (i : ℕ) (d : A) (ys : List C) (y : C)
+    → i < length xs → AllZip R (take i xs) (map g ys) → R (get_or xs i d) (g y)
+    → AllZip R (take (i + 1) xs) (map g (ys ++ y ∷ []))
+Zips-next R g xs i d ys y lt are is =
+    rw (take_more xs i d lt, map-append g ys (y ∷ [])) (zip_push R (take i xs) (map g ys) (get_or xs i d) (g y) are is)
+
+-- the pair at a position
+pub Zips-at : {A B : Type 0} (R : A → B → Type 0) (xs : List A) (ys : List B) (i : ℕ) (x : A) (y : B)
+    → i < length xs → AllZip R xs ys → R (get_or xs i x) (get_or ys i y)
+Zips-at R [] ys i x y lt are = absurd (omega arith)
+Zips-at R (z ∷ xs) [] i x y lt are = absurd are
+Zips-at R (z ∷ xs) (w ∷ ys) zero x y lt are = are.0
+Zips-at R (z ∷ xs) (w ∷ ys) (suc i) x y lt are = Zips-at R xs ys i x y (omega arith) are.1

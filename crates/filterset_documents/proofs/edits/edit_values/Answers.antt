@@ -1,0 +1,26 @@
+use Rattle.std.proofs.Common.{rules, arith, ◌≡◌, ◌<◌, length, get_or}
+use Rattle.std.proofs.lemmas.List.{take_all}
+use Rattle.serde_json.specs.View.{view}
+use Rattle.filterset_documents.specs.Edits.{edit_row}
+use Rattle.filterset_documents.specs.Edits.{IsEdit}
+use Rattle.filterset_documents.proofs.JoinLemmas.{Zips-rows}
+use Rattle.filterset_documents.proofs.edits.edit_values.Goals as goal
+
+pub returns : goal.returns
+returns c =
+    let are = c.loop-edit.invariant in
+    rw (take_all c.loop-edit.edit-index c.args.edits.now c.loop-edit-test.false) at are
+
+pub loop-edit-preserved : goal.loop-edit-preserved
+loop-edit-preserved c =
+    let shown = c.args.shown.now in
+    let edits = c.args.edits.now in
+    let i = c.loop-edit.edit-index in
+    let edit = c.edit-item.result in
+    let lt : i < length edits = omega (arith, c.loop-edit-test.true) in
+    let at : get_or edits i edit ≡ edit = search (rules, c.edit-item.is) in
+    let ranged = rw c.stretch_span.ensures at c.range_of-range.ensures in
+    let valued = rw c.as_str.ensures.value at c.in_ok-edit_value.ensures in
+    rw c.in_ok-push.ensures.items
+    (Zips-rows (IsEdit shown.encoding shown.lines.text.now) edit_row view edits i edit c.loop-edit.values.items _
+    lt at c.loop-edit.invariant (c.range_of-range.result, ranged, valued))

@@ -1,0 +1,128 @@
+-- The diagnostics of documents.
+use Rattle.std.specs.Prelude.{◌≡◌, ◌⊎◌, ◌++◌, ◌-◌, List, [], ◌∷◌, Option, None, Some, MatchBool, true, false, codes, map, string_bytes}
+use Rattle.std.specs.Borrow.{Bor}
+use Rattle.std.specs.List.{AllZip}
+use Rattle.serde_json.specs.Data.{Data, number, unsigned, string, object, member, no_members}
+use Rattle.toml.specs.Errors.{span_start, span_end}
+use Rattle.filterset_answers.specs.Checked.{HasFaults, TextRow}
+use Rattle.filterset_answers.specs.Entries.{line_rows, rows_in}
+use Rattle.filterset_answers.specs.Names.{KnowsNames}
+use Rattle.filterset_answers.specs.Placements.{Placement, file_part}
+use Rattle.filterset_answers.specs.declared.entries.ConfiguredTexts.{ConfiguredTexts}
+use Rattle.filterset_answers.specs.declared.names.Names.{Names}
+use Rattle.filterset_drawing.specs.declared.source.FileSpan.{FileSpan}
+use Rattle.filterset_drawing.specs.declared.source.Source.{Source}
+use Rattle.filterset_editor.specs.Documents.{DocumentRow}
+use Rattle.filterset_editor.specs.Positions.{Text}
+use Rattle.filterset_editor.specs.declared.positions.Encoding.{Encoding}
+use Rattle.filterset_faults.specs.Faults.{code_of, help_of, label_of, message_of, span_of}
+use Rattle.filterset_faults.specs.Span.{span}
+use Rattle.filterset_faults.specs.declared.error.ParseSingleError.{ParseSingleError}
+use Rattle.filterset_faults.specs.declared.kind.FiltersetKind.TheVariants as kinds
+use Rattle.filterset_faults.specs.declared.span.SourceSpan.{SourceSpan}
+use Rattle.filterset_sources.specs.Configurations.{IsConfiguration, RefusesConfiguration}
+use Rattle.filterset_sources.specs.declared.configuration.Configuration.{Configuration}
+use Rattle.filterset_sources.specs.declared.refusal.SourceRefusal.{SourceRefusal}
+use Rattle.filterset_sources.specs.declared.refusal.SourceRefusal.TheVariants.{NotToml, WrongValue}
+use Rattle.filterset_documents.specs.Filtersets.{AreTextsOf, is_list}
+use Rattle.filterset_documents.specs.Joins.{Joins}
+use Rattle.filterset_documents.specs.Ranges.{IsRange}
+
+-- ---- a diagnostic
+
+-- an error (1) with a code and a message, in a range
+abbrev pub diagnostic_data : Text → Text → Data → Data
+diagnostic_data code message range =
+    object (member (codes "code") (string code) (member (codes "message") (string message) (member (codes "range") range
+    (member (codes "severity") (number (unsigned 1)) (member (codes "source") (string (codes "filterset")) no_members)))))
+
+-- the diagnostic with this code and message, at a span of the text
+abbrev pub IsDiagnostic : Encoding → Text → SourceSpan → Text → Text → Data → Type 0
+IsDiagnostic encoding text at code message d =
+    (range : Data) × IsRange encoding text at range × (d ≡ diagnostic_data code message range)
+
+-- ---- faults
+
+abbrev pub label_line : Option Text → Text
+label_line None = []
+label_line (Some label) = codes "\n" ++ label
+
+abbrev pub help_line : Option Text → Text
+help_line None = []
+help_line (Some help) = codes "\nhelp: " ++ help
+
+-- the message of a fault, and below it the label and the help, if there are any, a line each
+abbrev pub fault_text : ParseSingleError → Text
+fault_text fault = message_of fault ++ label_line (label_of fault) ++ help_line (help_of fault)
+
+-- the diagnostic of a fault at a span of the text
+abbrev pub IsFaultAt : Encoding → Text → SourceSpan → ParseSingleError → Data → Type 0
+IsFaultAt encoding text at fault d = IsDiagnostic encoding text at (code_of fault) (fault_text fault) d
+
+-- the span of a part of the file; the start of the file for nothing
+abbrev pub part_span : Option FileSpan → SourceSpan
+part_span None = span 0 0
+part_span (Some part) = part.span
+
+-- where a fault is in the text, if its filterset is at this place
+abbrev pub fault_span : Option Placement → ParseSingleError → SourceSpan
+fault_span place fault = part_span (file_part place (span_of fault))
+
+-- a diagnostic for each fault of a filterset that is at this place, in their order
+abbrev pub AreDiagnosed : Encoding → Text → Option Placement → List ParseSingleError → List Data → Type 0
+AreDiagnosed encoding text place faults ds =
+    AllZip (λ fault d. IsFaultAt encoding text (fault_span place fault) fault d) faults ds
+
+-- the diagnostics of a filterset: of its faults, as far as names are known
+abbrev pub RowDiagnostics : Encoding → Text → Names → TextRow → List Data → Type 0
+RowDiagnostics encoding text names row ds =
+    (faults : List ParseSingleError) × HasFaults names row faults × AreDiagnosed encoding text row.place faults ds
+
+-- ---- configurations
+
+-- The diagnostics of a text that is this configuration: those of its filtersets, one after the other. Its groups are
+-- known, and packages are not.
+abbrev pub ConfigurationDiagnostics : Encoding → Text → Configuration → List Data → Type 0
+ConfigurationDiagnostics encoding text configuration ds =
+    (texts : ConfiguredTexts) × (names : Names) × AreTextsOf text configuration texts
+    × KnowsNames false [] true (map (λ s. string_bytes s) configuration.groups.items) names
+    × Joins (RowDiagnostics encoding text names) (rows_in texts) ds
+
+-- what is said of a value at this path, which must be as expected
+abbrev pub wrong_text : Text → Text → Text
+wrong_text path expected = codes "`" ++ (path ++ (codes "` must be " ++ expected))
+
+-- The diagnostic of a text that is no configuration: at the span of TOML's error, with its message; or of a wrong value,
+-- at the start.
+abbrev pub IsRefusalAt : Encoding → Text → SourceRefusal → Data → Type 0
+IsRefusalAt encoding text (NotToml error line) d =
+    (message : Text) × IsDiagnostic encoding text (span (span_start error) (span_end error - span_start error)) (codes "toml") message d
+IsRefusalAt encoding text (WrongValue wrong) d =
+    IsDiagnostic encoding text (span 0 0) (codes "configuration") (wrong_text (string_bytes wrong.path) wrong.expected.now) d
+IsRefusalAt encoding text refusal d = ⊥
+
+-- the diagnostics of nextest's configuration with this text
+abbrev pub DiagnosesConfiguration : Encoding → Text → List Data → Type 0
+DiagnosesConfiguration encoding text ds =
+    ((configuration : Configuration) × IsConfiguration text configuration
+    × ConfigurationDiagnostics encoding text configuration ds)
+    ⊎ ((refusal : SourceRefusal) × (d : Data) × RefusesConfiguration text refusal × IsRefusalAt encoding text refusal d
+    × (ds ≡ d ∷ []))
+
+-- ---- documents
+
+-- The diagnostics of a text of which each line is a filterset of tests: those of its lines, one after the other. No names
+-- are known.
+abbrev pub DiagnosesList : Encoding → Text → List Data → Type 0
+DiagnosesList encoding text ds =
+    (file : Bor Source) × (names : Names) × (file.now.text.now ≡ text) × KnowsNames false [] false [] names
+    × Joins (RowDiagnostics encoding text names) (line_rows file kinds.Test) ds
+
+-- the diagnostics of a text in a language
+abbrev pub DiagnosesText : Encoding → Text → Text → List Data → Type 0
+DiagnosesText encoding language text ds =
+    MatchBool (is_list language) (DiagnosesList encoding text ds) (DiagnosesConfiguration encoding text ds)
+
+-- the diagnostics of a document
+abbrev pub Diagnoses : Encoding → DocumentRow → List Data → Type 0
+Diagnoses encoding document = DiagnosesText encoding document.language document.text

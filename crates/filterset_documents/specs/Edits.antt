@@ -1,0 +1,75 @@
+-- Changes of texts.
+use Rattle.std.specs.Prelude.{◌≡◌, ◌-◌, ◌++◌, ◌==◌, ℕ, All, Bool, Contains, IsSomeAnd, List, [], ◌∷◌, chars, codes, drop, encode_utf8, map, string_bytes, take, if◌then◌else◌}
+use Rattle.std.specs.List.{AllZip, flat_map}
+use Rattle.serde_json.specs.Data.{Data, array, string, object, member, no_members}
+use Rattle.serde_json.specs.View.{items_of}
+use Rattle.filterset_answers.specs.Checked.{TextRow}
+use Rattle.filterset_answers.specs.Placements.{TextSpot, line, literal}
+use Rattle.filterset_editor.specs.Positions.{Text}
+use Rattle.filterset_editor.specs.declared.positions.Encoding.{Encoding}
+use Rattle.filterset_editor.specs.declared.positions.Range.{Range}
+use Rattle.filterset_places.specs.Numbers.{AreApart}
+use Rattle.filterset_places.specs.declared.stretch.Stretch.{Stretch}
+use Rattle.filterset_documents.specs.Filtersets.{stretch_at, stretch_span}
+use Rattle.filterset_documents.specs.Ranges.{IsRangeOf, range_data}
+use Rattle.filterset_documents.specs.declared.edits.Edit.{Edit}
+
+-- this text in place of a stretch of another
+pub record EditRow : Type 0 where
+  pub at : Stretch
+  pub text : Text
+
+abbrev pub edit_row : Edit → EditRow
+edit_row edit = record { at = edit.at; text = string_bytes edit.text }
+
+-- the edits follow each other, from the start of the text on
+abbrev pub AreInOrder : List EditRow → Type 0
+AreInOrder edits = AreApart 0 (map (λ e. e.at) edits)
+
+-- the rest of a text from the offset `at` on, with edits
+abbrev pub edited_from : ℕ → Text → List EditRow → Text
+edited_from at rest [] = rest
+edited_from at rest (e ∷ es) =
+    take (e.at.from - at) rest
+    ++ (e.text ++ edited_from e.at.to (drop (e.at.to - e.at.from) (drop (e.at.from - at) rest)) es)
+
+-- a text with edits
+abbrev pub edited : Text → List EditRow → Text
+edited text edits = edited_from 0 text edits
+
+-- ---- strings of TOML
+
+-- what a character of a string between quotation marks is written as
+abbrev pub basic_char : ℕ → Text
+basic_char c =
+    if c == 34 then codes "\\\"" else if c == 92 then codes "\\\\" else if c == 10 then codes "\\n" else encode_utf8 c
+
+-- a text as a string of TOML: between quotation marks with escapes, or as it is between apostrophes
+abbrev pub quoted : Bool → Text → Text
+quoted is_basic text =
+    if is_basic then codes "\"" ++ (flat_map basic_char (chars text) ++ codes "\"") else codes "'" ++ (text ++ codes "'")
+
+-- what is written where a filterset is that gets a text: a string that may be read so, or a line
+abbrev pub IsWrittenAt : TextSpot → Text → Text → Type 0
+IsWrittenAt (literal place) text made = (is_basic : Bool) × (made ≡ quoted is_basic text)
+IsWrittenAt (line stretch) text made = made ≡ text
+
+-- ---- edits of documents
+
+-- the edit replaces the string that is read as one of the filtersets, or the line
+abbrev pub ReplacesOne : List TextRow → EditRow → Type 0
+ReplacesOne rows edit =
+    (row : TextRow) × Contains rows row × IsSomeAnd row.place (λ at. edit.at ≡ stretch_at at.spot)
+
+abbrev pub edit_data : Text → Data → Data
+edit_data text range = object (member (codes "newText") (string text) (member (codes "range") range no_members))
+
+abbrev pub IsEdit : Encoding → Text → EditRow → Data → Type 0
+IsEdit encoding text edit d =
+    (range : Range) × IsRangeOf encoding text (stretch_span edit.at) range × (d ≡ edit_data edit.text (range_data range))
+
+-- the edits replace filtersets of the document and nothing else, and the value has them
+abbrev pub AreEdits : Encoding → Text → List TextRow → List EditRow → Data → Type 0
+AreEdits encoding text rows edits d =
+    (values : List Data) × AreInOrder edits × All (ReplacesOne rows) edits × AllZip (IsEdit encoding text) edits values
+    × (d ≡ array (items_of values))

@@ -1,0 +1,66 @@
+-- The filtersets of documents.
+use Rattle.std.specs.Prelude.{◌≡◌, ◌-◌, Bool, List, Option, None, Some, codes}
+use Rattle.std.specs.Str.{bytes_eq}
+use Rattle.filterset_answers.specs.Placements.{Placement, TextSpot, line, literal}
+use Rattle.filterset_answers.specs.declared.entries.ConfiguredTexts.{ConfiguredTexts}
+use Rattle.filterset_drawing.specs.declared.source.Source.{Source}
+use Rattle.filterset_editor.specs.Positions.{Text}
+use Rattle.filterset_faults.specs.Span.{span}
+use Rattle.filterset_faults.specs.declared.error.ParseSingleError.{ParseSingleError}
+use Rattle.filterset_faults.specs.declared.span.SourceSpan.{SourceSpan}
+use Rattle.filterset_language.specs.Parsed.{IsUnreadWith, Reads}
+use Rattle.filterset_language.specs.Views.{tree_of}
+use Rattle.filterset_language.specs.declared.tree.ParsedExpr.{ParsedExpr}
+use Rattle.filterset_places.specs.Places.{ArePlaces}
+use Rattle.filterset_places.specs.declared.places.Places.{Places}
+use Rattle.filterset_places.specs.declared.stretch.Stretch.{Stretch}
+use Rattle.filterset_sources.specs.Configurations.{configured_rows}
+use Rattle.filterset_sources.specs.declared.configuration.Configuration.{Configuration}
+use Rattle.filterset_sources.specs.declared.configuration.ConfiguredFilterset.{ConfiguredFilterset}
+use Rattle.filterset_sources.specs.declared.refusal.SourceRefusal.{SourceRefusal}
+use Rattle.filterset_sources.specs.declared.refusal.SourceRefusal.TheVariants.{NotToml, WrongValue}
+
+-- a document in this language has a filterset a line; any other is nextest's configuration
+abbrev pub is_list : Text → Bool
+is_list language = bytes_eq language (codes "filterset")
+
+-- these are the filtersets of a file, with their places in it
+abbrev pub AreTexts : Source → List ConfiguredFilterset → Places → ConfiguredTexts → Type 0
+AreTexts file filtersets places texts =
+    (texts.file.now ≡ file) × (texts.filtersets.now ≡ filtersets) × (texts.places.now ≡ places)
+
+-- the filtersets of a configuration that was read from this text, with their places in it
+abbrev pub AreTextsOf : Text → Configuration → ConfiguredTexts → Type 0
+AreTextsOf text configuration texts =
+    (texts.file.now.text.now ≡ text) × (texts.filtersets.now ≡ configuration.filtersets.items)
+    × ArePlaces text (configured_rows configuration.filtersets.items) texts.places.now.places.items
+
+-- the refusal says what is wrong with a configuration
+abbrev pub SaysWhy : SourceRefusal → Type 0
+SaysWhy (NotToml error number) = Unit {0}
+SaysWhy (WrongValue wrong) = Unit {0}
+SaysWhy refusal = ⊥
+
+-- the string that is read as a filterset, with its delimiters, or the line
+abbrev pub stretch_at : TextSpot → Stretch
+stretch_at (literal place) = place.literal
+stretch_at (line stretch) = stretch
+
+abbrev pub stretch_span : Stretch → SourceSpan
+stretch_span stretch = span stretch.from (stretch.to - stretch.from)
+
+-- where a filterset is; the start of the text if that is not known
+abbrev pub place_span : Option Placement → SourceSpan
+place_span None = span 0 0
+place_span (Some at) = stretch_span (stretch_at at.spot)
+
+-- ---- trees
+
+-- no tree is read from the text, since it has faults
+abbrev pub IsUnread : Text → Type 0
+IsUnread text = (faults : List ParseSingleError) × IsUnreadWith text faults
+
+-- the text reads as the tree, or as none
+abbrev pub IsParsed : Text → Option (ParsedExpr SourceSpan) → Type 0
+IsParsed text None = IsUnread text
+IsParsed text (Some tree) = Reads text (tree_of tree)

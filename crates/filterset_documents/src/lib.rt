@@ -1,0 +1,21 @@
+//! Documents with filtersets, which are nextest's configuration and lists of filtersets: where their filtersets are, their
+//! diagnostics, and changes of them.
+#![tactic(auto)]
+
+mod configuration;
+mod diagnostics;
+mod edits;
+mod list;
+mod message;
+mod places;
+mod quoting;
+mod ranges;
+mod rows;
+mod trees;
+
+pub use configuration::diagnose_configuration;
+pub use edits::{Edit, edit_text, edits_value, is_same, ordered_edits};
+pub use list::diagnose_list;
+pub use places::{configured_texts, place_span, stretch_at, stretch_span};
+pub use ranges::{Shown, range_of, range_value, span_value};
+pub use trees::parse_text;

@@ -1,0 +1,53 @@
+//! Where filtersets are.
+ghost use Rattle.std.specs.Prelude.{◌≡◌, option_map};
+ghost use Rattle.filterset_answers.specs.Placements.{placement_of, spot_of};
+ghost use Rattle.filterset_documents.specs.Filtersets.{AreTexts, place_span, stretch_at, stretch_span};
+
+use filterset_answers::{ConfiguredTexts, FilePlace, Spot};
+use filterset_drawing::Source;
+use filterset_faults::SourceSpan;
+use filterset_places::{Places, Stretch};
+use filterset_sources::ConfiguredFilterset;
+
+/// Returns the filtersets of a configuration, with its file and their places in it.
+pub fn configured_texts<'t>(
+    file: &'t Source<'t>,
+    filtersets: &'t [ConfiguredFilterset],
+    places: &'t Places,
+) -> ConfiguredTexts<'t>
+    ensures { AreTexts file.entry.now filtersets.entry.now places.entry.now result }
+{
+    ConfiguredTexts {
+        file,
+        filtersets,
+        places,
+    }
+}
+
+/// Returns where the string is that is read as a filterset, or the line.
+pub fn stretch_at(spot: Spot<'_>) -> Stretch
+    ensures { result ≡ stretch_at (spot_of spot.entry) }
+{
+    match spot {
+        Spot::Literal(place) => place.literal,
+        Spot::Line(stretch) => stretch,
+    }
+}
+
+/// Returns the span of a stretch.
+pub fn stretch_span(stretch: Stretch) -> SourceSpan
+    ensures { result ≡ stretch_span stretch }
+{
+    let Stretch { from, to } = stretch;
+    SourceSpan::new(from, to.saturating_sub(from))
+}
+
+/// Returns where a filterset is, or the start of the text if that is not known.
+pub fn place_span(place: Option<FilePlace<'_>>) -> SourceSpan
+    ensures { result ≡ place_span (option_map placement_of place.entry) }
+{
+    let Some(at) = place else {
+        return SourceSpan::new(0, 0);
+    };
+    stretch_span(stretch_at(at.spot))
+}

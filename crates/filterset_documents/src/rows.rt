@@ -1,0 +1,99 @@
+//! The diagnostics of filtersets.
+ghost use Rattle.std.specs.Prelude.{◌≡◌, IfOk, map, option_map};
+ghost use Rattle.serde_json.specs.View.{view};
+ghost use Rattle.filterset_answers.specs.Checked.{text_row};
+ghost use Rattle.filterset_answers.specs.Placements.{placement_of};
+ghost use Rattle.nextest_filtering.specs.Groups.{IsKnown};
+ghost use Rattle.filterset_documents.specs.Diagnostics.{AreDiagnosed, IsFaultAt, RowDiagnostics, fault_span, part_span};
+ghost use Rattle.filterset_documents.specs.Joins.{Joins};
+
+use crate::diagnostics::diagnostic_at;
+use crate::message::fault_message;
+use crate::ranges::Shown;
+use filterset_answers::{FilePlace, Names, TextEntry, faults_of, file_part};
+use filterset_drawing::FileSpan;
+use filterset_faults::{ParseSingleError, SourceSpan};
+use serde_json::Value;
+use std::alloc::{AllocError, Global};
+
+/// Returns the span of a part of the file, or the start of the file for nothing.
+fn part_span(part: Option<FileSpan<'_>>) -> SourceSpan
+    ensures { result ≡ part_span part.entry }
+{
+    match part {
+        Some(part) => part.span,
+        None => SourceSpan::new(0, 0),
+    }
+}
+
+/// Returns where a fault is in the text, if its filterset is at this place.
+fn fault_span(place: Option<FilePlace<'_>>, fault: &ParseSingleError) -> SourceSpan
+    ensures { result ≡ fault_span (option_map placement_of place.entry) fault.now }
+{
+    part_span(file_part(place, fault.span()))
+}
+
+/// Makes the diagnostic of a fault at a span.
+fn fault_value(
+    alloc: Global,
+    shown: &Shown<'_>,
+    span: SourceSpan,
+    fault: &ParseSingleError,
+) -> Result<Value, AllocError>
+    ensures { IfOk result (λ value.
+        IsFaultAt shown.now.encoding shown.now.lines.text.now span fault.now (view value)) }
+{
+    let message = fault_message(alloc, fault)?;
+    diagnostic_at(alloc, shown, span, fault.code(), message.as_str())
+}
+
+/// Makes the diagnostics of faults of a filterset that is at this place.
+fn fault_values(
+    alloc: Global,
+    shown: &Shown<'_>,
+    place: Option<FilePlace<'_>>,
+    faults: &[ParseSingleError],
+) -> Result<Vec<Value>, AllocError>
+    ensures { IfOk result (λ values. AreDiagnosed shown.now.encoding shown.now.lines.text.now
+        (option_map placement_of place.entry) faults.now (map view values.items)) }
+{
+    let mut values = Vec::with_capacity(alloc, faults.len())?;
+    for fault in faults {
+        values.push(fault_value(alloc, shown, fault_span(place, fault), fault)?)?;
+    }
+    Ok(values)
+}
+
+/// Makes the diagnostics of a filterset.
+fn entry_values(
+    alloc: Global,
+    shown: &Shown<'_>,
+    names: &Names<'_>,
+    entry: &TextEntry<'_>,
+) -> Result<Vec<Value>, AllocError>
+    requires { IsKnown names.now.known_groups }
+    ensures { IfOk result (λ values. RowDiagnostics shown.now.encoding shown.now.lines.text.now names.now
+        (text_row entry.now) (map view values.items)) }
+{
+    let faults = faults_of(alloc, names, entry)?;
+    fault_values(alloc, shown, entry.place, faults.as_slice())
+}
+
+/// Makes the diagnostics of filtersets, one after the other.
+pub(crate) fn diagnose_entries(
+    alloc: Global,
+    shown: &Shown<'_>,
+    names: &Names<'_>,
+    entries: &[TextEntry<'_>],
+) -> Result<Vec<Value>, AllocError>
+    requires { IsKnown names.now.known_groups }
+    ensures { IfOk result (λ values. Joins (RowDiagnostics shown.now.encoding shown.now.lines.text.now names.now)
+        (map text_row entries.now) (map view values.items)) }
+{
+    let mut values = Vec::new(alloc);
+    for entry in entries {
+        let mut more = entry_values(alloc, shown, names, entry)?;
+        values.append(&mut more)?;
+    }
+    Ok(values)
+}
