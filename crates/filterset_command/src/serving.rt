@@ -2,7 +2,7 @@
 ghost use Rattle.std.specs.Prelude.{IfOk};
 ghost use Rattle.filterset_editor.specs.Machine.{says};
 ghost use Rattle.filterset_editor.specs.Sessions.{Served};
-ghost use Rattle.filterset_server.specs.Diagnostics.{Diagnoses};
+ghost use Rattle.filterset_documents.specs.Diagnostics.{Diagnoses};
 ghost use Rattle.filterset_server.specs.Responses.{Responds, abilities};
 
 use filterset_editor::{Ending, serve};
