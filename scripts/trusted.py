@@ -24,7 +24,7 @@ PAGE, BEGIN, END = "docs/TRUST.md", "<!-- trusted.py begins -->\n", "<!-- truste
 # The crate that other programs name; the program that reads a record, with the crate of its run; the program for people.
 LIBRARY, PROGRAM, PROGRAMS, COMMAND = "nextest_filtering", "filterset_cli", "filterset_io", "filterset_command"
 # What its command `lsp` alone uses, and the call that serves an editor.
-EDITORS, SERVE = ("filterset_editor", "filterset_documents", "filterset_server"), "serve_editor"
+EDITORS, SERVE = ("filterset_editor", "filterset_documents", "filterset_tokens", "filterset_server"), "serve_editor"
 # What only these mean: crates, files, definitions and types.
 ONLY = {
     "profiles, overrides and platforms of a configuration": {

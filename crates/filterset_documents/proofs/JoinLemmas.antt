@@ -24,6 +24,19 @@ pub Joins-more : {A B C D : Type 0} (P : B → List D → Type 0) (f : A → B) 
 Joins-more P f g xs i x ys added lt at are is =
     rw (rows_more f xs i x lt at, map-append g ys added) (Joins-push P (map f (take i xs)) (f x) (map g ys) (map g added) are is)
 
+-- the same, of parts that are seen as they are
+pub Joins-rows : {A B D : Type 0} (P : B → List D → Type 0) (f : A → B) (xs : List A) (i : ℕ) (x : A) (ys added : List D)
+    → i < length xs → get_or xs i x ≡ x → Joins P (map f (take i xs)) ys → P (f x) added
+    → Joins P (map f (take (i + 1) xs)) (ys ++ added)
+Joins-rows P f xs i x ys added lt at are is =
+    rw (rows_more f xs i x lt at) (Joins-push P (map f (take i xs)) (f x) ys added are is)
+
+-- the same, of elements that are too
+pub Joins-items : {A D : Type 0} (P : A → List D → Type 0) (xs : List A) (i : ℕ) (x : A) (ys added : List D)
+    → i < length xs → get_or xs i x ≡ x → Joins P (take i xs) ys → P x added → Joins P (take (i + 1) xs) (ys ++ added)
+Joins-items P xs i x ys added lt at are is =
+    rw (take_more xs i x lt, at) (Joins-push P (take i xs) x ys added are is)
+
 -- one more pair, of what elements are seen as
 pub Zips-rows : {A B C D : Type 0} (R : B → D → Type 0) (f : A → B) (g : C → D) (xs : List A) (i : ℕ) (x : A) (ys : List C) (y : C)
     → i < length xs → get_or xs i x ≡ x → AllZip R (map f (take i xs)) (map g ys) → R (f x) (g y)

@@ -1,27 +1,19 @@
 -- What the server shows of the predicate at a position.
-use Rattle.std.specs.Prelude.{◌≡◌, ◌⊎◌, ◌-◌, ◌&&◌, ℕ, Bool, List, MatchBool, MatchOption, Option, Some, None, codes, find, nat_le, false}
-use Rattle.std.specs.Borrow.{Bor}
+use Rattle.std.specs.Prelude.{◌≡◌, ◌⊎◌, ◌-◌, ◌&&◌, ℕ, Bool, List, MatchOption, Option, Some, None, codes, find, nat_le, false}
 use Rattle.serde_json.specs.Data.{Data, string, object, member, no_members, null}
 use Rattle.filterset_answers.specs.Checked.{TextRow}
-use Rattle.filterset_answers.specs.Entries.{line_rows, rows_in}
 use Rattle.filterset_answers.specs.Placements.{Placement, file_part}
-use Rattle.filterset_answers.specs.declared.entries.ConfiguredTexts.{ConfiguredTexts}
 use Rattle.filterset_drawing.specs.declared.source.FileSpan.{FileSpan}
-use Rattle.filterset_drawing.specs.declared.source.Source.{Source}
 use Rattle.filterset_editor.specs.Positions.{IsOffset, Text}
 use Rattle.filterset_editor.specs.declared.positions.Encoding.{Encoding}
 use Rattle.filterset_editor.specs.declared.positions.Position.{Position}
 use Rattle.filterset_faults.specs.Span.{length_of, offset_of}
 use Rattle.filterset_faults.specs.declared.error.ParseSingleError.{ParseSingleError}
-use Rattle.filterset_faults.specs.declared.kind.FiltersetKind.TheVariants as kinds
 use Rattle.filterset_faults.specs.declared.span.SourceSpan.{SourceSpan}
 use Rattle.filterset_grammar.specs.Tree.{Leaf, Tree, tree_leaves}
 use Rattle.filterset_language.specs.Faults.{leaf_span}
 use Rattle.filterset_language.specs.Parsed.{IsUnreadWith, Reads}
-use Rattle.filterset_sources.specs.Configurations.{IsConfiguration, RefusesConfiguration}
-use Rattle.filterset_sources.specs.declared.configuration.Configuration.{Configuration}
-use Rattle.filterset_sources.specs.declared.refusal.SourceRefusal.{SourceRefusal}
-use Rattle.filterset_documents.specs.Filtersets.{AreTextsOf, SaysWhy, is_list, stretch_at, stretch_span}
+use Rattle.filterset_documents.specs.Filtersets.{stretch_at, stretch_span}
 use Rattle.filterset_documents.specs.Ranges.{IsRange}
 use Rattle.filterset_server.specs.Words.{leaf_text}
 
@@ -79,26 +71,3 @@ is_row_at offset row = is_placed_at row.place offset
 abbrev pub HoversRows : Encoding → Text → Position → List TextRow → Data → Type 0
 HoversRows encoding text position rows d = (offset : ℕ) × IsOffset encoding text position offset
     × MatchOption (find (is_row_at offset) rows) (d ≡ null) (λ row. HoversRow encoding text offset row d)
-
--- ---- documents
-
-abbrev pub HoversList : Encoding → Text → Position → Data → Type 0
-HoversList encoding text position d = (file : Bor Source) × (file.now.text.now ≡ text)
-    × HoversRows encoding text position (line_rows file kinds.Test) d
-
--- the hover in the filtersets of a configuration that was read from the text
-abbrev pub HoversFiltersets : Encoding → Text → Position → Configuration → Data → Type 0
-HoversFiltersets encoding text position configuration d = (texts : ConfiguredTexts)
-    × AreTextsOf text configuration texts × HoversRows encoding text position (rows_in texts) d
-
--- the hover in a configuration, or `null` for a text that is none
-abbrev pub HoversConfiguration : Encoding → Text → Position → Data → Type 0
-HoversConfiguration encoding text position d =
-    ((configuration : Configuration) × IsConfiguration text configuration
-    × HoversFiltersets encoding text position configuration d)
-    ⊎ ((refusal : SourceRefusal) × RefusesConfiguration text refusal × SaysWhy refusal × (d ≡ null))
-
--- the hover at a position of a text in a language: what the predicate there means, or `null`
-abbrev pub Hovers : Encoding → Text → Text → Position → Data → Type 0
-Hovers encoding language text position d =
-    MatchBool (is_list language) (HoversList encoding text position d) (HoversConfiguration encoding text position d)

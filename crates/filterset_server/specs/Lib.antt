@@ -1,4 +1,7 @@
+pub mod Folding
 pub mod Formatting
+pub mod Highlights
 pub mod Hover
 pub mod Responses
+pub mod Symbols
 pub mod Words

@@ -1,31 +1,21 @@
 //! What the predicate at a position means.
 ghost use Rattle.std.specs.Prelude.{◌≡◌, IfOk, Some, filter, find, map, option_map};
-ghost use Rattle.std.specs.Borrow.{Bor};
 ghost use Rattle.serde_json.specs.View.{view};
 ghost use Rattle.filterset_answers.specs.Checked.{text_row};
-ghost use Rattle.filterset_answers.specs.Entries.{line_rows, rows_in};
 ghost use Rattle.filterset_answers.specs.Placements.{placement_of};
-ghost use Rattle.filterset_answers.specs.declared.entries.ConfiguredTexts.{ConfiguredTexts};
-ghost use Rattle.filterset_drawing.specs.declared.source.Source.{Source};
 ghost use Rattle.filterset_grammar.specs.Tree.{tree_leaves};
 ghost use Rattle.filterset_language.specs.Faults.{leaf_span};
 ghost use Rattle.filterset_language.specs.Views.{leaf_of, tree_of};
-ghost use Rattle.filterset_documents.specs.Filtersets.{AreTexts};
-ghost use Rattle.filterset_server.specs.Hover.{HoversConfiguration, HoversFiltersets, HoversLeaf, HoversList, HoversRow, HoversRows, HoversTree};
+ghost use Rattle.filterset_server.specs.Hover.{HoversLeaf, HoversRow, HoversRows, HoversTree};
 ghost use Rattle.filterset_server.specs.Hover.{hover_data, is_in, is_in_part, is_leaf_at, is_placed_at, is_row_at, leaf_part};
 
 use crate::words::leaf_text;
-use filterset_answers::{FilePlace, TextEntry, configured_entries, file_part, line_entries};
-use filterset_documents::{
-    Shown, configured_texts, parse_text, span_value, stretch_at, stretch_span,
-};
-use filterset_drawing::{FileSpan, Source};
+use filterset_answers::{FilePlace, TextEntry, file_part};
+use filterset_documents::{Shown, parse_text, span_value, stretch_at, stretch_span};
+use filterset_drawing::FileSpan;
 use filterset_editor::Position;
 use filterset_faults::SourceSpan;
 use filterset_language::{ParsedExpr, ParsedLeaf};
-use filterset_places::Places;
-use filterset_sources::{Configuration, ConfiguredFilterset, SourceRefusal, read_configuration};
-use nextest_filtering::FiltersetKind;
 use serde_json::{Value, json};
 use std::alloc::{AllocError, Global};
 
@@ -171,7 +161,7 @@ fn entry_at<'e, 't>(entries: &'e [TextEntry<'t>], offset: usize) -> Option<&'e T
 }
 
 /// Makes the hover at a position of filtersets.
-fn hover_entries(
+pub(crate) fn hover_entries(
     alloc: Global,
     shown: &Shown<'_>,
     position: Position,
@@ -184,82 +174,5 @@ fn hover_entries(
     match entry_at(entries, offset) {
         Some(entry) => hover_entry(alloc, shown, offset, entry),
         None => Ok(Value::Null),
-    }
-}
-
-/// Makes the hover at a position of a file whose lines are filtersets.
-fn hover_lines(
-    alloc: Global,
-    shown: &Shown<'_>,
-    position: Position,
-    file: &Source<'_>,
-) -> Result<Value, AllocError>
-    ensures { IfOk result (λ value. (listed : Bor Source) × (listed.now ≡ file.now)
-        × HoversRows shown.now.encoding shown.now.lines.text.now position (line_rows listed FiltersetKind.Test)
-        (view value)) }
-{
-    let entries = line_entries(alloc, FiltersetKind::Test, file)?;
-    hover_entries(alloc, shown, position, entries.as_slice())
-}
-
-/// Makes the hover at a position of a text whose lines are filtersets.
-pub(crate) fn hover_list(
-    alloc: Global,
-    shown: &Shown<'_>,
-    position: Position,
-) -> Result<Value, AllocError>
-    ensures { IfOk result (λ value.
-        HoversList shown.now.encoding shown.now.lines.text.now position (view value)) }
-{
-    let file = Source::new(alloc, "", shown.lines.text)?;
-    hover_lines(alloc, shown, position, &file)
-}
-
-/// Makes the hover at a position of filtersets that have these places in a file.
-fn hover_placed(
-    alloc: Global,
-    shown: &Shown<'_>,
-    position: Position,
-    file: &Source<'_>,
-    filtersets: &[ConfiguredFilterset],
-    places: &Places,
-) -> Result<Value, AllocError>
-    ensures { IfOk result (λ value. (texts : ConfiguredTexts) × AreTexts file.now filtersets.now places.now texts
-        × HoversRows shown.now.encoding shown.now.lines.text.now position (rows_in texts) (view value)) }
-{
-    let configured = configured_texts(file, filtersets, places);
-    let entries = configured_entries(alloc, configured)?;
-    hover_entries(alloc, shown, position, entries.as_slice())
-}
-
-/// Makes the hover at a position of a configuration that was read from the text.
-fn hover_filtersets(
-    alloc: Global,
-    shown: &Shown<'_>,
-    position: Position,
-    configuration: &Configuration,
-) -> Result<Value, AllocError>
-    ensures { IfOk result (λ value.
-        HoversFiltersets shown.now.encoding shown.now.lines.text.now position configuration.now (view value)) }
-{
-    let places = Places::of(alloc, shown.lines.text, configuration)?;
-    let file = Source::new(alloc, "", shown.lines.text)?;
-    let filtersets = configuration.filtersets.as_slice();
-    hover_placed(alloc, shown, position, &file, filtersets, &places)
-}
-
-/// Makes the hover at a position of nextest's configuration.
-pub(crate) fn hover_configuration(
-    alloc: Global,
-    shown: &Shown<'_>,
-    position: Position,
-) -> Result<Value, AllocError>
-    ensures { IfOk result (λ value.
-        HoversConfiguration shown.now.encoding shown.now.lines.text.now position (view value)) }
-{
-    match read_configuration(alloc, shown.lines.text) {
-        Ok(configuration) => hover_filtersets(alloc, shown, position, &configuration),
-        Err(SourceRefusal::OutOfMemory(refused)) => Err(refused),
-        Err(_) => Ok(Value::Null),
     }
 }

@@ -1,16 +1,14 @@
 //! What the server says of documents.
-ghost use Rattle.std.specs.Prelude.{◌≡◌, IfOk, map};
+ghost use Rattle.std.specs.Prelude.{◌≡◌, IfOk, MatchBool, map};
 ghost use Rattle.serde_json.specs.View.{view};
 ghost use Rattle.filterset_documents.specs.Diagnostics.{DiagnosesText};
 ghost use Rattle.filterset_documents.specs.Filtersets.{is_list};
-ghost use Rattle.filterset_server.specs.Hover.{Hovers};
-ghost use Rattle.filterset_server.specs.Responses.{RespondsTo};
+ghost use Rattle.filterset_server.specs.Responses.{Formats, RespondsConfiguration, RespondsList, RespondsTo, is_formatting};
 
 use crate::formatting::{format_configuration, format_list};
-use crate::hover::{hover_configuration, hover_list};
-use crate::symbols::{configuration_symbols, list_symbols};
+use crate::requests::{respond_configuration, respond_list};
 use filterset_documents::{Shown, diagnose_configuration, diagnose_list};
-use filterset_editor::{Abilities, Document, Encoding, Inquiry, Language, Lines, Position};
+use filterset_editor::{Abilities, Document, Encoding, Inquiry, Language, Lines};
 use serde_json::Value;
 use std::alloc::{AllocError, Global};
 
@@ -26,6 +24,12 @@ fn is_list(language: &str) -> bool
     language == "filterset"
 }
 
+fn is_formatting(inquiry: Inquiry) -> bool
+    ensures { result ≡ is_formatting inquiry }
+{
+    matches!(inquiry, Inquiry::Formatting)
+}
+
 /// Makes the diagnostics of a text.
 fn diagnose_text(alloc: Global, shown: &Shown<'_>, language: &str) -> Result<Vec<Value>, AllocError>
     ensures { IfOk result (λ values. DiagnosesText shown.now.encoding language.now shown.now.lines.text.now
@@ -38,22 +42,10 @@ fn diagnose_text(alloc: Global, shown: &Shown<'_>, language: &str) -> Result<Vec
     }
 }
 
-/// Makes the symbols of a text.
-fn symbols_of(alloc: Global, shown: &Shown<'_>, language: &str) -> Result<Value, AllocError>
-    ensures { IfOk result (λ value. RespondsTo shown.now.encoding language.now shown.now.lines.text.now Inquiry.Symbols
-        (view value)) }
-{
-    if is_list(language) {
-        list_symbols(alloc, shown)
-    } else {
-        configuration_symbols(alloc, shown)
-    }
-}
-
 /// Makes the edits that format a text.
 fn edits_of(alloc: Global, shown: &Shown<'_>, language: &str) -> Result<Value, AllocError>
-    ensures { IfOk result (λ value. RespondsTo shown.now.encoding language.now shown.now.lines.text.now
-        Inquiry.Formatting (view value)) }
+    ensures { IfOk result (λ value.
+        Formats shown.now.encoding language.now shown.now.lines.text.now (view value)) }
 {
     if is_list(language) {
         format_list(alloc, shown)
@@ -62,20 +54,21 @@ fn edits_of(alloc: Global, shown: &Shown<'_>, language: &str) -> Result<Value, A
     }
 }
 
-/// Makes the hover at a position of a text.
-fn hover_of(
+/// Makes the result of a request about the filtersets of a text.
+fn response_of(
     alloc: Global,
     shown: &Shown<'_>,
     language: &str,
-    position: Position,
+    inquiry: Inquiry,
 ) -> Result<Value, AllocError>
-    ensures { IfOk result (λ value.
-        Hovers shown.now.encoding language.now shown.now.lines.text.now position (view value)) }
+    ensures { IfOk result (λ value. MatchBool (is_list language.now)
+        (RespondsList shown.now.encoding shown.now.lines.text.now inquiry (view value))
+        (RespondsConfiguration shown.now.encoding shown.now.lines.text.now inquiry (view value))) }
 {
     if is_list(language) {
-        hover_list(alloc, shown, position)
+        respond_list(alloc, shown, inquiry)
     } else {
-        hover_configuration(alloc, shown, position)
+        respond_configuration(alloc, shown, inquiry)
     }
 }
 
@@ -89,14 +82,10 @@ fn respond_to(
     ensures { IfOk result (λ value. RespondsTo shown.now.encoding language.now shown.now.lines.text.now inquiry
         (view value)) }
 {
-    match inquiry {
-        Inquiry::Symbols => symbols_of(alloc, shown, language),
-        Inquiry::Formatting => edits_of(alloc, shown, language),
-        Inquiry::Hover(position) => hover_of(alloc, shown, language, position),
-        Inquiry::Completion(_)
-        | Inquiry::CodeActions(_)
-        | Inquiry::FoldingRanges
-        | Inquiry::SemanticTokens => Ok(Value::Null),
+    if is_formatting(inquiry) {
+        edits_of(alloc, shown, language)
+    } else {
+        response_of(alloc, shown, language, inquiry)
     }
 }
 
@@ -116,8 +105,8 @@ impl Language for FiltersetLanguage {
             completion: false,
             code_actions: false,
             formatting: true,
-            folding: false,
-            semantic_tokens: false,
+            folding: true,
+            semantic_tokens: true,
             symbols: true,
         }
     }

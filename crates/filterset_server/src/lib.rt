@@ -2,9 +2,12 @@
 //! their faults, where they are, the edits that format them, and what their predicates mean.
 #![tactic(auto)]
 
+mod folding;
 mod formatting;
+mod highlighting;
 mod hover;
 mod language;
+mod requests;
 mod symbols;
 mod words;
 

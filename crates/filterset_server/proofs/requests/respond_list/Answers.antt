@@ -2,13 +2,13 @@ use Rattle.std.proofs.Common.{◌∙◌, ap}
 use Rattle.std.proofs.lemmas.Result.{IfOk-weaker}
 use Rattle.filterset_drawing.specs.declared.source.Source.{Source}
 use Rattle.filterset_editor.specs.Positions.{Text}
-use Rattle.filterset_server.proofs.symbols.list_symbols.Goals as goal
+use Rattle.filterset_server.proofs.requests.respond_list.Goals as goal
 
 pub returns : goal.returns
 returns c =
     let text_of : Source → Text = λ s. s.text.now in
-    IfOk-weaker c.line_symbols.result _ _
-    (λ value are.
-    let (file, same, symbols) = are in
-    (file, ap text_of same ∙ c.in_ok-file.ensures.text, symbols))
-    c.line_symbols.ensures
+    IfOk-weaker c.respond_lines.result _ _
+    (λ value is.
+    let (file, same, responds) = is in
+    (file, ap text_of same ∙ c.in_ok-file.ensures.text, responds))
+    c.respond_lines.ensures

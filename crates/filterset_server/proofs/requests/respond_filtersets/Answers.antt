@@ -6,7 +6,7 @@ use Rattle.filterset_places.specs.Places.{ArePlaces}
 use Rattle.filterset_places.specs.declared.places.Places.{Places}
 use Rattle.filterset_sources.specs.Configurations.{configured_rows}
 use Rattle.filterset_documents.specs.Filtersets.{AreTextsOf}
-use Rattle.filterset_server.proofs.symbols.filterset_symbols.Goals as goal
+use Rattle.filterset_server.proofs.requests.respond_filtersets.Goals as goal
 
 pub returns : goal.returns
 returns c =
@@ -14,12 +14,12 @@ returns c =
     let configuration = c.args.configuration.now in
     let text_of : Source → Text = λ s. s.text.now in
     let Placed : Places → Type 0 = λ p. ArePlaces text (configured_rows configuration.filtersets.items) p.places.items in
-    IfOk-weaker c.placed_symbols.result _ _
-    (λ value are.
-    let (texts, (file, filtersets, places), symbols) = are in
+    IfOk-weaker c.respond_placed.result _ _
+    (λ value is.
+    let (texts, (file, filtersets, places), responds) = is in
     let texts_of : AreTextsOf text configuration texts = (
       ap text_of file ∙ c.in_ok-file.ensures.text,
       filtersets ∙ c.as_slice-filtersets.ensures.value,
       subst Placed (sym places) c.in_ok-places.ensures,
-    ) in (texts, texts_of, symbols))
-    c.placed_symbols.ensures
+    ) in (texts, texts_of, responds))
+    c.respond_placed.ensures

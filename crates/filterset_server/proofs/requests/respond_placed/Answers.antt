@@ -2,15 +2,15 @@ use Rattle.std.proofs.Common.{◌∙◌, List, ap, map, subst}
 use Rattle.std.proofs.lemmas.Result.{IfOk-weaker}
 use Rattle.serde_json.specs.View.{view}
 use Rattle.filterset_answers.specs.Checked.{TextRow, text_row}
-use Rattle.filterset_server.specs.Hover.{HoversRows}
-use Rattle.filterset_server.proofs.hover.hover_placed.Goals as goal
+use Rattle.filterset_server.specs.Responses.{RespondsRows}
+use Rattle.filterset_server.proofs.requests.respond_placed.Goals as goal
 
 pub returns : goal.returns
 returns c =
     let shown = c.args.shown.now in
     let rows = ap (map text_row) c.as_slice.ensures.value ∙ c.in_ok-entries.ensures in
-    IfOk-weaker c.hover_entries.result _ _
+    IfOk-weaker c.respond_entries.result _ _
     (λ value is.
-    let Is : List TextRow → Type 0 = λ rs. HoversRows shown.encoding shown.lines.text.now c.args.position rs (view value) in
+    let Is : List TextRow → Type 0 = λ rs. RespondsRows shown.encoding shown.lines.text.now c.args.inquiry rs (view value) in
     (c.configured_texts-configured.result, c.configured_texts-configured.ensures, subst Is rows is))
-    c.hover_entries.ensures
+    c.respond_entries.ensures

@@ -1,0 +1,31 @@
+-- Which filtersets can be folded.
+use Rattle.std.specs.Prelude.{◌≡◌, List, [], ◌∷◌, codes, nat_lt, if◌then◌else◌}
+use Rattle.serde_json.specs.Data.{Data, array, number, unsigned, object, member, no_members}
+use Rattle.serde_json.specs.View.{items_of}
+use Rattle.filterset_answers.specs.Checked.{TextRow}
+use Rattle.filterset_editor.specs.Positions.{Text}
+use Rattle.filterset_editor.specs.declared.positions.Encoding.{Encoding}
+use Rattle.filterset_editor.specs.declared.positions.Range.{Range}
+use Rattle.filterset_documents.specs.Filtersets.{place_span}
+use Rattle.filterset_documents.specs.Joins.{Joins}
+use Rattle.filterset_documents.specs.Ranges.{IsRangeOf}
+
+-- from the line where the range begins to that where it ends
+abbrev pub fold_data : Range → Data
+fold_data range =
+    object (member (codes "endLine") (number (unsigned range.end.line))
+    (member (codes "startLine") (number (unsigned range.start.line)) no_members))
+
+-- what is folded of a range: it, if it goes over several lines
+abbrev pub folds_of : Range → List Data
+folds_of range = if nat_lt range.start.line range.end.line then fold_data range ∷ [] else []
+
+-- what is folded of a filterset: the lines where it is, if there are several
+abbrev pub RowFolds : Encoding → Text → TextRow → List Data → Type 0
+RowFolds encoding text row ds =
+    (range : Range) × IsRangeOf encoding text (place_span row.place) range × (ds ≡ folds_of range)
+
+-- what is folded of filtersets, in their order
+abbrev pub AreFolds : Encoding → Text → List TextRow → Data → Type 0
+AreFolds encoding text rows d =
+    (folds : List Data) × Joins (RowFolds encoding text) rows folds × (d ≡ array (items_of folds))

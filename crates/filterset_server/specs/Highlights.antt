@@ -1,0 +1,87 @@
+-- The tokens of a document, as the protocol has them.
+use Rattle.std.specs.Prelude.{◌≡◌, ◌⊎◌, ◌-◌, ◌++◌, ◌==◌, ◌&&◌, ℕ, List, [], ◌∷◌, MatchOption, Option, Some, codes, nat_lt, if◌then◌else◌}
+use Rattle.std.specs.List.Sorted.{IsNonDecreasingBy, IsPermutation}
+use Rattle.serde_json.specs.Data.{Data, array, number, unsigned, object, member, no_members}
+use Rattle.serde_json.specs.View.{items_of}
+use Rattle.filterset_answers.specs.Checked.{TextRow}
+use Rattle.filterset_answers.specs.Placements.{Placement, file_part}
+use Rattle.filterset_editor.specs.Positions.{Text}
+use Rattle.filterset_editor.specs.declared.positions.Encoding.{Encoding}
+use Rattle.filterset_editor.specs.declared.positions.Position.{Position}
+use Rattle.filterset_editor.specs.declared.positions.Range.{Range}
+use Rattle.filterset_faults.specs.Span.{offset_of}
+use Rattle.filterset_faults.specs.declared.span.SourceSpan.{SourceSpan}
+use Rattle.filterset_grammar.specs.Tree.{Tree}
+use Rattle.filterset_language.specs.Parsed.{Reads}
+use Rattle.filterset_documents.specs.Filtersets.{IsUnread}
+use Rattle.filterset_documents.specs.Joins.{Joins}
+use Rattle.filterset_documents.specs.Ranges.{IsRangeOf}
+use Rattle.filterset_tokens.specs.Tokens.{AreTokens}
+use Rattle.filterset_server.specs.declared.highlighting.Mark.{Mark}
+use Rattle.filterset_tokens.specs.declared.tokens.Token.{Token}
+use Rattle.filterset_tokens.specs.declared.tokens.TokenKind.{TokenKind}
+use Rattle.filterset_tokens.specs.declared.tokens.TokenKind.TheVariants.{EnumMember, Function, Keyword, Operator, Regexp, String}
+
+-- the tokens of a filterset's text, if it reads as a tree
+abbrev pub TextTokens : Text → List Token → Type 0
+TextTokens text tokens =
+    ((e : Tree SourceSpan) × Reads text e × AreTokens text e tokens) ⊎ (IsUnread text × (tokens ≡ []))
+
+-- ---- places
+
+-- what is shown of a token in this range of the file, which begins at this offset: nothing, unless it is in one line
+abbrev pub marks_of : ℕ → Range → TokenKind → List Mark
+marks_of from range kind =
+    if (range.start.line == range.end.line) && nat_lt range.start.character range.end.character
+    then record { from = from; range = range; kind = kind } ∷ [] else []
+
+-- what is shown of a token of a text at this place: the part of the file that it was read from
+abbrev pub TokenMarks : Encoding → Text → Option Placement → Token → List Mark → Type 0
+TokenMarks encoding text place token marks = MatchOption (file_part place (Some token.span)) (marks ≡ [])
+    (λ part. (range : Range) × IsRangeOf encoding text part.span range
+    × (marks ≡ marks_of (offset_of part.span) range token.kind))
+
+-- what is shown of a filterset
+abbrev pub RowMarks : Encoding → Text → TextRow → List Mark → Type 0
+RowMarks encoding text row marks = (tokens : List Token) × TextTokens row.text tokens
+    × Joins (TokenMarks encoding text row.place) tokens marks
+
+-- ---- the protocol
+
+-- the number of a kind in the list of types that the server announces
+abbrev pub kind_number : TokenKind → ℕ
+kind_number EnumMember = 0
+kind_number Function = 1
+kind_number Keyword = 2
+kind_number Operator = 3
+kind_number Regexp = 4
+kind_number String = 5
+
+abbrev pub natural : ℕ → Data
+natural n = number (unsigned n)
+
+-- how many units after a position another is, or after the start of its line if that is another
+abbrev pub column_after : Position → Position → ℕ
+column_after last start = if start.line == last.line then start.character - last.character else start.character
+
+-- five numbers: how many lines and units after a position a token is, how long it is, its kind, and no modifiers
+abbrev pub mark_data : Position → Mark → List Data
+mark_data last mark =
+    let start = mark.range.start in
+    natural (start.line - last.line) ∷ natural (column_after last start)
+    ∷ natural (mark.range.end.character - start.character) ∷ natural (kind_number mark.kind) ∷ natural 0 ∷ []
+
+-- the numbers of tokens that are after a position, each counted from the one before it
+abbrev pub marks_data : Position → List Mark → List Data
+marks_data last [] = []
+marks_data last (mark ∷ marks) = mark_data last mark ++ marks_data mark.range.start marks
+
+abbrev pub start : Position
+start = record { line = 0; character = 0 }
+
+-- the tokens of filtersets, in the order of the file
+abbrev pub HighlightsRows : Encoding → Text → List TextRow → Data → Type 0
+HighlightsRows encoding text rows d =
+    (marks sorted : List Mark) × Joins (RowMarks encoding text) rows marks × IsPermutation marks sorted
+    × IsNonDecreasingBy (λ mark. mark.from) sorted
+    × (d ≡ object (member (codes "data") (array (items_of (marks_data start sorted))) no_members))

@@ -1,0 +1,27 @@
+-- The symbols of a document.
+use Rattle.std.specs.Prelude.{◌≡◌, List, codes}
+use Rattle.std.specs.List.{AllZip}
+use Rattle.serde_json.specs.Data.{Data, array, number, unsigned, string, object, member, no_members}
+use Rattle.serde_json.specs.View.{items_of}
+use Rattle.filterset_answers.specs.Checked.{TextRow}
+use Rattle.filterset_editor.specs.Positions.{Text}
+use Rattle.filterset_editor.specs.declared.positions.Encoding.{Encoding}
+use Rattle.filterset_editor.specs.declared.positions.Range.{Range}
+use Rattle.filterset_documents.specs.Filtersets.{place_span}
+use Rattle.filterset_documents.specs.Ranges.{IsRangeOf, range_data}
+
+-- a string (15) with this name, in a range
+abbrev pub symbol_data : Text → Data → Data
+symbol_data name range =
+    object (member (codes "kind") (number (unsigned 15)) (member (codes "name") (string name)
+    (member (codes "range") range (member (codes "selectionRange") range no_members))))
+
+-- the symbol of a filterset of the text: it is called as the filterset is, by a path or as a line, and is where that is
+abbrev pub IsSymbol : Encoding → Text → TextRow → Data → Type 0
+IsSymbol encoding text row d = (range : Range) × IsRangeOf encoding text (place_span row.place) range
+    × (d ≡ symbol_data row.origin (range_data range))
+
+-- the symbols of filtersets of the text, in their order
+abbrev pub AreSymbols : Encoding → Text → List TextRow → Data → Type 0
+AreSymbols encoding text rows d =
+    (symbols : List Data) × AllZip (IsSymbol encoding text) rows symbols × (d ≡ array (items_of symbols))

@@ -1,0 +1,72 @@
+//! Filtersets that can be folded.
+ghost use Rattle.std.specs.Prelude.{◌≡◌, IfOk, map};
+ghost use Rattle.serde_json.specs.View.{view};
+ghost use Rattle.filterset_answers.specs.Checked.{text_row};
+ghost use Rattle.filterset_documents.specs.Joins.{Joins};
+ghost use Rattle.filterset_server.specs.Folding.{AreFolds, RowFolds, fold_data, folds_of};
+
+use filterset_answers::TextEntry;
+use filterset_documents::{Shown, place_span, range_of};
+use filterset_editor::Range;
+use serde_json::{Value, json};
+use std::alloc::{AllocError, Global};
+
+/// Makes the value of the lines of a range.
+fn fold_value(alloc: Global, range: Range) -> Result<Value, AllocError>
+    ensures { IfOk result (λ value. view value ≡ fold_data range) }
+{
+    json!(in alloc; { "endLine": range.end.line, "startLine": range.start.line })
+}
+
+/// Makes what is folded of a range: it, if it goes over several lines.
+fn folds_of(alloc: Global, range: Range) -> Result<Vec<Value>, AllocError>
+    ensures { IfOk result (λ values. map view values.items ≡ folds_of range) }
+{
+    let mut values = Vec::new(alloc);
+    if range.start.line < range.end.line {
+        values.push(fold_value(alloc, range)?)?;
+    }
+    Ok(values)
+}
+
+/// Makes what is folded of a filterset: the lines where it is, if there are several.
+fn entry_folds(
+    alloc: Global,
+    shown: &Shown<'_>,
+    entry: &TextEntry<'_>,
+) -> Result<Vec<Value>, AllocError>
+    ensures { IfOk result (λ values.
+        RowFolds shown.now.encoding shown.now.lines.text.now (text_row entry.now) (map view values.items)) }
+{
+    let range = range_of(shown, place_span(entry.place));
+    folds_of(alloc, range)
+}
+
+/// Makes what is folded of filtersets.
+fn entries_folds(
+    alloc: Global,
+    shown: &Shown<'_>,
+    entries: &[TextEntry<'_>],
+) -> Result<Vec<Value>, AllocError>
+    ensures { IfOk result (λ values. Joins (RowFolds shown.now.encoding shown.now.lines.text.now)
+        (map text_row entries.now) (map view values.items)) }
+{
+    let mut values = Vec::new(alloc);
+    for entry in entries {
+        let mut more = entry_folds(alloc, shown, entry)?;
+        values.append(&mut more)?;
+    }
+    Ok(values)
+}
+
+/// Makes the value of what is folded of filtersets.
+pub(crate) fn folds_value(
+    alloc: Global,
+    shown: &Shown<'_>,
+    entries: &[TextEntry<'_>],
+) -> Result<Value, AllocError>
+    ensures { IfOk result (λ value.
+        AreFolds shown.now.encoding shown.now.lines.text.now (map text_row entries.now) (view value)) }
+{
+    Ok(Value::Array(entries_folds(alloc, shown, entries)?))
+}
