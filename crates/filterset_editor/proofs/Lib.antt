@@ -3,6 +3,7 @@ pub mod FrameLemmas
 mod HeadLemmas
 mod MessageLemmas
 mod PositionLemmas
+mod RefusalLemmas
 mod ServerLemmas
 mod SessionLemmas
 mod WrittenLemmas

@@ -13,7 +13,9 @@ use Rattle.std.proofs.lemmas.List.{append-nil}
 use Rattle.filterset_editor.proofs.FrameLemmas.{frame-some}
 use Rattle.filterset_editor.specs.Frames.{Bytes, IsFrame, IsTaken, Waits, framed}
 use Rattle.filterset_editor.specs.Machine.{Says, State}
-use Rattle.filterset_editor.specs.Sessions.{AddsExchange, Advances, Ends, Exchange, IsEnding, IsServing, IsTurn, Served, Session, Splits, Writes}
+use Rattle.filterset_editor.specs.Refusals.{Exchange}
+use Rattle.filterset_editor.specs.Sessions.{AddsExchange, Advances, Ends, IsEnding, IsServing, IsTurn, Served, Session, Splits}
+use Rattle.filterset_editor.specs.Written.{Writes}
 use Rattle.filterset_editor.specs.declared.ending.Ending.{Ending}
 use Rattle.filterset_editor.specs.declared.ending.Ending.TheVariants.{Exit, InputEnded, Malformed}
 use Rattle.filterset_editor.specs.declared.phase.Phase.TheVariants.{New}

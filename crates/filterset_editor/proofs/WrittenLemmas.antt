@@ -1,8 +1,11 @@
 -- What is written of a message is its frame.
-use Rattle.std.proofs.Common.{◌≡◌, ℕ, ◌+◌, ◌-◌, ◌*◌, ◌/◌, ◌%◌, ◌^◌, ◌<◌, ◌≤◌, true, false, ◌==◌, nat_lt, nat_le, [], ◌∷◌, ◌++◌, length, Some, None, codes, decimal, refl, sym, ap, ◌∙◌, arith, append_assoc, length-append}
+use Rattle.std.proofs.Common.{◌≡◌, ℕ, ◌+◌, ◌-◌, ◌*◌, ◌/◌, ◌%◌, ◌^◌, ◌<◌, ◌≤◌, true, false, ◌==◌, nat_lt, nat_le, [], ◌∷◌, ◌++◌, length, Some, None, codes, decimal, refl, sym, ap, ◌∙◌, arith, append_assoc, drop, length-append, take}
 use Rattle.std.proofs.lemmas.Bool.Decides.{nat_tests}
 use Rattle.std.proofs.lemmas.Fmt.{decimal_by_steps, length-decimal-le}
+use Rattle.std.proofs.Math.Seq.{take-length}
+use Rattle.std.proofs.lemmas.List.{drop_all}
 use Rattle.std.specs.Char.{is_ascii_digit}
+use Rattle.std.specs.List.{prefix_len}
 use Rattle.filterset_editor.specs.Frames.{Bytes, IsFrame, IsHead, ReadsBack, behind_line, framed, is_blank, line_len, more_digits, most_of_head, most_of_message}
 use Rattle.filterset_editor.specs.Frames.IsHead.{end_of_head, next_line}
 use Rattle.filterset_editor.proofs.FrameLemmas.{one-frame}
@@ -71,14 +74,21 @@ return-append : (xs ys : Bytes) → NoReturn xs → NoReturn ys → NoReturn (xs
 return-append [] ys none later = later
 return-append (b ∷ bs) ys (other, none) later = (other, return-append bs ys none later)
 
+digits-prefix : (ds : Bytes) → AreDigits ds → prefix_len is_ascii_digit ds ≡ length ds
+digits-prefix [] are = refl
+digits-prefix (b ∷ bs) (low, high, are) = rw (is_digit b low high, digits-prefix bs are) (omega arith)
+
 field-line : (ds : Bytes) (n : ℕ) → AreOf n ds → n ≤ most_of_message → behind_line None (codes "Content-Length: " ++ ds) ≡ Some (Some n)
 field-line [] n (are, some, read) small = absurd (omega arith)
 field-line (d ∷ ds) n ((low, high, are), some, read) small =
     let full : nat_lt 14 (length (codes "Content-Length: " ++ d ∷ ds)) ≡ true = grind (arith, nat_tests) in
     let ink : is_blank d ≡ false = grind (arith, nat_tests) in
+    let count : prefix_len is_ascii_digit (d ∷ ds) ≡ length (d ∷ ds) = digits-prefix (d ∷ ds) (low, high, are) in
     let more : (length (d ∷ ds) == 0) ≡ false = grind (arith, nat_tests) in
     let fits : nat_le n most_of_message ≡ true = grind (arith, nat_tests) in
-    rw (full, ink, more, read, fits) refl
+    let rest : drop (length (d ∷ ds)) (d ∷ ds) ≡ [] = drop_all (length (d ∷ ds)) (d ∷ ds) (omega arith) in
+    let all : take (length (d ∷ ds)) (d ∷ ds) ≡ d ∷ ds = take-length (d ∷ ds) in
+    rw (full, ink, count, more, rest, all, read, fits) refl
 
 pub written-back : (message : Bytes) → length message ≤ most_of_message → ReadsBack (framed message) message
 written-back message small =

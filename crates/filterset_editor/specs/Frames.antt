@@ -1,5 +1,5 @@
 -- Messages on a stream, as the protocol frames them: a head of lines, the empty one last, and as many bytes as the head says.
-use Rattle.std.specs.Prelude.{◌≡◌, ◌≤◌, ◌<◌, ◌==◌, ◌&&◌, ◌||◌, ◌⊎◌, ◌+◌, ◌*◌, ◌-◌, ◌++◌, ℕ, suc, Bool, List, [], ◌∷◌, Option, None, Some, Vec, codes, decimal, drop, is_some, length, nat_le, option_and_then, option_map, position, slice_index, slice_range, take, if◌then◌else◌}
+use Rattle.std.specs.Prelude.{◌≡◌, ◌≤◌, ◌<◌, ◌==◌, ◌&&◌, ◌||◌, ◌⊎◌, ◌+◌, ◌*◌, ◌-◌, ◌++◌, ℕ, suc, Bool, List, [], ◌∷◌, Option, None, Some, Vec, codes, decimal, drop, is_some, length, nat_le, nat_lt, option_and_then, option_map, position, slice_index, slice_range, take, if◌then◌else◌}
 use Rattle.std.specs.Char.{is_ascii_digit}
 use Rattle.std.specs.List.{prefix_len}
 use Rattle.std.specs.Str.{str_eq_ignore_ascii_case}
@@ -34,11 +34,13 @@ more_digits n (b ∷ bs) = if is_ascii_digit b then more_digits (10 * n + (b - 4
 abbrev pub allowed : Option ℕ → Option ℕ
 allowed number = option_and_then (λ n. if nat_le n most_of_message then Some n else None) number
 
--- the length that a field's value gives: digits behind blanks
+-- the length that a field's value gives: digits between blanks
 abbrev pub length_in : Bytes → Option ℕ
 length_in value =
-    let digits = drop (prefix_len is_blank value) value in
-    if length digits == 0 then None else allowed (more_digits 0 digits)
+    let text = drop (prefix_len is_blank value) value in
+    let count = prefix_len is_ascii_digit text in
+    let behind = drop count text in
+    if count == 0 || nat_lt (prefix_len is_blank behind) (length behind) then None else allowed (more_digits 0 (take count text))
 
 -- the name of the field that gives the length, in any case
 abbrev pub is_length_name : Bytes → Bool

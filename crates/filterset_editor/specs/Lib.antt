@@ -6,5 +6,7 @@ pub mod Inquiries
 pub mod Machine
 pub mod Messages
 pub mod Positions
+pub mod Refusals
 pub mod Sessions
 pub mod Values
+pub mod Written

@@ -1,14 +1,11 @@
 -- Whole sessions: what is written for the messages of a stream.
-use Rattle.std.specs.Prelude.{◌≡◌, ◌<◌, ◌++◌, false, List, [], ◌∷◌, length, Option, Some, None}
+use Rattle.std.specs.Prelude.{◌≡◌, ◌<◌, ◌++◌, List, [], ◌∷◌, length, Option, Some, None}
 use Rattle.std.specs.Io.KnownBytes.{Appends, Consumes}
-use Rattle.serde_json.specs.Data.{Data}
-use Rattle.serde_json.specs.Written.{compact_text, has_float}
-use Rattle.filterset_editor.specs.Frames.{Bytes, IsFrame, IsMalformed, IsPartial, Waits, framed}
-use Rattle.filterset_editor.specs.Machine.{Answers, Says, State}
-use Rattle.filterset_editor.specs.Messages.{IsIncoming}
+use Rattle.filterset_editor.specs.Frames.{Bytes, IsFrame, IsMalformed, IsPartial, Waits}
+use Rattle.filterset_editor.specs.Machine.{Says, State}
+use Rattle.filterset_editor.specs.Refusals.{Exchange}
 use Rattle.filterset_editor.specs.declared.ending.Ending.{Ending}
 use Rattle.filterset_editor.specs.declared.ending.Ending.TheVariants.{Exit, InputEnded, Malformed}
-use Rattle.filterset_editor.specs.declared.message.Incoming.{Incoming}
 use Rattle.filterset_editor.specs.declared.phase.Phase.TheVariants.{New, Over}
 use Rattle.filterset_editor.specs.declared.session.Turn.{Turn}
 use Rattle.filterset_editor.specs.declared.session.Turn.TheVariants.{Answered, Waiting, Ended}
@@ -18,16 +15,6 @@ abbrev pub Splits : Bytes → List Bytes → Bytes → Type 0
 Splits stream [] rest = stream ≡ rest
 Splits stream (message ∷ messages) rest =
     (frame : Bytes) × (behind : Bytes) × IsFrame frame message × (stream ≡ frame ++ behind) × Splits behind messages rest
-
--- what is written of an answer: nothing if there is none, else its text in a frame
-abbrev pub Writes : Option Data → Bytes → Type 0
-Writes None written = written ≡ []
-Writes (Some d) written = (text : Bytes) × (has_float d ≡ false → text ≡ compact_text d) × (written ≡ framed text)
-
--- what is written for a message, and the state behind it
-abbrev pub Exchange : Says → State → Bytes → Bytes → State → Type 0
-Exchange S old message written new =
-    (incoming : Incoming) × (answer : Option Data) × IsIncoming message incoming × Answers S old incoming answer new × Writes answer written
 
 -- what is written for messages, one behind the other
 abbrev pub Session : Says → State → List Bytes → Bytes → State → Type 0

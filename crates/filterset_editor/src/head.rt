@@ -1,5 +1,6 @@
 //! Reads heads of messages.
 ghost use Rattle.std.specs.Prelude.{◌≡◌, ◌==◌, ◌+◌, ◌*◌, ◌≤◌, ◌<◌, IfSome, length, position, slice_index};
+ghost use Rattle.std.specs.Char.{is_ascii_digit};
 ghost use Rattle.std.specs.List.{prefix_len};
 ghost use Rattle.filterset_editor.specs.Frames as spec;
 ghost use Rattle.filterset_editor.specs.Frames.{allowed, most_of_message};
@@ -71,16 +72,29 @@ fn blanks(bytes: &[u8]) -> usize
     bytes.iter().take_while(|byte| is_blank(**byte)).count()
 }
 
+/// Returns how many digits are at the front.
+fn digits(bytes: &[u8]) -> usize
+    ensures value { result ≡ prefix_len is_ascii_digit bytes.now }
+    ensures within { result ≤ length bytes.now }
+{
+    bytes
+        .iter()
+        .take_while(|byte| byte.is_ascii_digit())
+        .count()
+}
+
 /// Returns the length that a field's value gives.
 fn length_in(value: &[u8]) -> Option<usize>
     ensures value { result ≡ spec.length_in value.now }
     ensures bound { IsBounded result }
 {
-    let digits = &value[blanks(value)..];
-    if digits.is_empty() {
+    let text = &value[blanks(value)..];
+    let count = digits(text);
+    let behind = &text[count..];
+    if count == 0 || blanks(behind) < behind.len() {
         return None;
     }
-    number(digits)
+    number(&text[..count])
 }
 
 /// Returns whether a field of this name gives the length.

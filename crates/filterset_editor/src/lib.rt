@@ -14,11 +14,13 @@ mod lines;
 mod message;
 mod phase;
 mod positions;
+mod refusals;
 mod replies;
 mod server;
 mod serving;
 mod session;
 mod values;
+mod written;
 
 pub use abilities::Abilities;
 pub use documents::{Document, Revision};

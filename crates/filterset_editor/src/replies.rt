@@ -20,6 +20,8 @@ pub const PARSE_ERROR: i64 = -32700;
 
 pub const INVALID_REQUEST: i64 = -32600;
 
+pub const INTERNAL_ERROR: i64 = -32603;
+
 const METHOD_NOT_FOUND: i64 = -32601;
 
 const INVALID_PARAMS: i64 = -32602;

@@ -1,17 +1,22 @@
 //! The server as a machine: messages in, messages out.
 ghost use Rattle.std.specs.Prelude.{◌≡◌, IfOk, OnErr, Some, [], map, option_map, string_bytes};
+ghost use Rattle.serde_json.specs.Data.{null};
 ghost use Rattle.serde_json.specs.View.{view};
-ghost use Rattle.filterset_editor.specs.Machine.{Answers, Keeps, Notifies, Publishes, published_data, cleared_data, says, state_of};
+ghost use Rattle.filterset_editor.specs.Machine.{Answers, Keeps, Notifies, Publishes, cleared_data, error_data, published_data, says, state_of};
 ghost use Rattle.filterset_editor.specs.Documents.{IsRevised, without_document};
+ghost use Rattle.filterset_editor.specs.Refusals.{AnswersOrRunsOut, IsAround, WritesAnswer};
+ghost use Rattle.filterset_editor.specs.Written.{Writes};
 
 use crate::documents::{
     Document, Revision, document_of, put_document, remove_document, revise_document,
 };
 use crate::language::Language;
-use crate::message::{Incoming, Notice};
+use crate::message::{Asked, Incoming, Notice};
 use crate::phase::{Phase, phase_behind, phase_ended};
 use crate::positions::Encoding;
+use crate::refusals::{forget_document, refuse_request, uri_of};
 use crate::replies::{INVALID_REQUEST, PARSE_ERROR, error, reply};
+use crate::written::frame_of;
 use serde_json::{Value, json};
 use std::alloc::{AllocError, Global};
 
@@ -202,33 +207,105 @@ impl Server {
         }
     }
 
-    /// Answers a message, if there is an answer. Returns an error only if out of memory, and then nothing changed.
+    /// Makes what is written for a message, which is nothing if there is no answer. If memory runs out, that is the answer: a
+    /// request gets an error, and the document of a notification is forgotten. Returns an error only if memory is out for that too.
     pub fn answer<L: Language>(
         &mut self,
         language: &L,
         alloc: Global,
         incoming: Incoming,
-    ) -> Result<Option<Value>, AllocError>
-        ensures ok { IfOk result (λ answer. Answers (says (L.has language.now) (L.gives language.now) (L.can language.now))
-            (state_of self.old) incoming (option_map view answer) (state_of self.new)) }
-        ensures err { OnErr result (state_of self.new ≡ state_of self.old) }
+    ) -> Result<String, AllocError>
+        ensures { IfOk result (λ written. AnswersOrRunsOut (says (L.has language.now) (L.gives language.now) (L.can language.now))
+            (state_of self.old) incoming (string_bytes written) (state_of self.new)) }
     {
         match incoming {
             Incoming::Request { id, asked } => {
-                let documents = self.documents.as_slice();
-                let value = reply(language, alloc, self.phase, documents, &id, &asked)?;
-                self.phase = phase_behind(self.phase, &asked);
-                Ok(Some(value))
+                answer_request(self, language, alloc, &id, &asked)
             }
-            Incoming::Notification(notice) => self.take(language, alloc, notice),
-            Incoming::Response => Ok(None),
-            Incoming::NotJson => Ok(Some(error(alloc, &Value::Null, PARSE_ERROR, "not JSON")?)),
-            Incoming::NotMessage => Ok(Some(error(
-                alloc,
-                &Value::Null,
-                INVALID_REQUEST,
-                "no message",
-            )?)),
+            Incoming::Notification(notice) => answer_notice(self, language, alloc, notice),
+            Incoming::Response => frame_of(alloc, None),
+            Incoming::NotJson => write_error(alloc, PARSE_ERROR, "not JSON"),
+            Incoming::NotMessage => write_error(alloc, INVALID_REQUEST, "no message"),
         }
     }
+}
+
+/// Makes what is written for a request. If memory runs out, nothing changes.
+fn try_request<L: Language>(
+    server: &mut Server,
+    language: &L,
+    alloc: Global,
+    id: &Value,
+    asked: &Asked,
+) -> Result<String, AllocError>
+    ensures ok { IfOk result (λ written. WritesAnswer (says (L.has language.now) (L.gives language.now) (L.can language.now))
+        (state_of server.old) (Incoming.Request id.now asked.now) (string_bytes written) (state_of server.new)) }
+    ensures err { OnErr result (state_of server.new ≡ state_of server.old) }
+{
+    let documents = server.documents.as_slice();
+    let value = reply(language, alloc, server.phase, documents, id, asked)?;
+    let written = frame_of(alloc, Some(value))?;
+    server.phase = phase_behind(server.phase, asked);
+    Ok(written)
+}
+
+/// Makes what is written for a request, or that memory ran out.
+fn answer_request<L: Language>(
+    server: &mut Server,
+    language: &L,
+    alloc: Global,
+    id: &Value,
+    asked: &Asked,
+) -> Result<String, AllocError>
+    ensures { IfOk result (λ written. AnswersOrRunsOut (says (L.has language.now) (L.gives language.now) (L.can language.now))
+        (state_of server.old) (Incoming.Request id.now asked.now) (string_bytes written) (state_of server.new)) }
+{
+    match try_request(server, language, alloc, id, asked) {
+        Ok(written) => Ok(written),
+        Err(_) => refuse_request(alloc, id),
+    }
+}
+
+/// Makes what is written for a notification. If memory runs out, it may have been taken.
+fn try_notice<L: Language>(
+    server: &mut Server,
+    language: &L,
+    alloc: Global,
+    notice: Notice,
+) -> Result<String, AllocError>
+    ensures ok { IfOk result (λ written. WritesAnswer (says (L.has language.now) (L.gives language.now) (L.can language.now))
+        (state_of server.old) (Incoming.Notification notice) (string_bytes written) (state_of server.new)) }
+    ensures err { OnErr result (IsAround (says (L.has language.now) (L.gives language.now) (L.can language.now))
+        (state_of server.old) (Incoming.Notification notice) (state_of server.new)) }
+{
+    let answer = server.take(language, alloc, notice)?;
+    frame_of(alloc, answer)
+}
+
+/// Makes what is written for a notification, or that its document is forgotten since memory ran out.
+fn answer_notice<L: Language>(
+    server: &mut Server,
+    language: &L,
+    alloc: Global,
+    notice: Notice,
+) -> Result<String, AllocError>
+    ensures { IfOk result (λ written. AnswersOrRunsOut (says (L.has language.now) (L.gives language.now) (L.can language.now))
+        (state_of server.old) (Incoming.Notification notice) (string_bytes written) (state_of server.new)) }
+{
+    let address = uri_of(alloc, &notice)?;
+    match try_notice(server, language, alloc, notice) {
+        Ok(written) => Ok(written),
+        Err(refused) => match address {
+            Some(uri) => forget_document(server, alloc, uri.as_str()),
+            None => Err(refused),
+        },
+    }
+}
+
+/// Makes what is written for what is no message.
+fn write_error(alloc: Global, code: i64, message: &str) -> Result<String, AllocError>
+    ensures { IfOk result (λ written. Writes (Some (error_data null code message.now)) (string_bytes written)) }
+{
+    let answer = error(alloc, &Value::Null, code, message)?;
+    frame_of(alloc, Some(answer))
 }

@@ -1,17 +1,17 @@
 //! A session: a stream of messages in, a stream of answers out.
-ghost use Rattle.std.specs.Prelude.{◌≡◌, ◌<◌, ◌++◌, IfOk, IfSome, OnOk, [], length, option_map, string_bytes};
-ghost use Rattle.serde_json.specs.View.{view};
+ghost use Rattle.std.specs.Prelude.{◌≡◌, ◌<◌, ◌++◌, IfOk, IfSome, OnOk, [], length, string_bytes};
 ghost use Rattle.filterset_editor.specs.Frames.{Bytes};
 ghost use Rattle.filterset_editor.specs.Machine.{says, state_of};
-ghost use Rattle.filterset_editor.specs.Sessions.{AddsExchange, Advances, Ends, Exchange, IsBehind, IsTurn, Writes};
+ghost use Rattle.filterset_editor.specs.Refusals.{Exchange};
+ghost use Rattle.filterset_editor.specs.Sessions.{AddsExchange, Advances, Ends, IsBehind, IsTurn};
 
 use crate::ending::Ending;
-use crate::frames::{FrameFault, Frames, push_frame};
+use crate::frames::{FrameFault, Frames};
 use crate::language::Language;
 use crate::message::read_message;
 use crate::phase::Phase;
+use crate::refusals::forget_documents;
 use crate::server::Server;
-use serde_json::Value;
 use std::alloc::{AllocError, Global};
 
 /// A server, and what has come of its stream and is not answered yet.
@@ -21,22 +21,8 @@ pub struct Session {
     pub frames: Frames,
 }
 
-/// Makes what is written of an answer.
-fn frame_of(alloc: Global, answer: Option<Value>) -> Result<String, AllocError>
-    ensures { IfOk result (λ written. Writes (option_map view answer) (string_bytes written)) }
-{
-    let mut written = String::new(alloc);
-    match answer {
-        Some(value) => {
-            let text = value.to_string(alloc)?;
-            push_frame(&mut written, text.as_str())?;
-            Ok(written)
-        }
-        None => Ok(written),
-    }
-}
-
-/// Answers a message, and makes what is written for it.
+/// Makes what is written for a message. If memory is too short to read it, that is the answer, and all documents are forgotten,
+/// since the message may change one.
 fn exchange<L: Language>(
     server: &mut Server,
     language: &L,
@@ -46,9 +32,10 @@ fn exchange<L: Language>(
     ensures { IfOk result (λ written. Exchange (says (L.has language.now) (L.gives language.now) (L.can language.now))
         (state_of server.old) message.now (string_bytes written) (state_of server.new)) }
 {
-    let incoming = read_message(alloc, message)?;
-    let answer = server.answer(language, alloc, incoming)?;
-    frame_of(alloc, answer)
+    match read_message(alloc, message) {
+        Ok(incoming) => server.answer(language, alloc, incoming),
+        Err(_) => forget_documents(server, alloc),
+    }
 }
 
 /// Returns how a session ends in a phase, if it does.
@@ -149,7 +136,8 @@ impl Session {
         }
     }
 
-    /// Takes more of the stream, and adds what is written for the messages that have come whole.
+    /// Takes more of the stream, and adds what is written for the messages that have come whole. A message for which memory runs
+    /// out is answered by that. Returns an error only if memory is out for the stream, or for such an answer.
     pub fn advance<L: Language>(
         &mut self,
         language: &L,

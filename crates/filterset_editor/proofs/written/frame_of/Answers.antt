@@ -1,6 +1,6 @@
 use Rattle.std.proofs.Common.{string_bytes}
 use Rattle.filterset_editor.proofs.SessionLemmas.{Writes-some}
-use Rattle.filterset_editor.proofs.session.frame_of.Goals as goal
+use Rattle.filterset_editor.proofs.written.frame_of.Goals as goal
 
 pub returns-in_ok-push_frame-in-Some : goal.returns-in_ok-push_frame-in-Some
 returns-in_ok-push_frame-in-Some c =

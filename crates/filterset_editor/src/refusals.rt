@@ -1,0 +1,92 @@
+//! What is said when memory runs out.
+ghost use Rattle.std.specs.Prelude.{◌≡◌, IfOk, OnOk, Some, option_map, string_bytes};
+ghost use Rattle.serde_json.specs.Data.{null};
+ghost use Rattle.serde_json.specs.View.{view};
+ghost use Rattle.filterset_editor.specs.Documents.{without_document};
+ghost use Rattle.filterset_editor.specs.Machine.{state_of};
+ghost use Rattle.filterset_editor.specs.Refusals as spec;
+ghost use Rattle.filterset_editor.specs.Refusals.{ForgetsAll, forgotten_data, refused_data};
+ghost use Rattle.filterset_editor.specs.Written.{Writes};
+
+use crate::documents::remove_document;
+use crate::message::Notice;
+use crate::replies::{INTERNAL_ERROR, error};
+use crate::server::Server;
+use crate::written::frame_of;
+use serde_json::{Value, json};
+use std::alloc::{AllocError, Global};
+
+/// Makes what is written for a request for which memory ran out.
+pub fn refuse_request(alloc: Global, id: &Value) -> Result<String, AllocError>
+    ensures { IfOk result (λ written. Writes (Some (refused_data (view id.now))) (string_bytes written)) }
+{
+    let answer = error(alloc, id, INTERNAL_ERROR, "out of memory")?;
+    frame_of(alloc, Some(answer))
+}
+
+/// Copies the address of the document that a notification is about.
+pub fn uri_of(alloc: Global, notice: &Notice) -> Result<Option<String>, AllocError>
+    ensures { IfOk result (λ o. option_map (λ uri. string_bytes uri) o ≡ spec.uri_of notice.now) }
+{
+    match notice {
+        Notice::Opened(document) => { Ok(Some(String::from_str(alloc, document.uri.as_str())?)) }
+        Notice::Changed(revision) => { Ok(Some(String::from_str(alloc, revision.uri.as_str())?)) }
+        Notice::Closed(uri) => Ok(Some(String::from_str(alloc, uri.as_str())?)),
+        Notice::Exit | Notice::Ignored => Ok(None),
+    }
+}
+
+/// Makes the value of the range at the start of a document.
+fn start_value(alloc: Global) -> Result<Value, AllocError>
+    ensures { IfOk result (λ value. view value ≡ spec.start_range) }
+{
+    let end = json!(in alloc; { "character": 0u8, "line": 0u8 })?;
+    let start = json!(in alloc; { "character": 0u8, "line": 0u8 })?;
+    json!(in alloc; { "end": end, "start": start })
+}
+
+/// Makes the diagnostic of a document that the server has forgotten.
+fn forgotten_value(alloc: Global) -> Result<Value, AllocError>
+    ensures { IfOk result (λ value. view value ≡ spec.forgotten_diagnostic) }
+{
+    let range = start_value(alloc)?;
+    json!(in alloc; {
+        "code": "memory",
+        "message": "out of memory: close this document and open it again",
+        "range": range,
+        "severity": 1u8,
+        "source": "filterset"
+    })
+}
+
+/// Makes the notification that the server has forgotten a document.
+fn forgotten(alloc: Global, uri: &str) -> Result<Value, AllocError>
+    ensures { IfOk result (λ value. view value ≡ forgotten_data uri.now) }
+{
+    let diagnostic = forgotten_value(alloc)?;
+    json!(in alloc; {
+        "jsonrpc": "2.0",
+        "method": "textDocument/publishDiagnostics",
+        "params": { "diagnostics": [diagnostic], "uri": uri }
+    })
+}
+
+/// Forgets the document of an address, and makes what is written of that.
+pub fn forget_document(server: &mut Server, alloc: Global, uri: &str) -> Result<String, AllocError>
+    ensures written { IfOk result (λ written. Writes (Some (forgotten_data uri.now)) (string_bytes written)) }
+    ensures documents { server.new.documents.items ≡ without_document uri.now server.old.documents.items }
+    ensures phase { server.new.phase ≡ server.old.phase }
+{
+    remove_document(&mut server.documents, uri);
+    let answer = forgotten(alloc, uri)?;
+    frame_of(alloc, Some(answer))
+}
+
+/// Forgets all documents, since a message could not be read that may change one, and makes what is written of that.
+pub fn forget_documents(server: &mut Server, alloc: Global) -> Result<String, AllocError>
+    ensures written { IfOk result (λ written. Writes (Some (refused_data null)) (string_bytes written)) }
+    ensures state { ForgetsAll (state_of server.old) (state_of server.new) }
+{
+    server.documents.clear();
+    refuse_request(alloc, &Value::Null)
+}
