@@ -1,4 +1,4 @@
-# make              proves and builds the programs, as ./filterset does, and makes their manual pages
+# make              proves and builds the programs, as ./filterset does, and makes their manual pages and completions
 # make install      copies them to PREFIX, below DESTDIR if that is given; with the library for C if that is built
 # make uninstall    removes what make install copied, and nothing else
 # make check        runs the gate
@@ -7,6 +7,7 @@
 PREFIX = /usr/local
 DESTDIR =
 OUT = out
+COMMAND = crates/filterset_command/out/filterset_command
 VERSION := $(shell sed -n 's/^const VERSION: &str = "\(.*\)";$$/\1/p' crates/filterset_command/src/arguments.rt)
 
 .PHONY: all programs extras install uninstall check dist
@@ -19,6 +20,8 @@ programs:
 
 extras:
 	scripts/man.py '$(OUT)/man'
+	mkdir -p '$(OUT)/completions'
+	for shell in bash zsh fish; do $(COMMAND) completions $$shell > '$(OUT)'/completions/$$shell || exit; done
 
 install:
 	scripts/install.sh install '$(OUT)' '$(VERSION)' '$(PREFIX)' '$(DESTDIR)'

@@ -1,5 +1,5 @@
 #!/bin/bash
-# Copies the built programs, manual pages and pages to a prefix, and the library for C if it is built; and
+# Copies the built programs, manual pages, completions and pages to a prefix, and the library for C if it is built; and
 # removes them again. make install and make uninstall call it:
 #
 #     scripts/install.sh install|uninstall OUT VERSION PREFIX [DESTDIR]
@@ -42,6 +42,12 @@ put_pages() {
     done
 }
 
+put_completions() {
+    put 644 "$out/completions/bash" share/bash-completion/completions/filterset
+    put 644 "$out/completions/zsh" share/zsh/site-functions/_filterset
+    put 644 "$out/completions/fish" share/fish/vendor_completions.d/filterset.fish
+}
+
 # Copies the header and the libraries, under the names by which programs are linked and started, and says where they are.
 put_library() {
     local shared=$library/libfilterset.so file
@@ -80,7 +86,7 @@ EOF
 }
 
 install_all() {
-    if [ ! -x crates/filterset_command/out/filterset_command ] || [ ! -f "$out/man/filterset.1" ]; then
+    if [ ! -x crates/filterset_command/out/filterset_command ] || [ ! -f "$out/completions/fish" ]; then
         say "there is nothing to install: run make first"
         exit 1
     fi
@@ -91,6 +97,7 @@ install_all() {
     trap write_list EXIT
     put_programs
     put_pages
+    put_completions
     put_library
 }
 

@@ -2,6 +2,7 @@
 # Installs what `rt ci` built into an empty prefix, tries it from there, and uninstalls it:
 # - the programs run with an empty environment, need no library but those of C, and hold pages of examples/transcripts/;
 # - each command has a manual page; man, mandoc and groff show all pages without a warning;
+# - scripts/completions.py presses TAB in the shells that are there;
 # - the example of the library for C is built by what pkg-config says, and runs;
 # - nothing is left, but what others put there.
 # What this machine lacks for a part is named, and the part counted as skipped. The last line is 'N passed, M failed', or
@@ -72,6 +73,12 @@ try_pages() {
     done
 }
 
+try_completions() {
+    scripts/completions.py --from "$prefix" > "$room/pressed" 2>&1 || fail completions "$(tail -n 5 "$room/pressed")"
+    [[ $(tail -n 1 "$room/pressed") =~ ^([0-9]+)\ passed ]] && passed=$((passed + BASH_REMATCH[1]))
+    while IFS= read -r line; do skip "${line%: skipped}"; done < <(grep ': skipped$' "$room/pressed")
+}
+
 # Builds the example of the library for C, and runs it.
 build_example() {
     # shellcheck disable=SC2046 # (words of flags)
@@ -132,6 +139,7 @@ holds "make extras" makes extras
 holds "make install" makes install
 try_programs
 try_pages
+try_completions
 try_library
 try_uninstall
 try_stage

@@ -59,6 +59,7 @@ describe_package() {
         cat "$doc/LICENSE-MIT"; } > "$doc/copyright"
     printf 'filterset (%s-1) unstable; urgency=medium\n\n  * Version %s: see CHANGELOG.md.\n\n -- %s  %s\n' \
         "$version" "$version" "$maintainer" "$(date -uRd "@$SOURCE_DATE_EPOCH")" > "$doc/changelog.Debian"
+    mv usr/share/zsh/site-functions usr/share/zsh/vendor-completions
     gzip -9n usr/share/man/man?/* "$doc/changelog.Debian"
     mkdir DEBIAN
     if [ -e usr/lib/libfilterset.so ]; then describe_library; fi

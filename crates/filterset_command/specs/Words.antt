@@ -9,6 +9,8 @@ use Rattle.clap.specs.declared.parser.matches.Found.{Found}
 use Rattle.filterset_answers.specs.declared.form.Form.{Form}
 use Rattle.filterset_answers.specs.declared.form.Form.TheVariants.{Drawn, Github, Json}
 use Rattle.filterset_answers.specs.declared.question.Question.TheVariants as questions
+use Rattle.filterset_completions.specs.Scripts.{name_of}
+use Rattle.filterset_completions.specs.declared.shell.Shell.{Shell}
 use Rattle.filterset_drawing.specs.Columns.{Text}
 use Rattle.filterset_drawing.specs.declared.color.Color.{Color}
 use Rattle.filterset_drawing.specs.declared.color.Color.TheVariants.{Always, Never}
@@ -22,7 +24,7 @@ use Rattle.filterset_command.specs.declared.profile.ProfileRequest.{ProfileReque
 use Rattle.filterset_command.specs.declared.request.Request.{Request}
 use Rattle.filterset_command.specs.declared.request.Request.TheVariants.{Ask, Check, Format, Show}
 use Rattle.filterset_command.specs.declared.request.Task.{Task}
-use Rattle.filterset_command.specs.declared.request.Task.TheVariants.{Answer, Serve}
+use Rattle.filterset_command.specs.declared.request.Task.TheVariants.{Answer, Complete, Serve}
 use Rattle.filterset_command.specs.declared.request.Texts.{Texts}
 use Rattle.filterset_command.specs.declared.request.Texts.TheVariants.{Given, StandardInput}
 use Rattle.filterset_command.specs.declared.workspace.WorkspacePaths.{WorkspacePaths}
@@ -31,6 +33,11 @@ use Rattle.filterset_command.specs.declared.workspace.WorkspacePaths.{WorkspaceP
 abbrev pub LacksArgument : Found → CommandFault → Type 0
 LacksArgument found (Missing id) = first_value found id.now ≡ None
 LacksArgument found _ = ⊥
+
+-- the words name no shell
+abbrev pub NamesNoShell : Found → CommandFault → Type 0
+NamesNoShell found (Missing id) = (shell : Shell) → first_value found (codes "shell") ≢ Some (name_of shell)
+NamesNoShell found _ = ⊥
 
 -- the values of an argument that may have several
 abbrev pub values_of : Found → Text → List Text
@@ -132,9 +139,17 @@ IsAsked matches request =
     (name : Text) × (found : Found) × (subcommand_name_of matches ≡ Some name)
     × (option_map (λ p. p.1) (subcommand_rows_of matches) ≡ Some (rows_of found)) × IsAskedBy name found request
 
--- the words ask for a request, or to serve an editor
+-- `completions` asks for the script of this shell
+abbrev pub IsShellAsked : ArgMatches → Shell → Type 0
+IsShellAsked matches shell =
+    (found : Found) × (subcommand_name_of matches ≡ Some (codes "completions"))
+    × (option_map (λ p. p.1) (subcommand_rows_of matches) ≡ Some (rows_of found))
+    × IsTextAsked found (codes "shell") (name_of shell)
+
+-- the words ask for a request, for the script of a shell, or to serve an editor
 abbrev pub IsTask : ArgMatches → Task → Type 0
 IsTask matches (Answer request) = IsAsked matches request
+IsTask matches (Complete shell) = IsShellAsked matches shell
 IsTask matches Serve = subcommand_name_of matches ≡ Some (codes "lsp")
 
 -- standard input is to be the filtersets, and the configuration too

@@ -1,5 +1,10 @@
 //! The commands and their arguments, as `clap` takes them.
+ghost use Rattle.std.specs.Prelude.{◌≡◌, IfOk, string_bytes};
+ghost use Rattle.clap.specs.declared.builder.command.Command.{Command as ClapCommand};
+ghost use Rattle.filterset_completions.specs.Scripts.{script_of};
+
 use clap::{Arg, ArgAction, Command};
+use filterset_completions::{Shell, completion_script};
 use std::alloc::{AllocError, Global};
 
 /// The version of the program, which `--version` prints.
@@ -16,6 +21,9 @@ const CHECK_FORMATS: [&str; 3] = ["human", "json", "github"];
 
 /// The values of `--color`.
 const COLORS: [&str; 2] = ["never", "always"];
+
+/// The shells that complete command lines.
+const SHELLS: [&str; 3] = ["bash", "zsh", "fish"];
 
 /// Makes the argument of the filtersets.
 fn texts<'a>(alloc: Global) -> Arg<'a> {
@@ -295,6 +303,15 @@ fn lsp<'a>(alloc: Global) -> Result<Command<'a>, AllocError> {
     )
 }
 
+/// Makes the command `completions`.
+fn completions<'a>(alloc: Global) -> Result<Command<'a>, AllocError> {
+    let shell = required_text(alloc, "shell", "SHELL", "the shell");
+    Command::new(alloc, "completions")
+        .about("Writes the script by which a shell completes command lines of this program")
+        .after_help("Example: filterset completions bash")
+        .arg(shell.value_parser(SHELLS.as_slice()))
+}
+
 /// Adds an argument, if it could be made.
 fn with_argument<'a>(
     command: Command<'a>,
@@ -327,5 +344,14 @@ pub fn arguments<'a>(alloc: Global) -> Result<Command<'a>, AllocError> {
     let command = with_command(command, compare(alloc))?;
     let command = with_command(command, explain(alloc))?;
     let command = with_command(command, overrides(alloc))?;
-    with_command(command, lsp(alloc))
+    let command = with_command(command, lsp(alloc))?;
+    with_command(command, completions(alloc))
+}
+
+/// Returns the script by which a shell completes command lines of the program.
+pub fn completions_for(alloc: Global, shell: Shell) -> Result<String, AllocError>
+    ensures { IfOk result (λ script. (command : ClapCommand) × (string_bytes script ≡ script_of shell command)) }
+{
+    let command = arguments(alloc)?;
+    completion_script(alloc, shell, &command)
 }

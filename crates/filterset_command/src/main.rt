@@ -1,5 +1,6 @@
 //! The program for people: checks filtersets and draws their faults, prints them, and shows which tests of a workspace they
-//! pick, how two differ, why one picks a test or not, and how the overrides of a profile apply to tests; and serves editors.
+//! pick, how two differ, why one picks a test or not, and how the overrides of a profile apply to tests; and serves editors
+//! and shells.
 #![tactic(auto)]
 
 mod answering;
@@ -22,13 +23,14 @@ mod serving;
 mod texts;
 mod workspace;
 
+use arguments::completions_for;
 use command_line::CommandLine;
 use ending::{Ended, status};
 use fault::CommandFault;
 use files::HostFiles;
 use filterset_editor::Ending as SessionEnding;
 use filterset_io::{FromReader, RunFault, ToWriter};
-use request::Task;
+use request::{Request, Task};
 use run::run;
 use serving::serve_editor;
 use std::alloc::AllocError;
@@ -46,18 +48,30 @@ fn words_of(rt: &HostRuntime) -> Result<Vec<String>, CommandFault> {
     }
 }
 
-/// Does what the command line asks for.
-fn perform(rt: &HostRuntime, task: &Task<'_>) -> Result<Ended, CommandFault> {
-    let alloc = rt.alloc();
+/// Answers a request, on standard output.
+fn answer_request(rt: &HostRuntime, request: &Request<'_>) -> Result<Ended, CommandFault> {
+    let files = HostFiles { runtime: rt };
     let mut input = FromReader::new(rt.stdin());
     let mut output = ToWriter::new(rt.stdout());
+    Ok(Ended::Answered(run(rt.alloc(), request, &files, &mut input, &mut output)?))
+}
+
+/// Serves an editor on standard input and output.
+fn serve(rt: &HostRuntime) -> Result<Ended, CommandFault> {
+    let mut input = FromReader::new(rt.stdin());
+    let mut output = ToWriter::new(rt.stdout());
+    Ok(Ended::Served(serve_editor(rt.alloc(), &mut input, &mut output)?))
+}
+
+/// Does what the command line asks for.
+fn perform(rt: &HostRuntime, task: &Task<'_>) -> Result<Ended, CommandFault> {
     match task {
-        Task::Answer(request) => {
-            let files = HostFiles { runtime: rt };
-            let ending = run(alloc, request, &files, &mut input, &mut output)?;
-            Ok(Ended::Answered(ending))
+        Task::Answer(request) => answer_request(rt, request),
+        Task::Complete(shell) => {
+            let script = completions_for(rt.alloc(), *shell)?;
+            answer_request(rt, &Request::Show(script.as_str()))
         }
-        Task::Serve => Ok(Ended::Served(serve_editor(alloc, &mut input, &mut output)?)),
+        Task::Serve => serve(rt),
     }
 }
 

@@ -5,7 +5,8 @@ ghost use Rattle.filterset_drawing.specs.Columns.{Text};
 ghost use Rattle.std.specs.Option.{option_map_or};
 ghost use Rattle.filterset_command.specs.Files.{is_input};
 ghost use Rattle.filterset_command.specs.Requests.{are_lines, takes_input};
-ghost use Rattle.filterset_command.specs.Words.{ArePathsAsked, AreTextsAsked, IsAsked, IsAskedBy, IsColorAsked, IsFormAsked, IsKindAsked, IsProfileAsked, IsQuestionAsked, IsTask, IsTextAsked, IsWordsFault, LacksArgument, TakesTwo};
+ghost use Rattle.filterset_command.specs.Words.{ArePathsAsked, AreTextsAsked, IsAsked, IsAskedBy, IsColorAsked, IsFormAsked, IsKindAsked, IsProfileAsked, IsQuestionAsked, IsTask, IsTextAsked, IsWordsFault, LacksArgument, NamesNoShell, TakesTwo};
+ghost use Rattle.filterset_completions.specs.Scripts.{name_of};
 
 use crate::asking::{Asked, WorkspaceRequest};
 use crate::checking::CheckPaths;
@@ -15,6 +16,7 @@ use crate::profile::ProfileRequest;
 use crate::workspace::WorkspacePaths;
 use clap::ArgMatches;
 use filterset_answers::{Form, Question};
+use filterset_completions::Shell;
 use filterset_drawing::Color;
 use nextest_filtering::FiltersetKind;
 
@@ -64,7 +66,7 @@ pub enum Request<'w> {
     },
     /// `list`, `compare`, `explain` or `overrides`.
     Ask(WorkspaceRequest<'w>),
-    /// To write this text: the help or the version.
+    /// To write this text: the help, the version, or the script of a shell.
     Show(&'w str),
 }
 
@@ -91,6 +93,8 @@ impl Request<'_> {
 #[derive(Clone, Copy)]
 pub enum Task<'w> {
     Answer(Request<'w>),
+    /// To write the script by which a shell completes command lines.
+    Complete(Shell),
     /// To serve an editor.
     Serve,
 }
@@ -100,9 +104,23 @@ pub fn task_of<'m>(matches: &'m ArgMatches<'_>) -> Result<Task<'m>, CommandFault
     ensures asked { IfOk result (IsTask matches.now) }
     ensures refused { IfErr result (IsWordsFault matches.now) }
 {
+    if let Some(own) = matches.subcommand_matches("completions") {
+        return Ok(Task::Complete(shell_of(own)?));
+    }
     match matches.subcommand_matches("lsp") {
         Some(_) => Ok(Task::Serve),
         None => Ok(Task::Answer(request_of(matches)?)),
+    }
+}
+
+/// Returns the shell that `completions` is asked for.
+fn shell_of(matches: &ArgMatches<'_>) -> Result<Shell, CommandFault>
+    ensures asked { IfOk result (λ shell. IsTextAsked (found_of matches.now) (codes "shell") (name_of shell)) }
+    ensures missing { IfErr result (NamesNoShell (found_of matches.now)) }
+{
+    match matches.get_str("shell") {
+        Some(name) => Shell::named(name).ok_or(CommandFault::Missing("shell")),
+        None => Err(CommandFault::Missing("shell")),
     }
 }
 
