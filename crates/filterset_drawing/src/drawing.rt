@@ -16,7 +16,7 @@ use std::fmt::Write;
 
 /// The margin left of a text: the columns of its line numbers, and its colour.
 #[derive(Clone, Copy, Debug)]
-struct Margin {
+pub struct Margin {
     width: usize,
     color: Color,
 }
@@ -66,7 +66,7 @@ pub fn draw_at(
 }
 
 /// Returns the margin of a text. Its last line has the longest number.
-fn margin_of(alloc: Global, color: Color, source: &Source<'_>) -> Result<Margin, AllocError>
+pub fn margin_of(alloc: Global, color: Color, source: &Source<'_>) -> Result<Margin, AllocError>
     ensures { IfOk result (λ margin. margin ≡ margin_of color source.now.text.now) }
 {
     let count = source.lines.len();
@@ -125,7 +125,7 @@ fn push_bar(drawing: &mut String, margin: Margin) -> Result<(), AllocError>
 }
 
 /// Writes the location where a span begins, and its lines.
-fn push_span(
+pub fn push_span(
     drawing: &mut String,
     alloc: Global,
     margin: Margin,

@@ -60,7 +60,7 @@ fn put_spot(members: &mut Map<String, Value>, alloc: Global, spot: Spot) -> Resu
 }
 
 /// Adds the position of a fault in a file.
-fn put_file_spot(
+pub fn put_file_spot(
     members: &mut Map<String, Value>,
     alloc: Global,
     spot: Spot,
@@ -85,7 +85,7 @@ fn number_value(number: Option<usize>) -> Value
 
 /// The position of a fault, if it has a span.
 #[derive(Clone, Copy)]
-struct Spot {
+pub struct Spot {
     offset: Option<usize>,
     length: Option<usize>,
     line: Option<usize>,
@@ -119,7 +119,7 @@ fn spot_of(source: &Source<'_>, span: Option<SourceSpan>) -> Spot
 }
 
 /// Returns the position of a span of a file.
-fn file_spot(file: Option<FileSpan<'_>>) -> Spot
+pub fn file_spot(file: Option<FileSpan<'_>>) -> Spot
     ensures { IsSpotOf (BeginsIn file.entry) (option_map (λ p. p.span) file.entry) result }
 {
     match file {
@@ -129,7 +129,7 @@ fn file_spot(file: Option<FileSpan<'_>>) -> Spot
 }
 
 /// Returns the name of a file.
-fn file_value(alloc: Global, file: Option<FileSpan<'_>>) -> Result<Value, AllocError>
+pub fn file_value(alloc: Global, file: Option<FileSpan<'_>>) -> Result<Value, AllocError>
     ensures { IfOk result (λ value. view value ≡ text_data (option_map (λ p. p.file.now.origin.now) file.entry)) }
 {
     match file {
