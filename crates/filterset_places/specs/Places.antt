@@ -21,6 +21,12 @@ IsPlaceAt file rows at place =
     × (slice_get (configured_rows others.filtersets.items) at ≡ Some other)
     × (other.path ≡ row.path) × (other.text ≡ decimal number) × (row.text ≢ decimal number)
 
+-- The place is that of the literal with the number that is written as `other`, and its literal is read as the text, which is
+-- not so written.
+abbrev pub IsNumberedPlace : List Stretch → Text → Text → Text → Place → Type 0
+IsNumberedPlace literals file text other place = IsPlaceOf file text place
+    × (number : ℕ) × (slice_get literals number ≡ Some place.literal) × (other ≡ decimal number) × (text ≢ decimal number)
+
 -- so it is with each filterset that has a place
 abbrev pub ArePlaces : Text → Rows → List (Option Place) → Type 0
 ArePlaces file rows places =

@@ -1,4 +1,4 @@
-//! Finds where the filtersets of nextest's configuration are in its file.
+//! Finds where the filtersets of nextest's configuration, and other strings, are in its file.
 #![tactic(auto)]
 
 mod content;
@@ -9,6 +9,7 @@ mod scanning;
 mod stretch;
 mod string;
 
+pub use numbering::Numbering;
 pub use place::Place;
 pub use places::Places;
 pub use stretch::Stretch;

@@ -2,8 +2,10 @@
 ghost use Rattle.std.specs.Prelude.{◌≡◌, IfOk, IfSome, decimal, string_bytes};
 ghost use Rattle.filterset_places.specs.Numbers.{AreApart, numbered};
 
+use crate::place::Place;
+use crate::scanning::find_literals;
 use crate::stretch::Stretch;
-use crate::string::is_same;
+use crate::string::{is_same, place_of};
 use std::alloc::{AllocError, Global};
 use std::fmt::Write;
 
@@ -49,5 +51,57 @@ pub(crate) fn number_of(alloc: Global, text: &str) -> Result<Option<usize>, Allo
         Ok(Some(number))
     } else {
         Ok(None)
+    }
+}
+
+/// A file with the numbers of some of its strings in their place.
+#[derive(Debug, Drop)]
+pub struct Numbering {
+    /// The strings, in their order.
+    pub literals: Vec<Stretch>,
+    pub text: String,
+}
+
+impl Numbering {
+    ghost use Rattle.filterset_places.specs.Places.{IsNumberedPlace};
+
+    /// Puts numbers in place of the strings of a file that are values and are read as one of these texts, or returns `None`
+    /// if that cannot be done. No clause says which strings these are.
+    ///
+    /// Returns an error only if out of memory.
+    pub fn of(alloc: Global, file: &str, texts: Vec<&str>) -> Result<Option<Numbering>, AllocError>
+        ensures apart { IfOk result (λ o. IfSome o (λ n. AreApart 0 n.literals.items)) }
+        ensures text { IfOk result (λ o. IfSome o (λ n. string_bytes n.text ≡ numbered file.now n.literals.items)) }
+    {
+        let literals = find_literals(alloc, file, texts)?;
+        match numbered(alloc, file, literals.as_slice())? {
+            Some(text) => Ok(Some(Numbering { literals, text })),
+            None => Ok(None),
+        }
+    }
+
+    /// Returns the place of the string that has this number, if it is read as `text`, and the text is not the number.
+    ///
+    /// Returns an error only if out of memory.
+    pub fn place_of(
+        &self,
+        alloc: Global,
+        file: &str,
+        text: &str,
+        number: &str,
+    ) -> Result<Option<Place>, AllocError>
+        ensures { IfOk result (λ o. IfSome o
+            (IsNumberedPlace self.now.literals.items file.now text.now number.now)) }
+    {
+        if is_same(text, number) {
+            return Ok(None);
+        }
+        let Some(at) = number_of(alloc, number)? else {
+            return Ok(None);
+        };
+        match self.literals.get(at) {
+            Some(literal) => place_of(alloc, file, *literal, text),
+            None => Ok(None),
+        }
     }
 }

@@ -5,7 +5,7 @@ ghost use Rattle.filterset_places.specs.Places.{ArePlaces, ArePlacesAmong, IsNum
 
 use crate::numbering::{number_of, numbered};
 use crate::place::Place;
-use crate::scanning::find_literals;
+use crate::scanning::{find_literals, texts_of};
 use crate::stretch::Stretch;
 use crate::string::{is_same, place_of};
 use filterset_sources::{Configuration, ConfiguredFilterset, SourceRefusal, read_configuration};
@@ -135,7 +135,7 @@ fn find_places(
 ) -> Result<Vec<Option<Place>>, AllocError>
     ensures { IfOk result (λ places. ArePlaces file.now (configured_rows filtersets.now) places.items) }
 {
-    let literals = find_literals(alloc, file, filtersets)?;
+    let literals = find_literals(alloc, file, texts_of(alloc, filtersets)?)?;
     let literals = literals.as_slice();
     let Some(other) = numbered(alloc, file, literals)? else {
         return Ok(Vec::new(alloc));

@@ -1,4 +1,4 @@
-//! Scans a TOML document for strings that are read as filtersets.
+//! Scans a TOML document for strings that are read as these texts.
 ghost use Rattle.std.specs.Prelude.{◌<◌, ◌≤◌, IfOk, IfSome, length};
 
 use crate::stretch::Stretch;
@@ -73,8 +73,8 @@ impl Context {
     }
 }
 
-/// Returns the texts of filtersets, sorted.
-fn sorted_texts<'t>(
+/// Returns the texts of filtersets.
+pub(crate) fn texts_of<'t>(
     alloc: Global,
     filtersets: &'t [ConfiguredFilterset],
 ) -> Result<Vec<&'t str>, AllocError> {
@@ -82,19 +82,19 @@ fn sorted_texts<'t>(
     for filterset in filtersets {
         texts.push(filterset.text.as_str())?;
     }
-    texts.sort()?;
     Ok(texts)
 }
 
-/// Finds the strings of a document that are values and are read as one of these filtersets, in their order.
+/// Finds the strings of a document that are values and are read as one of these texts, in their order.
 ///
 /// No clause says which it finds: what a caller makes of them is checked against the file.
 pub(crate) fn find_literals(
     alloc: Global,
     file: &str,
-    filtersets: &[ConfiguredFilterset],
+    texts: Vec<&str>,
 ) -> Result<Vec<Stretch>, AllocError> {
-    let texts = sorted_texts(alloc, filtersets)?;
+    let mut texts = texts;
+    texts.sort()?;
     let mut found = Vec::new(alloc);
     let mut context = Context {
         in_comment: false,
