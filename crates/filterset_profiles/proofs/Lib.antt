@@ -5,3 +5,4 @@ pub mod KeyLemmas
 pub mod Ranks
 pub mod OverrideDefaults
 pub mod Chains
+pub mod WrongLemmas

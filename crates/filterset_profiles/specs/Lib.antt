@@ -3,3 +3,4 @@ pub mod Paths
 pub mod Profiles
 pub mod Ranking
 pub mod Refusals
+pub mod Wrong

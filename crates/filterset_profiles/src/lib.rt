@@ -1,20 +1,26 @@
-//! Reads the profiles of nextest's configuration: what each of them, and each of its overrides, sets.
+//! Reads the profiles of nextest's configuration: what each of them, and each of its overrides, sets, and which of their
+//! values are wrong.
 //!
 //! A profile falls back on the profile that it inherits from, or on `default`. What is set is decided by the first
 //! override, of the profile and then of those that it falls back on, which applies and sets it. An override applies to a
 //! test if its platforms apply and its filter picks the test; a part that is missing asks for nothing.
 #![tactic(auto)]
 
+mod checking;
 mod defaults;
 mod fault;
 mod inheritance;
 mod overrides;
 mod paths;
+mod placing;
 mod profiles;
 mod ranking;
 mod refusal;
 mod values;
+mod walking;
+mod wrong;
 
+pub use checking::find_wrong_values;
 pub use defaults::{DefaultFilter, default_filter};
 pub use fault::LineageFault;
 pub use inheritance::lineage;
@@ -22,3 +28,4 @@ pub use overrides::Override;
 pub use profiles::{Profile, read_profiles};
 pub use ranking::{RankedOverride, rank_overrides};
 pub use refusal::ProfileRefusal;
+pub use wrong::WrongValue;

@@ -86,7 +86,7 @@ pub(crate) fn read_keys_but(
 }
 
 /// Returns whether a group of tests is `@global`, or a key of the file's `[test-groups]`.
-fn is_group(file: &Value, name: &str) -> bool
+pub(crate) fn is_group(file: &Value, name: &str) -> bool
     ensures { result ≡ is_group (view file.now) name.now }
 {
     if name == "@global" {

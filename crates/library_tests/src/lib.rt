@@ -26,3 +26,5 @@ mod sessions;
 mod support;
 #[cfg(test)]
 mod trees;
+#[cfg(test)]
+mod values;

@@ -1,0 +1,8 @@
+use Rattle.std.proofs.Common.{take}
+use Rattle.toml.specs.View.{view}
+use Rattle.filterset_profiles.specs.Wrong.{FindsWrong, value_rows}
+use Rattle.filterset_profiles.proofs.checking.wrong_among.Given as goal
+
+-- the values so far were checked
+abbrev pub invariant-loop-at : goal.invariant-loop-at
+invariant-loop-at l = FindsWrong l.text (view l.file) 0 (value_rows (take l.at l.values)) l.found.items

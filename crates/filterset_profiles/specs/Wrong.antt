@@ -1,0 +1,153 @@
+-- Which values of a configuration's profiles are wrong, other than its filtersets.
+use Rattle.std.specs.Prelude.{◌≡◌, ◌+◌, ◌++◌, ◌||◌, ◌⊎◌, ℕ, Bool, false, List, [], ◌∷◌, None, Option, Some, IfSome, IsTrue, MatchOption, bytes_eq, codes, if◌then◌else◌, is_none, is_some, map, option_and_then, option_map, option_to_list, slice_get, string_bytes}
+use Rattle.std.specs.Option.{option_map_or}
+use Rattle.toml.specs.Data.{Data, table, Items, no_items, item, Members, no_members, member, as_array, as_str, as_table, get}
+use Rattle.toml.specs.Parse.{parse_document}
+use Rattle.filterset_places.specs.Numbers.{AreApart, numbered}
+use Rattle.filterset_places.specs.Places.{IsNumberedPlace}
+use Rattle.filterset_places.specs.declared.place.Place.{Place}
+use Rattle.filterset_places.specs.declared.stretch.Stretch.{Stretch}
+use Rattle.filterset_platforms.specs.Grammar.{Spells}
+use Rattle.filterset_platforms.specs.Trees.{Spec, Text}
+use Rattle.filterset_profiles.specs.Paths.{override_path, profile_path}
+use Rattle.filterset_profiles.specs.Profiles.{is_group}
+use Rattle.filterset_profiles.specs.declared.placing.NumberedValues.{NumberedValues}
+use Rattle.filterset_profiles.specs.declared.wrong.ProfileValue.{ProfileValue}
+use Rattle.filterset_profiles.specs.declared.wrong.ValueRole.{ValueRole}
+use Rattle.filterset_profiles.specs.declared.wrong.ValueRole.TheVariants.{ForBoth, ForNothing, Group, NoText, Parent, Platform}
+use Rattle.filterset_profiles.specs.declared.wrong.WrongValue.{WrongValue}
+
+-- ---- the values that are checked
+
+-- where a value is, what it is to be, and its text, which is empty if it is none
+pub record ValueRow : Type 0 where
+  pub path : Text
+  pub role : ValueRole
+  pub text : Text
+
+abbrev pub value_row : ProfileValue → ValueRow
+value_row v = record { path = string_bytes v.path; role = v.role; text = string_bytes v.text }
+
+abbrev pub value_rows : List ProfileValue → List ValueRow
+value_rows values = map value_row values
+
+-- a value at a path, which is to be a text
+abbrev pub text_values : Text → ValueRole → Data → List ValueRow
+text_values path role e = option_map_or (λ t. record { path = path; role = role; text = t }) (as_str e)
+    (record { path = path; role = NoText; text = [] }) ∷ []
+
+-- the path to what is under a key of what is at a path
+abbrev pub below : Text → Text → Text
+below path key = path ++ (codes "." ++ key)
+
+abbrev pub value_under : Text → Text → ValueRole → Data → List ValueRow
+value_under path key role d = option_map_or (text_values (below path key) role) (get key d) []
+
+-- the platforms of an override: a text, or the parts of a table
+abbrev pub part_values : Text → Data → List ValueRow
+part_values path e = value_under path (codes "host") Platform e ++ value_under path (codes "target") Platform e
+
+abbrev pub platforms_at : Text → Data → List ValueRow
+platforms_at path e = if is_some (as_table e) then part_values path e else text_values path Platform e
+
+abbrev pub platform_values : Text → Data → List ValueRow
+platform_values path d = option_map_or (platforms_at (below path (codes "platform"))) (get (codes "platform") d) []
+
+-- an override says for what it is, and a default filter is for platforms alone
+abbrev pub are_some : Data → Bool
+are_some e = is_none (as_table e) || (is_some (get (codes "host") e) || is_some (get (codes "target") e))
+
+abbrev pub has_platform : Data → Bool
+has_platform d = option_map_or are_some (get (codes "platform") d) false
+
+abbrev pub shape_of : Data → Option ValueRole
+shape_of d =
+    if is_none (get (codes "filter") d) then if has_platform d then None else Some ForNothing
+    else if is_some (get (codes "default-filter") d) then Some ForBoth else None
+
+abbrev pub shape_values : Text → Data → List ValueRow
+shape_values path d = option_to_list (option_map (λ role. record { path = path; role = role; text = [] }) (shape_of d))
+
+abbrev pub target_values : Text → Data → List ValueRow
+target_values path d = platform_values path d ++ shape_values path d
+
+abbrev pub override_values : Text → Data → List ValueRow
+override_values path d = value_under path (codes "test-group") Group d ++ target_values path d
+
+-- those of the overrides of the profile at a path, of which the first has this position
+abbrev pub item_values : Text → ℕ → Items → List ValueRow
+item_values path at no_items = []
+item_values path at (item d ds) = override_values (override_path path at) d ++ item_values path (at + 1) ds
+
+abbrev pub list_values : Text → Data → List ValueRow
+list_values path d = option_map_or (item_values path 0) (option_and_then as_array (get (codes "overrides") d)) []
+
+abbrev pub profile_values : Text → Data → List ValueRow
+profile_values path d = value_under path (codes "inherits") Parent d ++ list_values path d
+
+abbrev pub member_values : Members → List ValueRow
+member_values no_members = []
+member_values (member name d ms) = profile_values (profile_path name) d ++ member_values ms
+
+-- those of a file, with profiles by the order of their names
+abbrev pub values_of : Data → List ValueRow
+values_of file = option_map_or member_values (option_and_then as_table (get (codes "profile") file)) []
+
+-- ---- which of them are wrong
+
+-- a profile falls back on `default`, or on a key of the file's `[profile]`
+abbrev pub is_parent : Data → Text → Bool
+is_parent file t = bytes_eq t (codes "default") || is_some (option_and_then (get t) (get (codes "profile") file))
+
+abbrev pub IsRight : Data → ValueRole → Text → Type 0
+IsRight file Parent t = IsTrue (is_parent file t)
+IsRight file Group t = IsTrue (is_group file t)
+IsRight file Platform t = (spec : Spec) × Spells t spec
+IsRight file _ t = ⊥
+
+-- what such a value must be
+abbrev pub expected : ValueRole → Text
+expected Parent = codes "`default` or a key of `[profile]`"
+expected Group = codes "`@global` or a key of `[test-groups]`"
+expected Platform = codes "a triple, or `cfg(..)`"
+expected NoText = codes "a text"
+expected ForNothing = codes "an override with `filter` or `platform`"
+expected ForBoth = codes "an override without `filter` or without `default-filter`"
+
+-- The place is that of the value at this position: its literal is read as the value's text; and if in the file some literals
+-- are replaced by their numbers, this one among them, then the value at this position has the same path, and the number of
+-- this literal as its text.
+abbrev pub IsValuePlace : Text → ℕ → ValueRow → Place → Type 0
+IsValuePlace file at row place =
+    (literals : List Stretch) × (ms : Members) × (other : ValueRow) × AreApart 0 literals
+    × (parse_document (numbered file literals) ≡ Some ms) × (slice_get (values_of (table ms)) at ≡ Some other)
+    × (other.path ≡ row.path) × IsNumberedPlace literals file row.text other.text place
+
+-- what is said of a wrong value
+abbrev pub IsWrongValue : Text → ℕ → ValueRow → WrongValue → Type 0
+IsWrongValue file at row w = (string_bytes w.path ≡ row.path) × (w.expected.now ≡ expected row.role)
+    × (string_bytes w.text ≡ row.text) × IfSome w.place (IsValuePlace file at row)
+
+-- what is found of the value at this position: nothing, or that it is wrong
+abbrev pub Judged : Text → Data → ℕ → ValueRow → List WrongValue → Type 0
+Judged text file at row found = (IsRight file row.role row.text × (found ≡ []))
+    ⊎ ((¬ IsRight file row.role row.text) × (w : WrongValue) × (found ≡ w ∷ []) × IsWrongValue text at row w)
+
+-- what is found of values, of which the first has this position, in their order
+abbrev pub FindsWrong : Text → Data → ℕ → List ValueRow → List WrongValue → Type 0
+FindsWrong text file at [] found = found ≡ []
+FindsWrong text file at (row ∷ rows) found = (front : List WrongValue) × (rest : List WrongValue) × (found ≡ front ++ rest)
+    × Judged text file at row front × FindsWrong text file (at + 1) rows rest
+
+-- these are the wrong values of a file; there are none in a text that is no TOML
+abbrev pub AreWrongValues : Text → List WrongValue → Type 0
+AreWrongValues text found = MatchOption (parse_document text) (found ≡ [])
+    (λ ms. FindsWrong text (table ms) 0 (values_of (table ms)) found)
+
+-- the text is TOML with these values
+abbrev pub ReadsAs : Text → List ProfileValue → Type 0
+ReadsAs text values = (ms : Members) × (parse_document text ≡ Some ms) × (value_rows values ≡ values_of (table ms))
+
+-- these are the values of the file with some of its literals replaced by their numbers
+abbrev pub AreNumbered : Text → NumberedValues → Type 0
+AreNumbered file n = AreApart 0 n.numbering.literals.items × ReadsAs (numbered file n.numbering.literals.items) n.values.items

@@ -1,0 +1,139 @@
+//! Checks the values of profiles.
+ghost use Rattle.std.specs.Prelude.{◌≡◌, ◌++◌, List, IfOk, IfSome, OnOk};
+ghost use Rattle.std.specs.Bool.{OnFalse, OnTrue};
+ghost use Rattle.toml.specs.View.{view};
+ghost use Rattle.filterset_platforms.specs.Grammar.{Spells};
+ghost use Rattle.filterset_platforms.specs.Trees.{Spec};
+ghost use Rattle.filterset_profiles.specs.Wrong.{AreNumbered, AreWrongValues, FindsWrong, IsRight, IsWrongValue, Judged, is_parent, value_row, value_rows, values_of};
+ghost use Rattle.filterset_profiles.specs.declared.wrong.WrongValue.{WrongValue};
+
+use crate::placing::{NumberedValues, numbered_values, place_in, read_table};
+use crate::values::is_group;
+use crate::walking::values_of;
+use crate::wrong::{ProfileValue, ValueRole, WrongValue};
+use filterset_platforms::{PlatformRefusal, PlatformSpec};
+use std::alloc::{AllocError, Global};
+use toml::Value;
+
+/// Returns whether a profile may fall back on the one of this name.
+fn is_parent(file: &Value, name: &str) -> bool
+    ensures { result ≡ is_parent (view file.now) name.now }
+{
+    if name == "default" {
+        return true;
+    }
+    match file.get("profile") {
+        Some(profiles) => profiles.get(name).is_some(),
+        None => false,
+    }
+}
+
+/// Returns whether a text is a platform.
+fn is_platform(alloc: Global, text: &str) -> Result<bool, AllocError>
+    ensures right { IfOk result (λ is. OnTrue is ((spec : Spec) × Spells text.now spec)) }
+    ensures wrong { IfOk result (λ is. OnFalse is (¬ ((spec : Spec) × Spells text.now spec))) }
+{
+    match PlatformSpec::parse(alloc, text) {
+        Ok(_) => Ok(true),
+        Err(PlatformRefusal::OutOfMemory(refused)) => Err(refused),
+        Err(PlatformRefusal::Fault(_)) => Ok(false),
+    }
+}
+
+/// Returns whether a value of a file is right.
+fn is_right(alloc: Global, file: &Value, role: ValueRole, text: &str) -> Result<bool, AllocError>
+    ensures right { IfOk result (λ is. OnTrue is (IsRight (view file.now) role text.now)) }
+    ensures wrong { IfOk result (λ is. OnFalse is (¬ IsRight (view file.now) role text.now)) }
+{
+    match role {
+        ValueRole::Parent => Ok(is_parent(file, text)),
+        ValueRole::Group => Ok(is_group(file, text)),
+        ValueRole::Platform => is_platform(alloc, text),
+        ValueRole::NoText | ValueRole::ForNothing | ValueRole::ForBoth => Ok(false),
+    }
+}
+
+/// Says what is wrong with the value at a position of a file's values.
+fn wrong_value(
+    alloc: Global,
+    text: &str,
+    numbered: Option<&NumberedValues>,
+    at: usize,
+    value: &ProfileValue,
+) -> Result<WrongValue, AllocError>
+    requires { IfSome numbered (λ n. AreNumbered text.now n.now) }
+    ensures { IfOk result (IsWrongValue text.now at (value_row value.now)) }
+{
+    let place = match numbered {
+        Some(numbered) => place_in(alloc, text, numbered, at, value)?,
+        None => None,
+    };
+    Ok(WrongValue {
+        path: String::from_str(alloc, value.path.as_str())?,
+        expected: value.role.expected(),
+        text: String::from_str(alloc, value.text.as_str())?,
+        place,
+    })
+}
+
+/// Adds the value at a position of a file's values, if it is wrong.
+fn push_wrong(
+    found: &mut Vec<WrongValue>,
+    alloc: Global,
+    text: &str,
+    file: &Value,
+    numbered: Option<&NumberedValues>,
+    at: usize,
+    value: &ProfileValue,
+) -> Result<(), AllocError>
+    requires { IfSome numbered (λ n. AreNumbered text.now n.now) }
+    ensures { OnOk result ((front : List WrongValue) × (found.new.items ≡ found.old.items ++ front)
+        × Judged text.now (view file.now) at (value_row value.now) front) }
+{
+    if is_right(alloc, file, value.role, value.text.as_str())? {
+        return Ok(());
+    }
+    found.push(wrong_value(alloc, text, numbered, at, value)?)?;
+    Ok(())
+}
+
+/// Finds the wrong ones of a file's values.
+fn wrong_among(
+    alloc: Global,
+    text: &str,
+    file: &Value,
+    numbered: Option<&NumberedValues>,
+    values: &[ProfileValue],
+) -> Result<Vec<WrongValue>, AllocError>
+    requires { IfSome numbered (λ n. AreNumbered text.now n.now) }
+    ensures { IfOk result (λ found. FindsWrong text.now (view file.now) 0 (value_rows values.now) found.items) }
+{
+    let mut found = Vec::new(alloc);
+    for (at, value) in values.iter().enumerate() {
+        push_wrong(&mut found, alloc, text, file, numbered, at, value)?;
+    }
+    Ok(found)
+}
+
+/// Finds the wrong values of a file.
+fn wrong_in(alloc: Global, text: &str, file: &Value) -> Result<Vec<WrongValue>, AllocError>
+    ensures { IfOk result (λ found. FindsWrong text.now (view file.now) 0 (values_of (view file.now)) found.items) }
+{
+    let values = values_of(alloc, file)?;
+    let numbered = numbered_values(alloc, text, values.as_slice())?;
+    wrong_among(alloc, text, file, numbered.as_ref(), values.as_slice())
+}
+
+/// Finds the values of a configuration that are wrong, other than its filtersets, each with its place: a profile that
+/// falls back on none, a group that the file lacks, what is no platform, and an override that is for nothing.
+///
+/// Each place is right. That each text has one is tested only. Does not look for profiles that fall back on themselves.
+/// Returns an error only if out of memory.
+pub fn find_wrong_values(alloc: Global, text: &str) -> Result<Vec<WrongValue>, AllocError>
+    ensures { IfOk result (λ found. AreWrongValues text.now found.items) }
+{
+    match read_table(alloc, text)? {
+        Some(file) => wrong_in(alloc, text, &Value::Table(file)),
+        None => Ok(Vec::new(alloc)),
+    }
+}

@@ -1,0 +1,102 @@
+//! Finds the places of values in the file that they were read from.
+ghost use Rattle.std.specs.Prelude.{◌≡◌, IfOk, IfSome, Some, option_map, slice_get, string_bytes};
+ghost use Rattle.std.specs.Bool.{OnTrue};
+ghost use Rattle.toml.specs.Parse.{parse_document};
+ghost use Rattle.toml.specs.View.{table_view};
+ghost use Rattle.filterset_profiles.specs.Wrong.{AreNumbered, IsValuePlace, ReadsAs, value_row, value_rows};
+
+use crate::walking::values_of;
+use crate::wrong::ProfileValue;
+use filterset_places::{Numbering, Place};
+use std::alloc::{AllocError, Global};
+use toml::{Table, Value};
+
+/// The values of a file with the numbers of some of its strings in their place.
+#[derive(Drop)]
+pub(crate) struct NumberedValues {
+    pub numbering: Numbering,
+    pub values: Vec<ProfileValue>,
+}
+
+/// Parses a text as TOML, or returns `None` if it is none.
+pub(crate) fn read_table(alloc: Global, text: &str) -> Result<Option<Table>, AllocError>
+    ensures { IfOk result (λ o. option_map table_view o ≡ parse_document text.now) }
+{
+    match toml::table_from_str(alloc, text) {
+        Ok(file) => Ok(Some(file)),
+        Err(error) => match error.span() {
+            Some(_) => Ok(None),
+            None => Err(AllocError),
+        },
+    }
+}
+
+/// Returns the texts of values.
+fn texts_of<'v>(alloc: Global, values: &'v [ProfileValue]) -> Result<Vec<&'v str>, AllocError> {
+    let mut texts = Vec::with_capacity(alloc, values.len())?;
+    for value in values {
+        texts.push(value.text.as_str())?;
+    }
+    Ok(texts)
+}
+
+/// Reads the values of a file with numbers, or returns `None` if it is no TOML.
+fn read_numbered(alloc: Global, numbering: Numbering) -> Result<Option<NumberedValues>, AllocError>
+    ensures { IfOk result (λ o. IfSome o (λ n. (n.numbering ≡ numbering) × ReadsAs (string_bytes numbering.text) n.values.items)) }
+{
+    let Some(file) = read_table(alloc, numbering.text.as_str())? else {
+        return Ok(None);
+    };
+    let values = values_of(alloc, &Value::Table(file))?;
+    Ok(Some(NumberedValues { numbering, values }))
+}
+
+/// Puts numbers in place of the strings of a file that are read as the texts of its values, and reads its values again.
+pub(crate) fn numbered_values(
+    alloc: Global,
+    file: &str,
+    values: &[ProfileValue],
+) -> Result<Option<NumberedValues>, AllocError>
+    ensures { IfOk result (λ o. IfSome o (AreNumbered file.now)) }
+{
+    let texts = texts_of(alloc, values)?;
+    match Numbering::of(alloc, file, texts)? {
+        Some(numbering) => read_numbered(alloc, numbering),
+        None => Ok(None),
+    }
+}
+
+/// Returns whether two texts are the same.
+fn is_same(a: &str, b: &str) -> bool
+    ensures { OnTrue result (a.now ≡ b.now) }
+{
+    a == b
+}
+
+/// Returns the value at a position.
+fn value_at(values: &[ProfileValue], at: usize) -> Option<&ProfileValue>
+    ensures { IfSome result (λ found. slice_get (value_rows values.now) at ≡ Some (value_row found.now)) }
+{
+    values.get(at)
+}
+
+/// Returns the place of the value at a position, if it was found.
+pub(crate) fn place_in(
+    alloc: Global,
+    file: &str,
+    numbered: &NumberedValues,
+    at: usize,
+    value: &ProfileValue,
+) -> Result<Option<Place>, AllocError>
+    requires { AreNumbered file.now numbered.now }
+    ensures { IfOk result (λ o. IfSome o (IsValuePlace file.now at (value_row value.now))) }
+{
+    let Some(other) = value_at(numbered.values.as_slice(), at) else {
+        return Ok(None);
+    };
+    if !is_same(other.path.as_str(), value.path.as_str()) {
+        return Ok(None);
+    }
+    let (text, number) = (value.text.as_str(), other.text.as_str());
+    numbered.numbering.place_of(alloc, file, text, number)
+}

@@ -1,0 +1,61 @@
+//! Values of a configuration that are wrong.
+ghost use Rattle.std.specs.Prelude.{◌≡◌};
+ghost use Rattle.filterset_profiles.specs.Wrong.{expected};
+
+use filterset_places::Place;
+
+/// What a value of a profile is to be.
+#[derive(Clone, Copy, Debug, PartialEq, Eq)]
+pub enum ValueRole {
+    /// The profile that a profile falls back on.
+    Parent,
+    /// The group that an override puts its tests in.
+    Group,
+    /// A platform that an override is for.
+    Platform,
+    /// One of these, and it is no text.
+    NoText,
+    /// An override that has neither `filter` nor `platform`.
+    ForNothing,
+    /// An override that has both `filter` and `default-filter`.
+    ForBoth,
+}
+
+impl ValueRole {
+    /// Returns what such a value must be, as it goes after "must be".
+    pub(crate) fn expected(self) -> &'static str
+        ensures { result.now ≡ expected self }
+    {
+        match self {
+            ValueRole::Parent => "`default` or a key of `[profile]`",
+            ValueRole::Group => "`@global` or a key of `[test-groups]`",
+            ValueRole::Platform => "a triple, or `cfg(..)`",
+            ValueRole::NoText => "a text",
+            ValueRole::ForNothing => "an override with `filter` or `platform`",
+            ValueRole::ForBoth => "an override without `filter` or without `default-filter`",
+        }
+    }
+}
+
+/// A value of a profile.
+#[derive(Debug, Drop)]
+pub(crate) struct ProfileValue {
+    /// The path to it, as `profile.ci.overrides[2].test-group`.
+    pub path: String,
+    pub role: ValueRole,
+    /// Empty if the value is no text.
+    pub text: String,
+}
+
+/// A value of a configuration that is wrong.
+#[derive(Debug, Drop)]
+pub struct WrongValue {
+    /// The path to it, as `profile.ci.overrides[2].test-group`.
+    pub path: String,
+    /// What it must be, as it goes after "must be".
+    pub expected: &'static str,
+    /// Empty if the value is no text.
+    pub text: String,
+    /// Where the text is in the file, if it was found.
+    pub place: Option<Place>,
+}
