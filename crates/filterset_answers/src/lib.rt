@@ -23,8 +23,9 @@ mod text;
 
 pub use binaries::asked_binaries;
 pub use checking::{check, check_configured};
+pub use compiling::{CompiledTexts, QuestionFiltersets, SettingFiltersets, compile_texts};
 pub use entries::{
-    ConfiguredTexts, configured_entries, default_entry, given_entries, line_entries,
+    ConfiguredTexts, configured_entries, default_entry, entry_of, given_entries, line_entries,
 };
 pub use explaining::explain_filterset;
 pub use faults::faults_of;

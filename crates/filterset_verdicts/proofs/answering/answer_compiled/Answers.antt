@@ -1,0 +1,25 @@
+use Rattle.std.proofs.Common.{[], filter, map, subst, sym}
+use Rattle.std.proofs.lemmas.Result.{IfOk-weaker}
+use Rattle.std.specs.List.{AllZip}
+use Rattle.filterset_answers.specs.Compiled.{IsOverrideFor, sets_group}
+use Rattle.filterset_answers.specs.Picking.{parsed_of}
+use Rattle.filterset_answers.proofs.PickingLemmas.{basis_of, compiled_trees, trees_of}
+use Rattle.filterset_verdicts.specs.Verdicts.{question_rows}
+use Rattle.filterset_verdicts.proofs.answering.answer_compiled.Goals as goal
+
+pub returns : goal.returns
+returns c =
+    let setting = c.args.setting.now in
+    let made = c.args.compiled.now in
+    let are = c.requires.filtersets in
+    let rows = question_rows c.args.asked.now in
+    let grouped : AllZip (IsOverrideFor setting) (filter sets_group setting.overrides.now) [] =
+    subst (λ os. AllZip (IsOverrideFor setting) (filter sets_group os) []) (sym c.requires.plain) tt in
+    let basis = basis_of setting rows made [] are grouped in
+    IfOk-weaker c.decide_filtersets.result _ _ (λ answer decides. (
+      basis,
+      map parsed_of made.filters.items,
+      trees_of setting rows made.filters.items are.filters,
+      (rw c.as_slice.ensures.value at decides) basis (sym c.new-context.ensures) (compiled_trees setting.graph.now setting.groups.now rows made.filters.items are.filters),
+    ))
+    c.decide_filtersets.ensures

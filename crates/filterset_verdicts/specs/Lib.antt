@@ -1,0 +1,2 @@
+pub mod VerdictText
+pub mod Verdicts

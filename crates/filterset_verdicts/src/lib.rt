@@ -1,0 +1,8 @@
+//! What the program answers to questions about filtersets and every possible test: the verdict, and a test for which the
+//! answer is no.
+#![tactic(auto)]
+
+mod answering;
+mod text;
+
+pub use answering::{TextQuestion, answer_texts};

@@ -1,0 +1,181 @@
+//! Verdicts as text.
+ghost use Rattle.std.specs.Prelude.{◌≡◌, ◌++◌, IfOk, OnOk, string_bytes};
+ghost use Rattle.filterset_graph.specs.Platforms.{platform_text};
+ghost use Rattle.filterset_verdicts.specs.VerdictText.{IsPackageText, IsVerdictText, IsWitnessText, ending_of, failed_text, field_line, held_text, open_text, picked_line, picked_lines, picked_text, test_text};
+ghost use Rattle.std.specs.List.{count_by};
+
+use filterset_answers::Ending;
+use filterset_deciding::{PossibleTest, Question, Verdict, Witness};
+use filterset_graph::{BuildPlatform, PackageGraph, PackageId};
+use std::alloc::{AllocError, Global};
+use std::fmt::Write;
+
+/// Returns what is written if the answer is always yes.
+fn held_text(question: Question) -> &'static str
+    ensures { result.now ≡ held_text question }
+{
+    match question {
+        Question::AllAlike => "same\n",
+        Question::AtLeastOne => "covered\n",
+        Question::AtMostOne => "disjoint\n",
+        Question::ExactlyOne => "partition\n",
+    }
+}
+
+/// Returns the first line if the answer is no for some test.
+fn failed_text(question: Question) -> &'static str
+    ensures { result.now ≡ failed_text question }
+{
+    match question {
+        Question::AllAlike => "differ\n",
+        Question::AtLeastOne => "not covered\n",
+        Question::AtMostOne => "not disjoint\n",
+        Question::ExactlyOne => "no partition\n",
+    }
+}
+
+/// Returns the first line if the answer is unknown.
+fn open_text(question: Question) -> &'static str
+    ensures { result.now ≡ open_text question }
+{
+    match question {
+        Question::AllAlike => {
+            "unknown: whether there is a test that some of them pick and others do not\n"
+        }
+        Question::AtLeastOne => "unknown: whether there is a test that none of them picks\n",
+        Question::AtMostOne => "unknown: whether there is a test that two of them pick\n",
+        Question::ExactlyOne => {
+            "unknown: whether there is a test that none of them picks, or that two of them pick\n"
+        }
+    }
+}
+
+/// Returns the name of the package with this id, or the id if there is none.
+fn package_text<'a>(graph: &'a PackageGraph, id: &'a PackageId) -> &'a str
+    ensures { IsPackageText graph.entry.now id.entry.now result.now }
+{
+    match graph.metadata(id) {
+        Some(package) => package.name.as_str(),
+        None => id.repr(),
+    }
+}
+
+/// Writes one line about a test.
+fn push_field(output: &mut String, name: &str, value: &str) -> Result<(), AllocError>
+    ensures { OnOk result (string_bytes output.new ≡ string_bytes output.old ++ field_line name.now value.now) }
+{
+    writeln!(output, "  {name}: {value}")?;
+    Ok(())
+}
+
+/// Returns the word for a platform.
+fn platform_word(platform: BuildPlatform) -> &'static str
+    ensures { result.now ≡ platform_text platform }
+{
+    match platform {
+        BuildPlatform::Target => "target",
+        BuildPlatform::Host => "host",
+    }
+}
+
+/// Writes a possible test, of the package with this name.
+fn push_test(output: &mut String, name: &str, test: &PossibleTest) -> Result<(), AllocError>
+    ensures { OnOk result (string_bytes output.new ≡ string_bytes output.old ++ test_text name.now test.now) }
+{
+    output.push_str("a possible test, which need not be in any list:\n")?;
+    push_field(output, "package", name)?;
+    push_field(output, "binary id", test.binary_id.as_str())?;
+    push_field(output, "binary", test.binary_name.as_str())?;
+    push_field(output, "kind", test.kind.as_str())?;
+    push_field(output, "platform", platform_word(test.platform))?;
+    push_field(output, "test", test.test_name.as_str())?;
+    push_field(output, "group", test.group.as_str())?;
+    Ok(())
+}
+
+/// Writes a line for the filterset of this number, if it picks the test.
+fn push_pick(output: &mut String, number: usize, is_picked: bool) -> Result<(), AllocError>
+    ensures { OnOk result (string_bytes output.new ≡ string_bytes output.old ++ picked_line number is_picked) }
+{
+    if is_picked {
+        writeln!(output, "picked by argument {number}")?;
+    }
+    Ok(())
+}
+
+/// Writes a line for each filterset that picks the test, numbered from 1.
+fn push_picks(output: &mut String, picks: &[bool]) -> Result<(), AllocError>
+    ensures { OnOk result (string_bytes output.new ≡ string_bytes output.old ++ picked_lines 1 picks.now) }
+{
+    for (i, is_picked) in picks.iter().enumerate() {
+        push_pick(output, i + 1, *is_picked)?;
+    }
+    Ok(())
+}
+
+/// Counts the filtersets that pick the test.
+fn count_picks(picks: &[bool]) -> usize
+    ensures { result ≡ count_by (λ x. x) picks.now }
+{
+    picks.iter().filter(|is_picked| **is_picked).count()
+}
+
+/// Writes which filtersets pick the test.
+fn push_all_picks(output: &mut String, picks: &[bool]) -> Result<(), AllocError>
+    ensures { OnOk result (string_bytes output.new ≡ string_bytes output.old ++ picked_text picks.now) }
+{
+    if count_picks(picks) == 0 {
+        output.push_str("picked by none\n")?;
+    } else {
+        push_picks(output, picks)?;
+    }
+    Ok(())
+}
+
+/// Writes a test for which the answer to a question is no.
+fn witness_text(
+    alloc: Global,
+    question: Question,
+    graph: &PackageGraph,
+    witness: &Witness,
+) -> Result<String, AllocError>
+    ensures { IfOk result (λ text. IsWitnessText question graph.now witness.now (string_bytes text)) }
+{
+    let mut text = String::from_str(alloc, failed_text(question))?;
+    let name = package_text(graph, &witness.test.package_id);
+    push_test(&mut text, name, &witness.test)?;
+    push_all_picks(&mut text, witness.picks.as_slice())?;
+    Ok(text)
+}
+
+/// Writes a verdict. The only error is out of memory.
+pub(crate) fn verdict_text(
+    alloc: Global,
+    question: Question,
+    graph: &PackageGraph,
+    verdict: &Verdict,
+) -> Result<String, AllocError>
+    ensures { IfOk result (λ text. IsVerdictText question graph.now verdict.now (string_bytes text)) }
+{
+    match verdict {
+        Verdict::Always => String::from_str(alloc, held_text(question)),
+        Verdict::Fails(witness) => witness_text(alloc, question, graph, witness),
+        Verdict::Unknown => String::from_str(alloc, open_text(question)),
+        Verdict::Stopped => {
+            let mut text = String::from_str(alloc, open_text(question))?;
+            text.push_str("the search took all steps of --budget\n")?;
+            Ok(text)
+        }
+    }
+}
+
+/// Returns how a command ends with this verdict.
+pub(crate) fn ending_of(verdict: &Verdict) -> Ending
+    ensures { result ≡ ending_of verdict.now }
+{
+    match verdict {
+        Verdict::Always => Ending::Fine,
+        Verdict::Fails(_) => Ending::Differing,
+        Verdict::Unknown | Verdict::Stopped => Ending::Unknown,
+    }
+}
