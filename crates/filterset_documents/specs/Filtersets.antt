@@ -1,11 +1,12 @@
 -- The filtersets of documents.
-use Rattle.std.specs.Prelude.{◌≡◌, ◌-◌, Bool, List, Option, None, Some, codes}
+use Rattle.std.specs.Prelude.{◌≡◌, ◌-◌, ◌&&◌, ℕ, Bool, List, Option, None, Some, codes, false, nat_le}
 use Rattle.std.specs.Str.{bytes_eq}
+use Rattle.filterset_answers.specs.Checked.{TextRow}
 use Rattle.filterset_answers.specs.Placements.{Placement, TextSpot, line, literal}
 use Rattle.filterset_answers.specs.declared.entries.ConfiguredTexts.{ConfiguredTexts}
 use Rattle.filterset_drawing.specs.declared.source.Source.{Source}
 use Rattle.filterset_editor.specs.Positions.{Text}
-use Rattle.filterset_faults.specs.Span.{span}
+use Rattle.filterset_faults.specs.Span.{length_of, offset_of, span}
 use Rattle.filterset_faults.specs.declared.error.ParseSingleError.{ParseSingleError}
 use Rattle.filterset_faults.specs.declared.span.SourceSpan.{SourceSpan}
 use Rattle.filterset_language.specs.Parsed.{IsUnreadWith, Reads}
@@ -53,6 +54,20 @@ stretch_span stretch = span stretch.from (stretch.to - stretch.from)
 abbrev pub place_span : Option Placement → SourceSpan
 place_span None = span 0 0
 place_span (Some at) = stretch_span (stretch_at at.spot)
+
+-- ---- offsets
+
+-- the offset is in the span, or at its end, since positions are between characters
+abbrev pub is_in : SourceSpan → ℕ → Bool
+is_in span offset = nat_le (offset_of span) offset && nat_le (offset - offset_of span) (length_of span)
+
+-- the string that is read as a filterset at this place, or its line, holds this offset of the file
+abbrev pub is_placed_at : Option Placement → ℕ → Bool
+is_placed_at None offset = false
+is_placed_at (Some at) offset = is_in (stretch_span (stretch_at at.spot)) offset
+
+abbrev pub is_row_at : ℕ → TextRow → Bool
+is_row_at offset row = is_placed_at row.place offset
 
 -- ---- trees
 
