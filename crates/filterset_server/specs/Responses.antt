@@ -10,13 +10,14 @@ use Rattle.filterset_editor.specs.Documents.{DocumentRow}
 use Rattle.filterset_editor.specs.Positions.{Text}
 use Rattle.filterset_editor.specs.declared.abilities.Abilities.{Abilities}
 use Rattle.filterset_editor.specs.declared.inquiry.Inquiry.{Inquiry}
-use Rattle.filterset_editor.specs.declared.inquiry.Inquiry.TheVariants.{FoldingRanges, Formatting, Hover, SemanticTokens, Symbols}
+use Rattle.filterset_editor.specs.declared.inquiry.Inquiry.TheVariants.{Completion, FoldingRanges, Formatting, Hover, SemanticTokens, Symbols}
 use Rattle.filterset_editor.specs.declared.positions.Encoding.{Encoding}
 use Rattle.filterset_faults.specs.declared.kind.FiltersetKind.TheVariants as kinds
 use Rattle.filterset_sources.specs.Configurations.{IsConfiguration, RefusesConfiguration}
 use Rattle.filterset_sources.specs.declared.configuration.Configuration.{Configuration}
 use Rattle.filterset_sources.specs.declared.refusal.SourceRefusal.{SourceRefusal}
 use Rattle.filterset_documents.specs.Filtersets.{AreTextsOf, SaysWhy, is_list}
+use Rattle.filterset_offers.specs.Completion.{CompletesRows}
 use Rattle.filterset_server.specs.Folding.{AreFolds}
 use Rattle.filterset_server.specs.Formatting.{FormatsConfiguration, FormatsList}
 use Rattle.filterset_server.specs.Hover.{HoversRows}
@@ -27,7 +28,7 @@ use Rattle.filterset_server.specs.Highlights.{HighlightsRows}
 abbrev pub abilities : Abilities
 abilities = record {
   hover = true;
-  completion = false;
+  completion = true;
   code_actions = false;
   formatting = true;
   folding = true;
@@ -41,6 +42,7 @@ abilities = record {
 abbrev pub RespondsRows : Encoding → Text → Inquiry → List TextRow → Data → Type 0
 RespondsRows encoding text Symbols rows d = AreSymbols encoding text rows d
 RespondsRows encoding text (Hover position) rows d = HoversRows encoding text position rows d
+RespondsRows encoding text (Completion position) rows d = CompletesRows encoding text position rows d
 RespondsRows encoding text FoldingRanges rows d = AreFolds encoding text rows d
 RespondsRows encoding text SemanticTokens rows d = HighlightsRows encoding text rows d
 RespondsRows encoding text inquiry rows d = d ≡ null

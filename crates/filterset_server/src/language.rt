@@ -102,7 +102,7 @@ impl Language for FiltersetLanguage {
     fn abilities(&self) -> Abilities {
         Abilities {
             hover: true,
-            completion: false,
+            completion: true,
             code_actions: false,
             formatting: true,
             folding: true,

@@ -17,6 +17,7 @@ use filterset_answers::{TextEntry, configured_entries, line_entries};
 use filterset_documents::{Shown, configured_texts};
 use filterset_drawing::Source;
 use filterset_editor::Inquiry;
+use filterset_offers::complete_entries;
 use filterset_places::Places;
 use filterset_sources::{Configuration, ConfiguredFilterset, SourceRefusal, read_configuration};
 use nextest_filtering::FiltersetKind;
@@ -38,7 +39,8 @@ fn respond_entries(
         Inquiry::Hover(position) => hover_entries(alloc, shown, position, entries),
         Inquiry::FoldingRanges => folds_value(alloc, shown, entries),
         Inquiry::SemanticTokens => highlight_entries(alloc, shown, entries),
-        Inquiry::Completion(_) | Inquiry::CodeActions(_) | Inquiry::Formatting => Ok(Value::Null),
+        Inquiry::Completion(position) => complete_entries(alloc, shown, position, entries),
+        Inquiry::CodeActions(_) | Inquiry::Formatting => Ok(Value::Null),
     }
 }
 

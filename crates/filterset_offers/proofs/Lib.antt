@@ -1,0 +1,2 @@
+mod GapLemmas
+mod StandingLemmas

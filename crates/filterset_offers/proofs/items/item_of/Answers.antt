@@ -1,0 +1,29 @@
+use Rattle.std.proofs.Common.{◌≡◌, ap, refl, subst, ◌∙◌}
+use Rattle.std.proofs.lemmas.Result.{IfOk-weaker}
+use Rattle.serde_json.specs.Data.{Data}
+use Rattle.serde_json.specs.View.{view}
+use Rattle.filterset_answers.specs.Placements.{span_in, spot_of}
+use Rattle.filterset_documents.specs.Edits.{edit_data}
+use Rattle.filterset_documents.specs.Ranges.{IsRange}
+use Rattle.filterset_faults.specs.declared.span.SourceSpan.{SourceSpan}
+use Rattle.filterset_offers.specs.Candidates.{row_of}
+use Rattle.filterset_offers.specs.Completion.{item_data}
+use Rattle.filterset_offers.specs.Gaps.{GapRow}
+use Rattle.filterset_offers.specs.Standing.{inserted}
+use Rattle.filterset_offers.proofs.items.item_of.Goals as goal
+
+pub returns : goal.returns
+returns c =
+    let shown = c.args.shown.now in
+    let text = shown.lines.text.now in
+    let spot = spot_of c.args.place.spot in
+    let row = row_of c.args.candidate.now in
+    let range = view c.in_ok-range.range in
+    let At : SourceSpan → Type 0 = λ s. IsRange shown.encoding text s range in
+    let ranged = subst At c.span_in.ensures c.in_ok-range.ensures in
+    IfOk-weaker c.item_value.result _ _
+    (λ value is.
+    let For : GapRow → Type 0 = λ gap. (r : Data) × IsRange shown.encoding text (span_in spot gap.at) r
+    × (view value ≡ item_data row (edit_data (inserted row gap) r)) in
+    subst For c.gap_for-gap.ensures (range, ranged, is ∙ ap (item_data row) c.in_ok-edit.ensures))
+    c.item_value.ensures

@@ -1,0 +1,20 @@
+use Rattle.std.proofs.Common.{arith, ◌<◌, List, length, map, subst, sym, take}
+use Rattle.std.specs.List.{AllZip}
+use Rattle.serde_json.specs.View.{view}
+use Rattle.filterset_answers.specs.Placements.{spot_of}
+use Rattle.filterset_offers.specs.Candidates.{Row, row_of}
+use Rattle.filterset_offers.specs.Completion.{IsItem}
+use Rattle.filterset_offers.specs.Standing.{gap_rows}
+use Rattle.filterset_offers.proofs.StandingLemmas.{rows_at}
+use Rattle.filterset_offers.proofs.items.items_of.Goals as goal
+
+pub loop-candidate-preserved : goal.loop-candidate-preserved
+loop-candidate-preserved c =
+    let shown = c.args.shown.now in
+    let candidates = c.args.candidates.now in
+    let i = c.loop-candidate.candidate-index in
+    let lt : i < length candidates = omega (arith, c.loop-candidate-test.true) in
+    let P : List Row → Type 0 = λ rows. AllZip (IsItem shown.encoding shown.lines.text.now (spot_of c.args.place.spot) (gap_rows c.args.gaps.now)) rows
+    (map view c.push_item.new.values.items) in
+    subst P (sym (rows_at row_of candidates i _ lt))
+    (c.in_ok-push_item.ensures (map row_of (take i candidates)) c.loop-candidate.invariant)

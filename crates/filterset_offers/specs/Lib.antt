@@ -1,0 +1,5 @@
+pub mod Candidates
+pub mod Completion
+pub mod Gaps
+pub mod Marks
+pub mod Standing

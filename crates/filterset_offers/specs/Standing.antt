@@ -1,0 +1,115 @@
+-- Which candidates stand where they are put.
+use Rattle.std.specs.Prelude.{◌≡◌, ◌⊎◌, ◌-◌, ◌++◌, ◌==◌, ◌&&◌, ℕ, Bool, true, false, List, [], ◌∷◌, MatchBool, length, not, replicate, slice_index, if◌then◌else◌}
+use Rattle.std.specs.List.{count_by, starts_with}
+use Rattle.filterset_documents.specs.Filtersets.{IsUnread}
+use Rattle.filterset_editor.specs.Positions.{Text}
+use Rattle.filterset_faults.specs.Span.{offset_of}
+use Rattle.filterset_faults.specs.declared.kind.FiltersetKind.{FiltersetKind}
+use Rattle.filterset_faults.specs.declared.span.SourceSpan.{SourceSpan}
+use Rattle.filterset_grammar.specs.Tree.{Tree}
+use Rattle.filterset_language.specs.Parsed.{Reads}
+use Rattle.filterset_offers.specs.Candidates.{Row}
+use Rattle.filterset_offers.specs.Gaps.{GapRow, gap_at, gap_row, is_of}
+use Rattle.filterset_offers.specs.Marks.{shows}
+use Rattle.filterset_offers.specs.declared.candidates.Mark.{Mark}
+use Rattle.filterset_offers.specs.declared.candidates.Mark.TheVariants.{Begins, Precedes, Inside}
+use Rattle.filterset_offers.specs.declared.gaps.Word.TheVariants.{Name, Plain}
+use Rattle.filterset_offers.specs.declared.standing.Gaps.{Gaps}
+
+-- ---- a candidate in place of a word
+
+-- the words at an offset of a text: that of the language's bytes, and that of the bytes of names
+pub record GapRows : Type 0 where
+  pub word : GapRow
+  pub name : GapRow
+
+abbrev pub gap_rows : Gaps → GapRows
+gap_rows gaps = record { word = gap_row gaps.word; name = gap_row gaps.name }
+
+abbrev pub gaps_at : Text → ℕ → GapRows
+gaps_at text offset = record { word = gap_at (is_of Plain) text offset; name = gap_at (is_of Name) text offset }
+
+-- values of arguments replace names, and others words of the language
+abbrev pub replaced : Mark → GapRows → GapRow
+replaced (Begins far) gaps = gaps.word
+replaced (Precedes far) gaps = gaps.word
+replaced (Inside owner) gaps = gaps.name
+
+abbrev pub gap_for : Row → GapRows → GapRow
+gap_for row gaps = replaced row.mark gaps
+
+-- an opening parenthesis follows the word
+abbrev pub is_called : GapRow → Bool
+is_called gap = slice_index gap.behind 0 == 40
+
+-- what is put behind the name of a candidate: no parenthesis where one follows
+abbrev pub tail_in : Row → GapRow → Text
+tail_in row gap = if is_called gap then [] else row.tail
+
+-- what follows both where the candidate is tried: nothing where its argument follows
+abbrev pub sample_in : Row → GapRow → Text
+sample_in row gap = if is_called gap && not (length row.tail == 0) then [] else row.sample
+
+-- what is put in place of the word
+abbrev pub inserted : Row → GapRow → Text
+inserted row gap = row.label ++ tail_in row gap
+
+-- the text with a candidate in place of the word, and with this behind it
+abbrev pub text_with : Row → GapRow → Text → Text
+text_with row gap behind = gap.before ++ (row.label ++ (tail_in row gap ++ (sample_in row gap ++ behind)))
+
+-- ---- standing
+
+-- the text with the candidate in place of the word reads as a tree, which shows that the candidate stands where it may
+abbrev pub Stands : FiltersetKind → Row → GapRow → Text → Type 0
+Stands kind row gap behind =
+    (e : Tree SourceSpan) × Reads (text_with row gap behind) e × (shows kind row (offset_of gap.at) e ≡ true)
+
+-- that text has faults, or its tree does not show that
+abbrev pub Falls : FiltersetKind → Row → GapRow → Text → Type 0
+Falls kind row gap behind =
+    IsUnread (text_with row gap behind)
+    ⊎ ((e : Tree SourceSpan) × Reads (text_with row gap behind) e × (shows kind row (offset_of gap.at) e ≡ false))
+
+-- ---- what is behind the word
+
+-- as many closing parentheses as a text has more opening ones
+abbrev pub closing : Text → Text
+closing text = replicate (count_by (λ b. b == 40) text - count_by (λ b. b == 41) text) 41
+
+-- what a candidate is tried with: the rest of the text, or what closes the text before the word
+abbrev pub behind_of : Bool → GapRow → Text
+behind_of is_closed gap = if is_closed then closing gap.before else gap.behind
+
+-- the name of the candidate begins with what is typed
+abbrev pub is_begun : Row → GapRow → Bool
+is_begun row gap = starts_with (λ a b. a == b) row.label gap.typed
+
+abbrev pub Fits : FiltersetKind → GapRows → Bool → Row → Type 0
+Fits kind gaps is_closed row =
+    (is_begun row (gap_for row gaps) ≡ true)
+    × Stands kind row (gap_for row gaps) (behind_of is_closed (gap_for row gaps))
+
+abbrev pub Misses : FiltersetKind → GapRows → Bool → Row → Type 0
+Misses kind gaps is_closed row =
+    (is_begun row (gap_for row gaps) ≡ false)
+    ⊎ Falls kind row (gap_for row gaps) (behind_of is_closed (gap_for row gaps))
+
+-- ---- offers
+
+-- the second list has those elements of the first for which `In` holds, in their order; for the others `Out` does
+pub data Sieves {A : Type 0} (In Out : A → Type 0) : List A → List A → Type 0 where
+  no_more : Sieves In Out [] []
+  taken : {x : A} {xs ys : List A} → In x → Sieves In Out xs ys → Sieves In Out (x ∷ xs) (x ∷ ys)
+  left : {x : A} {xs ys : List A} → Out x → Sieves In Out xs ys → Sieves In Out (x ∷ xs) ys
+
+-- the candidates that fit
+abbrev pub AreFitting : FiltersetKind → GapRows → Bool → List Row → List Row → Type 0
+AreFitting kind gaps is_closed rows found = Sieves (Fits kind gaps is_closed) (Misses kind gaps is_closed) rows found
+
+-- What is offered: the candidates that fit with the rest of the text. If none does, the rest has a fault of its own, and those are
+-- offered that fit without it, with the text closed behind them.
+abbrev pub AreOffered : FiltersetKind → GapRows → List Row → List Row → Type 0
+AreOffered kind gaps rows found =
+    (whole : List Row) × AreFitting kind gaps false rows whole
+    × MatchBool (length whole == 0) (AreFitting kind gaps true rows found) (found ≡ whole)

@@ -1,0 +1,109 @@
+//! The items of what is offered.
+ghost use Rattle.std.specs.Prelude.{◌≡◌, ◌++◌, ◌∷◌, [], IfOk, List, OnOk, map};
+ghost use Rattle.std.specs.List.{AllZip};
+ghost use Rattle.serde_json.specs.View.{view};
+ghost use Rattle.filterset_answers.specs.Placements.{span_in, spot_of};
+ghost use Rattle.filterset_documents.specs.Edits.{edit_data};
+ghost use Rattle.filterset_offers.specs.Candidates.{Row, row_of};
+ghost use Rattle.filterset_offers.specs.Completion.{IsItem, item_data};
+ghost use Rattle.filterset_offers.specs.Gaps.{gap_row};
+ghost use Rattle.filterset_offers.specs.Standing.{gap_rows, inserted};
+
+use crate::candidates::Candidate;
+use crate::gaps::Gap;
+use crate::standing::{Gaps, gap_for, tail_in};
+use filterset_answers::{FilePlace, file_part};
+use filterset_documents::{Shown, span_value};
+use filterset_faults::SourceSpan;
+use serde_json::{Value, json};
+use std::alloc::{AllocError, Global};
+
+/// Returns the span of the file that a span of a text at this place was read from.
+pub fn span_in(place: FilePlace<'_>, span: SourceSpan) -> SourceSpan
+    ensures { result ≡ span_in (spot_of place.entry.spot) span }
+{
+    match file_part(Some(place), Some(span)) {
+        Some(part) => part.span,
+        None => unreachable!(),
+    }
+}
+
+/// Makes the edit that puts a candidate in place of a word, which is in this range.
+fn edit_value(
+    alloc: Global,
+    candidate: &Candidate,
+    gap: &Gap<'_>,
+    range: Value,
+) -> Result<Value, AllocError>
+    ensures { IfOk result (λ value. view value ≡ edit_data (inserted (row_of candidate.now) (gap_row gap.now)) (view range)) }
+{
+    let (label, tail) = (candidate.label, tail_in(candidate, gap));
+    let text = format!(in alloc; "{label}{tail}")?;
+    json!(in alloc; { "newText": text, "range": range })
+}
+
+/// Makes the item of a candidate with an edit.
+fn item_value(alloc: Global, candidate: &Candidate, edit: Value) -> Result<Value, AllocError>
+    ensures { IfOk result (λ value. view value ≡ item_data (row_of candidate.now) (view edit)) }
+{
+    json!(in alloc; {
+        "detail": candidate.detail,
+        "kind": candidate.kind,
+        "label": candidate.label,
+        "textEdit": edit
+    })
+}
+
+/// Makes the item of a candidate for a filterset at this place.
+fn item_of(
+    alloc: Global,
+    shown: &Shown<'_>,
+    place: FilePlace<'_>,
+    gaps: &Gaps<'_>,
+    candidate: &Candidate,
+) -> Result<Value, AllocError>
+    ensures { IfOk result (λ value. IsItem shown.now.encoding shown.now.lines.text.now (spot_of place.entry.spot)
+        (gap_rows gaps.now) (row_of candidate.now) (view value)) }
+{
+    let gap = gap_for(candidate, gaps);
+    let range = span_value(alloc, shown, span_in(place, gap.at))?;
+    let edit = edit_value(alloc, candidate, &gap, range)?;
+    item_value(alloc, candidate, edit)
+}
+
+/// Adds the item of a candidate for a filterset at this place.
+fn push_item(
+    values: &mut Vec<Value>,
+    alloc: Global,
+    shown: &Shown<'_>,
+    place: FilePlace<'_>,
+    gaps: &Gaps<'_>,
+    candidate: &Candidate,
+) -> Result<(), AllocError>
+    ensures { (rows : List Row) → AllZip (IsItem shown.now.encoding shown.now.lines.text.now (spot_of place.entry.spot)
+        (gap_rows gaps.now)) rows (map view values.old.items)
+        → OnOk result (AllZip (IsItem shown.now.encoding shown.now.lines.text.now (spot_of place.entry.spot)
+        (gap_rows gaps.now)) (rows ++ row_of candidate.now ∷ []) (map view values.new.items)) }
+{
+    let item = item_of(alloc, shown, place, gaps, candidate)?;
+    values.push(item)?;
+    Ok(())
+}
+
+/// Makes the items of candidates for a filterset at this place.
+pub fn items_of(
+    alloc: Global,
+    shown: &Shown<'_>,
+    place: FilePlace<'_>,
+    gaps: &Gaps<'_>,
+    candidates: &[Candidate],
+) -> Result<Vec<Value>, AllocError>
+    ensures { IfOk result (λ values. AllZip (IsItem shown.now.encoding shown.now.lines.text.now (spot_of place.entry.spot)
+        (gap_rows gaps.now)) (map row_of candidates.now) (map view values.items)) }
+{
+    let mut values = Vec::with_capacity(alloc, candidates.len())?;
+    for candidate in candidates {
+        push_item(&mut values, alloc, shown, place, gaps, candidate)?;
+    }
+    Ok(values)
+}

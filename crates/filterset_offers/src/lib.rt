@@ -1,0 +1,12 @@
+//! What may be typed at a position of a document with filtersets: each offered text stands where it is put.
+#![tactic(auto)]
+
+mod candidates;
+mod documents;
+mod gaps;
+mod items;
+mod marks;
+mod offering;
+mod standing;
+
+pub use documents::complete_entries;

@@ -1,0 +1,170 @@
+//! How a tree shows that a candidate stands where it may.
+ghost use Rattle.std.specs.Prelude.{◌≡◌, IfOk};
+ghost use Rattle.filterset_language.specs.Views.{leaf_of, tree_of};
+ghost use Rattle.filterset_offers.specs.Candidates.{row_of};
+ghost use Rattle.filterset_offers.specs.Marks as spec;
+ghost use Rattle.filterset_offers.specs.Marks.{has_mark, has_some, is_marked};
+
+use crate::candidates::{Candidate, Mark, Owner};
+use filterset_documents::{is_same, leaf_span};
+use filterset_faults::SourceSpan;
+use filterset_language::{ParsedExpr, ParsedLeaf};
+use nextest_filtering::FiltersetKind;
+use std::alloc::{AllocError, Global};
+
+/// Returns the name of a predicate.
+fn leaf_name(leaf: &ParsedLeaf) -> &'static str
+    ensures { result.now ≡ spec.leaf_name (leaf_of leaf.now) }
+{
+    match leaf {
+        ParsedLeaf::Package(..) => "package",
+        ParsedLeaf::Deps(..) => "deps",
+        ParsedLeaf::Rdeps(..) => "rdeps",
+        ParsedLeaf::Kind(..) => "kind",
+        ParsedLeaf::Binary(..) => "binary",
+        ParsedLeaf::BinaryId(..) => "binary_id",
+        ParsedLeaf::Platform(..) => "platform",
+        ParsedLeaf::Test(..) => "test",
+        ParsedLeaf::Group(..) => "group",
+        ParsedLeaf::Default(_) => "default",
+        ParsedLeaf::All => "all",
+        ParsedLeaf::None => "none",
+    }
+}
+
+/// Returns whether a predicate has a name.
+fn is_named(name: &str, leaf: &ParsedLeaf) -> bool
+    ensures { result ≡ spec.is_named name.now (leaf_of leaf.now) }
+{
+    is_same(leaf_name(leaf), name)
+}
+
+/// Returns the name of a predicate of which some values are known.
+fn owner_name(owner: Owner) -> &'static str
+    ensures { result.now ≡ spec.owner_name owner }
+{
+    match owner {
+        Owner::Kind => "kind",
+        Owner::Platform => "platform",
+        Owner::Group => "group",
+    }
+}
+
+/// Returns whether a span begins so many bytes behind an offset.
+fn is_behind(span: Option<SourceSpan>, at: usize, far: usize) -> bool
+    ensures { result ≡ spec.is_behind span at far }
+{
+    match span {
+        Some(span) => at <= span.offset() && span.offset() - at == far,
+        None => false,
+    }
+}
+
+/// Returns whether a span holds so many bytes from an offset on.
+fn holds(span: Option<SourceSpan>, at: usize, len: usize) -> bool
+    ensures { result ≡ spec.holds span at len }
+{
+    match span {
+        Some(span) => {
+            span.offset() <= at
+                && at - span.offset() <= span.len()
+                && len <= span.len() - (at - span.offset())
+        }
+        None => false,
+    }
+}
+
+/// Returns whether filtersets of a kind may not hold a predicate.
+fn is_banned(kind: FiltersetKind, leaf: &ParsedLeaf) -> bool
+    ensures { result ≡ spec.is_banned kind (leaf_of leaf.now) }
+{
+    match (kind, leaf) {
+        (FiltersetKind::OverrideFilter, ParsedLeaf::Group(..))
+        | (FiltersetKind::TestArchive, ParsedLeaf::Test(..))
+        | (FiltersetKind::TestArchive, ParsedLeaf::Group(..))
+        | (FiltersetKind::DefaultFilter, ParsedLeaf::Default(_))
+        | (FiltersetKind::DefaultFilter, ParsedLeaf::Group(..)) => true,
+        _ => false,
+    }
+}
+
+/// Returns whether a predicate has the mark of a candidate that begins at an offset.
+fn has_mark(kind: FiltersetKind, mark: Mark, label: &str, at: usize, leaf: &ParsedLeaf) -> bool
+    ensures { result ≡ has_mark kind mark label.now at (leaf_of leaf.now) }
+{
+    match mark {
+        Mark::Begins(far) => {
+            is_named(label, leaf) && is_behind(leaf_span(leaf), at, far) && !is_banned(kind, leaf)
+        }
+        Mark::Precedes(far) => { is_named("default", leaf) && is_behind(leaf_span(leaf), at, far) }
+        Mark::Inside(owner) => {
+            is_named(owner_name(owner), leaf)
+                && holds(leaf_span(leaf), at, label.len())
+                && !is_banned(kind, leaf)
+        }
+    }
+}
+
+/// Returns whether a span holds the byte at an offset.
+fn covers(span: Option<SourceSpan>, at: usize) -> bool
+    ensures { result ≡ spec.covers span at }
+{
+    match span {
+        Some(span) => span.offset() <= at && at - span.offset() < span.len(),
+        None => false,
+    }
+}
+
+/// Returns whether a candidate that begins at an offset may be a part of a predicate's argument, and not precede an operand.
+fn is_hiding(mark: Mark, at: usize, leaf: &ParsedLeaf) -> bool
+    ensures { result ≡ spec.is_hiding mark at (leaf_of leaf.now) }
+{
+    match mark {
+        Mark::Precedes(_) => covers(leaf_span(leaf), at),
+        Mark::Begins(_) | Mark::Inside(_) => false,
+    }
+}
+
+/// Returns whether a predicate of a tree has the mark of a candidate at an offset.
+fn has_marked(
+    alloc: Global,
+    kind: FiltersetKind,
+    candidate: &Candidate,
+    at: usize,
+    tree: &ParsedExpr,
+) -> Result<bool, AllocError>
+    ensures { IfOk result (λ answer. answer ≡ has_some (is_marked kind (row_of candidate.now) at) (tree_of tree.now)) }
+{
+    let found = tree.leaves_where(alloc, |leaf| {
+        has_mark(kind, candidate.mark, candidate.label, at, leaf)
+    })?;
+    Ok(!found.is_empty())
+}
+
+/// Returns whether a candidate that begins at an offset may be a part of an argument of a tree.
+fn has_hiding(
+    alloc: Global,
+    candidate: &Candidate,
+    at: usize,
+    tree: &ParsedExpr,
+) -> Result<bool, AllocError>
+    ensures { IfOk result (λ answer. answer ≡ has_some (spec.is_hiding candidate.now.mark at) (tree_of tree.now)) }
+{
+    let found = tree.leaves_where(alloc, |leaf| is_hiding(candidate.mark, at, leaf))?;
+    Ok(!found.is_empty())
+}
+
+/// Returns whether a tree shows that a candidate, which begins at an offset, stands where it may.
+pub fn shows(
+    alloc: Global,
+    kind: FiltersetKind,
+    candidate: &Candidate,
+    at: usize,
+    tree: &ParsedExpr,
+) -> Result<bool, AllocError>
+    ensures { IfOk result (λ answer. answer ≡ spec.shows kind (row_of candidate.now) at (tree_of tree.now)) }
+{
+    let is_marked = has_marked(alloc, kind, candidate, at, tree)?;
+    let is_hidden = has_hiding(alloc, candidate, at, tree)?;
+    Ok(is_marked && !is_hidden)
+}

@@ -1,0 +1,65 @@
+//! What is offered.
+ghost use Rattle.std.specs.Prelude.{◌++◌, ◌∷◌, [], IfOk, List, OnOk, map};
+ghost use Rattle.filterset_offers.specs.Candidates.{Row, row_of};
+ghost use Rattle.filterset_offers.specs.Standing.{AreFitting, AreOffered, gap_rows};
+
+use crate::candidates::Candidate;
+use crate::standing::{Gaps, fits};
+use nextest_filtering::FiltersetKind;
+use std::alloc::{AllocError, Global};
+
+/// Adds a candidate, if it fits.
+fn push_fitting(
+    found: &mut Vec<Candidate>,
+    alloc: Global,
+    kind: FiltersetKind,
+    gaps: &Gaps<'_>,
+    is_closed: bool,
+    candidate: &Candidate,
+) -> Result<(), AllocError>
+    ensures { (rows : List Row) → AreFitting kind (gap_rows gaps.now) is_closed rows (map row_of found.old.items)
+        → OnOk result (AreFitting kind (gap_rows gaps.now) is_closed (rows ++ row_of candidate.now ∷ [])
+        (map row_of found.new.items)) }
+{
+    if fits(alloc, kind, gaps, is_closed, candidate)? {
+        found.push(*candidate)?;
+        Ok(())
+    } else {
+        Ok(())
+    }
+}
+
+/// Returns the candidates that fit.
+fn fitting(
+    alloc: Global,
+    kind: FiltersetKind,
+    gaps: &Gaps<'_>,
+    is_closed: bool,
+    candidates: &[Candidate],
+) -> Result<Vec<Candidate>, AllocError>
+    ensures { IfOk result (λ found. AreFitting kind (gap_rows gaps.now) is_closed (map row_of candidates.now)
+        (map row_of found.items)) }
+{
+    let mut found = Vec::new(alloc);
+    for candidate in candidates {
+        push_fitting(&mut found, alloc, kind, gaps, is_closed, candidate)?;
+    }
+    Ok(found)
+}
+
+/// Returns the candidates that are offered: those that fit with the rest of the text or, if there are none, without it.
+pub fn offered(
+    alloc: Global,
+    kind: FiltersetKind,
+    gaps: &Gaps<'_>,
+    candidates: &[Candidate],
+) -> Result<Vec<Candidate>, AllocError>
+    ensures { IfOk result (λ found. AreOffered kind (gap_rows gaps.now) (map row_of candidates.now) (map row_of found.items)) }
+{
+    let found = fitting(alloc, kind, gaps, false, candidates)?;
+    if found.is_empty() {
+        fitting(alloc, kind, gaps, true, candidates)
+    } else {
+        Ok(found)
+    }
+}
