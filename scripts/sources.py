@@ -153,7 +153,7 @@ class Item:
     uses: dict = field(default_factory=dict)
 
 
-ITEM = re.compile(r"(pub(?:\([^)]*\))? )?(?:(?:const|async|unsafe)(?= fn| unsafe) )*"
+ITEM = re.compile(r"(pub(?:\([^)]*\))? )?(?:(?:const|async|unsafe|extern)(?= +fn| unsafe) +)*"
                   r"(ghost use|ghost|use|mod|fn|struct|enum|trait|impl)\b\s*(\w*)")
 CLAUSE = re.compile(r"(?m)^\s*(requires|ensures|decreases)\*?(?:\s+(\w+))?\s*(\{)")
 

@@ -24,7 +24,9 @@ PAGE, BEGIN, END = "docs/TRUST.md", "<!-- trusted.py begins -->\n", "<!-- truste
 # The crate that other programs name; the program that reads a record, with the crate of its run; the program for people.
 LIBRARY, PROGRAM, PROGRAMS, COMMAND = "nextest_filtering", "filterset_cli", "filterset_io", "filterset_command"
 # What its command `lsp` alone uses, and the call that serves an editor.
-EDITORS, SERVE = ("filterset_editor", "filterset_documents", "filterset_tokens", "filterset_server"), "serve_editor"
+EDITORS = ("filterset_editor", "filterset_documents", "filterset_tokens", "filterset_offers", "filterset_server")
+SERVE = "serve_editor"
+LIBRARY_OF_C = "filterset_c"
 # What only these mean: crates, files, definitions and types.
 ONLY = {
     "profiles, overrides and platforms of a configuration": {
@@ -196,6 +198,11 @@ class Sources:
             if one.clauses and one.name not in PROVED_MEMBERS and (block.trait or one.is_pub):
                 yield Public(crate, path, f"{shown}::{one.name}", one, block.uses)
 
+    def exported(self, crate):
+        """Yields the functions that a static library exports."""
+        return [Public(crate, path, item.name, item, {}) for path, _, item in self.items(crate)
+                if item.kind == "fn" and item.is_pub and path.endswith("/src/lib.rt")]
+
     def called(self, crate, *names):
         return [Public(crate, path, item.name, item, {}) for path, _, item in self.items(crate)
                 if item.kind == "fn" and item.name in names]
@@ -218,6 +225,7 @@ class Sources:
              [one for crate in beside for one in self.public(crate)] + runs[COMMAND]),
             (f"and its command `lsp`, with {', '.join(f'`{crate}`' for crate in EDITORS)}",
              [one for crate in EDITORS for one in self.public(crate)] + serve),
+            (f"and the library for C, `{LIBRARY_OF_C}`", self.exported(LIBRARY_OF_C)),
         ]
 
     def roots(self):

@@ -1,0 +1,9 @@
+pub mod Answers
+pub mod Facts
+pub mod Faulty
+pub mod Owning
+pub mod Parsing
+pub mod Queries
+pub mod Statuses
+pub mod Workspaces
+pub mod Written

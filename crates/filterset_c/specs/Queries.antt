@@ -1,0 +1,49 @@
+-- What C asks about.
+use Rattle.std.specs.Prelude.{◌≡◌, ℕ, List}
+use Rattle.filterset_expression.specs.Expression.{Lookup}
+use Rattle.filterset_expression.specs.declared.query.BinaryQuery.{BinaryQuery}
+use Rattle.filterset_expression.specs.declared.query.TestQuery.{TestQuery}
+use Rattle.filterset_graph.specs.declared.package.BuildPlatform.{BuildPlatform}
+use Rattle.filterset_graph.specs.declared.package.BuildPlatform.TheVariants.{Target, Host}
+use Rattle.filterset_matchers.specs.Matcher.{MatchesName}
+use Rattle.filterset_c.specs.declared.queries.Binary.{Binary}
+use Rattle.filterset_c.specs.declared.queries.KnownBinary.{KnownBinary}
+use Rattle.filterset_c.specs.declared.queries.KnownTest.{KnownTest}
+use Rattle.filterset_c.specs.declared.queries.Test.{Test}
+
+-- the platform that has this number
+abbrev pub HasPlatform : ℕ → BuildPlatform → Type 0
+HasPlatform number Target = number ≡ 0
+HasPlatform number Host = number ≡ 1
+
+-- the query is about the binary that C describes
+pub record IsAbout (binary : Binary) (query : BinaryQuery) : Type 0 where
+  pub package_id : query.package_id.now ≡ binary.package_id.now
+  pub binary_id : query.binary_id.now ≡ binary.binary_id.now
+  pub name : query.binary_name.now ≡ binary.name.now
+  pub kind : query.kind.now ≡ binary.kind.now
+  pub platform : HasPlatform binary.platform query.platform
+
+-- the query is about the test of the binary that C describes
+pub record IsAboutTest (binary : Binary) (test : Test) (query : TestQuery) : Type 0 where
+  pub of_binary : IsAbout binary query.binary_query
+  pub name : query.test_name.now ≡ test.name.now
+
+-- every test is in the group that has this name
+abbrev pub matches_named : List ℕ → Lookup
+matches_named name test matcher = MatchesName matcher name
+
+-- ---- in types of the library
+
+-- the binary that C describes
+pub record IsKnownBinary (binary : Binary) (known : KnownBinary) : Type 0 where
+  pub package_id : known.package_id ≡ binary.package_id.now
+  pub binary_id : known.binary_id ≡ binary.binary_id.now
+  pub name : known.name.now ≡ binary.name.now
+  pub kind : known.kind ≡ binary.kind.now
+  pub platform : HasPlatform binary.platform known.platform
+
+-- the test that C describes
+pub record IsKnownTest (test : Test) (known : KnownTest) : Type 0 where
+  pub name : known.name ≡ test.name.now
+  pub group : known.group.name.now ≡ test.group.now

@@ -1,0 +1,57 @@
+-- What makes a workspace, and what changes one.
+use Rattle.std.specs.Prelude.{◌≡◌, ℕ, List, Option, None, Some, map}
+use Rattle.serde_json.specs.Data.{Data}
+use Rattle.serde_json.specs.Read.{read}
+use Rattle.filterset_expression.specs.Expression.{CompiledLeaf, formula}
+use Rattle.filterset_expression.specs.Expression as leaves
+use Rattle.filterset_expression.specs.Formula as formulas
+use Rattle.filterset_report.specs.Record.{RecordRow, IsRecord}
+use Rattle.filterset_sources.specs.Metadata.{IsMetadata}
+use Rattle.nextest_filtering.specs.Groups.{AreGroups, IsGlobalOnly}
+use Rattle.filterset_c.specs.Parsing.{IsDefaultFilter}
+use Rattle.filterset_c.specs.declared.object.Object.{Object}
+use Rattle.filterset_c.specs.declared.object.Object.TheVariants as held
+use Rattle.filterset_c.specs.declared.object.Workspace.{Workspace}
+
+-- the workspace's default filter is all()
+abbrev pub HasNoFilter : Workspace → Type 0
+HasNoFilter workspace = formula workspace.default_filter ≡ formulas.Leaf leaves.All
+
+-- the workspace has the packages of what `cargo metadata` writes, no custom groups, and the default filter all()
+pub record IsOfMetadata (text : List ℕ) (workspace : Workspace) : Type 0 where
+  pub value : Data
+  pub is_json : read text ≡ Some value
+  pub packages : IsMetadata value workspace.graph
+  pub groups : IsGlobalOnly workspace.known_groups
+  pub default : HasNoFilter workspace
+
+-- the workspace has the packages and the groups of a record, and the default filter all()
+pub record IsOfRecord (text : List ℕ) (workspace : Workspace) : Type 0 where
+  pub value : Data
+  pub is_json : read text ≡ Some value
+  pub row : RecordRow
+  pub is_record : IsRecord value row
+  pub packages : workspace.graph ≡ row.packages
+  pub groups : AreGroups row.groups workspace.known_groups
+  pub default : HasNoFilter workspace
+
+-- the handle holds a workspace, of which P holds
+abbrev pub HoldsWorkspace : (Workspace → Type 0) → Option Object → Type 0
+HoldsWorkspace P (Some (held.Workspace workspace)) = P workspace
+HoldsWorkspace P _ = ⊥
+
+-- R holds of the workspaces that two handles hold
+abbrev pub Changes : (Workspace → Workspace → Type 0) → Option Object → Option Object → Type 0
+Changes R old new = HoldsWorkspace (λ before. HoldsWorkspace (R before) new) old
+
+-- only the groups change, to those that have these names
+pub record HasGroups (names : List (List ℕ)) (before after : Workspace) : Type 0 where
+  pub groups : AreGroups names after.known_groups
+  pub packages : after.graph ≡ before.graph
+  pub default : after.default_filter ≡ before.default_filter
+
+-- only the default filter changes, to what this text is compiled to
+pub record HasFilter (text : List ℕ) (before after : Workspace) : Type 0 where
+  pub filter : IsDefaultFilter before text after.default_filter
+  pub packages : after.graph ≡ before.graph
+  pub groups : after.known_groups ≡ before.known_groups

@@ -1,0 +1,49 @@
+//! What a handle holds.
+ghost use Rattle.std.specs.Prelude.{◌≡◌, false};
+ghost use Rattle.filterset_expression.specs.Expression.{has_leaf, is_default, is_group};
+ghost use Rattle.nextest_filtering.specs.Groups.{IsKnown};
+ghost use Rattle.filterset_c.specs.Facts.{is_known_prop};
+
+use nextest_filtering::{
+    CompiledExpr, EvalContext, Filterset, FiltersetParseErrors, KnownGroups, PackageGraph,
+};
+
+/// What filtersets are parsed against.
+#[derive(Debug, Drop)]
+pub struct Workspace {
+    pub graph: PackageGraph,
+    pub known_groups: KnownGroups,
+    pub default_filter: CompiledExpr,
+    ghost known: { IsKnown known_groups } by { is_known_prop known_groups },
+    ghost no_default: { has_leaf is_default default_filter ≡ false },
+    ghost no_group: { has_leaf is_group default_filter ≡ false },
+}
+
+/// A filterset, with the default filter that replaces each `default()`.
+#[derive(Debug, Drop)]
+pub struct BoundFilterset {
+    pub filterset: Filterset,
+    pub default_filter: CompiledExpr,
+    ghost no_default: { has_leaf is_default default_filter ≡ false },
+    ghost no_group: { has_leaf is_group default_filter ≡ false },
+}
+
+impl BoundFilterset {
+    ghost use Rattle.filterset_expression.specs.Contexts.{default_of};
+
+    /// Returns the context in which the filterset is evaluated.
+    pub fn eval_context(&self) -> EvalContext<'_>
+        ensures { default_of result ≡ self.now.default_filter }
+    {
+        EvalContext::new(&self.default_filter)
+    }
+}
+
+/// What a handle holds.
+#[derive(Debug, Drop)]
+pub enum Object {
+    Workspace(Workspace),
+    Filterset(BoundFilterset),
+    /// A rejected text and its faults.
+    Faults(FiltersetParseErrors),
+}

@@ -1,0 +1,151 @@
+//! What C asks about: test binaries and tests, whose texts are slices of bytes.
+ghost use Rattle.std.specs.Prelude.{◌≡◌, MatchResult, IfOk};
+ghost use Rattle.filterset_c.specs.Queries.{matches_named, HasPlatform, IsAbout, IsAboutTest, IsKnownBinary};
+ghost use Rattle.filterset_c.specs.declared.failure.Failure.TheVariants.{NotUtf8};
+ghost use Rattle.filterset_c.specs.declared.queries.Binary.{Binary as BinaryOfC};
+ghost use Rattle.filterset_c.specs.declared.queries.Test.{Test as TestOfC};
+
+use crate::failure::Failure;
+use nextest_filtering::{
+    BinaryQuery, BuildPlatform, GroupLookup, NameMatcher, PackageId, RustBinaryId,
+    RustTestBinaryKind, TestCaseName, TestQuery,
+};
+use std::alloc::{AllocError, Global};
+
+/// A test binary. Each slice must be UTF-8.
+#[repr(C)]
+#[derive(Clone, Copy)]
+pub struct Binary<'a> {
+    pub package_id: &'a [u8],
+    pub binary_id: &'a [u8],
+    pub name: &'a [u8],
+    pub kind: &'a [u8],
+    /// 0 if it is built for the target, 1 if it is built for the host.
+    pub platform: u8,
+}
+
+/// A test of a binary. Each slice must be UTF-8.
+#[repr(C)]
+pub struct Test<'a> {
+    pub name: &'a [u8],
+    /// The name of the group that the test is in.
+    pub group: &'a [u8],
+}
+
+/// A text, which must be UTF-8.
+#[repr(C)]
+pub struct Text<'a> {
+    pub bytes: &'a [u8],
+}
+
+/// Returns the bytes as a text. Fails if they are not UTF-8.
+pub fn text_of(bytes: &[u8]) -> Result<&str, Failure>
+    ensures { MatchResult result (λ text. text.now ≡ bytes.now) (λ failure. failure ≡ NotUtf8) }
+{
+    match std::str::from_utf8(bytes) {
+        Ok(text) => Ok(text),
+        Err(_) => Err(Failure::NotUtf8),
+    }
+}
+
+/// Returns the platform that has this number.
+fn platform_of(number: u8) -> Result<BuildPlatform, Failure>
+    ensures { IfOk result (HasPlatform number) }
+{
+    match number {
+        0 => Ok(BuildPlatform::Target),
+        1 => Ok(BuildPlatform::Host),
+        _ => Err(Failure::InvalidArgument),
+    }
+}
+
+/// A test binary in types of the library.
+#[derive(Drop)]
+pub struct KnownBinary<'a> {
+    pub package_id: PackageId,
+    pub binary_id: RustBinaryId,
+    pub name: &'a str,
+    pub kind: RustTestBinaryKind,
+    pub platform: BuildPlatform,
+}
+
+impl<'a> KnownBinary<'a> {
+    /// Reads the description of a binary. Fails if a part is not UTF-8, or the platform is no platform.
+    pub fn read(alloc: Global, binary: &Binary<'a>) -> Result<KnownBinary<'a>, Failure>
+        ensures { IfOk result (IsKnownBinary binary.now) }
+    {
+        Ok(KnownBinary {
+            package_id: PackageId::new(String::from_str(alloc, text_of(binary.package_id)?)?),
+            binary_id: RustBinaryId::new(alloc, text_of(binary.binary_id)?)?,
+            name: text_of(binary.name)?,
+            kind: RustTestBinaryKind::new(String::from_str(alloc, text_of(binary.kind)?)?),
+            platform: platform_of(binary.platform)?,
+        })
+    }
+
+    /// Returns the query about the binary.
+    pub fn query(&self) -> BinaryQuery<'_>
+        ensures { (binary : BinaryOfC) → IsKnownBinary binary self.now → IsAbout binary result }
+    {
+        BinaryQuery {
+            package_id: &self.package_id,
+            binary_id: &self.binary_id,
+            binary_name: self.name,
+            kind: &self.kind,
+            platform: self.platform,
+        }
+    }
+}
+
+/// The lookup for one test, whose group C names.
+#[derive(Clone, Copy, Debug)]
+pub struct NamedGroup<'a> {
+    pub name: &'a str,
+}
+
+impl GroupLookup for NamedGroup<'_> {
+    ghost matches_group = { λ group. matches_named group.name.now };
+
+    fn is_member_test(
+        &self,
+        alloc: Global,
+        _test: &TestQuery<'_>,
+        matcher: &NameMatcher,
+    ) -> Result<bool, AllocError> {
+        matcher.is_match(alloc, self.name)
+    }
+}
+
+/// A test in types of the library.
+#[derive(Drop)]
+pub struct KnownTest<'a> {
+    pub name: TestCaseName,
+    pub group: NamedGroup<'a>,
+}
+
+impl<'a> KnownTest<'a> {
+    ghost use Rattle.filterset_c.specs.Queries.{IsKnownTest};
+
+    /// Reads the description of a test. Fails if a part is not UTF-8.
+    pub fn read(alloc: Global, test: &Test<'a>) -> Result<KnownTest<'a>, Failure>
+        ensures { IfOk result (IsKnownTest test.now) }
+    {
+        Ok(KnownTest {
+            name: TestCaseName::new(alloc, text_of(test.name)?)?,
+            group: NamedGroup {
+                name: text_of(test.group)?,
+            },
+        })
+    }
+
+    /// Returns the query about this test of a binary.
+    pub fn query<'q>(&'q self, binary_query: BinaryQuery<'q>) -> TestQuery<'q>
+        ensures binary { result.binary_query ≡ binary_query.entry }
+        ensures name { result.test_name.now ≡ self.now.name }
+    {
+        TestQuery {
+            binary_query,
+            test_name: &self.name,
+        }
+    }
+}

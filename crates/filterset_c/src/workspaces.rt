@@ -1,0 +1,174 @@
+//! Makes workspaces, and changes them.
+ghost use Rattle.std.specs.Prelude.{◌≡◌, ◌≢◌, Some, IfErr, IfNone, IfOk, IfSome, OnOk, map, string_bytes};
+ghost use Rattle.serde_json.specs.Read.{read};
+ghost use Rattle.serde_json.specs.View.{view};
+ghost use Rattle.filterset_faults.specs.declared.kind.FiltersetKind.TheVariants as kinds;
+ghost use Rattle.filterset_report.specs.Record.{IsRecord};
+ghost use Rattle.filterset_report.specs.Rows.{record_row};
+ghost use Rattle.filterset_sources.specs.Metadata.{IsMetadata};
+ghost use Rattle.nextest_filtering.specs.Groups.{AreGroups, IsKnown};
+ghost use Rattle.filterset_c.specs.Parsing.{IsParsed};
+ghost use Rattle.filterset_c.specs.Workspaces.{Changes, HasFilter, HasGroups, HoldsWorkspace, IsOfMetadata, IsOfRecord};
+ghost use Rattle.filterset_c.specs.declared.failure.Failure.TheVariants as failures;
+ghost use Rattle.filterset_c.specs.declared.object.Object.TheVariants as objects;
+
+use crate::failure::Failure;
+use crate::object::{Object, Workspace};
+use crate::parsing::parse_default_filter;
+use crate::queries::{Text, text_of};
+use filterset_json::{Entry, EntryRefusal};
+use filterset_report::Record;
+use filterset_sources::{SourceRefusal, read_json, read_metadata};
+use nextest_filtering::{
+    CompiledExpr, FiltersetParseErrors, GraphRefusal, KnownGroups, PackageGraph, PackageMetadata,
+};
+use serde_json::Value;
+use std::alloc::Global;
+
+/// Returns why bytes describe no workspace.
+fn failure_of(refusal: &SourceRefusal) -> Failure {
+    match refusal {
+        SourceRefusal::OutOfMemory(_) => Failure::OutOfMemory,
+        _ => Failure::Rejected,
+    }
+}
+
+/// Parses bytes as JSON.
+fn json_of(alloc: Global, bytes: &[u8]) -> Result<Value, Failure>
+    ensures { IfOk result (λ value. read bytes.now ≡ Some (view value)) }
+{
+    let text = text_of(bytes)?;
+    match read_json(alloc, text) {
+        Ok(value) => Ok(value),
+        Err(refusal) => Err(failure_of(&refusal)),
+    }
+}
+
+/// Returns the packages of what `cargo metadata` writes.
+fn graph_of(alloc: Global, value: &Value) -> Result<PackageGraph, Failure>
+    ensures { IfOk result (IsMetadata (view value.now)) }
+{
+    match read_metadata(alloc, value) {
+        Ok(graph) => Ok(graph),
+        Err(refusal) => Err(failure_of(&refusal)),
+    }
+}
+
+/// Makes a workspace of what `cargo metadata` writes. It has no custom groups, and the default filter `all()`.
+pub fn workspace_of_metadata(alloc: Global, bytes: &[u8]) -> Result<Workspace, Failure>
+    ensures { IfOk result (IsOfMetadata bytes.now) }
+{
+    let value = json_of(alloc, bytes)?;
+    let graph = graph_of(alloc, &value)?;
+    let known_groups = KnownGroups::global_only(alloc);
+    Ok(Workspace {
+        graph,
+        known_groups,
+        default_filter: CompiledExpr::ALL,
+    })
+}
+
+/// Reads a record.
+fn record_of(alloc: Global, value: &Value) -> Result<Record, Failure>
+    ensures { IfOk result (λ made. IsRecord (view value.now) (record_row made)) }
+{
+    match Record::read(alloc, value) {
+        Ok(record) => Ok(record),
+        Err(EntryRefusal::Wrong(_)) => Err(Failure::Rejected),
+        Err(EntryRefusal::OutOfMemory(_)) => Err(Failure::OutOfMemory),
+    }
+}
+
+/// Returns the graph of the packages of a record. Fails if an id is repeated, or a link names no package.
+fn graph_with(alloc: Global, packages: Vec<PackageMetadata>) -> Result<PackageGraph, Failure>
+    ensures { IfOk result (λ graph. graph ≡ packages.items) }
+{
+    match PackageGraph::new(alloc, packages) {
+        Ok(graph) => Ok(graph),
+        Err(GraphRefusal::OutOfMemory(_)) => Err(Failure::OutOfMemory),
+        Err(_) => Err(Failure::Rejected),
+    }
+}
+
+/// Makes a workspace of the packages and the groups of a record. Its default filter is `all()`.
+pub fn workspace_of_record(alloc: Global, bytes: &[u8]) -> Result<Workspace, Failure>
+    ensures { IfOk result (IsOfRecord bytes.now) }
+{
+    let value = json_of(alloc, bytes)?;
+    let made = record_of(alloc, &value)?;
+    let Record {
+        filtersets: _filtersets,
+        packages,
+        groups,
+        default_filter: _default_filter,
+        binaries: _binaries,
+        command: _,
+    } = made;
+    let graph = graph_with(alloc, packages)?;
+    let known_groups = KnownGroups::of(alloc, groups)?;
+    Ok(Workspace {
+        graph,
+        known_groups,
+        default_filter: CompiledExpr::ALL,
+    })
+}
+
+/// Copies texts of C.
+fn names_of(alloc: Global, texts: &[Text<'_>]) -> Result<Vec<String>, Failure>
+    ensures { IfOk result (λ names.
+        map (λ s. string_bytes s) names.items ≡ map (λ t. t.bytes.now) texts.now) }
+{
+    let mut names = Vec::with_capacity(alloc, texts.len())?;
+    for text in texts {
+        names.push(String::from_str(alloc, text_of(text.bytes)?)?)?;
+    }
+    Ok(names)
+}
+
+/// Returns the known groups with these custom groups.
+pub fn groups_of(alloc: Global, texts: &[Text<'_>]) -> Result<KnownGroups, Failure>
+    ensures groups { IfOk result (AreGroups (map (λ t. t.bytes.now) texts.now)) }
+    ensures known { IfOk result IsKnown }
+{
+    let names = names_of(alloc, texts)?;
+    let groups = KnownGroups::of(alloc, names)?;
+    Ok(groups)
+}
+
+/// Sets the custom groups of a workspace. A failure changes nothing.
+pub fn set_groups(alloc: Global, object: &mut Object, texts: &[Text<'_>]) -> Result<(), Failure>
+    ensures set { OnOk result (Changes (HasGroups (map (λ t. t.bytes.now) texts.now)) (Some object.old) (Some object.new)) }
+    ensures failed { IfErr result (λ _. object.new ≡ object.old) }
+{
+    match object {
+        Object::Workspace(workspace) => {
+            workspace.known_groups = groups_of(alloc, texts)?;
+            Ok(())
+        }
+        _ => Err(Failure::WrongHandle),
+    }
+}
+
+/// Sets the default filter of a workspace, or returns the faults of the text. Only success changes the workspace.
+pub fn set_default_filter(
+    alloc: Global,
+    object: &mut Object,
+    bytes: &[u8],
+) -> Result<Option<FiltersetParseErrors>, Failure>
+    ensures set { IfOk result (λ faults. IfNone faults
+        (Changes (HasFilter bytes.now) (Some object.old) (Some object.new))) }
+    ensures rejected { IfOk result (λ faults. IfSome faults (λ refused.
+        HoldsWorkspace (λ w. IsParsed w bytes.now kinds.DefaultFilter (objects.Faults refused)) (Some object.old) × (object.new ≡ object.old))) }
+    ensures failed { IfErr result (λ failure. (failure ≢ failures.Rejected) × (object.new ≡ object.old)) }
+{
+    match object {
+        Object::Workspace(workspace) => match parse_default_filter(alloc, workspace, bytes)? {
+            Ok(filter) => {
+                workspace.default_filter = filter;
+                Ok(None)
+            }
+            Err(faults) => Ok(Some(faults)),
+        },
+        _ => Err(Failure::WrongHandle),
+    }
+}
