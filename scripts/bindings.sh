@@ -25,8 +25,10 @@ end() {
 
 # Runs a command, and counts it as this.
 try() {
-    if "${@:2}" > "$room/said" 2>&1; then pass; return; fi
-    fail "$1" "status $?"
+    local status=0
+    "${@:2}" > "$room/said" 2>&1 || status=$?
+    if [ "$status" -eq 0 ]; then pass; return; fi
+    fail "$1" "status $status"
     tail -n 20 "$room/said" | sed 's/^/  /'
 }
 
@@ -115,7 +117,7 @@ in_rust() {
     try "the tests in Rust" env FILTERSET_LIB="$lib" CARGO_TARGET_DIR="$room/target" cargo test --offline --quiet --manifest-path bindings/rust/Cargo.toml
     if ! has valgrind; then skip "the tests in Rust under valgrind" "there is no valgrind"; return; fi
     try "the tests in Rust under valgrind" env FILTERSET_LIB="$lib" CARGO_TARGET_DIR="$room/target" \
-        CARGO_TARGET_X86_64_UNKNOWN_LINUX_GNU_RUNNER='valgrind -q --error-exitcode=99 --leak-check=full --errors-for-leak-kinds=definite,indirect' \
+        CARGO_TARGET_X86_64_UNKNOWN_LINUX_GNU_RUNNER='valgrind -q --error-exitcode=99 --leak-check=full --show-leak-kinds=definite,indirect --errors-for-leak-kinds=definite,indirect' \
         cargo test --offline --quiet --manifest-path bindings/rust/Cargo.toml --test cases -- --test-threads=1
 }
 
