@@ -52,7 +52,7 @@ enum {
     FILTERSET_TOO_DEEP = 6          /* the text nests more deeply than the limit */
 };
 
-/* A limit for filterset_check_depth that fits a thread with a stack of 256 KiB. */
+/* A limit for filterset_check_depth that fits a thread with a stack of 1 MiB. One with 256 KiB bears 64 levels. */
 #define FILTERSET_DEPTH_LIMIT 256
 
 /* Kinds of filtersets. Only FILTERSET_KIND_TEST may have `group(..)`; FILTERSET_KIND_DEFAULT_FILTER has no `default()`. */

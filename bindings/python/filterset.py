@@ -27,7 +27,8 @@ __all__ = [
 
 GLOBAL_TEST_GROUP = "@global"
 
-# How deeply a text may nest, unless the caller says otherwise: what a thread with a stack of 256 KiB can bear.
+# How deeply a text may nest, unless the caller says otherwise. That fits a thread with a stack of 1 MiB; one with 256 KiB
+# bears 64 levels.
 DEPTH_LIMIT = 256
 
 

@@ -42,7 +42,7 @@ use std::fmt;
 /// The group of tests that are in no other.
 pub const GLOBAL_TEST_GROUP: &str = "@global";
 
-/// How deeply a text may nest: what a thread with a stack of 256 KiB can bear.
+/// How deeply a text may nest. That fits a thread with a stack of 1 MiB.
 pub const DEPTH_LIMIT: usize = 256;
 
 /// What a filterset is for.
