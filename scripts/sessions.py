@@ -59,7 +59,7 @@ def sessions_of(page):
             text = text.replace("\n", "\r\n") if crlf else text
             texts[f'"@{label}"'] = text.strip() if language == "json" else json.dumps(text, ensure_ascii=False)
     for place, name, text in sessions:
-        text = re.sub(r'"@\w+"', lambda named: texts[named[0]], text)
+        text = re.sub(r'"@\w+"', lambda named: texts.get(named[0], named[0]), text)
         lines = re.split(r"\n(?! )", text.rstrip("\n"))
         yield place, name, [re.sub(r"\n +", "\n", line).partition(" ")[::2] for line in lines]
 
