@@ -24,7 +24,9 @@ PAGE, BEGIN, END = "docs/TRUST.md", "<!-- trusted.py begins -->\n", "<!-- truste
 # The crate that other programs name; the program that reads a record, with the crate of its run; the program for people.
 LIBRARY, PROGRAM, PROGRAMS, COMMAND = "nextest_filtering", "filterset_cli", "filterset_io", "filterset_command"
 # What its command `lsp` alone uses, and the call that serves an editor.
-EDITORS = ("filterset_editor", "filterset_documents", "filterset_tokens", "filterset_offers", "filterset_server")
+EDITORS = (
+    "filterset_editor", "filterset_documents", "filterset_names", "filterset_tokens", "filterset_offers", "filterset_server",
+)
 SERVE = "serve_editor"
 LIBRARY_OF_C = "filterset_c"
 # What only these mean: crates, files, definitions and types.

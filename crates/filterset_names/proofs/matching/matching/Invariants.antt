@@ -1,0 +1,12 @@
+use Rattle.std.proofs.Common.{◌≡◌, map, take}
+use Rattle.filterset_matchers.specs.Matcher.{MatchesName}
+use Rattle.filterset_matchers.specs.Matchers.{matcher_of}
+use Rattle.filterset_names.specs.ReadyMatchers.{ready_matcher}
+use Rattle.filterset_names.specs.Sieves.{Selects}
+use Rattle.filterset_names.proofs.matching.matching.Given as goal
+
+-- the names so far that match
+abbrev pub invariant-loop-name : goal.invariant-loop-name
+invariant-loop-name l =
+    (ready_matcher l.ready ≡ matcher_of l.matcher)
+    × Selects (MatchesName (matcher_of l.matcher)) (map (λ n. n.now) (take l.name-index l.names)) (map (λ n. n.now) l.found.items)

@@ -1,0 +1,7 @@
+use Rattle.std.proofs.Common.{◌≡◌, map, take}
+use Rattle.std.specs.List.{flat_map}
+use Rattle.filterset_names.proofs.names.test_names.Given as goal
+
+-- the names of the tests of the test binaries so far
+abbrev pub invariant-loop-suite : goal.invariant-loop-suite
+invariant-loop-suite l = map (λ n. n.now) l.names.items ≡ flat_map (λ s. s.tests.items) (take l.suite-index l.suites)

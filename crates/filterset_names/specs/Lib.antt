@@ -1,0 +1,5 @@
+pub mod Matched
+pub mod Names
+pub mod ReadyMatchers
+pub mod Sieves
+pub mod Workspaces

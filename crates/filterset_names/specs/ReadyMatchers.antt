@@ -1,0 +1,11 @@
+-- Matchers for many names.
+use Rattle.filterset_matchers.specs.Matcher as matcher
+use Rattle.filterset_matchers.specs.Matcher.{Matcher}
+use Rattle.filterset_matchers.specs.Matchers.{matcher_of}
+use Rattle.filterset_names.specs.declared.ready.ReadyMatcher.{ReadyMatcher}
+use Rattle.filterset_names.specs.declared.ready.ReadyMatcher.TheVariants.{Pattern, Other}
+
+-- the matcher
+abbrev pub ready_matcher : ReadyMatcher → Matcher
+ready_matcher (Pattern pattern) = matcher.Regex pattern
+ready_matcher (Other matcher) = matcher_of matcher.now
