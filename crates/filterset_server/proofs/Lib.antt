@@ -1,3 +1,2 @@
 mod FormatLemmas
-mod HoverLemmas
 mod MarkLemmas

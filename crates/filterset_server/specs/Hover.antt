@@ -1,5 +1,5 @@
 -- What the server shows of the predicate at a position.
-use Rattle.std.specs.Prelude.{◌≡◌, ◌⊎◌, ◌-◌, ◌&&◌, ℕ, Bool, List, MatchOption, Option, Some, None, codes, find, nat_le, false}
+use Rattle.std.specs.Prelude.{◌≡◌, ◌⊎◌, ℕ, Bool, List, MatchOption, Option, Some, None, codes, find, false}
 use Rattle.serde_json.specs.Data.{Data, string, object, member, no_members, null}
 use Rattle.filterset_answers.specs.Checked.{TextRow}
 use Rattle.filterset_answers.specs.Placements.{Placement, file_part}
@@ -7,19 +7,14 @@ use Rattle.filterset_drawing.specs.declared.source.FileSpan.{FileSpan}
 use Rattle.filterset_editor.specs.Positions.{IsOffset, Text}
 use Rattle.filterset_editor.specs.declared.positions.Encoding.{Encoding}
 use Rattle.filterset_editor.specs.declared.positions.Position.{Position}
-use Rattle.filterset_faults.specs.Span.{length_of, offset_of}
 use Rattle.filterset_faults.specs.declared.error.ParseSingleError.{ParseSingleError}
 use Rattle.filterset_faults.specs.declared.span.SourceSpan.{SourceSpan}
 use Rattle.filterset_grammar.specs.Tree.{Leaf, Tree, tree_leaves}
 use Rattle.filterset_language.specs.Faults.{leaf_span}
 use Rattle.filterset_language.specs.Parsed.{IsUnreadWith, Reads}
-use Rattle.filterset_documents.specs.Filtersets.{stretch_at, stretch_span}
+use Rattle.filterset_documents.specs.Filtersets.{is_in, is_row_at}
 use Rattle.filterset_documents.specs.Ranges.{IsRange}
 use Rattle.filterset_server.specs.Words.{leaf_text}
-
--- the offset is in the span, or at its end, since positions are between characters
-abbrev pub is_in : SourceSpan → ℕ → Bool
-is_in span offset = nat_le (offset_of span) offset && nat_le (offset - offset_of span) (length_of span)
 
 -- ---- predicates
 
@@ -58,14 +53,6 @@ abbrev pub HoversRow : Encoding → Text → ℕ → TextRow → Data → Type 0
 HoversRow encoding text offset row d =
     ((e : Tree SourceSpan) × Reads row.text e × HoversTree encoding text row.place offset e d)
     ⊎ ((faults : List ParseSingleError) × IsUnreadWith row.text faults × (d ≡ null))
-
--- the string that is read as a filterset at this place, or its line, holds this offset of the file
-abbrev pub is_placed_at : Option Placement → ℕ → Bool
-is_placed_at None offset = false
-is_placed_at (Some at) offset = is_in (stretch_span (stretch_at at.spot)) offset
-
-abbrev pub is_row_at : ℕ → TextRow → Bool
-is_row_at offset row = is_placed_at row.place offset
 
 -- the hover of the first filterset that is at the position, or `null` without one
 abbrev pub HoversRows : Encoding → Text → Position → List TextRow → Data → Type 0

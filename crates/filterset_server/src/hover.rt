@@ -1,30 +1,21 @@
 //! What the predicate at a position means.
-ghost use Rattle.std.specs.Prelude.{◌≡◌, IfOk, Some, filter, find, map, option_map};
+ghost use Rattle.std.specs.Prelude.{◌≡◌, IfOk, filter, map, option_map};
 ghost use Rattle.serde_json.specs.View.{view};
 ghost use Rattle.filterset_answers.specs.Checked.{text_row};
 ghost use Rattle.filterset_answers.specs.Placements.{placement_of};
 ghost use Rattle.filterset_grammar.specs.Tree.{tree_leaves};
-ghost use Rattle.filterset_language.specs.Faults.{leaf_span};
 ghost use Rattle.filterset_language.specs.Views.{leaf_of, tree_of};
 ghost use Rattle.filterset_server.specs.Hover.{HoversLeaf, HoversRow, HoversRows, HoversTree};
-ghost use Rattle.filterset_server.specs.Hover.{hover_data, is_in, is_in_part, is_leaf_at, is_placed_at, is_row_at, leaf_part};
+ghost use Rattle.filterset_server.specs.Hover.{hover_data, is_in_part, is_leaf_at, leaf_part};
 
 use crate::words::leaf_text;
 use filterset_answers::{FilePlace, TextEntry, file_part};
-use filterset_documents::{Shown, parse_text, span_value, stretch_at, stretch_span};
+use filterset_documents::{Shown, entry_at, is_in, leaf_span, parse_text, span_value};
 use filterset_drawing::FileSpan;
 use filterset_editor::Position;
-use filterset_faults::SourceSpan;
 use filterset_language::{ParsedExpr, ParsedLeaf};
 use serde_json::{Value, json};
 use std::alloc::{AllocError, Global};
-
-/// Returns whether an offset is in a span or at its end.
-fn is_in(span: SourceSpan, offset: usize) -> bool
-    ensures { result ≡ is_in span offset }
-{
-    span.offset() <= offset && offset - span.offset() <= span.len()
-}
 
 /// Returns whether an offset is in a part of the file or at its end.
 fn is_in_part(part: Option<FileSpan<'_>>, offset: usize) -> bool
@@ -33,25 +24,6 @@ fn is_in_part(part: Option<FileSpan<'_>>, offset: usize) -> bool
     match part {
         Some(part) => is_in(part.span, offset),
         None => false,
-    }
-}
-
-/// Returns the span of a predicate, if it has one.
-fn leaf_span(leaf: &ParsedLeaf) -> Option<SourceSpan>
-    ensures { result ≡ leaf_span (leaf_of leaf.now) }
-{
-    match leaf {
-        ParsedLeaf::Package(_, span)
-        | ParsedLeaf::Deps(_, span)
-        | ParsedLeaf::Rdeps(_, span)
-        | ParsedLeaf::Kind(_, span)
-        | ParsedLeaf::Binary(_, span)
-        | ParsedLeaf::BinaryId(_, span)
-        | ParsedLeaf::Test(_, span)
-        | ParsedLeaf::Group(_, span)
-        | ParsedLeaf::Platform(_, span)
-        | ParsedLeaf::Default(span) => Some(*span),
-        ParsedLeaf::All | ParsedLeaf::None => None,
     }
 }
 
@@ -139,25 +111,6 @@ fn hover_entry(
         Some(tree) => hover_tree(alloc, shown, entry.place, offset, &tree),
         None => Ok(Value::Null),
     }
-}
-
-/// Returns whether a filterset at this place is at this offset of the file.
-fn is_placed_at(place: Option<FilePlace<'_>>, offset: usize) -> bool
-    ensures { result ≡ is_placed_at (option_map placement_of place.entry) offset }
-{
-    match place {
-        Some(at) => is_in(stretch_span(stretch_at(at.spot)), offset),
-        None => false,
-    }
-}
-
-/// Returns the first filterset that is at this offset of the file.
-fn entry_at<'e, 't>(entries: &'e [TextEntry<'t>], offset: usize) -> Option<&'e TextEntry<'t>>
-    ensures { option_map (λ e. e.now) result ≡ find (λ e. is_row_at offset (text_row e)) entries.now }
-{
-    entries
-        .iter()
-        .find(|entry| is_placed_at(entry.place, offset))
 }
 
 /// Makes the hover at a position of filtersets.

@@ -3,8 +3,8 @@ use Rattle.std.specs.Prelude.{find}
 use Rattle.std.proofs.lemmas.Result.{IfOk-weaker}
 use Rattle.serde_json.specs.declared.value.Value.{the_lemmas}
 use Rattle.filterset_answers.specs.Checked.{text_row}
-use Rattle.filterset_server.specs.Hover.{is_row_at}
-use Rattle.filterset_server.proofs.HoverLemmas.{find_seen}
+use Rattle.filterset_documents.specs.Filtersets.{is_row_at}
+use Rattle.filterset_documents.proofs.FindLemmas.{find_seen}
 use Rattle.filterset_server.proofs.hover.hover_entries.Goals as goal
 
 pub returns-in-Some : goal.returns-in-Some
