@@ -12,7 +12,7 @@ A session is a block ```session of a page, named by the heading above it. An ind
     < ID result VALUE            the server answers; `..` is any value
     < ID error CODE MESSAGE
     < diagnostics URI [VERSION]  it publishes diagnostics, each on one of the next lines; lines and columns count from 0
-      0:3-0:5 CODE MESSAGE       `\\n` is a line break
+      0:3-0:5 CODE MESSAGE       `\\n` is a line break; `warning` before the code makes it one
     < JSON                       it sends this message, compared by value
     ! TEXT                       it has written this line on standard error when it ends
     status NUMBER                it ends with this status, and no message that the session does not show
@@ -44,7 +44,7 @@ SECONDS = 30
 # A heading; or a block: its language, its name, how its lines end, and its text.
 PART = re.compile(r"^#+ ([^\n]*)$|^```(\w+)(?: (\w+))?( crlf)?\n(.*?)^```$", re.M | re.S)
 SHORT = re.compile(r'(?:(\d+|"[^"]*") )?([$a-z][\w/]*)(?: ([{\[].*))?', re.S)
-DIAGNOSTIC = re.compile(r"(\d+):(\d+)-(\d+):(\d+) (\S+) (.*)")
+DIAGNOSTIC = re.compile(r"(\d+):(\d+)-(\d+):(\d+) (warning )?(\S+) (.*)")
 
 
 def sessions_of(page):
@@ -82,9 +82,9 @@ def bytes_of(text):
 
 def diagnostic_of(line):
     """A diagnostic, as the protocol has it."""
-    *numbers, code, message = DIAGNOSTIC.fullmatch(line).groups()
+    *numbers, warning, code, message = DIAGNOSTIC.fullmatch(line).groups()
     start, end = ({"line": int(row), "character": int(column)} for row, column in (numbers[:2], numbers[2:]))
-    shown = {"code": code, "message": message.replace("\\n", "\n"), "severity": 1, "source": "filterset"}
+    shown = {"code": code, "message": message.replace("\\n", "\n"), "severity": 2 if warning else 1, "source": "filterset"}
     return {**shown, "range": {"start": start, "end": end}}
 
 

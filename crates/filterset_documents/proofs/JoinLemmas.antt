@@ -51,6 +51,12 @@ pub Zips-next : {A B C : Type 0} (R : A → B → Type 0) (g : C → B) (xs : Li
 Zips-next R g xs i d ys y lt are is =
     rw (take_more xs i d lt, map-append g ys (y ∷ [])) (zip_push R (take i xs) (map g ys) (get_or xs i d) (g y) are is)
 
+-- the same, of elements that are seen as they are
+pub Zips-items : {A B C : Type 0} (R : A → B → Type 0) (g : C → B) (xs : List A) (i : ℕ) (x : A) (ys : List C) (y : C)
+    → i < length xs → get_or xs i x ≡ x → AllZip R (take i xs) (map g ys) → R x (g y)
+    → AllZip R (take (i + 1) xs) (map g (ys ++ y ∷ []))
+Zips-items R g xs i x ys y lt at are is = Zips-next R g xs i x ys y lt are (subst (λ z. R z (g y)) (sym at) is)
+
 -- the pair at a position
 pub Zips-at : {A B : Type 0} (R : A → B → Type 0) (xs : List A) (ys : List B) (i : ℕ) (x : A) (y : B)
     → i < length xs → AllZip R xs ys → R (get_or xs i x) (get_or ys i y)

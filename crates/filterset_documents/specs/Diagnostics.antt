@@ -1,7 +1,8 @@
 -- The diagnostics of documents.
-use Rattle.std.specs.Prelude.{◌≡◌, ◌⊎◌, ◌++◌, ◌-◌, List, [], ◌∷◌, Option, None, Some, MatchBool, true, false, codes, map, string_bytes}
+use Rattle.std.specs.Prelude.{◌≡◌, ◌⊎◌, ◌++◌, ◌-◌, ℕ, List, [], ◌∷◌, Option, None, Some, MatchBool, true, false, codes, length, map, string_bytes}
 use Rattle.std.specs.Borrow.{Bor}
 use Rattle.std.specs.List.{AllZip}
+use Rattle.std.specs.Option.{option_map_or}
 use Rattle.serde_json.specs.Data.{Data, number, unsigned, string, object, member, no_members}
 use Rattle.toml.specs.Errors.{span_start, span_end}
 use Rattle.filterset_answers.specs.Checked.{HasFaults, TextRow}
@@ -20,26 +21,38 @@ use Rattle.filterset_faults.specs.Span.{span}
 use Rattle.filterset_faults.specs.declared.error.ParseSingleError.{ParseSingleError}
 use Rattle.filterset_faults.specs.declared.kind.FiltersetKind.TheVariants as kinds
 use Rattle.filterset_faults.specs.declared.span.SourceSpan.{SourceSpan}
+use Rattle.filterset_places.specs.Places.{file_span}
+use Rattle.filterset_profiles.specs.Wrong.{AreWrongValues}
+use Rattle.filterset_profiles.specs.declared.wrong.WrongValue.{WrongValue}
 use Rattle.filterset_sources.specs.Configurations.{IsConfiguration, RefusesConfiguration}
 use Rattle.filterset_sources.specs.declared.configuration.Configuration.{Configuration}
 use Rattle.filterset_sources.specs.declared.refusal.SourceRefusal.{SourceRefusal}
-use Rattle.filterset_sources.specs.declared.refusal.SourceRefusal.TheVariants.{NotToml, WrongValue}
+use Rattle.filterset_sources.specs.declared.refusal.SourceRefusal.TheVariants as sources
+use Rattle.filterset_sources.specs.declared.refusal.SourceRefusal.TheVariants.{NotToml}
 use Rattle.filterset_documents.specs.Filtersets.{AreTextsOf, is_list}
 use Rattle.filterset_documents.specs.Joins.{Joins}
 use Rattle.filterset_documents.specs.Ranges.{IsRange}
+use Rattle.filterset_documents.specs.declared.diagnostics.Severity.{Severity}
+use Rattle.filterset_documents.specs.declared.diagnostics.Severity.TheVariants.{Error, Warning}
 
 -- ---- a diagnostic
 
--- an error (1) with a code and a message, in a range
-abbrev pub diagnostic_data : Text → Text → Data → Data
-diagnostic_data code message range =
+-- the protocol's number of a severity
+abbrev pub severity_number : Severity → ℕ
+severity_number Error = 1
+severity_number Warning = 2
+
+-- an error or a warning with a code and a message, in a range
+abbrev pub diagnostic_data : Severity → Text → Text → Data → Data
+diagnostic_data severity code message range =
     object (member (codes "code") (string code) (member (codes "message") (string message) (member (codes "range") range
-    (member (codes "severity") (number (unsigned 1)) (member (codes "source") (string (codes "filterset")) no_members)))))
+    (member (codes "severity") (number (unsigned (severity_number severity)))
+    (member (codes "source") (string (codes "filterset")) no_members)))))
 
 -- the diagnostic with this code and message, at a span of the text
-abbrev pub IsDiagnostic : Encoding → Text → SourceSpan → Text → Text → Data → Type 0
-IsDiagnostic encoding text at code message d =
-    (range : Data) × IsRange encoding text at range × (d ≡ diagnostic_data code message range)
+abbrev pub IsDiagnostic : Encoding → Text → Severity → SourceSpan → Text → Text → Data → Type 0
+IsDiagnostic encoding text severity at code message d =
+    (range : Data) × IsRange encoding text at range × (d ≡ diagnostic_data severity code message range)
 
 -- ---- faults
 
@@ -57,7 +70,7 @@ fault_text fault = message_of fault ++ label_line (label_of fault) ++ help_line 
 
 -- the diagnostic of a fault at a span of the text
 abbrev pub IsFaultAt : Encoding → Text → SourceSpan → ParseSingleError → Data → Type 0
-IsFaultAt encoding text at fault d = IsDiagnostic encoding text at (code_of fault) (fault_text fault) d
+IsFaultAt encoding text at fault d = IsDiagnostic encoding text Error at (code_of fault) (fault_text fault) d
 
 -- the span of a part of the file; the start of the file for nothing
 abbrev pub part_span : Option FileSpan → SourceSpan
@@ -78,27 +91,49 @@ abbrev pub RowDiagnostics : Encoding → Text → Names → TextRow → List Dat
 RowDiagnostics encoding text names row ds =
     (faults : List ParseSingleError) × HasFaults names row faults × AreDiagnosed encoding text row.place faults ds
 
--- ---- configurations
-
--- The diagnostics of a text that is this configuration: those of its filtersets, one after the other. Its groups are
--- known, and packages are not.
-abbrev pub ConfigurationDiagnostics : Encoding → Text → Configuration → List Data → Type 0
-ConfigurationDiagnostics encoding text configuration ds =
-    (texts : ConfiguredTexts) × (names : Names) × AreTextsOf text configuration texts
-    × KnowsNames false [] true (map (λ s. string_bytes s) configuration.groups.items) names
-    × Joins (RowDiagnostics encoding text names) (rows_in texts) ds
+-- ---- wrong values
 
 -- what is said of a value at this path, which must be as expected
 abbrev pub wrong_text : Text → Text → Text
 wrong_text path expected = codes "`" ++ (path ++ (codes "` must be " ++ expected))
 
+-- where the text of a wrong value is in the file; the start of the file if it was not found
+abbrev pub value_span : WrongValue → SourceSpan
+value_span w = option_map_or (λ p. file_span p (span 0 (length (string_bytes w.text)))) w.place (span 0 0)
+
+-- the warning of a wrong value
+abbrev pub IsValueWarning : Encoding → Text → WrongValue → Data → Type 0
+IsValueWarning encoding text w d = IsDiagnostic encoding text Warning (value_span w) (codes "InvalidValue")
+    (wrong_text (string_bytes w.path) w.expected.now) d
+
+-- a warning for each of the wrong values of the profiles, in their order
+abbrev pub AreValueWarnings : Encoding → Text → List Data → Type 0
+AreValueWarnings encoding text ds =
+    (values : List WrongValue) × AreWrongValues text values × AllZip (IsValueWarning encoding text) values ds
+
+-- ---- configurations
+
+-- The diagnostics of the filtersets of a text that is this configuration, one after the other. Its groups are known, and
+-- packages are not.
+abbrev pub FiltersetDiagnostics : Encoding → Text → Configuration → List Data → Type 0
+FiltersetDiagnostics encoding text configuration ds =
+    (texts : ConfiguredTexts) × (names : Names) × AreTextsOf text configuration texts
+    × KnowsNames false [] true (map (λ s. string_bytes s) configuration.groups.items) names
+    × Joins (RowDiagnostics encoding text names) (rows_in texts) ds
+
+-- The diagnostics of a text that is this configuration: those of its filtersets, and then the warnings of its other values.
+abbrev pub ConfigurationDiagnostics : Encoding → Text → Configuration → List Data → Type 0
+ConfigurationDiagnostics encoding text configuration ds =
+    (faults : List Data) × (warnings : List Data) × FiltersetDiagnostics encoding text configuration faults
+    × AreValueWarnings encoding text warnings × (ds ≡ faults ++ warnings)
+
 -- The diagnostic of a text that is no configuration: at the span of TOML's error, with its message; or of a wrong value,
 -- at the start.
 abbrev pub IsRefusalAt : Encoding → Text → SourceRefusal → Data → Type 0
 IsRefusalAt encoding text (NotToml error line) d =
-    (message : Text) × IsDiagnostic encoding text (span (span_start error) (span_end error - span_start error)) (codes "toml") message d
-IsRefusalAt encoding text (WrongValue wrong) d =
-    IsDiagnostic encoding text (span 0 0) (codes "configuration") (wrong_text (string_bytes wrong.path) wrong.expected.now) d
+    (message : Text) × IsDiagnostic encoding text Error (span (span_start error) (span_end error - span_start error)) (codes "toml") message d
+IsRefusalAt encoding text (sources.WrongValue wrong) d =
+    IsDiagnostic encoding text Error (span 0 0) (codes "configuration") (wrong_text (string_bytes wrong.path) wrong.expected.now) d
 IsRefusalAt encoding text refusal d = ⊥
 
 -- the diagnostics of nextest's configuration with this text

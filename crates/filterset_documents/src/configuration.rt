@@ -9,15 +9,16 @@ ghost use Rattle.filterset_sources.specs.Configurations.{RefusesConfiguration};
 ghost use Rattle.filterset_answers.specs.Entries.{rows_in};
 ghost use Rattle.filterset_answers.specs.declared.entries.ConfiguredTexts.{ConfiguredTexts};
 ghost use Rattle.nextest_filtering.specs.Groups.{IsKnown};
-ghost use Rattle.filterset_documents.specs.Diagnostics.{ConfigurationDiagnostics, DiagnosesConfiguration, IsDiagnostic, IsRefusalAt, RowDiagnostics, wrong_text};
+ghost use Rattle.filterset_documents.specs.Diagnostics.{ConfigurationDiagnostics, DiagnosesConfiguration, FiltersetDiagnostics, IsDiagnostic, IsRefusalAt, RowDiagnostics, wrong_text};
 ghost use Rattle.filterset_documents.specs.Filtersets.{AreTexts};
 ghost use Rattle.filterset_documents.specs.Joins.{Joins};
 
-use crate::diagnostics::diagnostic_at;
+use crate::diagnostics::{Severity, diagnostic_at};
 use crate::message::wrong_message;
 use crate::places::configured_texts;
 use crate::ranges::Shown;
 use crate::rows::diagnose_entries;
+use crate::values::diagnose_values;
 use filterset_answers::{Names, configured_entries};
 use filterset_drawing::Source;
 use filterset_faults::SourceSpan;
@@ -36,24 +37,30 @@ fn toml_value(
     error: &toml::de::Error,
 ) -> Result<Value, AllocError>
     ensures { IfOk result (λ value. (message : Text) × IsDiagnostic shown.now.encoding shown.now.lines.text.now
-        (span (span_start error.now) (span_end error.now - span_start error.now)) (codes "toml") message (view value)) }
+        Severity.Error (span (span_start error.now) (span_end error.now - span_start error.now)) (codes "toml") message (view value)) }
 {
     // Only an error of memory has no span.
     let Some(range) = error.span() else {
         return Err(AllocError);
     };
     let span = SourceSpan::new(range.start, range.end.saturating_sub(range.start));
-    diagnostic_at(alloc, shown, span, "toml", error.message())
+    diagnostic_at(alloc, shown, Severity::Error, span, "toml", error.message())
 }
 
 /// Makes the diagnostic of a wrong value.
 fn wrong_value(alloc: Global, shown: &Shown<'_>, wrong: &WrongValue) -> Result<Value, AllocError>
-    ensures { IfOk result (λ value. IsDiagnostic shown.now.encoding shown.now.lines.text.now (span 0 0)
+    ensures { IfOk result (λ value. IsDiagnostic shown.now.encoding shown.now.lines.text.now Severity.Error (span 0 0)
         (codes "configuration") (wrong_text (string_bytes wrong.now.path) wrong.now.expected.now) (view value)) }
 {
-    let message = wrong_message(alloc, wrong)?;
-    let start = SourceSpan::new(0, 0);
-    diagnostic_at(alloc, shown, start, "configuration", message.as_str())
+    let message = wrong_message(alloc, wrong.path.as_str(), wrong.expected)?;
+    diagnostic_at(
+        alloc,
+        shown,
+        Severity::Error,
+        SourceSpan::new(0, 0),
+        "configuration",
+        message.as_str(),
+    )
 }
 
 /// Makes the diagnostic of a text that is no configuration.
@@ -114,7 +121,7 @@ fn filterset_values(
     shown: &Shown<'_>,
     configuration: Configuration,
 ) -> Result<Vec<Value>, AllocError>
-    ensures { IfOk result (λ values. ConfigurationDiagnostics shown.now.encoding shown.now.lines.text.now configuration
+    ensures { IfOk result (λ values. FiltersetDiagnostics shown.now.encoding shown.now.lines.text.now configuration
         (map view values.items)) }
 {
     let places = Places::of(alloc, shown.lines.text, &configuration)?;
@@ -126,13 +133,28 @@ fn filterset_values(
     placed_values(alloc, shown, &names, &file, filtersets, &places)
 }
 
+/// Makes the diagnostics of a configuration that was read from the text.
+fn configuration_values(
+    alloc: Global,
+    shown: &Shown<'_>,
+    configuration: Configuration,
+) -> Result<Vec<Value>, AllocError>
+    ensures { IfOk result (λ values. ConfigurationDiagnostics shown.now.encoding shown.now.lines.text.now configuration
+        (map view values.items)) }
+{
+    let mut values = filterset_values(alloc, shown, configuration)?;
+    let mut warnings = diagnose_values(alloc, shown)?;
+    values.append(&mut warnings)?;
+    Ok(values)
+}
+
 /// Makes the diagnostics of nextest's configuration.
 pub fn diagnose_configuration(alloc: Global, shown: &Shown<'_>) -> Result<Vec<Value>, AllocError>
     ensures { IfOk result (λ values.
         DiagnosesConfiguration shown.now.encoding shown.now.lines.text.now (map view values.items)) }
 {
     match read_configuration(alloc, shown.lines.text) {
-        Ok(configuration) => filterset_values(alloc, shown, configuration),
+        Ok(configuration) => configuration_values(alloc, shown, configuration),
         Err(refusal) => refusal_values(alloc, shown, &refusal),
     }
 }

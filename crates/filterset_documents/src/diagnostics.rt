@@ -1,27 +1,48 @@
 //! Diagnostics.
 ghost use Rattle.std.specs.Prelude.{◌≡◌, IfOk};
 ghost use Rattle.serde_json.specs.View.{view};
-ghost use Rattle.filterset_documents.specs.Diagnostics.{IsDiagnostic, diagnostic_data};
+ghost use Rattle.filterset_documents.specs.Diagnostics.{IsDiagnostic, diagnostic_data, severity_number};
 
 use crate::ranges::{Shown, span_value};
 use filterset_faults::SourceSpan;
 use serde_json::{Value, json};
 use std::alloc::{AllocError, Global};
 
-/// Makes the value of an error in a range.
+/// How bad it is what a diagnostic says.
+#[derive(Clone, Copy, Debug, PartialEq, Eq)]
+pub(crate) enum Severity {
+    Error,
+    Warning,
+}
+
+impl Severity {
+    /// Returns the protocol's number of a severity.
+    fn number(self) -> u8
+        ensures { result ≡ severity_number self }
+    {
+        match self {
+            Severity::Error => 1,
+            Severity::Warning => 2,
+        }
+    }
+}
+
+/// Makes the value of an error or a warning in a range.
 fn diagnostic_value(
     alloc: Global,
+    severity: Severity,
     code: &str,
     message: &str,
     range: Value,
 ) -> Result<Value, AllocError>
-    ensures { IfOk result (λ value. view value ≡ diagnostic_data code.now message.now (view range)) }
+    ensures { IfOk result (λ value. view value ≡ diagnostic_data severity code.now message.now (view range)) }
 {
+    let severity = severity.number();
     json!(in alloc; {
         "code": code,
         "message": message,
         "range": range,
-        "severity": 1u8,
+        "severity": severity,
         "source": "filterset"
     })
 }
@@ -30,13 +51,15 @@ fn diagnostic_value(
 pub(crate) fn diagnostic_at(
     alloc: Global,
     shown: &Shown<'_>,
+    severity: Severity,
     span: SourceSpan,
     code: &str,
     message: &str,
 ) -> Result<Value, AllocError>
     ensures { IfOk result (λ value.
-        IsDiagnostic shown.now.encoding shown.now.lines.text.now span code.now message.now (view value)) }
+        IsDiagnostic shown.now.encoding shown.now.lines.text.now severity span code.now message.now
+        (view value)) }
 {
     let range = span_value(alloc, shown, span)?;
-    diagnostic_value(alloc, code, message, range)
+    diagnostic_value(alloc, severity, code, message, range)
 }

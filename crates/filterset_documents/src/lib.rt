@@ -13,6 +13,7 @@ mod quoting;
 mod ranges;
 mod rows;
 mod trees;
+mod values;
 
 pub use configuration::diagnose_configuration;
 pub use edits::{Edit, edit_text, edits_value, is_same, ordered_edits};

@@ -4,7 +4,6 @@ ghost use Rattle.filterset_faults.specs.Faults.{help_of, label_of};
 ghost use Rattle.filterset_documents.specs.Diagnostics.{fault_text, help_line, label_line, wrong_text};
 
 use filterset_faults::ParseSingleError;
-use filterset_sources::WrongValue;
 use std::alloc::{AllocError, Global};
 use std::fmt::Write;
 
@@ -38,10 +37,9 @@ pub(crate) fn fault_message(alloc: Global, fault: &ParseSingleError) -> Result<S
     Ok(message)
 }
 
-/// Makes the text of a wrong value, which has a path.
-pub(crate) fn wrong_message(alloc: Global, wrong: &WrongValue) -> Result<String, AllocError>
-    ensures { IfOk result (λ message. string_bytes message ≡ wrong_text (string_bytes wrong.now.path) wrong.now.expected.now) }
+/// Makes the text of a wrong value at a path, which must be as expected.
+pub(crate) fn wrong_message(alloc: Global, path: &str, expected: &str) -> Result<String, AllocError>
+    ensures { IfOk result (λ message. string_bytes message ≡ wrong_text path.now expected.now) }
 {
-    let WrongValue { path, expected } = wrong;
     format!(in alloc; "`{path}` must be {expected}")
 }

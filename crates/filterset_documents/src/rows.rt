@@ -7,7 +7,7 @@ ghost use Rattle.nextest_filtering.specs.Groups.{IsKnown};
 ghost use Rattle.filterset_documents.specs.Diagnostics.{AreDiagnosed, IsFaultAt, RowDiagnostics, fault_span, part_span};
 ghost use Rattle.filterset_documents.specs.Joins.{Joins};
 
-use crate::diagnostics::diagnostic_at;
+use crate::diagnostics::{Severity, diagnostic_at};
 use crate::message::fault_message;
 use crate::ranges::Shown;
 use filterset_answers::{FilePlace, Names, TextEntry, faults_of, file_part};
@@ -44,7 +44,14 @@ fn fault_value(
         IsFaultAt shown.now.encoding shown.now.lines.text.now span fault.now (view value)) }
 {
     let message = fault_message(alloc, fault)?;
-    diagnostic_at(alloc, shown, span, fault.code(), message.as_str())
+    diagnostic_at(
+        alloc,
+        shown,
+        Severity::Error,
+        span,
+        fault.code(),
+        message.as_str(),
+    )
 }
 
 /// Makes the diagnostics of faults of a filterset that is at this place.

@@ -4,4 +4,4 @@ use Rattle.filterset_documents.proofs.configuration.diagnose_configuration.Goals
 
 pub returns-in-Ok : goal.returns-in-Ok
 returns-in-Ok c =
-    IfOk-weaker c.filterset_values.result _ _ (λ values are. inl (c.in-Ok.configuration, c.in-Ok.ensures.read, are)) c.filterset_values.ensures
+    IfOk-weaker c.configuration_values.result _ _ (λ values are. inl (c.in-Ok.configuration, c.in-Ok.ensures.read, are)) c.configuration_values.ensures

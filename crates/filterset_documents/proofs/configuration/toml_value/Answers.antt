@@ -6,6 +6,7 @@ use Rattle.serde_json.specs.View.{view}
 use Rattle.filterset_faults.specs.Span.{span}
 use Rattle.filterset_faults.specs.declared.span.SourceSpan.{SourceSpan}
 use Rattle.filterset_documents.specs.Diagnostics.{IsDiagnostic}
+use Rattle.filterset_documents.specs.declared.diagnostics.Severity.TheVariants.{Error}
 use Rattle.filterset_documents.proofs.configuration.toml_value.Goals as goal
 
 pub returns : goal.returns
@@ -18,6 +19,6 @@ returns c =
     c.new-span.ensures ∙ rw (c.saturating_sub.ensures, range.0, range.1) refl in
     IfOk-weaker c.diagnostic_at.result _ _
     (λ value is.
-    let P : SourceSpan → Type 0 = λ s. IsDiagnostic shown.encoding shown.lines.text.now s (codes "toml") message (view value) in
+    let P : SourceSpan → Type 0 = λ s. IsDiagnostic shown.encoding shown.lines.text.now Error s (codes "toml") message (view value) in
     (message, subst P same is))
     c.diagnostic_at.ensures

@@ -1,0 +1,23 @@
+use Rattle.std.proofs.Common.{rules, arith, ◌≡◌, ◌<◌, length, get_or}
+use Rattle.std.proofs.lemmas.List.{take_all}
+use Rattle.serde_json.specs.View.{view}
+use Rattle.filterset_documents.specs.Diagnostics.{IsValueWarning}
+use Rattle.filterset_documents.proofs.JoinLemmas.{Zips-items}
+use Rattle.filterset_documents.proofs.values.value_warnings.Goals as goal
+
+pub returns : goal.returns
+returns c =
+    let are = c.loop-wrong.invariant in
+    rw (take_all c.loop-wrong.wrong-index c.args.found.now c.loop-wrong-test.false) at are
+
+pub loop-wrong-preserved : goal.loop-wrong-preserved
+loop-wrong-preserved c =
+    let shown = c.args.shown.now in
+    let found = c.args.found.now in
+    let i = c.loop-wrong.wrong-index in
+    let wrong = c.wrong-item.result in
+    let lt : i < length found = omega (arith, c.loop-wrong-test.true) in
+    let at : get_or found i wrong ≡ wrong = search (rules, c.wrong-item.is) in
+    rw c.in_ok-push.ensures.items
+    (Zips-items (IsValueWarning shown.encoding shown.lines.text.now) view found i wrong c.loop-wrong.values.items c.in_ok-value.value
+    lt at c.loop-wrong.invariant c.in_ok-value.ensures)

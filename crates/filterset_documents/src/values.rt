@@ -1,0 +1,65 @@
+//! The warnings of wrong values of nextest's configuration.
+ghost use Rattle.std.specs.Prelude.{◌≡◌, IfOk, map};
+ghost use Rattle.std.specs.List.{AllZip};
+ghost use Rattle.serde_json.specs.View.{view};
+ghost use Rattle.filterset_documents.specs.Diagnostics.{AreValueWarnings, IsValueWarning, value_span};
+
+use crate::diagnostics::{Severity, diagnostic_at};
+use crate::message::wrong_message;
+use crate::ranges::Shown;
+use filterset_faults::SourceSpan;
+use filterset_profiles::{WrongValue, find_wrong_values};
+use serde_json::Value;
+use std::alloc::{AllocError, Global};
+
+/// Returns where the text of a wrong value is in the file, or the start of the file if it was not found.
+fn value_span(wrong: &WrongValue) -> SourceSpan
+    ensures { result ≡ value_span wrong.now }
+{
+    match &wrong.place {
+        Some(place) => place.file_span(SourceSpan::new(0, wrong.text.len())),
+        None => SourceSpan::new(0, 0),
+    }
+}
+
+/// Makes the warning of a wrong value.
+fn value_warning(alloc: Global, shown: &Shown<'_>, wrong: &WrongValue) -> Result<Value, AllocError>
+    ensures { IfOk result (λ value.
+        IsValueWarning shown.now.encoding shown.now.lines.text.now wrong.now (view value)) }
+{
+    let message = wrong_message(alloc, wrong.path.as_str(), wrong.expected)?;
+    diagnostic_at(
+        alloc,
+        shown,
+        Severity::Warning,
+        value_span(wrong),
+        "InvalidValue",
+        message.as_str(),
+    )
+}
+
+/// Makes the warnings of wrong values, in their order.
+fn value_warnings(
+    alloc: Global,
+    shown: &Shown<'_>,
+    found: &[WrongValue],
+) -> Result<Vec<Value>, AllocError>
+    ensures { IfOk result (λ values. AllZip (IsValueWarning shown.now.encoding shown.now.lines.text.now) found.now
+        (map view values.items)) }
+{
+    let mut values = Vec::with_capacity(alloc, found.len())?;
+    for wrong in found {
+        let value = value_warning(alloc, shown, wrong)?;
+        values.push(value)?;
+    }
+    Ok(values)
+}
+
+/// Makes the warnings of the wrong values of a configuration, other than its filtersets.
+pub(crate) fn diagnose_values(alloc: Global, shown: &Shown<'_>) -> Result<Vec<Value>, AllocError>
+    ensures { IfOk result (λ values.
+        AreValueWarnings shown.now.encoding shown.now.lines.text.now (map view values.items)) }
+{
+    let found = find_wrong_values(alloc, shown.lines.text)?;
+    value_warnings(alloc, shown, found.as_slice())
+}
