@@ -1,6 +1,6 @@
 -- Opens nextest's configuration in neovim with the language server FILTERSET, edits it, and writes the diagnostics that
--- neovim shows after each edit: range, code, text in the range, and message. Lines and columns count from 0, and columns
--- in bytes. client.sh runs it.
+-- neovim shows after each edit: range, code, text in the range, and message. Then writes a hover, and what is offered at a
+-- place, and takes the first of that. Lines and columns count from 0, and columns in bytes. client.sh runs it.
 local api = vim.api
 local published, status
 
@@ -26,6 +26,32 @@ local function show(what, version)
   for _, shown in ipairs(diagnostics) do write(shown) end
 end
 
+-- Asks the server about a place, and returns its result.
+local function ask(client, method, line, column)
+  api.nvim_win_set_cursor(0, { line + 1, column })
+  local encoding = vim.lsp.get_client_by_id(client).offset_encoding
+  local params = vim.lsp.util.make_position_params(0, encoding)
+  local answers = vim.lsp.buf_request_sync(0, method, params, 10000)
+  return answers and answers[client] and answers[client].result, encoding
+end
+
+-- Writes the lines of a hover.
+local function hover(client, line, column)
+  local shown = ask(client, 'textDocument/hover', line, column)
+  io.write('hover:\n')
+  local lines = shown and vim.lsp.util.convert_input_to_markdown_lines(shown.contents) or { 'nothing' }
+  for _, text in ipairs(lines) do io.write('  ', text, '\n') end
+end
+
+-- Writes what is offered, takes the first of it, and writes the line that this makes.
+local function complete(client, line, column)
+  local items, encoding = ask(client, 'textDocument/completion', line, column)
+  io.write('offered:\n')
+  for _, item in ipairs(items or {}) do io.write('  ', item.label, ': ', item.detail, '\n') end
+  if items and items[1] then vim.lsp.util.apply_text_edits({ items[1].textEdit }, 0, encoding) end
+  io.write('with the first of these:\n  ', api.nvim_buf_get_lines(0, line, line + 1, true)[1], '\n')
+end
+
 local config = {
   name = 'filterset',
   cmd = { os.getenv('FILTERSET'), 'lsp' },
@@ -47,6 +73,11 @@ show('with a line more at the front, and a line break less before the second fau
 api.nvim_buf_set_text(0, 4, 35, 4, 37, { 'and' })
 api.nvim_buf_set_text(0, 8, 12, 8, 29, { '' })
 show('without the faults', api.nvim_buf_get_changedtick(0))
+
+hover(client, 4, 27)
+api.nvim_buf_set_text(0, 4, 44, 4, 44, { ' or kind(b)' })
+complete(client, 4, 54)
+show('completed', api.nvim_buf_get_changedtick(0))
 
 vim.lsp.stop_client(client)
 vim.wait(10000, function() return status end, 10)
