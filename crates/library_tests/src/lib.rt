@@ -23,6 +23,8 @@ mod profiles;
 #[cfg(test)]
 mod sessions;
 #[cfg(test)]
+mod simplified;
+#[cfg(test)]
 mod support;
 #[cfg(test)]
 mod trees;
