@@ -1,0 +1,3 @@
+pub mod ArgumentLemmas
+pub mod Lexing
+pub mod Nested

@@ -1,0 +1,4 @@
+pub mod Arguments
+pub mod Depth
+pub mod Nesting
+pub mod Tokens
