@@ -14,12 +14,14 @@
  * Errors. Most calls return a filterset_status. If it is not FILTERSET_OK, the call changed nothing, except that
  * FILTERSET_REJECTED may store faults in a handle, as the call says.
  *
- * Threads. All handles of a workspace share memory without locks: the workspace, its filtersets, and their faults. Use them
- * on one thread at a time. Two threads that work at the same time need a workspace each. A handle may move to another thread
- * if all handles of its workspace move with it.
+ * Threads. A handle may move to another thread between calls. Two threads may use two handles at the same time if the
+ * handles share nothing. Handles of two workspaces never share. Those of one workspace share the default filter that was
+ * set for it (filterset_workspace_set_default_filter), without locks, and nothing else: the workspace, and the filtersets
+ * that were parsed after that. Faults share nothing. So without a default filter, parse a text once for each thread. One
+ * handle is for one thread at a time, also if the calls only ask.
  *
- * Stack. Parsing, printing and freeing take up stack for each level of parentheses and negations. Call
- * filterset_check_depth first for a text that is not yours.
+ * Stack. Parsing, printing and freeing take up stack for each level of parentheses and negations. A workspace limits the
+ * levels of a text: to FILTERSET_DEPTH_LIMIT, unless filterset_workspace_set_depth says otherwise.
  *
  * No call ends the process, waits, or starts a thread. Do not call from a signal handler.
  *
@@ -48,11 +50,10 @@ enum {
     FILTERSET_WRONG_HANDLE = 2,     /* the handle is empty, or does not hold what the call takes */
     FILTERSET_NOT_UTF8 = 3,         /* a text is not UTF-8 */
     FILTERSET_REJECTED = 4,         /* the text has faults, or the bytes describe no workspace */
-    FILTERSET_INVALID_ARGUMENT = 5, /* a number has no meaning, lengths differ, or a pointer is null */
-    FILTERSET_TOO_DEEP = 6          /* the text nests more deeply than the limit */
+    FILTERSET_INVALID_ARGUMENT = 5  /* a number has no meaning, lengths differ, or a pointer is null */
 };
 
-/* A limit for filterset_check_depth that fits a thread with a stack of 1 MiB. One with 256 KiB bears 64 levels. */
+/* The limit of levels of a new workspace, which fits a thread with a stack of 1 MiB. One with 256 KiB bears 64 levels. */
 #define FILTERSET_DEPTH_LIMIT 256
 
 /* Kinds of filtersets. Only FILTERSET_KIND_TEST may have `group(..)`; FILTERSET_KIND_DEFAULT_FILTER has no `default()`. */
@@ -130,6 +131,12 @@ filterset_status filterset_workspace_from_record(const uint8_t *json, size_t len
 filterset_status filterset_workspace_set_groups(filterset_workspace *workspace, const filterset_text *names,
                                                 size_t count);
 
+/* Sets how many levels of parentheses and negations a text may have that is parsed from then on; 0 if there is no limit. A
+ * level is an open parenthesis of an expression, or a negation whose operand has not ended; operands of one level do not add
+ * up. A text that passes the limit is rejected before it is parsed, with one fault, NestedTooDeeply, at the parenthesis or
+ * negation that passes it. In a text that is no filterset, each `(`, `!` and `not` counts from some place on. */
+filterset_status filterset_workspace_set_depth(filterset_workspace *workspace, size_t levels);
+
 /* Parses a default filter, and sets it. It replaces `default()` in filtersets that are parsed from then on; those that were
  * parsed before keep the one that they have. FILTERSET_REJECTED stores the faults of the text in `faults`. */
 filterset_status filterset_workspace_set_default_filter(filterset_workspace *workspace, const uint8_t *text,
@@ -139,12 +146,6 @@ filterset_status filterset_workspace_set_default_filter(filterset_workspace *wor
 void filterset_workspace_free(filterset_workspace *workspace);
 
 /* ---- Filtersets */
-
-/* Checks that a text nests by at most `limit` levels, which parsing it takes up stack for. If it does not, returns
- * FILTERSET_TOO_DEEP, and writes the offset of the parenthesis or negation that passes the limit. A level is an open
- * parenthesis of an expression, or a negation whose operand has not ended; operands of one level do not add up. From a
- * place on where the text is not spelled as a filterset, each `(`, `!` and `not` counts. Takes one pass, and no stack. */
-filterset_status filterset_check_depth(const uint8_t *text, size_t length, size_t limit, size_t *offset);
 
 /* Parses a filterset of this kind, and stores it in `parsed`. FILTERSET_REJECTED stores the faults of the text there.
  * On any other failure `parsed` keeps what it holds. */
@@ -244,13 +245,13 @@ static inline filterset_status filterset_checked_set_default_filter(filterset_wo
     return filterset_workspace_set_default_filter(workspace, text, length, faults);
 }
 
-static inline void filterset_checked_workspace_free(filterset_workspace *workspace) {
-    if (workspace) filterset_workspace_free(workspace);
+static inline filterset_status filterset_checked_set_depth(filterset_workspace *workspace, size_t levels) {
+    if (!workspace) return FILTERSET_INVALID_ARGUMENT;
+    return filterset_workspace_set_depth(workspace, levels);
 }
 
-static inline filterset_status filterset_checked_depth(const uint8_t *text, size_t length, size_t limit, size_t *offset) {
-    if (!text || !offset) return FILTERSET_INVALID_ARGUMENT;
-    return filterset_check_depth(text, length, limit, offset);
+static inline void filterset_checked_workspace_free(filterset_workspace *workspace) {
+    if (workspace) filterset_workspace_free(workspace);
 }
 
 static inline filterset_status filterset_checked_parse(filterset_workspace *workspace, const uint8_t *text,
@@ -312,9 +313,9 @@ static inline filterset_status filterset_checked_fault_text(filterset *faults, s
 #define filterset_workspace_from_cargo_metadata(...) filterset_checked_from_cargo_metadata(__VA_ARGS__)
 #define filterset_workspace_from_record(...) filterset_checked_from_record(__VA_ARGS__)
 #define filterset_workspace_set_groups(...) filterset_checked_set_groups(__VA_ARGS__)
+#define filterset_workspace_set_depth(...) filterset_checked_set_depth(__VA_ARGS__)
 #define filterset_workspace_set_default_filter(...) filterset_checked_set_default_filter(__VA_ARGS__)
 #define filterset_workspace_free(...) filterset_checked_workspace_free(__VA_ARGS__)
-#define filterset_check_depth(...) filterset_checked_depth(__VA_ARGS__)
 #define filterset_parse(...) filterset_checked_parse(__VA_ARGS__)
 #define filterset_matches_binary(...) filterset_checked_matches_binary(__VA_ARGS__)
 #define filterset_matches_test(...) filterset_checked_matches_test(__VA_ARGS__)

@@ -22,13 +22,13 @@ from typing import Iterable, List, Optional, Sequence
 
 __all__ = [
     "Binary", "DEPTH_LIMIT", "Fault", "Filterset", "FiltersetError", "GLOBAL_TEST_GROUP", "Kind", "Platform", "Rejected",
-    "Test", "TooDeep", "Workspace", "version",
+    "Test", "Workspace", "version",
 ]
 
 GLOBAL_TEST_GROUP = "@global"
 
-# How deeply a text may nest, unless the caller says otherwise. That fits a thread with a stack of 1 MiB; one with 256 KiB
-# bears 64 levels.
+# How many levels of parentheses and negations a text may have, if `Workspace.set_depth` says nothing else. That fits a
+# thread with a stack of 1 MiB; one with 256 KiB bears 64 levels.
 DEPTH_LIMIT = 256
 
 
@@ -91,14 +91,6 @@ class Rejected(FiltersetError):
         self.faults = faults
 
 
-class TooDeep(FiltersetError):
-    """A text nests more deeply than the limit, from this offset on (in bytes of UTF-8)."""
-
-    def __init__(self, offset: int) -> None:
-        super().__init__(f"nested too deeply at {offset}")
-        self.offset = offset
-
-
 class _Text(ctypes.Structure):
     _fields_ = [("bytes", ctypes.c_char_p), ("length", ctypes.c_size_t)]
 
@@ -120,7 +112,7 @@ class _Handle(ctypes.Structure):
 
 
 _VERSION = 1000
-_OUT_OF_MEMORY, _REJECTED, _TOO_DEEP = 1, 4, 6
+_OUT_OF_MEMORY, _REJECTED = 1, 4
 _MEANINGS = {2: "the handle is empty or of another kind", 3: "not UTF-8", 4: "not a workspace", 5: "invalid argument"}
 
 
@@ -140,9 +132,9 @@ def _load() -> ctypes.CDLL:
         ("filterset_workspace_from_cargo_metadata", status, [text, count, handle]),
         ("filterset_workspace_from_record", status, [text, count, handle]),
         ("filterset_workspace_set_groups", status, [handle, ctypes.POINTER(_Text), count]),
+        ("filterset_workspace_set_depth", status, [handle, count]),
         ("filterset_workspace_set_default_filter", status, [handle, text, count, handle]),
         ("filterset_workspace_free", None, [handle]),
-        ("filterset_check_depth", status, [text, count, count, size]),
         ("filterset_parse", status, [handle, text, count, ctypes.c_uint8, handle]),
         ("filterset_matches_binary", status, [handle, binary, number]),
         ("filterset_matches_test", status, [handle, binary, tests, number]),
@@ -180,15 +172,6 @@ def _check(status: int) -> None:
 def _text(text: str) -> _Text:
     encoded = text.encode()
     return _Text(encoded, len(encoded))
-
-
-def _checked_depth(text: str, limit: int) -> bytes:
-    encoded, offset = text.encode(), ctypes.c_size_t()
-    status = _library.filterset_check_depth(encoded, len(encoded), limit, ctypes.byref(offset))
-    if status == _TOO_DEEP:
-        raise TooDeep(offset.value)
-    _check(status)
-    return encoded
 
 
 def _binary(binary: Binary) -> _Binary:
@@ -292,15 +275,20 @@ class Workspace:
         texts = [_text(it) for it in names]
         _check(_library.filterset_workspace_set_groups(self._handle, (_Text * max(len(texts), 1))(*texts), len(texts)))
 
-    def set_default_filter(self, text: str, depth_limit: int = DEPTH_LIMIT) -> None:
-        """Sets the default filter of filtersets that are parsed from then on. Raises as `parse` does."""
-        encoded, faults = _checked_depth(text, depth_limit), _Handle()
+    def set_depth(self, levels: int) -> None:
+        """Sets how many levels of parentheses and negations a text may have that is parsed from then on; 0 if there is no
+        limit. The rejected text has one fault, `NestedTooDeeply`, at the level past the limit."""
+        _check(_library.filterset_workspace_set_depth(self._handle, levels))
+
+    def set_default_filter(self, text: str) -> None:
+        """Sets the default filter of filtersets that are parsed from then on. Raises `Rejected` if the text has faults."""
+        encoded, faults = text.encode(), _Handle()
         status = _library.filterset_workspace_set_default_filter(self._handle, encoded, len(encoded), faults)
         self._reject(status, text, faults)
 
-    def parse(self, text: str, kind: Kind = Kind.TEST, depth_limit: int = DEPTH_LIMIT) -> Filterset:
-        """Parses a filterset. Raises `Rejected` if it has faults, and `TooDeep` if it nests more deeply than the limit."""
-        encoded, handle = _checked_depth(text, depth_limit), _Handle()
+    def parse(self, text: str, kind: Kind = Kind.TEST) -> Filterset:
+        """Parses a filterset. Raises `Rejected` if it has faults, or nests more deeply than the limit."""
+        encoded, handle = text.encode(), _Handle()
         status = _library.filterset_parse(self._handle, encoded, len(encoded), int(kind), handle)
         self._reject(status, text, handle)
         return Filterset(handle)

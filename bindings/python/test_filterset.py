@@ -70,16 +70,21 @@ class Cases(unittest.TestCase):
         self.assertEqual(workspace.parse("default()").matches_binary(binary_of("lexer")), True)
 
     def test_depth(self):
-        workspace = workspace_of({})
         for case in CASES["nested"]:
+            workspace = workspace_of({})
+            if "depth" in case:
+                workspace.set_depth(case["depth"])
             text = "".join(it if isinstance(it, str) else it[0] * it[1] for it in case["text"])
             with self.subTest(case["text"]):
                 if case["offset"] is None:
                     self.assertTrue(workspace.parse(text).matches_binary(binary_of("lexer")))
                 else:
-                    with self.assertRaises(filterset.TooDeep) as caught:
-                        workspace.parse(text)
-                    self.assertEqual(caught.exception.offset, case["offset"])
+                    label = "more levels of parentheses and negations than the limit"
+                    fault = filterset.Fault("NestedTooDeeply", case["offset"], case["length"], label, "")
+                    for parse in (workspace.parse, workspace.set_default_filter):
+                        with self.assertRaises(filterset.Rejected) as caught:
+                            parse(text)
+                        self.assertEqual(caught.exception.faults, [fault])
 
     def test_groups_and_version(self):
         workspace = workspace_of({})

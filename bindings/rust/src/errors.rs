@@ -55,10 +55,8 @@ impl Error for FiltersetParseErrors {}
 pub enum FiltersetError {
     /// There was not enough memory, which says nothing about the arguments.
     OutOfMemory,
-    /// A text has faults.
+    /// A text has faults, or nests too deeply, which is the one fault `NestedTooDeeply`.
     Faults(FiltersetParseErrors),
-    /// The text nests more deeply than [`DEPTH_LIMIT`](crate::DEPTH_LIMIT), from this offset on.
-    TooDeep { offset: usize },
     /// Bytes describe no workspace.
     NotAWorkspace,
     /// The library reports a status that this crate does not know.
@@ -70,7 +68,6 @@ impl fmt::Display for FiltersetError {
         match self {
             FiltersetError::OutOfMemory => f.write_str("out of memory"),
             FiltersetError::Faults(errors) => errors.fmt(f),
-            FiltersetError::TooDeep { offset } => write!(f, "nested too deeply at {offset}"),
             FiltersetError::NotAWorkspace => f.write_str("the bytes describe no workspace"),
             FiltersetError::Status(status) => write!(f, "status {status}"),
         }

@@ -6,7 +6,6 @@ use std::os::raw::c_void;
 pub const OK: u8 = 0;
 pub const OUT_OF_MEMORY: u8 = 1;
 pub const REJECTED: u8 = 4;
-pub const TOO_DEEP: u8 = 6;
 
 /// One word, null if the handle is empty.
 #[repr(C)]
@@ -62,13 +61,13 @@ extern "C" {
     pub fn filterset_workspace_from_cargo_metadata(metadata: *const u8, length: usize, workspace: *mut RawHandle) -> u8;
     pub fn filterset_workspace_from_record(json: *const u8, length: usize, workspace: *mut RawHandle) -> u8;
     pub fn filterset_workspace_set_groups(workspace: *mut RawHandle, names: *const Text<'_>, count: usize) -> u8;
+    pub fn filterset_workspace_set_depth(workspace: *mut RawHandle, levels: usize) -> u8;
     pub fn filterset_workspace_set_default_filter(
         workspace: *mut RawHandle,
         text: *const u8,
         length: usize,
         faults: *mut RawHandle,
     ) -> u8;
-    pub fn filterset_check_depth(text: *const u8, length: usize, limit: usize, offset: *mut usize) -> u8;
     pub fn filterset_parse(
         workspace: *mut RawHandle,
         text: *const u8,

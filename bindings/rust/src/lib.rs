@@ -26,8 +26,8 @@
 //! # }
 //! ```
 //!
-//! Values of one context share memory without locks, so no type here is `Send`: use a context and all that was parsed with
-//! it on one thread.
+//! Values of one context share its default filter without locks, if it has one, so no type here is `Send`: use a context and
+//! all that was parsed with it on one thread.
 
 mod errors;
 mod ffi;
@@ -42,7 +42,8 @@ use std::fmt;
 /// The group of tests that are in no other.
 pub const GLOBAL_TEST_GROUP: &str = "@global";
 
-/// How deeply a text may nest. That fits a thread with a stack of 1 MiB.
+/// How many levels of parentheses and negations a text may have, if [`ParseContext::set_depth`] says nothing else. That fits
+/// a thread with a stack of 1 MiB.
 pub const DEPTH_LIMIT: usize = 256;
 
 /// What a filterset is for.
@@ -144,15 +145,6 @@ fn check(status: u8) -> Result<(), FiltersetError> {
     }
 }
 
-/// Fails if a text nests more deeply than the limit.
-fn check_depth(input: &str) -> Result<(), FiltersetError> {
-    let mut offset = 0;
-    match unsafe { ffi::filterset_check_depth(input.as_ptr(), input.len(), DEPTH_LIMIT, &mut offset) } {
-        ffi::TOO_DEEP => Err(FiltersetError::TooDeep { offset }),
-        status => check(status),
-    }
-}
-
 /// Returns the text that a call writes into the room that it is given.
 fn written(mut call: impl FnMut(&mut [u8], &mut usize) -> u8) -> Result<String, FiltersetError> {
     let mut room = vec![0; 256];
@@ -219,9 +211,14 @@ impl ParseContext {
         }
     }
 
+    /// Sets how many levels of parentheses and negations a text may have that is parsed from then on; 0 if there is no
+    /// limit.
+    pub fn set_depth(&mut self, levels: usize) -> Result<(), FiltersetError> {
+        check(self.handle.with(|raw| unsafe { ffi::filterset_workspace_set_depth(raw, levels) }))
+    }
+
     /// Sets the default filter of filtersets that are parsed from then on.
     pub fn set_default_filter(&mut self, input: &str) -> Result<(), FiltersetError> {
-        check_depth(input)?;
         let faults = Handle::empty();
         let status = self.handle.with(|raw| {
             faults.with(|into| unsafe {
@@ -254,7 +251,6 @@ impl Filterset {
         kind: FiltersetKind,
         known_groups: &KnownGroups,
     ) -> Result<Filterset, FiltersetError> {
-        check_depth(&input)?;
         cx.set_groups(known_groups)?;
         let handle = Handle::empty();
         let status = cx.handle.with(|raw| {

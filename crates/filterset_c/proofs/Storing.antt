@@ -1,14 +1,14 @@
 -- The outcome of a call that stores what was parsed.
 use Rattle.std.proofs.Common.{◌≡◌, ◌≢◌, ℕ, List, arith, inl, inr, refl, subst}
 use Rattle.std.specs.Prelude.{Option, Some, Result, Ok, Err, IfOk, IfErr, IfSome}
-use Rattle.filterset_c.specs.Parsing.{IsOutcome, IsParsed, IsStored, ParsesIn}
+use Rattle.filterset_c.specs.Parsing.{IsOutcome, IsRefused, IsStored, ParsesIn}
 use Rattle.filterset_c.specs.Workspaces.{HoldsWorkspace}
 use Rattle.filterset_c.specs.declared.failure.Failure.{Failure}
 use Rattle.filterset_c.specs.declared.failure.Failure.TheVariants.{OutOfMemory, Rejected}
 use Rattle.filterset_c.specs.declared.object.Object.{Object}
-use Rattle.filterset_c.specs.declared.object.Object.TheVariants.{Workspace, Filterset, Faults}
+use Rattle.filterset_c.specs.declared.object.Object.TheVariants.{Workspace, Filterset, Refused}
+use Rattle.filterset_c.specs.declared.object.Refusal.{Refusal}
 use Rattle.filterset_faults.specs.declared.kind.FiltersetKind.TheVariants.{DefaultFilter}
-use Rattle.filterset_faults.specs.declared.parse_errors.FiltersetParseErrors.{FiltersetParseErrors}
 
 memory_differs : OutOfMemory ≢ Rejected
 memory_differs e = cc
@@ -20,23 +20,23 @@ outcome_of P old (Ok object) status new is not (inr kept) = inr (OutOfMemory, me
 outcome_of P old (Err failure) status new is not kept = inr (failure, not, kept.0, kept.1)
 
 -- the same if what was parsed are faults, and then the status is not 0
-pub rejected_outcome : (P : Object → Type 0) (old : Option Object) (refused : FiltersetParseErrors) (status : ℕ) (new : Option Object)
-    → P (Faults refused) → IsStored old (Ok (Faults refused)) status new → IsOutcome P old status new
-rejected_outcome P old refused status new is stored = outcome_of P old (Ok (Faults refused)) status new is tt stored
+pub rejected_outcome : (P : Object → Type 0) (old : Option Object) (refused : Refusal) (status : ℕ) (new : Option Object)
+    → P (Refused refused) → IsStored old (Ok (Refused refused)) status new → IsOutcome P old status new
+rejected_outcome P old refused status new is stored = outcome_of P old (Ok (Refused refused)) status new is tt stored
 
-pub rejected_status : (old : Option Object) (refused : FiltersetParseErrors) (status : ℕ) (new : Option Object)
-    → IsStored old (Ok (Faults refused)) status new → status ≢ 0
+pub rejected_status : (old : Option Object) (refused : Refusal) (status : ℕ) (new : Option Object)
+    → IsStored old (Ok (Refused refused)) status new → status ≢ 0
 rejected_status old refused status new (inl stored) zero = omega (arith, stored.0, zero)
 rejected_status old refused status new (inr kept) zero = omega (arith, kept.0, zero)
 
--- what is parsed as a default filter is parsed as the kind with its number
-pub parses_default : (object : Object) (text : List ℕ) (made : Object)
-    → HoldsWorkspace (λ workspace. IsParsed workspace text DefaultFilter made) (Some object) → ParsesIn (Some object) text 3 made
-parses_default (Workspace workspace) text made is = (DefaultFilter, refl, is)
-parses_default (Filterset bound) text made is = absurd is
-parses_default (Faults refused) text made is = absurd is
+-- what is rejected as a default filter is parsed so as the kind with its number
+pub parses_default : (object : Object) (text : List ℕ) (refusal : Refusal)
+    → HoldsWorkspace (λ workspace. IsRefused workspace text DefaultFilter refusal) (Some object) → ParsesIn (Some object) text 3 (Refused refusal)
+parses_default (Workspace workspace) text refusal is = (DefaultFilter, refl, is)
+parses_default (Filterset bound) text refusal is = absurd is
+parses_default (Refused refused) text refusal is = absurd is
 
 -- what is said of a value that is there
-pub of_some : (P : FiltersetParseErrors → Type 0) (found : Option FiltersetParseErrors) (refused : FiltersetParseErrors)
+pub of_some : (P : Refusal → Type 0) (found : Option Refusal) (refused : Refusal)
     → found ≡ Some refused → IfSome found P → P refused
-of_some P found refused is given = subst (λ (o : Option FiltersetParseErrors). IfSome o P) is given
+of_some P found refused is given = subst (λ (o : Option Refusal). IfSome o P) is given

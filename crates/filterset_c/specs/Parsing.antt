@@ -1,13 +1,15 @@
 -- What is parsed for C.
-use Rattle.std.specs.Prelude.{◌≡◌, ◌≢◌, ◌⊎◌, ℕ, List, Option, None, Some, Result, Ok, Err, string_bytes}
+use Rattle.std.specs.Prelude.{◌≡◌, ◌≢◌, ◌==◌, ◌<◌, ◌≤◌, ◌⊎◌, ℕ, List, Option, Some, Result, Ok, Err, length, slice_index, string_bytes, if◌then◌else◌}
 use Rattle.filterset_expression.specs.Expression.{formula}
 use Rattle.filterset_expression.specs.Meaning.{IsCompiled}
 use Rattle.filterset_expression.specs.declared.expression.CompiledExpr.{CompiledExpr}
 use Rattle.filterset_faults.specs.declared.kind.FiltersetKind.{FiltersetKind}
 use Rattle.filterset_faults.specs.declared.kind.FiltersetKind.TheVariants.{Test, TestArchive, OverrideFilter, DefaultFilter}
 use Rattle.filterset_faults.specs.declared.span.SourceSpan.{SourceSpan}
+use Rattle.filterset_grammar.specs.Grammar.{Spells}
 use Rattle.filterset_grammar.specs.Tree.{Tree}
 use Rattle.filterset_language.specs.Views.{tree_of}
+use Rattle.filterset_nesting.specs.Depth.{depth}
 use Rattle.nextest_filtering.specs.Compiling.{IsFiltersetOf, IsRefusedWith}
 use Rattle.filterset_c.specs.Statuses.{status_code}
 use Rattle.filterset_c.specs.declared.failure.Failure.{Failure}
@@ -15,6 +17,9 @@ use Rattle.filterset_c.specs.declared.failure.Failure.TheVariants.{OutOfMemory, 
 use Rattle.filterset_c.specs.declared.object.BoundFilterset.{BoundFilterset}
 use Rattle.filterset_c.specs.declared.object.Object.{Object}
 use Rattle.filterset_c.specs.declared.object.Object.TheVariants as held
+use Rattle.filterset_c.specs.declared.faults.Span.{Span}
+use Rattle.filterset_c.specs.declared.object.Refusal.{Refusal}
+use Rattle.filterset_c.specs.declared.object.Refusal.TheVariants.{Faults, TooDeep}
 use Rattle.filterset_c.specs.declared.object.Workspace.{Workspace}
 
 -- the kind that has this number
@@ -24,19 +29,42 @@ HasKind number TestArchive = number ≡ 1
 HasKind number OverrideFilter = number ≡ 2
 HasKind number DefaultFilter = number ≡ 3
 
+-- a limit of levels of parentheses and negations, where 0 is none
+abbrev pub IsWithin : ℕ → ℕ → Type 0
+IsWithin limit levels = limit ≢ 0 → levels ≤ limit
+
+-- whatever filterset the text is, it nests past the limit; the place is a parenthesis or a negation of the text
+pub record IsTooDeep (limit : ℕ) (text : List ℕ) (place : Span) : Type 0 where
+  pub limited : limit ≢ 0
+  pub deep : (e : Tree SourceSpan) → Spells text e → limit < depth e
+  pub within : place.offset < length text
+  pub extent : place.length ≡ (if slice_index text place.offset == 110 then 3 else 1)
+
 -- the text is a filterset of this kind of the workspace, with its default filter
 pub record IsBound (workspace : Workspace) (text : List ℕ) (kind : FiltersetKind) (bound : BoundFilterset) : Type 0 where
   pub accepted : IsFiltersetOf text kind workspace.graph workspace.known_groups (tree_of bound.filterset.parsed)
   pub compiled : IsCompiled workspace.graph (tree_of bound.filterset.parsed) bound.filterset.compiled
   pub default : formula bound.default_filter ≡ formula workspace.default_filter
 
--- what a text is parsed to: a filterset, or the faults for which it is rejected
-abbrev pub IsParsed : Workspace → List ℕ → FiltersetKind → Object → Type 0
-IsParsed workspace text kind (held.Filterset bound) = IsBound workspace text kind bound
-IsParsed workspace text kind (held.Faults refused) =
+-- the text is rejected for these faults, or since it nests past the workspace's limit
+abbrev pub IsRefused : Workspace → List ℕ → FiltersetKind → Refusal → Type 0
+IsRefused workspace text kind (Faults refused) =
     (string_bytes refused.input ≡ text)
     × IsRefusedWith text kind workspace.graph workspace.known_groups refused.errors.items
+IsRefused workspace text kind (TooDeep place) = IsTooDeep workspace.depth text place
+
+-- what a text is parsed to: a filterset within the workspace's limit, or why it is rejected
+abbrev pub IsParsed : Workspace → List ℕ → FiltersetKind → Object → Type 0
+IsParsed workspace text kind (held.Filterset bound) =
+    IsBound workspace text kind bound × IsWithin workspace.depth (depth (tree_of bound.filterset.parsed))
+IsParsed workspace text kind (held.Refused refusal) = IsRefused workspace text kind refusal
 IsParsed workspace text kind _ = ⊥
+
+-- the same of the parser, which knows no limit
+abbrev pub IsRead : Workspace → List ℕ → FiltersetKind → Object → Type 0
+IsRead workspace text kind (held.Filterset bound) = IsBound workspace text kind bound
+IsRead workspace text kind (held.Refused refusal) = IsRefused workspace text kind refusal
+IsRead workspace text kind _ = ⊥
 
 -- the same for a number of a kind, if the handle holds a workspace
 abbrev pub ParsesIn : Option Object → List ℕ → ℕ → Object → Type 0
@@ -46,7 +74,7 @@ ParsesIn _ text number object = ⊥
 
 -- the status of a call that makes an object: faults are no success
 abbrev pub object_status : Object → ℕ
-object_status (held.Faults refused) = status_code Rejected
+object_status (held.Refused refusal) = status_code Rejected
 object_status _ = 0
 
 -- what a handle holds after an object was made for it, or not: without memory it is unchanged
@@ -62,9 +90,15 @@ IsOutcome P old status new =
     ((object : Object) × P object × (status ≡ object_status object) × (new ≡ Some object))
     ⊎ ((failure : Failure) × (failure ≢ Rejected) × (status ≡ status_code failure) × (new ≡ old))
 
--- the expression is what the text is compiled to, as a default filter of the workspace
+-- the expression is what the text is compiled to, as a default filter of the workspace, within its limit
 abbrev pub IsDefaultFilter : Workspace → List ℕ → CompiledExpr → Type 0
 IsDefaultFilter workspace text expr =
+    (e : Tree SourceSpan) × IsFiltersetOf text DefaultFilter workspace.graph workspace.known_groups e
+    × IsCompiled workspace.graph e expr × IsWithin workspace.depth (depth e)
+
+-- the same of the parser, which knows no limit
+abbrev pub IsDefaultRead : Workspace → List ℕ → CompiledExpr → Type 0
+IsDefaultRead workspace text expr =
     (e : Tree SourceSpan) × IsFiltersetOf text DefaultFilter workspace.graph workspace.known_groups e
     × IsCompiled workspace.graph e expr
 

@@ -1,5 +1,5 @@
 -- What makes a workspace, and what changes one.
-use Rattle.std.specs.Prelude.{◌≡◌, ℕ, List, Option, None, Some, map}
+use Rattle.std.specs.Prelude.{◌≡◌, ℕ, List, Option, Some}
 use Rattle.serde_json.specs.Data.{Data}
 use Rattle.serde_json.specs.Read.{read}
 use Rattle.filterset_expression.specs.Expression.{CompiledLeaf, formula}
@@ -13,6 +13,10 @@ use Rattle.filterset_c.specs.declared.object.Object.{Object}
 use Rattle.filterset_c.specs.declared.object.Object.TheVariants as held
 use Rattle.filterset_c.specs.declared.object.Workspace.{Workspace}
 
+-- the limit of levels of a workspace that is not told otherwise
+abbrev pub usual_depth : ℕ
+usual_depth = 256
+
 -- the workspace's default filter is all()
 abbrev pub HasNoFilter : Workspace → Type 0
 HasNoFilter workspace = formula workspace.default_filter ≡ formulas.Leaf leaves.All
@@ -24,6 +28,7 @@ pub record IsOfMetadata (text : List ℕ) (workspace : Workspace) : Type 0 where
   pub packages : IsMetadata value workspace.graph
   pub groups : IsGlobalOnly workspace.known_groups
   pub default : HasNoFilter workspace
+  pub depth : workspace.depth ≡ usual_depth
 
 -- the workspace has the packages and the groups of a record, and the default filter all()
 pub record IsOfRecord (text : List ℕ) (workspace : Workspace) : Type 0 where
@@ -34,6 +39,7 @@ pub record IsOfRecord (text : List ℕ) (workspace : Workspace) : Type 0 where
   pub packages : workspace.graph ≡ row.packages
   pub groups : AreGroups row.groups workspace.known_groups
   pub default : HasNoFilter workspace
+  pub depth : workspace.depth ≡ usual_depth
 
 -- the handle holds a workspace, of which P holds
 abbrev pub HoldsWorkspace : (Workspace → Type 0) → Option Object → Type 0
@@ -49,9 +55,18 @@ pub record HasGroups (names : List (List ℕ)) (before after : Workspace) : Type
   pub groups : AreGroups names after.known_groups
   pub packages : after.graph ≡ before.graph
   pub default : after.default_filter ≡ before.default_filter
+  pub depth : after.depth ≡ before.depth
+
+-- only the limit of levels changes
+pub record HasDepth (levels : ℕ) (before after : Workspace) : Type 0 where
+  pub depth : after.depth ≡ levels
+  pub packages : after.graph ≡ before.graph
+  pub groups : after.known_groups ≡ before.known_groups
+  pub default : after.default_filter ≡ before.default_filter
 
 -- only the default filter changes, to what this text is compiled to
 pub record HasFilter (text : List ℕ) (before after : Workspace) : Type 0 where
   pub filter : IsDefaultFilter before text after.default_filter
   pub packages : after.graph ≡ before.graph
   pub groups : after.known_groups ≡ before.known_groups
+  pub depth : after.depth ≡ before.depth

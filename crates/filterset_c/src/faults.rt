@@ -1,35 +1,45 @@
 //! The faults of rejected texts.
 ghost use Rattle.std.specs.Prelude.{◌≡◌, IfOk, Some, slice_get, string_bytes};
-ghost use Rattle.filterset_c.specs.Faulty.{fault_text, faults_held, written, IsSpanAt, IsTextAt};
+ghost use Rattle.filterset_c.specs.Faulty.{count_of, deep_text, fault_count, fault_text, written, IsSpanAt, IsSpanOf, IsSpanOfFault, IsTextAt, IsTextOf, IsTextOfFault};
 
 use crate::failure::Failure;
-use crate::object::Object;
+use crate::object::{Object, Refusal};
 use nextest_filtering::ParseSingleError;
 use std::alloc::Global;
 
 /// Where a fault is, in bytes of the text.
 #[repr(C)]
-#[derive(Clone, Copy)]
+#[derive(Clone, Copy, Debug)]
 pub struct Span {
     pub offset: usize,
     pub length: usize,
 }
 
-/// Returns the faults that a handle holds; none if it holds something else.
-pub fn faults_of(object: &Object) -> &[ParseSingleError]
-    ensures { result.now ≡ faults_held (Some object.now) }
+/// Returns the number of faults that a handle holds; 0 if it holds something else.
+pub fn fault_count(object: &Object) -> usize
+    ensures { result ≡ fault_count (Some object.now) }
 {
     match object {
-        Object::Faults(refused) => &refused.errors,
-        _ => &[],
+        Object::Refused(refusal) => count_of(refusal),
+        _ => 0,
+    }
+}
+
+/// Returns the number of faults: 1 if the text nests too deeply.
+fn count_of(refusal: &Refusal) -> usize
+    ensures { result ≡ count_of refusal.now }
+{
+    match refusal {
+        Refusal::Faults(refused) => refused.errors.len(),
+        Refusal::TooDeep(_) => 1,
     }
 }
 
 /// Returns the fault at a position.
-fn fault_at(object: &Object, index: usize) -> Result<&ParseSingleError, Failure>
-    ensures { IfOk result (λ fault. slice_get (faults_held (Some object.now)) index ≡ Some fault.now) }
+fn fault_at(faults: &[ParseSingleError], index: usize) -> Result<&ParseSingleError, Failure>
+    ensures { IfOk result (λ fault. slice_get faults.now index ≡ Some fault.now) }
 {
-    match faults_of(object).get(index) {
+    match faults.get(index) {
         Some(fault) => Ok(fault),
         None => Err(Failure::InvalidArgument),
     }
@@ -37,9 +47,30 @@ fn fault_at(object: &Object, index: usize) -> Result<&ParseSingleError, Failure>
 
 /// Returns where the fault at a position is.
 pub fn span_at(object: &Object, index: usize) -> Result<Span, Failure>
-    ensures { IfOk result (IsSpanAt (faults_held (Some object.now)) index) }
+    ensures { IfOk result (IsSpanAt (Some object.now) index) }
 {
-    let fault = fault_at(object, index)?;
+    match object {
+        Object::Refused(refusal) => span_of(refusal, index),
+        _ => Err(Failure::InvalidArgument),
+    }
+}
+
+/// Returns where the fault of a rejected text at a position is.
+fn span_of(refusal: &Refusal, index: usize) -> Result<Span, Failure>
+    ensures { IfOk result (IsSpanOf refusal.now index) }
+{
+    match refusal {
+        Refusal::Faults(refused) => span_of_fault(&refused.errors, index),
+        Refusal::TooDeep(place) if index == 0 => Ok(*place),
+        Refusal::TooDeep(_) => Err(Failure::InvalidArgument),
+    }
+}
+
+/// Returns where the fault at a position is, of a text that was parsed.
+fn span_of_fault(faults: &[ParseSingleError], index: usize) -> Result<Span, Failure>
+    ensures { IfOk result (IsSpanOfFault faults.now index) }
+{
+    let fault = fault_at(faults, index)?;
     match fault.span() {
         Some(span) => Ok(Span {
             offset: span.offset(),
@@ -55,9 +86,35 @@ pub fn span_at(object: &Object, index: usize) -> Result<Span, Failure>
 /// Returns a text of the fault at a position: its code (0), its label (1) or its help (2). The text is empty if the fault
 /// has none.
 pub fn text_at(alloc: Global, object: &Object, index: usize, part: u8) -> Result<String, Failure>
-    ensures { IfOk result (λ text. IsTextAt (faults_held (Some object.now)) index part (string_bytes text)) }
+    ensures { IfOk result (λ text. IsTextAt (Some object.now) index part (string_bytes text)) }
 {
-    let fault = fault_at(object, index)?;
+    match object {
+        Object::Refused(refusal) => text_of(alloc, refusal, index, part),
+        _ => Err(Failure::InvalidArgument),
+    }
+}
+
+/// Returns a text of the fault of a rejected text at a position.
+fn text_of(alloc: Global, refusal: &Refusal, index: usize, part: u8) -> Result<String, Failure>
+    ensures { IfOk result (λ text. IsTextOf refusal.now index part (string_bytes text)) }
+{
+    match refusal {
+        Refusal::Faults(refused) => text_of_fault(alloc, &refused.errors, index, part),
+        Refusal::TooDeep(_) if index == 0 => deep_text(alloc, part),
+        Refusal::TooDeep(_) => Err(Failure::InvalidArgument),
+    }
+}
+
+/// Returns a text of the fault at a position, of a text that was parsed.
+fn text_of_fault(
+    alloc: Global,
+    faults: &[ParseSingleError],
+    index: usize,
+    part: u8,
+) -> Result<String, Failure>
+    ensures { IfOk result (λ text. IsTextOfFault faults.now index part (string_bytes text)) }
+{
+    let fault = fault_at(faults, index)?;
     match part {
         0 => Ok(String::from_str(alloc, fault.code())?),
         1 => match fault.label() {
@@ -68,6 +125,21 @@ pub fn text_at(alloc: Global, object: &Object, index: usize, part: u8) -> Result
             Some(help) => Ok(format!(in alloc; "{help}")?),
             None => Ok(String::new(alloc)),
         },
+        _ => Err(Failure::InvalidArgument),
+    }
+}
+
+/// Returns a text of the fault that a text nests too deeply.
+fn deep_text(alloc: Global, part: u8) -> Result<String, Failure>
+    ensures { IfOk result (λ text. deep_text part ≡ Some (string_bytes text)) }
+{
+    match part {
+        0 => Ok(String::from_str(alloc, "NestedTooDeeply")?),
+        1 => Ok(String::from_str(
+            alloc,
+            "more levels of parentheses and negations than the limit",
+        )?),
+        2 => Ok(String::new(alloc)),
         _ => Err(Failure::InvalidArgument),
     }
 }

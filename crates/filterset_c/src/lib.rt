@@ -5,13 +5,13 @@
 //! status: 0 if it did not fail.
 #![tactic(auto)]
 
-ghost use Rattle.std.specs.Prelude.{◌≡◌, ◌≢◌, ◌<◌, MatchOption, Some, None, IfOk, length, map, string_bytes};
+ghost use Rattle.std.specs.Prelude.{◌≡◌, ◌≢◌, MatchOption, Some, None, IfOk, map, string_bytes};
 ghost use Rattle.std.specs.List.{AllZip};
 ghost use Rattle.filterset_expression.specs.Expression.{has_leaf, is_group};
 ghost use Rattle.filterset_c.specs.Answers.{yes_or_no, HoldsFilterset, IsBinaryNumber, IsPrint, IsTestNumber};
-ghost use Rattle.filterset_c.specs.Faulty.{faults_held, IsSpanAt, IsTextAt};
+ghost use Rattle.filterset_c.specs.Faulty.{IsSpanAt, IsTextAt, fault_count};
 ghost use Rattle.filterset_c.specs.Parsing.{object_status, IsOutcome, IsStored, IsWorkspaceStored, ParsesIn};
-ghost use Rattle.filterset_c.specs.Workspaces.{Changes, HasFilter, HasGroups, HoldsWorkspace, IsOfMetadata, IsOfRecord};
+ghost use Rattle.filterset_c.specs.Workspaces.{Changes, HasDepth, HasFilter, HasGroups, HoldsWorkspace, IsOfMetadata, IsOfRecord};
 ghost use Rattle.filterset_c.specs.Written.{AreWritten, IsTextWritten, IsWritten, IsWrittenText};
 
 mod failure;
@@ -25,8 +25,7 @@ mod raw_box;
 mod workspaces;
 
 use failure::{Failure, status_of};
-use faults::{Span, copy_text, faults_of, span_at, text_at};
-use filterset_nesting::find_too_deep;
+use faults::{Span, copy_text, fault_count, span_at, text_at};
 use handle::Handle;
 use matching::{number_of_binary, test_number, test_numbers, yes_or_no};
 use object::{Object, Workspace};
@@ -34,13 +33,12 @@ use parsing::parse_in;
 use queries::{Binary, Test, Text};
 use std::alloc::Global;
 use std::mem::replace;
-use workspaces::{set_default_filter, set_groups, workspace_of_metadata, workspace_of_record};
+use workspaces::{
+    set_default_filter, set_depth, set_groups, workspace_of_metadata, workspace_of_record,
+};
 
 /// The version of the library: 1,000,000 times its major number, plus 1,000 times its minor one, plus its patch.
 const VERSION: u32 = 1_000;
-
-/// The status of a text that nests too deeply.
-const TOO_DEEP: u8 = 6;
 
 /// Returns the version of the library, as `VERSION` says.
 #[unsafe(no_mangle)]
@@ -89,7 +87,7 @@ fn object_status(object: &Object) -> u8
     ensures { result ≡ object_status object.now }
 {
     match object {
-        Object::Faults(_) => Failure::Rejected.code(),
+        Object::Refused(_) => Failure::Rejected.code(),
         _ => 0,
     }
 }
@@ -152,7 +150,25 @@ pub extern "C" fn filterset_workspace_set_groups(
     status_of(ended)
 }
 
-/// Sets the default filter of a workspace, or stores the faults of the text in `faults`. Filtersets that are parsed from
+/// Sets how many levels of parentheses and negations a text may have that is parsed from then on; 0 if there is no limit.
+#[unsafe(no_mangle)]
+pub extern "C" fn filterset_workspace_set_depth(
+    alloc: Global,
+    workspace: &mut Handle,
+    levels: usize,
+) -> u8
+    ensures set { result ≡ 0 → Changes (HasDepth levels) workspace.old.held workspace.new.held }
+    ensures failed { result ≢ 0 → workspace.new.held ≡ workspace.old.held }
+{
+    let Some(mut object) = take(alloc, workspace) else {
+        return Failure::WrongHandle.code();
+    };
+    let ended = set_depth(&mut object, levels);
+    give(alloc, workspace, object);
+    status_of(ended)
+}
+
+/// Sets the default filter of a workspace, or stores why the text is rejected in `faults`. Filtersets that are parsed from
 /// then on have it in place of each `default()`.
 #[unsafe(no_mangle)]
 pub extern "C" fn filterset_workspace_set_default_filter(
@@ -174,7 +190,7 @@ pub extern "C" fn filterset_workspace_set_default_filter(
     give(alloc, workspace, object);
     match ended {
         Ok(None) => 0,
-        Ok(Some(refused)) => store(alloc, faults, Ok(Object::Faults(refused))),
+        Ok(Some(refusal)) => store(alloc, faults, Ok(Object::Refused(refusal))),
         Err(failure) => failure.code(),
     }
 }
@@ -187,7 +203,8 @@ pub extern "C" fn filterset_workspace_free(alloc: Global, workspace: &mut Handle
     let _held = take(alloc, workspace);
 }
 
-/// Parses a filterset of a workspace. Stores the filterset in `parsed` (status 0), or the faults of the text (status 4).
+/// Parses a filterset of a workspace. Stores the filterset in `parsed` (status 0), or why the text is rejected (status 4):
+/// its faults, or that it nests too deeply.
 #[unsafe(no_mangle)]
 pub extern "C" fn filterset_parse(
     alloc: Global,
@@ -205,28 +222,6 @@ pub extern "C" fn filterset_parse(
     let made = parse_in(alloc, &object, text, kind);
     give(alloc, workspace, object);
     store(alloc, parsed, made)
-}
-
-/// Checks that a text nests by at most `limit` levels, before it is parsed. If it does not, writes the offset of the
-/// parenthesis or negation that passes the limit, and returns `TOO_DEEP`.
-#[unsafe(no_mangle)]
-pub extern "C" fn filterset_check_depth(
-    alloc: Global,
-    text: &[u8],
-    limit: usize,
-    offset: &mut usize,
-) -> u8
-    ensures within { result ≢ 6 → offset.new ≡ offset.old }
-    ensures too_deep { result ≡ 6 → offset.new < length text.now }
-{
-    match find_too_deep(alloc, text, limit) {
-        Ok(None) => 0,
-        Ok(Some(at)) => {
-            *offset = at;
-            TOO_DEEP
-        }
-        Err(_) => Failure::OutOfMemory.code(),
-    }
 }
 
 /// Writes 0 or 1, or 2 for unknown: whether the filterset matches the tests of a binary, if the binary decides that.
@@ -404,12 +399,12 @@ fn write_text(text: Result<String, Failure>, room: &mut [u8], text_length: &mut 
 #[unsafe(no_mangle)]
 pub extern "C" fn filterset_fault_count(alloc: Global, faults: &mut Handle) -> usize
     ensures kept { faults.new.held ≡ faults.old.held }
-    ensures count { result ≡ length (faults_held faults.old.held) }
+    ensures count { result ≡ fault_count faults.old.held }
 {
     let Some(object) = take(alloc, faults) else {
         return 0;
     };
-    let count = faults_of(&object).len();
+    let count = fault_count(&object);
     give(alloc, faults, object);
     count
 }
@@ -423,7 +418,7 @@ pub extern "C" fn filterset_fault_span(
     span: &mut Span,
 ) -> u8
     ensures kept { faults.new.held ≡ faults.old.held }
-    ensures written { result ≡ 0 → IsSpanAt (faults_held faults.old.held) index span.new }
+    ensures written { result ≡ 0 → IsSpanAt faults.old.held index span.new }
     ensures failed { result ≢ 0 → span.new ≡ span.old }
 {
     let Some(object) = take(alloc, faults) else {
@@ -452,7 +447,7 @@ pub extern "C" fn filterset_fault_text(
     text_length: &mut usize,
 ) -> u8
     ensures kept { faults.new.held ≡ faults.old.held }
-    ensures written { result ≡ 0 → IsWrittenText (IsTextAt (faults_held faults.old.held) index part) room.old room.new text_length.new }
+    ensures written { result ≡ 0 → IsWrittenText (IsTextAt faults.old.held index part) room.old room.new text_length.new }
     ensures failed { result ≢ 0 → (room.new ≡ room.old) × (text_length.new ≡ text_length.old) }
 {
     let Some(object) = take(alloc, faults) else {

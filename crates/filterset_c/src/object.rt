@@ -4,6 +4,7 @@ ghost use Rattle.filterset_expression.specs.Expression.{has_leaf, is_default, is
 ghost use Rattle.nextest_filtering.specs.Groups.{IsKnown};
 ghost use Rattle.filterset_c.specs.Facts.{is_known_prop};
 
+use crate::faults::Span;
 use nextest_filtering::{
     CompiledExpr, EvalContext, Filterset, FiltersetParseErrors, KnownGroups, PackageGraph,
 };
@@ -14,6 +15,8 @@ pub struct Workspace {
     pub graph: PackageGraph,
     pub known_groups: KnownGroups,
     pub default_filter: CompiledExpr,
+    /// How many levels of parentheses and negations a text may have; 0 if there is no limit.
+    pub depth: usize,
     ghost known: { IsKnown known_groups } by { is_known_prop known_groups },
     ghost no_default: { has_leaf is_default default_filter ≡ false },
     ghost no_group: { has_leaf is_group default_filter ≡ false },
@@ -39,11 +42,19 @@ impl BoundFilterset {
     }
 }
 
+/// Why a text was rejected.
+#[derive(Debug, Drop)]
+pub enum Refusal {
+    /// Its faults.
+    Faults(FiltersetParseErrors),
+    /// Where it passes the workspace's limit of levels.
+    TooDeep(Span),
+}
+
 /// What a handle holds.
 #[derive(Debug, Drop)]
 pub enum Object {
     Workspace(Workspace),
     Filterset(BoundFilterset),
-    /// A rejected text and its faults.
-    Faults(FiltersetParseErrors),
+    Refused(Refusal),
 }

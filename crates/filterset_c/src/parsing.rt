@@ -1,18 +1,21 @@
 //! Parses filtersets.
-ghost use Rattle.std.specs.Prelude.{◌≡◌, ◌≢◌, false, IfErr, IfOk, Some};
+ghost use Rattle.std.specs.Prelude.{◌≡◌, ◌≢◌, false, IfErr, IfNone, IfOk, IfSome, Some};
 ghost use Rattle.filterset_expression.specs.Expression.{has_leaf, is_default, is_group};
-ghost use Rattle.filterset_c.specs.Parsing.{HasKind, IsDefaultFilter, IsParsed, ParsesIn};
+ghost use Rattle.filterset_faults.specs.declared.span.SourceSpan.{SourceSpan};
+ghost use Rattle.filterset_grammar.specs.Grammar.{Spells};
+ghost use Rattle.filterset_grammar.specs.Tree.{Tree};
+ghost use Rattle.filterset_nesting.specs.Depth.{depth};
+ghost use Rattle.filterset_c.specs.Parsing.{HasKind, IsDefaultFilter, IsDefaultRead, IsParsed, IsRead, IsRefused, IsTooDeep, IsWithin, ParsesIn};
 ghost use Rattle.filterset_c.specs.declared.failure.Failure.TheVariants as failures;
-ghost use Rattle.filterset_c.specs.declared.object.Object.TheVariants as objects;
 ghost use Rattle.filterset_faults.specs.declared.kind.FiltersetKind.TheVariants as kinds;
 
 use crate::failure::Failure;
-use crate::object::{BoundFilterset, Object, Workspace};
+use crate::faults::Span;
+use crate::object::{BoundFilterset, Object, Refusal, Workspace};
 use crate::queries::text_of;
-use nextest_filtering::{
-    CompiledExpr, Filterset, FiltersetKind, FiltersetParseErrors, ParseContext, ParseRefusal,
-};
-use std::alloc::Global;
+use filterset_nesting::find_too_deep;
+use nextest_filtering::{CompiledExpr, Filterset, FiltersetKind, ParseContext, ParseRefusal};
+use std::alloc::{AllocError, Global};
 
 /// Returns the kind that has this number.
 fn kind_of(number: u8) -> Result<FiltersetKind, Failure>
@@ -28,8 +31,48 @@ fn kind_of(number: u8) -> Result<FiltersetKind, Failure>
     }
 }
 
-/// Parses a filterset of the workspace. Returns the faults of the text if it has any.
+/// Returns where a text passes the limit of levels, if it does. The only error is out of memory.
+fn find_deep_place(alloc: Global, limit: usize, text: &[u8]) -> Result<Option<Span>, AllocError>
+    ensures within { IfOk result (λ found. (e : Tree SourceSpan) → Spells text.now e
+        → IfNone found (IsWithin limit (depth e))) }
+    ensures deep { IfOk result (λ found. IfSome found (IsTooDeep limit text.now)) }
+{
+    if limit == 0 {
+        return Ok(None);
+    }
+    match find_too_deep(alloc, text, limit)? {
+        Some(offset) => Ok(Some(Span {
+            offset,
+            length: if text[offset] == b'n' { 3 } else { 1 },
+        })),
+        None => Ok(None),
+    }
+}
+
+/// Parses a filterset of the workspace, without a limit. Returns the faults of the text if it has any.
 fn parse_text(
+    alloc: Global,
+    workspace: &Workspace,
+    text: &str,
+    kind: FiltersetKind,
+) -> Result<Object, Failure>
+    ensures parsed { IfOk result (IsRead workspace.now text.now kind) }
+    ensures failed { IfErr result (λ failure. failure ≢ failures.Rejected) }
+{
+    let input = String::from_str(alloc, text)?;
+    let context = ParseContext::new(alloc, &workspace.graph)?;
+    match Filterset::parse(alloc, input, &context, kind, &workspace.known_groups) {
+        Ok(filterset) => Ok(Object::Filterset(BoundFilterset {
+            filterset,
+            default_filter: workspace.default_filter.try_clone(alloc)?,
+        })),
+        Err(ParseRefusal::Faults(faults)) => Ok(Object::Refused(Refusal::Faults(faults))),
+        Err(ParseRefusal::OutOfMemory { .. }) => Err(Failure::OutOfMemory),
+    }
+}
+
+/// Parses a filterset of the workspace. Returns why the text is rejected if it is.
+fn parse_within(
     alloc: Global,
     workspace: &Workspace,
     bytes: &[u8],
@@ -38,15 +81,10 @@ fn parse_text(
     ensures parsed { IfOk result (IsParsed workspace.now bytes.now kind) }
     ensures failed { IfErr result (λ failure. failure ≢ failures.Rejected) }
 {
-    let text = String::from_str(alloc, text_of(bytes)?)?;
-    let context = ParseContext::new(alloc, &workspace.graph)?;
-    match Filterset::parse(alloc, text, &context, kind, &workspace.known_groups) {
-        Ok(filterset) => Ok(Object::Filterset(BoundFilterset {
-            filterset,
-            default_filter: workspace.default_filter.try_clone(alloc)?,
-        })),
-        Err(ParseRefusal::Faults(faults)) => Ok(Object::Faults(faults)),
-        Err(ParseRefusal::OutOfMemory { .. }) => Err(Failure::OutOfMemory),
+    let text = text_of(bytes)?;
+    match find_deep_place(alloc, workspace.depth, bytes)? {
+        Some(place) => Ok(Object::Refused(Refusal::TooDeep(place))),
+        None => parse_text(alloc, workspace, text, kind),
     }
 }
 
@@ -58,32 +96,50 @@ pub fn parse_in(alloc: Global, object: &Object, bytes: &[u8], kind: u8) -> Resul
     match object {
         Object::Workspace(workspace) => {
             let filterset_kind = kind_of(kind)?;
-            let made = parse_text(alloc, workspace, bytes, filterset_kind)?;
+            let made = parse_within(alloc, workspace, bytes, filterset_kind)?;
             Ok(made)
         }
         _ => Err(Failure::WrongHandle),
     }
 }
 
-/// Parses a default filter of the workspace. Returns the faults of the text if it has any.
+/// Parses a default filter of the workspace, without a limit. Returns the faults of the text if it has any.
+fn parse_default_text(
+    alloc: Global,
+    workspace: &Workspace,
+    text: &str,
+) -> Result<Result<CompiledExpr, Refusal>, Failure>
+    ensures filter { IfOk result (λ parsed. IfOk parsed (IsDefaultRead workspace.now text.now)) }
+    ensures no_default { IfOk result (λ parsed. IfOk parsed (λ filter. has_leaf is_default filter ≡ false)) }
+    ensures no_group { IfOk result (λ parsed. IfOk parsed (λ filter. has_leaf is_group filter ≡ false)) }
+    ensures refused { IfOk result (λ parsed. IfErr parsed (IsRefused workspace.now text.now kinds.DefaultFilter)) }
+    ensures failed { IfErr result (λ failure. failure ≢ failures.Rejected) }
+{
+    let input = String::from_str(alloc, text)?;
+    let context = ParseContext::new(alloc, &workspace.graph)?;
+    let kind = FiltersetKind::DefaultFilter;
+    match Filterset::parse(alloc, input, &context, kind, &workspace.known_groups) {
+        Ok(filterset) => Ok(Ok(filterset.compiled)),
+        Err(ParseRefusal::Faults(faults)) => Ok(Err(Refusal::Faults(faults))),
+        Err(ParseRefusal::OutOfMemory { .. }) => Err(Failure::OutOfMemory),
+    }
+}
+
+/// Parses a default filter of the workspace. Returns why the text is rejected if it is.
 pub fn parse_default_filter(
     alloc: Global,
     workspace: &Workspace,
     bytes: &[u8],
-) -> Result<Result<CompiledExpr, FiltersetParseErrors>, Failure>
+) -> Result<Result<CompiledExpr, Refusal>, Failure>
     ensures filter { IfOk result (λ parsed. IfOk parsed (IsDefaultFilter workspace.now bytes.now)) }
     ensures no_default { IfOk result (λ parsed. IfOk parsed (λ filter. has_leaf is_default filter ≡ false)) }
     ensures no_group { IfOk result (λ parsed. IfOk parsed (λ filter. has_leaf is_group filter ≡ false)) }
-    ensures faults { IfOk result (λ parsed. IfErr parsed (λ refused.
-        IsParsed workspace.now bytes.now kinds.DefaultFilter (objects.Faults refused))) }
+    ensures refused { IfOk result (λ parsed. IfErr parsed (IsRefused workspace.now bytes.now kinds.DefaultFilter)) }
     ensures failed { IfErr result (λ failure. failure ≢ failures.Rejected) }
 {
-    let text = String::from_str(alloc, text_of(bytes)?)?;
-    let context = ParseContext::new(alloc, &workspace.graph)?;
-    let kind = FiltersetKind::DefaultFilter;
-    match Filterset::parse(alloc, text, &context, kind, &workspace.known_groups) {
-        Ok(filterset) => Ok(Ok(filterset.compiled)),
-        Err(ParseRefusal::Faults(faults)) => Ok(Err(faults)),
-        Err(ParseRefusal::OutOfMemory { .. }) => Err(Failure::OutOfMemory),
+    let text = text_of(bytes)?;
+    match find_deep_place(alloc, workspace.depth, bytes)? {
+        Some(place) => Ok(Err(Refusal::TooDeep(place))),
+        None => parse_default_text(alloc, workspace, text),
     }
 }

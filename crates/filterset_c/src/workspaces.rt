@@ -7,23 +7,23 @@ ghost use Rattle.filterset_report.specs.Record.{IsRecord};
 ghost use Rattle.filterset_report.specs.Rows.{record_row};
 ghost use Rattle.filterset_sources.specs.Metadata.{IsMetadata};
 ghost use Rattle.nextest_filtering.specs.Groups.{AreGroups, IsKnown};
-ghost use Rattle.filterset_c.specs.Parsing.{IsParsed};
-ghost use Rattle.filterset_c.specs.Workspaces.{Changes, HasFilter, HasGroups, HoldsWorkspace, IsOfMetadata, IsOfRecord};
+ghost use Rattle.filterset_c.specs.Parsing.{IsRefused};
+ghost use Rattle.filterset_c.specs.Workspaces.{Changes, HasDepth, HasFilter, HasGroups, HoldsWorkspace, IsOfMetadata, IsOfRecord};
 ghost use Rattle.filterset_c.specs.declared.failure.Failure.TheVariants as failures;
-ghost use Rattle.filterset_c.specs.declared.object.Object.TheVariants as objects;
 
 use crate::failure::Failure;
-use crate::object::{Object, Workspace};
+use crate::object::{Object, Refusal, Workspace};
 use crate::parsing::parse_default_filter;
 use crate::queries::{Text, text_of};
 use filterset_json::{Entry, EntryRefusal};
 use filterset_report::Record;
 use filterset_sources::{SourceRefusal, read_json, read_metadata};
-use nextest_filtering::{
-    CompiledExpr, FiltersetParseErrors, GraphRefusal, KnownGroups, PackageGraph, PackageMetadata,
-};
+use nextest_filtering::{CompiledExpr, GraphRefusal, KnownGroups, PackageGraph, PackageMetadata};
 use serde_json::Value;
 use std::alloc::Global;
+
+/// The limit of levels of a workspace that is not told otherwise.
+const USUAL_DEPTH: usize = 256;
 
 /// Returns why bytes describe no workspace.
 fn failure_of(refusal: &SourceRefusal) -> Failure {
@@ -65,6 +65,7 @@ pub fn workspace_of_metadata(alloc: Global, bytes: &[u8]) -> Result<Workspace, F
         graph,
         known_groups,
         default_filter: CompiledExpr::ALL,
+        depth: USUAL_DEPTH,
     })
 }
 
@@ -110,6 +111,7 @@ pub fn workspace_of_record(alloc: Global, bytes: &[u8]) -> Result<Workspace, Fai
         graph,
         known_groups,
         default_filter: CompiledExpr::ALL,
+        depth: USUAL_DEPTH,
     })
 }
 
@@ -149,16 +151,30 @@ pub fn set_groups(alloc: Global, object: &mut Object, texts: &[Text<'_>]) -> Res
     }
 }
 
-/// Sets the default filter of a workspace, or returns the faults of the text. Only success changes the workspace.
+/// Sets the limit of levels of a workspace. A failure changes nothing.
+pub fn set_depth(object: &mut Object, levels: usize) -> Result<(), Failure>
+    ensures set { OnOk result (Changes (HasDepth levels) (Some object.old) (Some object.new)) }
+    ensures failed { IfErr result (λ _. object.new ≡ object.old) }
+{
+    match object {
+        Object::Workspace(workspace) => {
+            workspace.depth = levels;
+            Ok(())
+        }
+        _ => Err(Failure::WrongHandle),
+    }
+}
+
+/// Sets the default filter of a workspace, or returns why the text is rejected. Only success changes the workspace.
 pub fn set_default_filter(
     alloc: Global,
     object: &mut Object,
     bytes: &[u8],
-) -> Result<Option<FiltersetParseErrors>, Failure>
-    ensures set { IfOk result (λ faults. IfNone faults
+) -> Result<Option<Refusal>, Failure>
+    ensures set { IfOk result (λ refused. IfNone refused
         (Changes (HasFilter bytes.now) (Some object.old) (Some object.new))) }
-    ensures rejected { IfOk result (λ faults. IfSome faults (λ refused.
-        HoldsWorkspace (λ w. IsParsed w bytes.now kinds.DefaultFilter (objects.Faults refused)) (Some object.old) × (object.new ≡ object.old))) }
+    ensures rejected { IfOk result (λ refused. IfSome refused (λ refusal.
+        HoldsWorkspace (λ w. IsRefused w bytes.now kinds.DefaultFilter refusal) (Some object.old) × (object.new ≡ object.old))) }
     ensures failed { IfErr result (λ failure. (failure ≢ failures.Rejected) × (object.new ≡ object.old)) }
 {
     match object {
@@ -167,7 +183,7 @@ pub fn set_default_filter(
                 workspace.default_filter = filter;
                 Ok(None)
             }
-            Err(faults) => Ok(Some(faults)),
+            Err(refusal) => Ok(Some(refusal)),
         },
         _ => Err(Failure::WrongHandle),
     }

@@ -125,7 +125,11 @@ fn read_text(rest: &mut Peekable<Chars<'_>>) -> String {
     loop {
         match rest.next().expect("a closing quote") {
             '"' => return text,
-            '\\' => text.push(rest.next().expect("an escape")),
+            '\\' => text.push(match rest.next().expect("an escape") {
+                'n' => '\n',
+                'r' => '\r',
+                c => c,
+            }),
             c => text.push(c),
         }
     }

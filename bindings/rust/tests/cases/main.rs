@@ -4,8 +4,8 @@ mod json;
 
 use json::Json;
 use nextest_filtering_proved::{
-    version, BinaryQuery, BuildPlatform, Filterset, FiltersetError, FiltersetKind, GroupLookup, KnownGroups,
-    ParseContext, ParseSingleError, SourceSpan, TestQuery,
+    version, BinaryQuery, BuildPlatform, Filterset, FiltersetError, FiltersetKind, FiltersetParseErrors, GroupLookup,
+    KnownGroups, ParseContext, ParseSingleError, SourceSpan, TestQuery,
 };
 
 fn cases() -> Json {
@@ -115,8 +115,11 @@ fn rejected() {
 #[test]
 fn nested() -> Result<(), FiltersetError> {
     let cases = cases();
-    let context = ParseContext::from_record(cases.at("workspaces").at("parsers").write().as_bytes())?;
     for case in cases.at("nested").list() {
+        let mut context = ParseContext::from_record(cases.at("workspaces").at("parsers").write().as_bytes())?;
+        if let Some(depth) = case.get("depth") {
+            context.set_depth(depth.number())?;
+        }
         let text: String = case
             .at("text")
             .list()
@@ -126,10 +129,20 @@ fn nested() -> Result<(), FiltersetError> {
                 piece => piece.list()[0].text().repeat(piece.list()[1].number()),
             })
             .collect();
-        let parsed = Filterset::parse(text, &context, FiltersetKind::Test, &KnownGroups::default());
+        let parsed = Filterset::parse(text.clone(), &context, FiltersetKind::Test, &KnownGroups::default());
         match case.at("offset") {
             Json::Null => assert_eq!(parsed?.matches_binary(&binary_of(&cases, "lexer"))?, Some(true)),
-            offset => assert_eq!(parsed.err(), Some(FiltersetError::TooDeep { offset: offset.number() })),
+            offset => {
+                let errors = vec![ParseSingleError {
+                    code: "NestedTooDeeply".to_owned(),
+                    span: SourceSpan { offset: offset.number(), length: case.at("length").number() },
+                    label: "more levels of parentheses and negations than the limit".to_owned(),
+                    help: String::new(),
+                }];
+                let refused = FiltersetParseErrors { input: text.clone(), errors };
+                assert_eq!(parsed.err(), Some(FiltersetError::Faults(refused.clone())));
+                assert_eq!(context.set_default_filter(&text), Err(FiltersetError::Faults(refused)));
+            }
         }
     }
     Ok(())

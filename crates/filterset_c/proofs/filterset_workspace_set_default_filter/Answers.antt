@@ -13,7 +13,7 @@ returns-in-Ok-Some-clause-kept c zero = absurd (rejected_status _ _ _ _ c.store.
 pub returns-in-Ok-Some-clause-rejected : goal.returns-in-Ok-Some-clause-rejected
 returns-in-Ok-Some-clause-rejected c not =
     let is_held = ap (λ (object : Object). Some object) c.deref_mut.ensures.value ∙ sym c.in-Some.ensures.taken in
-    let found : c.in-Ok-Some.field-0 ≡ Some c.in-Ok-Some.refused = first_of (search (rules, c.in-Ok-Some.refused-is), grind (arith, c.in-Ok-Some.refused-is, c.in-Ok-Some.field-0-is)) in
-    let parsed = of_some _ c.in-Ok-Some.field-0 c.in-Ok-Some.refused found c.in-Ok-Some.ensures.rejected in
+    let found : c.in-Ok-Some.field-0 ≡ Some c.in-Ok-Some.refusal = first_of (search (rules, c.in-Ok-Some.refusal-is), grind (arith, c.in-Ok-Some.refusal-is, c.in-Ok-Some.field-0-is)) in
+    let parsed = of_some _ c.in-Ok-Some.field-0 c.in-Ok-Some.refusal found c.in-Ok-Some.ensures.rejected in
     subst (λ (held : Option Object). IsOutcome (ParsesIn held c.args.text.now 3) c.args.faults.now.held c.store.result c.store.new.handle.held) is_held
-    (rejected_outcome _ _ c.in-Ok-Some.refused c.store.result _ (parses_default _ _ _ parsed.0) c.store.ensures)
+    (rejected_outcome _ _ c.in-Ok-Some.refusal c.store.result _ (parses_default _ _ _ parsed.0) c.store.ensures)

@@ -1,6 +1,5 @@
 use Rattle.std.proofs.Common.{◌↔◌, ◌∙◌, ℕ, List, IsTrue, subst, sym}
 use Rattle.filterset_expression.specs.Meaning.{Meaning}
-use Rattle.filterset_expression.specs.declared.query.BinaryQuery.{BinaryQuery}
 use Rattle.filterset_language.specs.Views.{tree_of}
 use Rattle.filterset_c.specs.Queries.{matches_named, IsAbout}
 use Rattle.filterset_c.proofs.matching.match_test.Goals as goal

@@ -1,19 +1,14 @@
-use Rattle.std.proofs.Common.{◌∙◌, ℕ, List, subst}
-use Rattle.filterset_expression.specs.Meaning.{IsCompiled}
-use Rattle.filterset_faults.specs.declared.kind.FiltersetKind.TheVariants.{DefaultFilter}
-use Rattle.filterset_graph.specs.declared.package.PackageMetadata.{PackageMetadata}
-use Rattle.filterset_language.specs.Views.{tree_of}
-use Rattle.nextest_filtering.specs.Compiling.{packages_of, IsFiltersetOf}
+use Rattle.std.proofs.Common.{Option, subst}
+use Rattle.std.specs.Prelude.{IfNone}
+use Rattle.filterset_nesting.specs.Depth.{depth}
+use Rattle.filterset_c.specs.Parsing.{IsWithin}
+use Rattle.filterset_c.specs.declared.faults.Span.{Span}
+use Rattle.filterset_c.proofs.Limits.{limited_filter}
 use Rattle.filterset_c.proofs.parsing.parse_default_filter.Goals as goal
 
-pub returns-in-Ok-clause-filter : goal.returns-in-Ok-clause-filter
-returns-in-Ok-clause-filter c =
-    let groups = c.args.workspace.now.known_groups in
-    let made = c.in-Ok.filterset in
-    let e = tree_of made.parsed in
-    let accepted = subst (λ (text : List ℕ). IsFiltersetOf text DefaultFilter (packages_of c.in_ok-context.context) groups e)
-    (c.in_ok-text.ensures.ok ∙ c.in_ok-text_of.ensures) c.in-Ok.ensures.accepted in (
-      e,
-      subst (λ (packages : List PackageMetadata). IsFiltersetOf c.args.bytes.now DefaultFilter packages groups e) c.in_ok-context.ensures accepted,
-      subst (λ (packages : List PackageMetadata). IsCompiled packages e made.compiled) c.in_ok-context.ensures c.in-Ok.ensures.compiled,
-    )
+pub returns-in-None-clause-filter : goal.returns-in-None-clause-filter
+returns-in-None-clause-filter c =
+    let workspace = c.args.workspace.now in
+    limited_filter workspace c.args.bytes.now c.in_ok-text.text.now c.parse_default_text.result c.in_ok-text.ensures
+    (λ e spells. subst (λ (found : Option Span). IfNone found (IsWithin workspace.depth (depth e))) c.in-None.is (c.in_ok-place.ensures.within e spells))
+    c.parse_default_text.ensures.filter

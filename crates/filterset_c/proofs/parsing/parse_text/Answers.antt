@@ -1,4 +1,4 @@
-use Rattle.std.proofs.Common.{◌∙◌, ℕ, List, subst}
+use Rattle.std.proofs.Common.{ℕ, List, subst}
 use Rattle.filterset_expression.specs.Meaning.{IsCompiled}
 use Rattle.filterset_graph.specs.declared.package.PackageMetadata.{PackageMetadata}
 use Rattle.filterset_language.specs.Views.{tree_of}
@@ -11,9 +11,9 @@ returns-in-Ok-clause-parsed c =
     let made = c.in-Ok.filterset in
     let e = tree_of made.parsed in
     let accepted = subst (λ (text : List ℕ). IsFiltersetOf text c.args.kind (packages_of c.in_ok-context.context) groups e)
-    (c.in_ok-text.ensures.ok ∙ c.in_ok-text_of.ensures) c.in-Ok.ensures.accepted in
+    c.in_ok-input.ensures.ok c.in-Ok.ensures.accepted in
     record {
-      accepted = subst (λ (packages : List PackageMetadata). IsFiltersetOf c.args.bytes.now c.args.kind packages groups e) c.in_ok-context.ensures accepted;
+      accepted = subst (λ (packages : List PackageMetadata). IsFiltersetOf c.args.text.now c.args.kind packages groups e) c.in_ok-context.ensures accepted;
       compiled = subst (λ (packages : List PackageMetadata). IsCompiled packages e made.compiled) c.in_ok-context.ensures c.in-Ok.ensures.compiled;
       default = c.in_ok-try_clone-in-Ok.ensures;
     }

@@ -9,4 +9,5 @@ returns c = record {
   packages = c.in_ok-graph.ensures;
   groups = c.global_only-known_groups.ensures.global;
   default = refl;
+  depth = refl;
 }

@@ -12,4 +12,5 @@ returns c = record {
   packages = c.in_ok-graph.ensures;
   groups = c.in_ok-known_groups.ensures.groups;
   default = refl;
+  depth = refl;
 }

@@ -1,0 +1,19 @@
+use Rattle.std.proofs.Common.{ℕ, List, subst}
+use Rattle.filterset_expression.specs.Meaning.{IsCompiled}
+use Rattle.filterset_faults.specs.declared.kind.FiltersetKind.TheVariants.{DefaultFilter}
+use Rattle.filterset_graph.specs.declared.package.PackageMetadata.{PackageMetadata}
+use Rattle.filterset_language.specs.Views.{tree_of}
+use Rattle.nextest_filtering.specs.Compiling.{packages_of, IsFiltersetOf}
+use Rattle.filterset_c.proofs.parsing.parse_default_text.Goals as goal
+
+pub returns-in-Ok-clause-filter : goal.returns-in-Ok-clause-filter
+returns-in-Ok-clause-filter c =
+    let groups = c.args.workspace.now.known_groups in
+    let made = c.in-Ok.filterset in
+    let e = tree_of made.parsed in
+    let accepted = subst (λ (text : List ℕ). IsFiltersetOf text DefaultFilter (packages_of c.in_ok-context.context) groups e)
+    c.in_ok-input.ensures.ok c.in-Ok.ensures.accepted in (
+      e,
+      subst (λ (packages : List PackageMetadata). IsFiltersetOf c.args.text.now DefaultFilter packages groups e) c.in_ok-context.ensures accepted,
+      subst (λ (packages : List PackageMetadata). IsCompiled packages e made.compiled) c.in_ok-context.ensures c.in-Ok.ensures.compiled,
+    )
