@@ -1,7 +1,8 @@
 # make              proves and builds the programs, as ./filterset does, and makes their manual pages and completions
-# make install      copies them to PREFIX, below DESTDIR if that is given; with the library for C if that is built
+# make library      proves and builds the library for C
+# make install      copies all to PREFIX, below DESTDIR if that is given; with the library for C if that is built
 # make uninstall    removes what make install copied, and nothing else
-# make check        runs the gate
+# make check        builds the library for C, and runs the gate, which then tests it
 # make dist         writes the sources as OUT/filterset-VERSION.tar.gz
 # docs/INSTALL.md has more.
 PREFIX = /usr/local
@@ -10,7 +11,7 @@ OUT = out
 COMMAND = crates/filterset_command/out/filterset_command
 VERSION := $(shell sed -n 's/^const VERSION: &str = "\(.*\)";$$/\1/p' crates/filterset_command/src/arguments.rt)
 
-.PHONY: all programs extras install uninstall check dist
+.PHONY: all programs extras library install uninstall check dist
 all: programs
 	@$(MAKE) --no-print-directory extras
 
@@ -23,6 +24,9 @@ extras:
 	mkdir -p '$(OUT)/completions'
 	for shell in bash zsh fish; do $(COMMAND) completions $$shell > '$(OUT)'/completions/$$shell || exit; done
 
+library:
+	scripts/library.sh '$(OUT)'
+
 install:
 	scripts/install.sh install '$(OUT)' '$(VERSION)' '$(PREFIX)' '$(DESTDIR)'
 
@@ -30,7 +34,8 @@ uninstall:
 	scripts/install.sh uninstall '$(OUT)' '$(VERSION)' '$(PREFIX)' '$(DESTDIR)'
 
 check:
-	rt ci
+	scripts/library.sh out
+	bash .ci/run
 
 dist:
 	mkdir -p '$(OUT)'

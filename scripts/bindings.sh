@@ -1,15 +1,13 @@
 #!/bin/bash
-# Tests the library for C, and the callers in bindings/, with the library that `rt lib` made in crates/filterset_c/out/:
+# Tests the library for C that scripts/library.sh built in out/lib/, and the callers in bindings/:
 # - the header compiles as C and as C++, and declares just the functions that the library exports;
 # - the example in C writes what it should, also under valgrind, and with each request for memory refused in turn;
 # - the callers in C, Python and Rust give the answers of bindings/cases.json.
-# What the machine or crates/filterset_c/out/ lacks is skipped, and counted as skipped. The last line is
-# 'N passed, M failed'.
+# What is not built, or what the machine lacks, is skipped, and counted as skipped. The last line is 'N passed, M failed'.
 set -uo pipefail
 source "$(dirname "${BASH_SOURCE[0]}")/lib.sh"
 compiler=${CC:-cc}
-archive=crates/filterset_c/out/libfilterset_c.a
-lib=$PWD/crates/filterset_c/out
+lib=$PWD/out/lib
 skipped=0
 
 skip() {
@@ -45,16 +43,8 @@ int main(void) { filterset parsed = {0}; filterset_free(&parsed); return (int)fi
     try "the header in C++" "${CXX:-c++}" -std=c++11 -Wall -Wextra -Wpedantic -Werror -Ibindings/c -c "$room/header.cc" -o "$room/header.o"
 }
 
-# Makes the two forms of the library, libfilterset.a and libfilterset.so, beside what `rt lib` made: with what it needs to
-# ask the C library for memory, and nothing else.
-make_libraries() {
-    local heap
-    heap=$(dirname "$(rt doc)")/c/liblibc_c.a
-    mkdir "$room/heap" && (cd "$room/heap" && ar x "$heap") && cp "$archive" "$lib/libfilterset.a" &&
-        ar rsD "$lib/libfilterset.a" "$room"/heap/*.o &&
-        "$compiler" -shared -o "$lib/libfilterset.so" -Wl,-soname,libfilterset.so.0 -Wl,--whole-archive "$archive" \
-            -Wl,--no-whole-archive "$heap" -Wl,--exclude-libs,liblibc_c.a -Wl,--no-undefined
-}
+# Returns whether no source is newer than the library.
+is_current() { ! find crates crates.txt -name out -prune -o -type f -newer "$lib/libfilterset.so" -print -quit | grep .; }
 
 # Compares the functions of the header with those that the shared library exports.
 exports() {
@@ -122,16 +112,15 @@ in_rust() {
 }
 
 headers
-if [ ! -f "$archive" ]; then
-    skip "the library and its callers" "there is no $archive: run rt lib in crates/filterset_c"
+if [ ! -f "$lib/libfilterset.so" ]; then
+    skip "the library and its callers" "there is no out/lib/libfilterset.so: run scripts/library.sh"
     end
 fi
 if ! has "$compiler"; then
     skip "the library and its callers" "there is no C compiler"
     end
 fi
-try "the two forms of the library" make_libraries
-if [ ! -f "$lib/libfilterset.so" ]; then end; fi
+try "the library is of these sources" is_current
 try "the exported functions" exports
 in_c
 in_python

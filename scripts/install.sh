@@ -10,7 +10,7 @@ set -euo pipefail
 cd "$(dirname "${BASH_SOURCE[0]}")/.."
 task=$1 out=$2 version=$3 top=${5:-}$4
 list=share/doc/filterset/installed
-library=crates/filterset_c/out
+library=$out/lib
 
 say() { echo "install: $*" >&2; }
 

@@ -136,6 +136,7 @@ is_refused() { ! makes install "$@"; }
 
 holds "make install before make" is_refused
 holds "make extras" makes extras
+if [ -d out/lib ]; then cp -r out/lib "$room/made/lib"; fi
 holds "make install" makes install
 try_programs
 try_pages

@@ -1,5 +1,5 @@
 #!/bin/bash
-# Makes the files of a release, in a clean clone whose gate has passed:
+# Makes the files of a release, in a clean clone in which `make check` has passed:
 #
 #     scripts/release.sh VERSION FOLDER
 #
@@ -16,6 +16,7 @@ cd "$(dirname "${BASH_SOURCE[0]}")/.."
 if [ $# -ne 2 ]; then sed -n '2,4s/^# \{0,1\}//p' scripts/release.sh >&2; exit 2; fi
 version=$1 folder=$2 name=filterset-$1-x86_64-linux
 programs=(crates/filterset_command/out/filterset_command crates/filterset_cli/out/filterset_cli)
+built=("${programs[@]}" out/lib/libfilterset.a out/lib/libfilterset.so)
 
 die() {
     echo "release: $*" >&2
@@ -25,11 +26,11 @@ die() {
 # Checks that what is here may be released.
 check_clone() {
     [ -z "$(git status --porcelain)" ] || die "the clone is not clean"
-    local program newer
-    for program in "${programs[@]}"; do
-        [ -x "$program" ] || die "there is no $program: run bash .ci/run first"
-        newer=$(find crates crates.txt -name out -prune -o -type f -newer "$program" -print -quit)
-        [ -z "$newer" ] || die "$newer is newer than $program: run bash .ci/run first"
+    local file newer
+    for file in "${built[@]}"; do
+        [ -f "$file" ] || die "there is no $file: run make check first"
+        newer=$(find crates crates.txt -name out -prune -o -type f -newer "$file" -print -quit)
+        [ -z "$newer" ] || die "$newer is newer than $file: run make check first"
     done
     [ "$("${programs[0]}" --version)" = "filterset $version" ] || die "the program says that it is $("${programs[0]}" --version)"
 }
@@ -37,6 +38,7 @@ check_clone() {
 # Installs below a folder with this prefix, without what only a debugger reads.
 stage() {
     make -s extras OUT="$room/made"
+    cp -r out/lib "$room/made"
     make -s install OUT="$room/made" DESTDIR="$1" PREFIX="$2"
     strip "$1$2"/bin/*
     if [ -d "$1$2/lib" ]; then find "$1$2/lib" -type f -name '*.so.*' -exec strip --strip-unneeded {} +; fi
@@ -106,7 +108,7 @@ filterset $version
 
 commit: $(git rev-parse HEAD)
 proved by: $(rt version)
-gate: bash .ci/run, in a clone of the commit, with this kit
+gate: make check, in a clone of the commit, with this kit
 EOF
 }
 
