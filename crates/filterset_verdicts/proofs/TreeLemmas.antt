@@ -89,10 +89,11 @@ first_and_others [] x some at = absurd (omega (arith, some))
 first_and_others (y ∷ xs) x some at = ap (λ z. z ∷ xs) at
 
 -- there are as many filtersets as rows, so there is one
-pub some_filterset : (packages : List PackageMetadata) (groups : KnownGroups) (row : TextRow) (rows : List TextRow) (filters : List Filterset)
-    → AllZip (IsFiltersetFor packages groups) (row ∷ rows) filters → 0 < length filters
-some_filterset packages groups row rows [] are = absurd are
-some_filterset packages groups row rows (f ∷ filters) are = omega arith
+pub some_filterset : (packages : List PackageMetadata) (groups : KnownGroups) (rows : List TextRow) (filters : List Filterset)
+    → AllZip (IsFiltersetFor packages groups) rows filters → 0 < length rows → 0 < length filters
+some_filterset packages groups [] filters are some = absurd (omega (arith, some))
+some_filterset packages groups (row ∷ rows) [] are some = absurd are
+some_filterset packages groups (row ∷ rows) (f ∷ filters) are some = omega arith
 
 -- the elements behind the first are all others
 pub others_whole : {A : Type 0} (xs : List A) → take (length xs - 1) (drop 1 xs) ≡ drop 1 xs

@@ -1,2 +1,4 @@
 pub mod VerdictText
+pub mod VerdictJson
+pub mod VerdictForm
 pub mod Verdicts

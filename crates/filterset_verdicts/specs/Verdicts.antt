@@ -1,9 +1,8 @@
 -- What questions about filtersets and every possible test are answered.
-use Rattle.std.specs.Prelude.{◌≡◌, ◌↔◌, ◌∷◌, [], Bool, true, false, IsTrue, List, codes, map}
+use Rattle.std.specs.Prelude.{◌≡◌, ◌↔◌, [], ◌∷◌, Bool, true, false, IsTrue, List, map}
 use Rattle.std.specs.List.{AllZip}
-use Rattle.filterset_answers.specs.Checked.{TextRow}
+use Rattle.filterset_answers.specs.Checked.{TextRow, text_row}
 use Rattle.filterset_answers.specs.Compiled.{AnswersTexts, Telling}
-use Rattle.filterset_answers.specs.Entries.{numbered_rows, test_row}
 use Rattle.filterset_answers.specs.declared.form.Form.{Form}
 use Rattle.filterset_answers.specs.declared.setting.Setting.{Setting}
 use Rattle.filterset_answers.specs.declared.text.Ending.{Ending}
@@ -16,11 +15,11 @@ use Rattle.filterset_deciding.specs.declared.witness.PossibleTest.{PossibleTest}
 use Rattle.filterset_drawing.specs.Columns.{Text}
 use Rattle.filterset_expression.specs.Meaning.{Meaning}
 use Rattle.filterset_expression.specs.declared.expression.CompiledExpr.{CompiledExpr}
-use Rattle.filterset_faults.specs.declared.kind.FiltersetKind.TheVariants as kinds
 use Rattle.filterset_faults.specs.declared.span.SourceSpan.{SourceSpan}
 use Rattle.filterset_grammar.specs.Tree.{Tree}
 use Rattle.filterset_graph.specs.declared.package.PackageMetadata.{PackageMetadata}
-use Rattle.filterset_verdicts.specs.VerdictText.{IsVerdictText, ending_of}
+use Rattle.filterset_verdicts.specs.VerdictForm.{IsVerdictIn}
+use Rattle.filterset_verdicts.specs.VerdictText.{ending_of}
 use Rattle.filterset_verdicts.specs.declared.answering.TextQuestion.{TextQuestion}
 
 -- the tree picks the test
@@ -56,17 +55,16 @@ IsRight question packages default within trees verdicts.Unknown = Unit {0}
 IsRight question packages default within trees verdicts.Stopped = Unit {0}
 
 -- the answer is a right verdict about the trees behind the first, and the tests that the first one picks
-abbrev pub Decides : Question → (setting : Setting) → Telling setting
-Decides question setting basis [] ending text = ⊥
-Decides question setting basis (within ∷ trees) ending text = (verdict : Verdict)
+abbrev pub Decides : Form → Question → (setting : Setting) → Telling setting
+Decides form question setting basis [] ending text = ⊥
+Decides form question setting basis (within ∷ trees) ending text = (verdict : Verdict)
     × IsRight question setting.graph.now basis.default within trees verdict
-    × IsVerdictText question setting.graph.now verdict text × (ending ≡ ending_of verdict)
+    × IsVerdictIn form question setting.graph.now verdict text × (ending ≡ ending_of verdict)
 
 -- the rows of the question's filtersets, first that of the tests that it is about
 abbrev pub question_rows : TextQuestion → List TextRow
-question_rows asked = test_row (codes "--within") asked.within.now
-    ∷ numbered_rows (codes "argument") kinds.Test (map (λ t. t.now) asked.texts.now)
+question_rows asked = map text_row asked.entries.now
 
 -- what a question is answered
 abbrev pub AnswersQuestion : Form → Setting → TextQuestion → Ending → Text → Type 0
-AnswersQuestion form setting asked = AnswersTexts form setting (question_rows asked) (Decides asked.question setting)
+AnswersQuestion form setting asked = AnswersTexts form setting (question_rows asked) (Decides form asked.question setting)

@@ -3,6 +3,7 @@
 #![tactic(auto)]
 
 mod answering;
+mod json;
 mod text;
 
 pub use answering::{TextQuestion, answer_texts};

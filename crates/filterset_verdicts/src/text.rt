@@ -1,10 +1,12 @@
 //! Verdicts as text.
 ghost use Rattle.std.specs.Prelude.{◌≡◌, ◌++◌, IfOk, OnOk, string_bytes};
 ghost use Rattle.filterset_graph.specs.Platforms.{platform_text};
+ghost use Rattle.filterset_verdicts.specs.VerdictForm.{IsVerdictIn};
 ghost use Rattle.filterset_verdicts.specs.VerdictText.{IsPackageText, IsVerdictText, IsWitnessText, ending_of, failed_text, field_line, held_text, open_text, picked_line, picked_lines, picked_text, test_text};
 ghost use Rattle.std.specs.List.{count_by};
 
-use filterset_answers::Ending;
+use crate::json::verdict_line;
+use filterset_answers::{Ending, Form};
 use filterset_deciding::{PossibleTest, Question, Verdict, Witness};
 use filterset_graph::{BuildPlatform, PackageGraph, PackageId};
 use std::alloc::{AllocError, Global};
@@ -51,7 +53,7 @@ fn open_text(question: Question) -> &'static str
 }
 
 /// Returns the name of the package with this id, or the id if there is none.
-fn package_text<'a>(graph: &'a PackageGraph, id: &'a PackageId) -> &'a str
+pub(crate) fn package_text<'a>(graph: &'a PackageGraph, id: &'a PackageId) -> &'a str
     ensures { IsPackageText graph.entry.now id.entry.now result.now }
 {
     match graph.metadata(id) {
@@ -69,7 +71,7 @@ fn push_field(output: &mut String, name: &str, value: &str) -> Result<(), AllocE
 }
 
 /// Returns the word for a platform.
-fn platform_word(platform: BuildPlatform) -> &'static str
+pub(crate) fn platform_word(platform: BuildPlatform) -> &'static str
     ensures { result.now ≡ platform_text platform }
 {
     match platform {
@@ -148,8 +150,8 @@ fn witness_text(
     Ok(text)
 }
 
-/// Writes a verdict. The only error is out of memory.
-pub(crate) fn verdict_text(
+/// Writes a verdict in lines for people. The only error is out of memory.
+fn verdict_text(
     alloc: Global,
     question: Question,
     graph: &PackageGraph,
@@ -166,6 +168,22 @@ pub(crate) fn verdict_text(
             text.push_str("the search took all steps of --budget\n")?;
             Ok(text)
         }
+    }
+}
+
+/// Writes a verdict in a form. The only error is out of memory.
+pub(crate) fn answer_text(
+    alloc: Global,
+    form: Form,
+    question: Question,
+    graph: &PackageGraph,
+    verdict: &Verdict,
+) -> Result<String, AllocError>
+    ensures { IfOk result (λ text. IsVerdictIn form question graph.now verdict.now (string_bytes text)) }
+{
+    match form {
+        Form::Json => verdict_line(alloc, question, graph, verdict),
+        Form::Drawn(_) | Form::Github => verdict_text(alloc, question, graph, verdict),
     }
 }
 

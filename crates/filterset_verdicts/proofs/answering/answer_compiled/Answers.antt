@@ -1,10 +1,13 @@
-use Rattle.std.proofs.Common.{[], filter, map, subst, sym}
+use Rattle.std.proofs.Common.{◌<◌, [], filter, length, map, subst, sym}
+use Rattle.std.proofs.lemmas.List.{length-map}
 use Rattle.std.proofs.lemmas.Result.{IfOk-weaker}
 use Rattle.std.specs.List.{AllZip}
+use Rattle.filterset_answers.specs.Checked.{text_row}
 use Rattle.filterset_answers.specs.Compiled.{IsOverrideFor, sets_group}
 use Rattle.filterset_answers.specs.Picking.{parsed_of}
 use Rattle.filterset_answers.proofs.PickingLemmas.{basis_of, compiled_trees, trees_of}
 use Rattle.filterset_verdicts.specs.Verdicts.{question_rows}
+use Rattle.filterset_verdicts.proofs.TreeLemmas.{some_filterset}
 use Rattle.filterset_verdicts.proofs.answering.answer_compiled.Goals as goal
 
 pub returns : goal.returns
@@ -23,3 +26,10 @@ returns c =
       (rw c.as_slice.ensures.value at decides) basis (sym c.new-context.ensures) (compiled_trees setting.graph.now setting.groups.now rows made.filters.items are.filters),
     ))
     c.decide_filtersets.ensures
+
+pub decide_filtersets-requires : goal.decide_filtersets-requires
+decide_filtersets-requires c =
+    let setting = c.args.setting.now in
+    let rows = question_rows c.args.asked.now in
+    let some : 0 < length rows = subst (λ n. 0 < n) (sym (length-map c.args.asked.now.entries.now text_row)) c.requires.some in
+    rw c.as_slice.ensures.value (some_filterset setting.graph.now setting.groups.now rows c.args.compiled.now.filters.items c.requires.filtersets.filters some)

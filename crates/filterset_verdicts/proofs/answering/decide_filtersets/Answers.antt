@@ -33,5 +33,5 @@ returns c = λ basis is are.
     let right = right_of_trees packages basis.default question (parsed_of first) (compiled_of first) (map parsed_of others) exprs verdict compiled.0 others_compiled
     (λ e. subst (Always first) (sym is) (subst (λ f. Always f default) at (always e)))
     (λ witness e. subst (Fails witness first) (sym is) (subst (λ f. Fails witness f default) at (fails witness e))) in
-    subst (λ fs. Decides question setting basis (map parsed_of fs) c.ending_of.result (string_bytes c.in_ok-verdict_text.field-0)) (sym whole)
-    (verdict, right, c.in_ok-verdict_text.ensures, c.ending_of.ensures)
+    subst (λ fs. Decides c.args.form question setting basis (map parsed_of fs) c.ending_of.result (string_bytes c.in_ok-answer_text.field-0)) (sym whole)
+    (verdict, right, c.in_ok-answer_text.ensures, c.ending_of.ensures)

@@ -1,0 +1,18 @@
+-- Verdicts in the form that is asked for.
+use Rattle.std.specs.Prelude.{◌≡◌, ◌++◌, List, codes}
+use Rattle.serde_json.specs.Data.{Data}
+use Rattle.serde_json.specs.Written.{compact_text}
+use Rattle.filterset_answers.specs.declared.form.Form.{Form}
+use Rattle.filterset_answers.specs.declared.form.Form.TheVariants.{Json}
+use Rattle.filterset_deciding.specs.declared.deciding.Verdict.{Verdict}
+use Rattle.filterset_deciding.specs.declared.question.Question.{Question}
+use Rattle.filterset_drawing.specs.Columns.{Text}
+use Rattle.filterset_graph.specs.declared.package.PackageMetadata.{PackageMetadata}
+use Rattle.filterset_verdicts.specs.VerdictJson.{IsVerdictData}
+use Rattle.filterset_verdicts.specs.VerdictText.{IsVerdictText}
+
+-- a JSON object in a line, or lines for people
+abbrev pub IsVerdictIn : Form → Question → List PackageMetadata → Verdict → Text → Type 0
+IsVerdictIn Json question packages verdict text =
+    (d : Data) × IsVerdictData question packages verdict d × (text ≡ compact_text d ++ codes "\n")
+IsVerdictIn form question packages verdict text = IsVerdictText question packages verdict text
