@@ -1,0 +1,5 @@
+pub mod Values
+pub mod ColumnLemmas
+pub mod DecidingLemmas
+pub mod FindingLemmas
+pub mod LawLemmas

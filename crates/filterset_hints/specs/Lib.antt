@@ -1,0 +1,6 @@
+-- cited by public contracts
+pub mod Subjects
+pub mod Needless
+pub mod Finding
+-- for the proofs
+pub mod Columns
