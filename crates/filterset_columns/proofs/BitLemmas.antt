@@ -1,0 +1,100 @@
+-- Bits of words.
+use Rattle.std.proofs.Common.{◌≡◌, ℕ, zero, suc, ◌+◌, ◌<◌, ◌/◌, ◌%◌, ◌^◌, ◌-◌, min, max, Bool, true, false, not, ◌||◌, ◌&&◌, ◌==◌, List, length, get_or, slice_index, slice_set, set, bit_and, bit_or, bit_xor, ◌⊎◌, refl, sym, ap, ◌∙◌, arith, inl, inr, get_or-set_other, get_or-set_same}
+use Rattle.std.specs.Int.{bit_at}
+use Rattle.std.specs.Bool.{beq}
+use Rattle.std.proofs.Math.Nat.{div-add-mod}
+use Rattle.std.proofs.lemmas.Bool.{cases_eq, eq-eqb, ne_eqb}
+use Rattle.std.specs.Int.Bits.{xor_add_and}
+use Rattle.std.proofs.lemmas.Nat.{and_mask}
+use Rattle.std.proofs.Math.Nat.{mod-eq_of_lt}
+use Rattle.std.proofs.lemmas.Nat.Bits.{bit_at_and, bit_at_or, bit_at_xor, bit_at-pow_same, bit_at-pow_other, bit_at-lt, bit_at_ones}
+use Rattle.filterset_columns.specs.Bits.{bit_of}
+
+zero_or_one : (n : ℕ) → n < 2 → (n ≡ 0) ⊎ (n ≡ 1)
+zero_or_one zero h = inl refl
+zero_or_one (suc zero) h = inr refl
+zero_or_one (suc (suc n)) h = absurd (omega (arith, h))
+
+min_bits : (a b : ℕ) → a < 2 → b < 2 → (min a b == 1) ≡ (a == 1 && b == 1)
+min_bits a b h k = elim (zero_or_one a h) [
+  | inl x ↦ elim (zero_or_one b k) [ inl y ↦ rw (x, y) refl | inr y ↦ rw (x, y) refl ]
+  | inr x ↦ elim (zero_or_one b k) [ inl y ↦ rw (x, y) refl | inr y ↦ rw (x, y) refl ]
+]
+
+max_bits : (a b : ℕ) → a < 2 → b < 2 → (max a b == 1) ≡ (a == 1 || b == 1)
+max_bits a b h k = elim (zero_or_one a h) [
+  | inl x ↦ elim (zero_or_one b k) [ inl y ↦ rw (x, y) refl | inr y ↦ rw (x, y) refl ]
+  | inr x ↦ elim (zero_or_one b k) [ inl y ↦ rw (x, y) refl | inr y ↦ rw (x, y) refl ]
+]
+
+xor_bits : (a b : ℕ) → a < 2 → b < 2 → ((a + b) % 2 == 1) ≡ not (beq (a == 1) (b == 1))
+xor_bits a b h k = elim (zero_or_one a h) [
+  | inl x ↦ elim (zero_or_one b k) [ inl y ↦ rw (x, y) refl | inr y ↦ rw (x, y) refl ]
+  | inr x ↦ elim (zero_or_one b k) [ inl y ↦ rw (x, y) refl | inr y ↦ rw (x, y) refl ]
+]
+
+pub and_bit : (a b i : ℕ) → (bit_at (bit_and a b) i == 1) ≡ (bit_at a i == 1 && bit_at b i == 1)
+and_bit a b i = ap (λ n. n == 1) (bit_at_and a b i) ∙ min_bits (bit_at a i) (bit_at b i) (bit_at-lt a i) (bit_at-lt b i)
+
+pub or_bit : (a b i : ℕ) → (bit_at (bit_or a b) i == 1) ≡ (bit_at a i == 1 || bit_at b i == 1)
+or_bit a b i = ap (λ n. n == 1) (bit_at_or a b i) ∙ max_bits (bit_at a i) (bit_at b i) (bit_at-lt a i) (bit_at-lt b i)
+
+pub xor_bit : (a b i : ℕ) → (bit_at (bit_xor a b) i == 1) ≡ not (beq (bit_at a i == 1) (bit_at b i == 1))
+xor_bit a b i = ap (λ n. n == 1) (bit_at_xor a b i) ∙ xor_bits (bit_at a i) (bit_at b i) (bit_at-lt a i) (bit_at-lt b i)
+
+-- ---- a bit that is set
+
+pow_bit : (k i : ℕ) → (bit_at (2 ^ k) i == 1) ≡ (i == k)
+pow_bit k i = elim (cases_eq i k) [
+  | inl same ↦ rw (same, bit_at-pow_same k, eq-eqb k k refl) refl
+  | inr other ↦ rw (bit_at-pow_other k i other, ne_eqb i k other) refl
+]
+
+swapped : (x y : Bool) → (x || y) ≡ (y || x)
+swapped true true = refl
+swapped true false = refl
+swapped false true = refl
+swapped false false = refl
+
+-- two positions in one word are the same where they are at the same place of it
+one_word : (i p : ℕ) → i / 64 ≡ p / 64 → (i % 64 == p % 64) ≡ (i == p)
+one_word i p here = elim (cases_eq i p) [
+  | inl same ↦ rw (same, eq-eqb p p refl, eq-eqb (p % 64) (p % 64) refl) refl
+  | inr other ↦
+      let differ : i % 64 ≡ p % 64 → ⊥ = λ e. other (omega (arith, e, here, div-add-mod i 64, div-add-mod p 64)) in
+      rw (ne_eqb i p other, ne_eqb (i % 64) (p % 64) differ) refl
+]
+
+pub set_bit : (words : List ℕ) (p i : ℕ) → p / 64 < length words
+    → bit_of (slice_set words (p / 64) (bit_or (slice_index words (p / 64)) (2 ^ (p % 64)))) i ≡ ((i == p) || bit_of words i)
+set_bit words p i within =
+    let old = slice_index words (p / 64) in
+    let new = bit_or old (2 ^ (p % 64)) in
+    elim (cases_eq (i / 64) (p / 64)) [
+      | inl here ↦
+          let written : get_or (set words (p / 64) new) (i / 64) 0 ≡ new =
+          ap (λ k. get_or (set words (p / 64) new) k 0) here ∙ get_or-set_same words (p / 64) new 0 within in
+          let was : get_or words (i / 64) 0 ≡ old = ap (λ k. get_or words k 0) here in
+          ap (λ w. bit_at w (i % 64) == 1) written
+          ∙ or_bit old (2 ^ (p % 64)) (i % 64)
+          ∙ ap (λ b. (bit_at old (i % 64) == 1) || b) (pow_bit (p % 64) (i % 64) ∙ one_word i p here)
+          ∙ swapped (bit_at old (i % 64) == 1) (i == p)
+          ∙ ap (λ w. (i == p) || (bit_at w (i % 64) == 1)) (sym was)
+      | inr there ↦
+          let differ : i ≡ p → ⊥ = λ e. there (ap (λ n. n / 64) e) in
+          rw (get_or-set_other words (p / 64) (i / 64) new 0 there, ne_eqb i p differ) refl
+    ]
+
+-- ---- bits that are turned
+
+with_true : (b : Bool) → not (beq b true) ≡ not b
+with_true true = refl
+with_true false = refl
+
+pub turned_bit : (word i : ℕ) → word < 18446744073709551616 → i < 64 → (bit_at (18446744073709551615 - word) i == 1) ≡ not (bit_at word i == 1)
+turned_bit word i h within =
+    let ones : bit_at (2 ^ 64 - 1) i ≡ 1 = bit_at_ones 64 i within in
+    let same : bit_and word (2 ^ 64 - 1) ≡ word = and_mask word 64 ∙ mod-eq_of_lt h in
+    let turned : bit_xor word (2 ^ 64 - 1) ≡ 18446744073709551615 - word = omega (arith, xor_add_and word (2 ^ 64 - 1), same, h) in
+    ap (λ n. bit_at n i == 1) (sym turned) ∙ xor_bit word (2 ^ 64 - 1) i
+    ∙ ap (λ n. not (beq (bit_at word i == 1) (n == 1))) ones ∙ with_true (bit_at word i == 1)

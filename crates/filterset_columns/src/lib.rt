@@ -1,0 +1,15 @@
+//! Columns of answers: all tests of a binary are asked at once.
+#![tactic(auto)]
+
+mod bits;
+mod column;
+mod evaluating;
+mod expression;
+mod names;
+mod paying;
+mod search;
+
+pub use column::Column;
+pub use expression::ColumnExpr;
+pub use names::Names;
+pub use paying::pays_for;

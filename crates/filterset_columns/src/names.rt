@@ -1,0 +1,46 @@
+//! The names of a binary's tests.
+ghost use Rattle.std.specs.Prelude.{◌≡◌, ◌↔◌, ◌++◌, ◌∷◌, [], IsTrue, OnOk, length};
+
+use filterset_graph::TestCaseName;
+use std::alloc::{AllocError, Global};
+
+/// The names of a binary's tests, in their order.
+#[derive(Debug, Drop)]
+pub struct Names<'a> {
+    pub(crate) tests: Vec<&'a TestCaseName>,
+}
+
+impl<'a> Names<'a> {
+    ghost use Rattle.filterset_columns.specs.Columns.{names_of};
+
+    /// Returns no names.
+    pub fn new(alloc: Global) -> Names<'a>
+        ensures { names_of result ≡ [] }
+    {
+        Names {
+            tests: Vec::new(alloc),
+        }
+    }
+
+    /// Appends the name of a test. The only error is out of memory.
+    pub fn push(&mut self, name: &'a TestCaseName) -> Result<(), AllocError>
+        ensures { OnOk result (names_of self.new ≡ names_of self.old ++ name.entry ∷ []) }
+    {
+        self.tests.push(name)?;
+        Ok(())
+    }
+
+    /// Returns the number of names.
+    pub fn len(&self) -> usize
+        ensures { result ≡ length (names_of self.now) }
+    {
+        self.tests.len()
+    }
+
+    /// Returns whether there are no names.
+    pub fn is_empty(&self) -> bool
+        ensures { IsTrue result ↔ names_of self.now ≡ [] }
+    {
+        self.tests.is_empty()
+    }
+}

@@ -1,0 +1,182 @@
+//! Searches of names for a matcher.
+ghost use Rattle.std.specs.Prelude.{◌≡◌, ◌↔◌, List, ℕ, IfOk, IsTrue};
+ghost use Rattle.filterset_matchers.specs.Matcher.{MatchesName};
+ghost use Rattle.filterset_matchers.specs.Matchers.{matcher_of};
+ghost use Rattle.filterset_columns.specs.Columns.{names_of, test_of, Answered};
+
+use crate::bits::Bits;
+use crate::column::Column;
+use crate::names::Names;
+use filterset_expression::{BinaryQuery, CompiledExpr, FiltersetLeaf, GroupLookup, TestQuery};
+use filterset_matchers::{GlobMatcher, NameMatcher, PatternMatcher};
+use std::alloc::{AllocError, Global};
+
+/// A matcher that is prepared for many names.
+#[derive(Drop)]
+pub(crate) enum Searcher<'a> {
+    /// Nothing to prepare.
+    Plain(&'a NameMatcher),
+    Glob(GlobMatcher<'a>),
+    Pattern(PatternMatcher<'a>),
+}
+
+impl<'a> Searcher<'a> {
+    ghost use Rattle.filterset_columns.specs.Searching.{Finds};
+
+    /// Prepares the matcher. The only error is out of memory.
+    pub(crate) fn new(alloc: Global, matcher: &'a NameMatcher) -> Result<Searcher<'a>, AllocError>
+        ensures { IfOk result (λ searcher. (name : List ℕ)
+            → Finds searcher name ↔ MatchesName (matcher_of matcher.now) name) }
+    {
+        Ok(match matcher {
+            NameMatcher::Regex(pattern) => Searcher::Pattern(pattern.matcher(alloc)?),
+            NameMatcher::Glob { glob, .. } if GlobMatcher::pays_for(glob) => {
+                Searcher::Glob(GlobMatcher::new(alloc, glob)?)
+            }
+            _ => Searcher::Plain(matcher),
+        })
+    }
+
+    /// Returns whether this searcher was prepared for the matcher, as far as it pays to keep one.
+    fn is_of(&self, matcher: &NameMatcher) -> bool
+        ensures { IsTrue result → (name : List ℕ) → Finds self.now name ↔ MatchesName (matcher_of matcher.now) name }
+    {
+        match (self, matcher) {
+            (Searcher::Glob(own), NameMatcher::Glob { glob, .. }) => own.is_of(glob),
+            (Searcher::Pattern(own), NameMatcher::Regex(pattern)) => own.is_of(pattern),
+            _ => false,
+        }
+    }
+
+    /// Returns whether the matcher matches the name. The only error is out of memory.
+    pub(crate) fn is_match(&mut self, alloc: Global, name: &str) -> Result<bool, AllocError>
+        ensures finds { IfOk result (λ found. IsTrue found ↔ Finds self.old name.now) }
+        ensures same { self.new ≡ self.old }
+    {
+        match self {
+            Searcher::Plain(matcher) => matcher.is_match(alloc, name),
+            Searcher::Glob(matcher) => matcher.is_match(alloc, name),
+            Searcher::Pattern(matcher) => Ok(matcher.is_match(name)),
+        }
+    }
+}
+
+/// The searchers of an expression's `test` leaves, which are kept from one binary to the next. A searcher knows its
+/// matcher, so no answer depends on what is kept.
+#[derive(Drop)]
+pub(crate) struct Searchers<'a> {
+    kept: Vec<Option<Searcher<'a>>>,
+    /// The place of the next leaf among the `test` leaves.
+    next: usize,
+}
+
+impl<'a> Searchers<'a> {
+    ghost use Rattle.filterset_columns.specs.Searching.{Finds};
+
+    /// Keeps nothing.
+    pub(crate) fn new(alloc: Global) -> Searchers<'a> {
+        Searchers {
+            kept: Vec::new(alloc),
+            next: 0,
+        }
+    }
+
+    /// Begins again with the first leaf.
+    pub(crate) fn rewind(&mut self) {
+        self.next = 0;
+    }
+
+    /// Passes over the `test` leaves of an expression.
+    pub(crate) fn pass(&mut self, expr: &CompiledExpr) {
+        match expr {
+            CompiledExpr::Not(operand) => self.pass(operand),
+            CompiledExpr::Union(left, right)
+            | CompiledExpr::Intersection(left, right)
+            | CompiledExpr::SymmetricDifference(left, right) => {
+                self.pass(left);
+                self.pass(right);
+            }
+            CompiledExpr::Set(FiltersetLeaf::Test(..)) => self.advance(),
+            CompiledExpr::Set(_) => {}
+        }
+    }
+
+    /// Goes on to the next leaf.
+    fn advance(&mut self) {
+        self.next = self.next.saturating_add(1);
+    }
+
+    /// Returns the searcher of the next leaf, whose matcher is this one. The only error is out of memory.
+    fn take(&mut self, alloc: Global, matcher: &'a NameMatcher) -> Result<Searcher<'a>, AllocError>
+        ensures { IfOk result (λ searcher. (name : List ℕ)
+            → Finds searcher name ↔ MatchesName (matcher_of matcher.now) name) }
+    {
+        if let Some(kept) = self.kept.get_mut(self.next) {
+            if let Some(searcher) = kept.take() {
+                if searcher.is_of(matcher) {
+                    return Ok(searcher);
+                }
+            }
+        }
+        Searcher::new(alloc, matcher)
+    }
+
+    /// Keeps the searcher of the next leaf, and goes on to the leaf after it. The only error is out of memory.
+    fn keep(&mut self, searcher: Searcher<'a>) -> Result<(), AllocError> {
+        if !matches!(searcher, Searcher::Plain(_)) {
+            for _ in self.kept.len()..self.next.saturating_add(1) {
+                self.kept.push(None)?;
+            }
+            if let Some(kept) = self.kept.get_mut(self.next) {
+                *kept = Some(searcher);
+            }
+        }
+        self.advance();
+        Ok(())
+    }
+}
+
+/// Searches the names for the matcher: the answer for a test is whether the matcher matches its name. The only error is
+/// out of memory.
+pub(crate) fn search_names<'a>(
+    alloc: Global,
+    matcher: &'a NameMatcher,
+    names: &Names<'_>,
+    searchers: &mut Searchers<'a>,
+) -> Result<Column, AllocError>
+    ensures { IfOk result (λ column. Answered column (names_of names.now)
+        (λ name. MatchesName (matcher_of matcher.now) name.now)) }
+{
+    let mut searcher = searchers.take(alloc, matcher)?;
+    let mut bits = Bits::with_len(alloc, names.len())?;
+    for (position, name) in names.tests.iter().enumerate() {
+        let answer = searcher.is_match(alloc, name.as_str())?;
+        bits.put(position, answer);
+    }
+    searchers.keep(searcher)?;
+    Ok(Column::of_bits(names.len(), bits))
+}
+
+/// Asks for the groups of the tests: the answer for a test is whether the matcher matches its group. The only error is out
+/// of memory, here or in the lookup.
+pub(crate) fn search_groups(
+    alloc: Global,
+    matcher: &NameMatcher,
+    query: &BinaryQuery<'_>,
+    names: &Names<'_>,
+    groups: &dyn GroupLookup,
+) -> Result<Column, AllocError>
+    ensures { IfOk result (λ column. Answered column (names_of names.now)
+        (λ name. matches_group groups.now (test_of query.now name) (matcher_of matcher.now))) }
+{
+    let mut bits = Bits::with_len(alloc, names.len())?;
+    for (position, name) in names.tests.iter().enumerate() {
+        let test = TestQuery {
+            binary_query: *query,
+            test_name: *name,
+        };
+        let answer = groups.is_member_test(alloc, &test, matcher)?;
+        bits.put(position, answer);
+    }
+    Ok(Column::of_bits(names.len(), bits))
+}
