@@ -128,6 +128,7 @@ fn read_text(rest: &mut Peekable<Chars<'_>>) -> String {
             '\\' => text.push(match rest.next().expect("an escape") {
                 'n' => '\n',
                 'r' => '\r',
+                't' => '\t',
                 c => c,
             }),
             c => text.push(c),
