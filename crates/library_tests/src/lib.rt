@@ -11,6 +11,8 @@ mod equality;
 #[cfg(test)]
 mod groups;
 #[cfg(test)]
+mod hints;
+#[cfg(test)]
 mod lineages;
 #[cfg(test)]
 mod matchers;
