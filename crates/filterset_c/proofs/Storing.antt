@@ -1,7 +1,8 @@
 -- The outcome of a call that stores what was parsed.
-use Rattle.std.proofs.Common.{◌≡◌, ◌≢◌, ℕ, List, arith, inl, inr, refl, subst}
+use Rattle.std.proofs.Common.{◌≡◌, ◌≢◌, ◌∙◌, ℕ, List, ap, arith, inl, inr, refl, subst}
 use Rattle.std.specs.Prelude.{Option, Some, Result, Ok, Err, IfOk, IfErr, IfSome}
-use Rattle.filterset_c.specs.Parsing.{IsOutcome, IsRefused, IsStored, ParsesIn}
+use Rattle.filterset_c.specs.Parsing.{IsOutcome, IsRefused, IsStored, ParsesIn, object_status}
+use Rattle.filterset_c.specs.Statuses.{IsJudged, status_code}
 use Rattle.filterset_c.specs.Workspaces.{HoldsWorkspace}
 use Rattle.filterset_c.specs.declared.failure.Failure.{Failure}
 use Rattle.filterset_c.specs.declared.failure.Failure.TheVariants.{OutOfMemory, Rejected}
@@ -18,6 +19,18 @@ pub outcome_of : (P : Object → Type 0) (old : Option Object) (made : Result Ob
 outcome_of P old (Ok object) status new is not (inl stored) = inl (object, is, stored.0, stored.1)
 outcome_of P old (Ok object) status new is not (inr kept) = inr (OutOfMemory, memory_differs, kept.0, kept.1)
 outcome_of P old (Err failure) status new is not kept = inr (failure, not, kept.0, kept.1)
+
+judged_object : (object : Object) (status : ℕ) → status ≡ object_status object → IsJudged status
+judged_object (Workspace workspace) status is = inl is
+judged_object (Filterset bound) status is = inl is
+judged_object (Refused refused) status is = inr (inr is)
+
+-- a text was parsed or rejected, or there was not enough memory
+pub judged : (old : Option Object) (made : Result Object Failure) (status : ℕ) (new : Option Object)
+    → IfErr made (λ failure. failure ≡ OutOfMemory) → IsStored old made status new → IsJudged status
+judged old (Ok object) status new is (inl stored) = judged_object object status stored.0
+judged old (Ok object) status new is (inr kept) = inr (inl kept.0)
+judged old (Err failure) status new is kept = inr (inl (kept.0 ∙ ap status_code is))
 
 -- the same if what was parsed are faults, and then the status is not 0
 pub rejected_outcome : (P : Object → Type 0) (old : Option Object) (refused : Refusal) (status : ℕ) (new : Option Object)

@@ -56,6 +56,14 @@ abbrev pub HoldsFilterset : (BoundFilterset → Type 0) → Option Object → Ty
 HoldsFilterset P (Some (Filterset bound)) = P bound
 HoldsFilterset P held = ⊥
 
+-- the handle is empty, or holds something else
+abbrev pub IsNoFilterset : Option Object → Type 0
+IsNoFilterset (Some (Filterset bound)) = ⊥
+IsNoFilterset _ = Unit {0}
+
+abbrev pub IsFilterset : Option Object → Type 0
+IsFilterset held = HoldsFilterset (λ _. Unit {0}) held
+
 -- the text is the filterset's print
 abbrev pub IsPrint : List ℕ → BoundFilterset → Type 0
 IsPrint text bound = text ≡ printed (tree_of bound.filterset.parsed)

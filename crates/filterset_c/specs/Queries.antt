@@ -1,5 +1,6 @@
 -- What C asks about.
-use Rattle.std.specs.Prelude.{◌≡◌, ℕ, List}
+use Rattle.std.specs.Prelude.{◌≡◌, ◌<◌, ℕ, List}
+use Rattle.std.specs.Str.{IsUtf8}
 use Rattle.filterset_expression.specs.Expression.{Lookup}
 use Rattle.filterset_expression.specs.declared.query.BinaryQuery.{BinaryQuery}
 use Rattle.filterset_expression.specs.declared.query.TestQuery.{TestQuery}
@@ -28,6 +29,15 @@ pub record IsAbout (binary : Binary) (query : BinaryQuery) : Type 0 where
 pub record IsAboutTest (binary : Binary) (test : Test) (query : TestQuery) : Type 0 where
   pub of_binary : IsAbout binary query.binary_query
   pub name : query.test_name.now ≡ test.name.now
+
+-- the texts of a binary are UTF-8, and its platform is one
+abbrev pub IsWellBinary : Binary → Type 0
+IsWellBinary binary = IsUtf8 binary.package_id.now × IsUtf8 binary.binary_id.now × IsUtf8 binary.name.now
+    × IsUtf8 binary.kind.now × (binary.platform < 2)
+
+-- the texts of a test are UTF-8
+abbrev pub IsWellTest : Test → Type 0
+IsWellTest test = IsUtf8 test.name.now × IsUtf8 test.group.now
 
 -- every test is in the group that has this name
 abbrev pub matches_named : List ℕ → Lookup

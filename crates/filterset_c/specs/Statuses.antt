@@ -1,5 +1,5 @@
 -- The statuses of calls.
-use Rattle.std.specs.Prelude.{ℕ, Result, Ok, Err}
+use Rattle.std.specs.Prelude.{◌≡◌, ◌⊎◌, ℕ, Result, Ok, Err}
 use Rattle.filterset_c.specs.declared.failure.Failure.{Failure}
 use Rattle.filterset_c.specs.declared.failure.Failure.TheVariants.{OutOfMemory, WrongHandle, NotUtf8, Rejected, InvalidArgument}
 
@@ -9,6 +9,14 @@ status_code WrongHandle = 2
 status_code NotUtf8 = 3
 status_code Rejected = 4
 status_code InvalidArgument = 5
+
+-- the call was done, or there was not enough memory for it
+abbrev pub IsDone : ℕ → Type 0
+IsDone status = (status ≡ 0) ⊎ (status ≡ 1)
+
+-- the same of a call that parses a text, which may have been rejected
+abbrev pub IsJudged : ℕ → Type 0
+IsJudged status = (status ≡ 0) ⊎ ((status ≡ 1) ⊎ (status ≡ 4))
 
 abbrev pub status_of : {A : Type 0} → Result A Failure → ℕ
 status_of (Ok value) = 0

@@ -46,6 +46,14 @@ abbrev pub HoldsWorkspace : (Workspace → Type 0) → Option Object → Type 0
 HoldsWorkspace P (Some (held.Workspace workspace)) = P workspace
 HoldsWorkspace P _ = ⊥
 
+-- the handle is empty, or holds something else
+abbrev pub IsNoWorkspace : Option Object → Type 0
+IsNoWorkspace (Some (held.Workspace workspace)) = ⊥
+IsNoWorkspace _ = Unit {0}
+
+abbrev pub IsWorkspace : Option Object → Type 0
+IsWorkspace held = HoldsWorkspace (λ _. Unit {0}) held
+
 -- R holds of the workspaces that two handles hold
 abbrev pub Changes : (Workspace → Workspace → Type 0) → Option Object → Option Object → Type 0
 Changes R old new = HoldsWorkspace (λ before. HoldsWorkspace (R before) new) old

@@ -5,13 +5,17 @@
 //! status: 0 if it did not fail.
 #![tactic(auto)]
 
-ghost use Rattle.std.specs.Prelude.{◌≡◌, ◌≢◌, MatchOption, Some, None, IfOk, map, string_bytes};
+ghost use Rattle.std.specs.Prelude.{◌≡◌, ◌≢◌, ◌<◌, Err, MatchOption, Some, None, IfErr, IfOk, map, string_bytes};
 ghost use Rattle.std.specs.List.{AllZip};
+ghost use Rattle.std.specs.Str.{IsUtf8};
 ghost use Rattle.filterset_expression.specs.Expression.{has_leaf, is_group};
-ghost use Rattle.filterset_c.specs.Answers.{yes_or_no, HoldsFilterset, IsBinaryNumber, IsPrint, IsTestNumber};
+ghost use Rattle.filterset_c.specs.Answers.{yes_or_no, HoldsFilterset, IsBinaryNumber, IsFilterset, IsNoFilterset, IsPrint, IsTestNumber};
 ghost use Rattle.filterset_c.specs.Faulty.{IsSpanAt, IsTextAt, fault_count};
 ghost use Rattle.filterset_c.specs.Parsing.{object_status, IsOutcome, IsStored, IsWorkspaceStored, ParsesIn};
-ghost use Rattle.filterset_c.specs.Workspaces.{Changes, HasDepth, HasFilter, HasGroups, HoldsWorkspace, IsOfMetadata, IsOfRecord};
+ghost use Rattle.filterset_c.specs.Workspaces.{Changes, HasDepth, HasFilter, HasGroups, HoldsWorkspace, IsNoWorkspace, IsOfMetadata, IsOfRecord, IsWorkspace};
+ghost use Rattle.filterset_c.specs.declared.failure.Failure.TheVariants.{OutOfMemory, WrongHandle};
+ghost use Rattle.filterset_c.specs.Queries.{IsWellBinary, IsWellTest};
+ghost use Rattle.filterset_c.specs.Statuses.{IsDone, IsJudged};
 ghost use Rattle.filterset_c.specs.Written.{AreWritten, IsTextWritten, IsWritten, IsWrittenText};
 
 mod failure;
@@ -141,6 +145,7 @@ pub extern "C" fn filterset_workspace_set_groups(
     ensures set { result ≡ 0 →
         Changes (HasGroups (map (λ t. t.bytes.now) names.now)) workspace.old.held workspace.new.held }
     ensures failed { result ≢ 0 → workspace.new.held ≡ workspace.old.held }
+    ensures wrong { IsNoWorkspace workspace.old.held → result ≡ 2 }
 {
     let Some(mut object) = take(alloc, workspace) else {
         return Failure::WrongHandle.code();
@@ -159,6 +164,8 @@ pub extern "C" fn filterset_workspace_set_depth(
 ) -> u8
     ensures set { result ≡ 0 → Changes (HasDepth levels) workspace.old.held workspace.new.held }
     ensures failed { result ≢ 0 → workspace.new.held ≡ workspace.old.held }
+    ensures well { IsWorkspace workspace.old.held → result ≡ 0 }
+    ensures wrong { IsNoWorkspace workspace.old.held → result ≡ 2 }
 {
     let Some(mut object) = take(alloc, workspace) else {
         return Failure::WrongHandle.code();
@@ -182,6 +189,7 @@ pub extern "C" fn filterset_workspace_set_default_filter(
     ensures failed { result ≢ 0 → workspace.new.held ≡ workspace.old.held }
     ensures rejected { result ≢ 0 →
         IsOutcome (ParsesIn workspace.old.held text.now 3) faults.old.held result faults.new.held }
+    ensures wrong { IsNoWorkspace workspace.old.held → result ≡ 2 }
 {
     let Some(mut object) = take(alloc, workspace) else {
         return Failure::WrongHandle.code();
@@ -215,6 +223,8 @@ pub extern "C" fn filterset_parse(
 ) -> u8
     ensures kept { workspace.new.held ≡ workspace.old.held }
     ensures parsed { IsOutcome (ParsesIn workspace.old.held text.now kind) parsed.old.held result parsed.new.held }
+    ensures well { IsWorkspace workspace.old.held → IsUtf8 text.now → kind < 4 → IsJudged result }
+    ensures wrong { IsNoWorkspace workspace.old.held → result ≡ 2 }
 {
     let Some(object) = take(alloc, workspace) else {
         return Failure::WrongHandle.code();
@@ -236,6 +246,8 @@ pub extern "C" fn filterset_matches_binary(
     ensures answered { result ≡ 0 →
         HoldsFilterset (λ bound. IsBinaryNumber bound binary.now answer.new) filterset.old.held }
     ensures failed { result ≢ 0 → answer.new ≡ answer.old }
+    ensures well { IsFilterset filterset.old.held → IsWellBinary binary.now → IsDone result }
+    ensures wrong { IsNoFilterset filterset.old.held → result ≡ 2 }
 {
     let Some(object) = take(alloc, filterset) else {
         return Failure::WrongHandle.code();
@@ -271,6 +283,8 @@ pub extern "C" fn filterset_matches_test(
     ensures answered { result ≡ 0 →
         HoldsFilterset (λ bound. IsTestNumber bound binary.now test.now answer.new) filterset.old.held }
     ensures failed { result ≢ 0 → answer.new ≡ answer.old }
+    ensures well { IsFilterset filterset.old.held → IsWellBinary binary.now → IsWellTest test.now → IsDone result }
+    ensures wrong { IsNoFilterset filterset.old.held → result ≡ 2 }
 {
     let Some(object) = take(alloc, filterset) else {
         return Failure::WrongHandle.code();
@@ -293,6 +307,7 @@ pub extern "C" fn filterset_matches_tests(
     ensures answered { result ≡ 0 →
         HoldsFilterset (λ bound. AllZip (IsTestNumber bound binary.now) tests.now answers.new) filterset.old.held }
     ensures failed { result ≢ 0 → answers.new ≡ answers.old }
+    ensures wrong { IsNoFilterset filterset.old.held → result ≡ 2 }
 {
     let Some(object) = take(alloc, filterset) else {
         return Failure::WrongHandle.code();
@@ -327,6 +342,8 @@ pub extern "C" fn filterset_needs_groups(
     ensures answered { result ≡ 0 → HoldsFilterset (λ bound.
         answer.new ≡ yes_or_no (has_leaf is_group bound.filterset.compiled)) filterset.old.held }
     ensures failed { result ≢ 0 → answer.new ≡ answer.old }
+    ensures well { IsFilterset filterset.old.held → result ≡ 0 }
+    ensures wrong { IsNoFilterset filterset.old.held → result ≡ 2 }
 {
     let Some(object) = take(alloc, filterset) else {
         return Failure::WrongHandle.code();
@@ -338,12 +355,14 @@ pub extern "C" fn filterset_needs_groups(
 
 /// Returns the number of whether a filterset has a `group(..)`.
 fn needs_groups(object: &Object) -> Result<u8, Failure>
-    ensures { IfOk result (λ number. HoldsFilterset (λ bound.
+    ensures number { IfOk result (λ number. HoldsFilterset (λ bound.
         number ≡ yes_or_no (has_leaf is_group bound.filterset.compiled)) (Some object.now)) }
+    ensures well { IsFilterset (Some object.now) → IfErr result (λ failure. ⊥) }
+    ensures wrong { IsNoFilterset (Some object.now) → result ≡ Err WrongHandle }
 {
     match object {
         Object::Filterset(bound) => Ok(yes_or_no(bound.filterset.compiled.has_group_matchers())),
-        _ => Err(Failure::WrongHandle),
+        Object::Workspace(_) | Object::Refused(_) => Err(Failure::WrongHandle),
     }
 }
 
@@ -359,6 +378,8 @@ pub extern "C" fn filterset_print(
     ensures written { result ≡ 0 →
         IsWrittenText (λ text. HoldsFilterset (IsPrint text) filterset.old.held) room.old room.new text_length.new }
     ensures failed { result ≢ 0 → (room.new ≡ room.old) × (text_length.new ≡ text_length.old) }
+    ensures well { IsFilterset filterset.old.held → IsDone result }
+    ensures wrong { IsNoFilterset filterset.old.held → result ≡ 2 }
 {
     let Some(object) = take(alloc, filterset) else {
         return Failure::WrongHandle.code();
@@ -370,14 +391,16 @@ pub extern "C" fn filterset_print(
 
 /// Prints the filterset that a handle holds.
 fn print_of(alloc: Global, object: &Object) -> Result<String, Failure>
-    ensures { IfOk result (λ text. HoldsFilterset (IsPrint (string_bytes text)) (Some object.now)) }
+    ensures text { IfOk result (λ text. HoldsFilterset (IsPrint (string_bytes text)) (Some object.now)) }
+    ensures well { IsFilterset (Some object.now) → IfErr result (λ failure. failure ≡ OutOfMemory) }
+    ensures wrong { IsNoFilterset (Some object.now) → result ≡ Err WrongHandle }
 {
     match object {
         Object::Filterset(bound) => {
             let tree = &bound.filterset.parsed;
             Ok(format!(in alloc; "{tree}")?)
         }
-        _ => Err(Failure::WrongHandle),
+        Object::Workspace(_) | Object::Refused(_) => Err(Failure::WrongHandle),
     }
 }
 
@@ -420,6 +443,7 @@ pub extern "C" fn filterset_fault_span(
     ensures kept { faults.new.held ≡ faults.old.held }
     ensures written { result ≡ 0 → IsSpanAt faults.old.held index span.new }
     ensures failed { result ≢ 0 → span.new ≡ span.old }
+    ensures wrong { faults.old.held ≡ None → result ≡ 2 }
 {
     let Some(object) = take(alloc, faults) else {
         return Failure::WrongHandle.code();
@@ -449,6 +473,7 @@ pub extern "C" fn filterset_fault_text(
     ensures kept { faults.new.held ≡ faults.old.held }
     ensures written { result ≡ 0 → IsWrittenText (IsTextAt faults.old.held index part) room.old room.new text_length.new }
     ensures failed { result ≢ 0 → (room.new ≡ room.old) × (text_length.new ≡ text_length.old) }
+    ensures wrong { faults.old.held ≡ None → result ≡ 2 }
 {
     let Some(object) = take(alloc, faults) else {
         return Failure::WrongHandle.code();

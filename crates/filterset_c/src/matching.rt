@@ -1,5 +1,5 @@
 //! Evaluates filtersets for tests and binaries.
-ghost use Rattle.std.specs.Prelude.{◌≡◌, ◌↔◌, IfOk, IsTrue, List, Some};
+ghost use Rattle.std.specs.Prelude.{◌≡◌, ◌↔◌, Err, IfErr, IfOk, IsTrue, List, MatchResult, Some};
 ghost use Rattle.std.specs.List.{AllZip};
 ghost use Rattle.filterset_expression.specs.FlatExpressions.{IsFlatOfTree, IsTold};
 ghost use Rattle.filterset_expression.specs.Meaning.{IsCompiled, Meaning};
@@ -8,8 +8,9 @@ ghost use Rattle.filterset_faults.specs.declared.span.SourceSpan.{SourceSpan};
 ghost use Rattle.filterset_grammar.specs.Tree.{Tree};
 ghost use Rattle.filterset_graph.specs.declared.package.PackageMetadata.{PackageMetadata};
 ghost use Rattle.filterset_language.specs.Views.{tree_of};
-ghost use Rattle.filterset_c.specs.Answers.{binary_number, yes_or_no, HoldsFilterset, IsBinaryAnswer, IsBinaryNumber, IsFlatNumber, IsTestAnswer, IsTestNumber};
-ghost use Rattle.filterset_c.specs.Queries.{matches_named};
+ghost use Rattle.filterset_c.specs.Answers.{binary_number, yes_or_no, HoldsFilterset, IsBinaryAnswer, IsBinaryNumber, IsFilterset, IsFlatNumber, IsNoFilterset, IsTestAnswer, IsTestNumber};
+ghost use Rattle.filterset_c.specs.Queries.{matches_named, IsWellBinary, IsWellTest};
+ghost use Rattle.filterset_c.specs.declared.failure.Failure.TheVariants.{OutOfMemory, WrongHandle};
 
 use crate::failure::Failure;
 use crate::object::{BoundFilterset, Object};
@@ -57,7 +58,8 @@ pub fn match_test(
     binary: &Binary<'_>,
     test: &Test<'_>,
 ) -> Result<bool, Failure>
-    ensures { IfOk result (IsTestAnswer bound.now binary.now test.now) }
+    ensures { MatchResult result (IsTestAnswer bound.now binary.now test.now)
+        (λ failure. IsWellBinary binary.now → IsWellTest test.now → failure ≡ OutOfMemory) }
 {
     let known = KnownBinary::read(alloc, binary)?;
     let known_test = KnownTest::read(alloc, test)?;
@@ -72,7 +74,8 @@ pub fn match_binary(
     bound: &BoundFilterset,
     binary: &Binary<'_>,
 ) -> Result<Option<bool>, Failure>
-    ensures { IfOk result (IsBinaryAnswer bound.now binary.now) }
+    ensures { MatchResult result (IsBinaryAnswer bound.now binary.now)
+        (λ failure. IsWellBinary binary.now → failure ≡ OutOfMemory) }
 {
     let known = KnownBinary::read(alloc, binary)?;
     let answer = bound
@@ -107,7 +110,8 @@ fn flat_number(
     test: &Test<'_>,
 ) -> Result<u8, Failure>
     requires { IsTold flat.now binary_query.now told }
-    ensures { IfOk result (IsFlatNumber flat.now binary_query.now test.now) }
+    ensures { MatchResult result (IsFlatNumber flat.now binary_query.now test.now)
+        (λ failure. IsWellTest test.now → failure ≡ OutOfMemory) }
 {
     let known_test = KnownTest::read(alloc, test)?;
     let query = known_test.query(*binary_query);
@@ -155,29 +159,35 @@ pub fn test_number(
     binary: &Binary<'_>,
     test: &Test<'_>,
 ) -> Result<u8, Failure>
-    ensures { IfOk result (λ number.
+    ensures number { IfOk result (λ number.
         HoldsFilterset (λ bound. IsTestNumber bound binary.now test.now number) (Some object.now)) }
+    ensures well { IsFilterset (Some object.now) → IsWellBinary binary.now → IsWellTest test.now
+        → IfErr result (λ failure. failure ≡ OutOfMemory) }
+    ensures wrong { IsNoFilterset (Some object.now) → result ≡ Err WrongHandle }
 {
     match object {
         Object::Filterset(bound) => {
             let answer = match_test(alloc, bound, binary, test)?;
             Ok(yes_or_no(answer))
         }
-        _ => Err(Failure::WrongHandle),
+        Object::Workspace(_) | Object::Refused(_) => Err(Failure::WrongHandle),
     }
 }
 
 /// Returns the number of the answer for a binary.
 pub fn number_of_binary(alloc: Global, object: &Object, binary: &Binary<'_>) -> Result<u8, Failure>
-    ensures { IfOk result (λ number.
+    ensures number { IfOk result (λ number.
         HoldsFilterset (λ bound. IsBinaryNumber bound binary.now number) (Some object.now)) }
+    ensures well { IsFilterset (Some object.now) → IsWellBinary binary.now
+        → IfErr result (λ failure. failure ≡ OutOfMemory) }
+    ensures wrong { IsNoFilterset (Some object.now) → result ≡ Err WrongHandle }
 {
     match object {
         Object::Filterset(bound) => {
             let answer = match_binary(alloc, bound, binary)?;
             Ok(binary_number(answer))
         }
-        _ => Err(Failure::WrongHandle),
+        Object::Workspace(_) | Object::Refused(_) => Err(Failure::WrongHandle),
     }
 }
 
@@ -188,11 +198,12 @@ pub fn test_numbers(
     binary: &Binary<'_>,
     tests: &[Test<'_>],
 ) -> Result<Vec<u8>, Failure>
-    ensures { IfOk result (λ numbers.
+    ensures numbers { IfOk result (λ numbers.
         HoldsFilterset (λ bound. AllZip (IsTestNumber bound binary.now) tests.now numbers.items) (Some object.now)) }
+    ensures wrong { IsNoFilterset (Some object.now) → result ≡ Err WrongHandle }
 {
     match object {
         Object::Filterset(bound) => match_tests(alloc, bound, binary, tests),
-        _ => Err(Failure::WrongHandle),
+        Object::Workspace(_) | Object::Refused(_) => Err(Failure::WrongHandle),
     }
 }

@@ -1,11 +1,13 @@
 //! Parses filtersets.
-ghost use Rattle.std.specs.Prelude.{◌≡◌, ◌≢◌, false, IfErr, IfNone, IfOk, IfSome, Some};
+ghost use Rattle.std.specs.Prelude.{◌≡◌, ◌≢◌, ◌<◌, ◌≤◌, false, Err, IfErr, IfNone, IfOk, IfSome, Some};
 ghost use Rattle.filterset_expression.specs.Expression.{has_leaf, is_default, is_group};
 ghost use Rattle.filterset_faults.specs.declared.span.SourceSpan.{SourceSpan};
 ghost use Rattle.filterset_grammar.specs.Grammar.{Spells};
 ghost use Rattle.filterset_grammar.specs.Tree.{Tree};
 ghost use Rattle.filterset_nesting.specs.Depth.{depth};
 ghost use Rattle.filterset_c.specs.Parsing.{HasKind, IsDefaultFilter, IsDefaultRead, IsParsed, IsRead, IsRefused, IsTooDeep, IsWithin, ParsesIn};
+ghost use Rattle.std.specs.Str.{IsUtf8};
+ghost use Rattle.filterset_c.specs.Workspaces.{IsNoWorkspace, IsWorkspace};
 ghost use Rattle.filterset_c.specs.declared.failure.Failure.TheVariants as failures;
 ghost use Rattle.filterset_faults.specs.declared.kind.FiltersetKind.TheVariants as kinds;
 
@@ -20,6 +22,7 @@ use std::alloc::{AllocError, Global};
 /// Returns the kind that has this number.
 fn kind_of(number: u8) -> Result<FiltersetKind, Failure>
     ensures kind { IfOk result (HasKind number) }
+    ensures well { IfErr result (λ failure. 4 ≤ number) }
     ensures failed { IfErr result (λ failure. failure ≢ failures.Rejected) }
 {
     match number {
@@ -57,7 +60,7 @@ fn parse_text(
     kind: FiltersetKind,
 ) -> Result<Object, Failure>
     ensures parsed { IfOk result (IsRead workspace.now text.now kind) }
-    ensures failed { IfErr result (λ failure. failure ≢ failures.Rejected) }
+    ensures failed { IfErr result (λ failure. failure ≡ failures.OutOfMemory) }
 {
     let input = String::from_str(alloc, text)?;
     let context = ParseContext::new(alloc, &workspace.graph)?;
@@ -80,6 +83,7 @@ fn parse_within(
 ) -> Result<Object, Failure>
     ensures parsed { IfOk result (IsParsed workspace.now bytes.now kind) }
     ensures failed { IfErr result (λ failure. failure ≢ failures.Rejected) }
+    ensures well { IsUtf8 bytes.now → IfErr result (λ failure. failure ≡ failures.OutOfMemory) }
 {
     let text = text_of(bytes)?;
     match find_deep_place(alloc, workspace.depth, bytes)? {
@@ -92,6 +96,9 @@ fn parse_within(
 pub fn parse_in(alloc: Global, object: &Object, bytes: &[u8], kind: u8) -> Result<Object, Failure>
     ensures parsed { IfOk result (ParsesIn (Some object.now) bytes.now kind) }
     ensures failed { IfErr result (λ failure. failure ≢ failures.Rejected) }
+    ensures well { IsWorkspace (Some object.now) → IsUtf8 bytes.now → kind < 4
+        → IfErr result (λ failure. failure ≡ failures.OutOfMemory) }
+    ensures wrong { IsNoWorkspace (Some object.now) → result ≡ Err failures.WrongHandle }
 {
     match object {
         Object::Workspace(workspace) => {
@@ -99,7 +106,7 @@ pub fn parse_in(alloc: Global, object: &Object, bytes: &[u8], kind: u8) -> Resul
             let made = parse_within(alloc, workspace, bytes, filterset_kind)?;
             Ok(made)
         }
-        _ => Err(Failure::WrongHandle),
+        Object::Filterset(_) | Object::Refused(_) => Err(Failure::WrongHandle),
     }
 }
 

@@ -1,7 +1,8 @@
 //! What C asks about: test binaries and tests, whose texts are slices of bytes.
-ghost use Rattle.std.specs.Prelude.{◌≡◌, MatchResult, IfOk};
-ghost use Rattle.filterset_c.specs.Queries.{matches_named, HasPlatform, IsAbout, IsAboutTest, IsKnownBinary};
-ghost use Rattle.filterset_c.specs.declared.failure.Failure.TheVariants.{NotUtf8};
+ghost use Rattle.std.specs.Prelude.{◌≡◌, ◌≤◌, MatchResult};
+ghost use Rattle.std.specs.Str.{IsUtf8};
+ghost use Rattle.filterset_c.specs.Queries.{matches_named, HasPlatform, IsAbout, IsAboutTest, IsKnownBinary, IsWellBinary, IsWellTest};
+ghost use Rattle.filterset_c.specs.declared.failure.Failure.TheVariants.{NotUtf8, OutOfMemory};
 ghost use Rattle.filterset_c.specs.declared.queries.Binary.{Binary as BinaryOfC};
 ghost use Rattle.filterset_c.specs.declared.queries.Test.{Test as TestOfC};
 
@@ -40,7 +41,8 @@ pub struct Text<'a> {
 
 /// Returns the bytes as a text. Fails if they are not UTF-8.
 pub fn text_of(bytes: &[u8]) -> Result<&str, Failure>
-    ensures { MatchResult result (λ text. text.now ≡ bytes.now) (λ failure. failure ≡ NotUtf8) }
+    ensures { MatchResult result (λ text. text.now ≡ bytes.now)
+        (λ failure. (failure ≡ NotUtf8) × (IsUtf8 bytes.now → ⊥)) }
 {
     match std::str::from_utf8(bytes) {
         Ok(text) => Ok(text),
@@ -50,7 +52,7 @@ pub fn text_of(bytes: &[u8]) -> Result<&str, Failure>
 
 /// Returns the platform that has this number.
 fn platform_of(number: u8) -> Result<BuildPlatform, Failure>
-    ensures { IfOk result (HasPlatform number) }
+    ensures { MatchResult result (HasPlatform number) (λ failure. 2 ≤ number) }
 {
     match number {
         0 => Ok(BuildPlatform::Target),
@@ -72,7 +74,8 @@ pub struct KnownBinary<'a> {
 impl<'a> KnownBinary<'a> {
     /// Reads the description of a binary. Fails if a part is not UTF-8, or the platform is no platform.
     pub fn read(alloc: Global, binary: &Binary<'a>) -> Result<KnownBinary<'a>, Failure>
-        ensures { IfOk result (IsKnownBinary binary.now) }
+        ensures { MatchResult result (IsKnownBinary binary.now)
+            (λ failure. IsWellBinary binary.now → failure ≡ OutOfMemory) }
     {
         Ok(KnownBinary {
             package_id: PackageId::new(String::from_str(alloc, text_of(binary.package_id)?)?),
@@ -128,7 +131,8 @@ impl<'a> KnownTest<'a> {
 
     /// Reads the description of a test. Fails if a part is not UTF-8.
     pub fn read(alloc: Global, test: &Test<'a>) -> Result<KnownTest<'a>, Failure>
-        ensures { IfOk result (IsKnownTest test.now) }
+        ensures { MatchResult result (IsKnownTest test.now)
+            (λ failure. IsWellTest test.now → failure ≡ OutOfMemory) }
     {
         Ok(KnownTest {
             name: TestCaseName::new(alloc, text_of(test.name)?)?,

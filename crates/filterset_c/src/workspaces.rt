@@ -1,5 +1,5 @@
 //! Makes workspaces, and changes them.
-ghost use Rattle.std.specs.Prelude.{◌≡◌, ◌≢◌, Some, IfErr, IfNone, IfOk, IfSome, OnOk, map, string_bytes};
+ghost use Rattle.std.specs.Prelude.{◌≡◌, ◌≢◌, Err, Some, IfErr, IfNone, IfOk, IfSome, OnOk, map, string_bytes};
 ghost use Rattle.serde_json.specs.Read.{read};
 ghost use Rattle.serde_json.specs.View.{view};
 ghost use Rattle.filterset_faults.specs.declared.kind.FiltersetKind.TheVariants as kinds;
@@ -8,7 +8,7 @@ ghost use Rattle.filterset_report.specs.Rows.{record_row};
 ghost use Rattle.filterset_sources.specs.Metadata.{IsMetadata};
 ghost use Rattle.nextest_filtering.specs.Groups.{AreGroups, IsKnown};
 ghost use Rattle.filterset_c.specs.Parsing.{IsRefused};
-ghost use Rattle.filterset_c.specs.Workspaces.{Changes, HasDepth, HasFilter, HasGroups, HoldsWorkspace, IsOfMetadata, IsOfRecord};
+ghost use Rattle.filterset_c.specs.Workspaces.{Changes, HasDepth, HasFilter, HasGroups, HoldsWorkspace, IsNoWorkspace, IsOfMetadata, IsOfRecord, IsWorkspace};
 ghost use Rattle.filterset_c.specs.declared.failure.Failure.TheVariants as failures;
 
 use crate::failure::Failure;
@@ -141,6 +141,7 @@ pub fn groups_of(alloc: Global, texts: &[Text<'_>]) -> Result<KnownGroups, Failu
 pub fn set_groups(alloc: Global, object: &mut Object, texts: &[Text<'_>]) -> Result<(), Failure>
     ensures set { OnOk result (Changes (HasGroups (map (λ t. t.bytes.now) texts.now)) (Some object.old) (Some object.new)) }
     ensures failed { IfErr result (λ _. object.new ≡ object.old) }
+    ensures wrong { IsNoWorkspace (Some object.old) → result ≡ Err failures.WrongHandle }
 {
     match object {
         Object::Workspace(workspace) => {
@@ -154,14 +155,16 @@ pub fn set_groups(alloc: Global, object: &mut Object, texts: &[Text<'_>]) -> Res
 /// Sets the limit of levels of a workspace. A failure changes nothing.
 pub fn set_depth(object: &mut Object, levels: usize) -> Result<(), Failure>
     ensures set { OnOk result (Changes (HasDepth levels) (Some object.old) (Some object.new)) }
+    ensures well { IsWorkspace (Some object.old) → IfErr result (λ failure. ⊥) }
     ensures failed { IfErr result (λ _. object.new ≡ object.old) }
+    ensures wrong { IsNoWorkspace (Some object.old) → result ≡ Err failures.WrongHandle }
 {
     match object {
         Object::Workspace(workspace) => {
             workspace.depth = levels;
             Ok(())
         }
-        _ => Err(Failure::WrongHandle),
+        Object::Filterset(_) | Object::Refused(_) => Err(Failure::WrongHandle),
     }
 }
 
@@ -176,6 +179,7 @@ pub fn set_default_filter(
     ensures rejected { IfOk result (λ refused. IfSome refused (λ refusal.
         HoldsWorkspace (λ w. IsRefused w bytes.now kinds.DefaultFilter refusal) (Some object.old) × (object.new ≡ object.old))) }
     ensures failed { IfErr result (λ failure. (failure ≢ failures.Rejected) × (object.new ≡ object.old)) }
+    ensures wrong { IsNoWorkspace (Some object.old) → result ≡ Err failures.WrongHandle }
 {
     match object {
         Object::Workspace(workspace) => match parse_default_filter(alloc, workspace, bytes)? {
