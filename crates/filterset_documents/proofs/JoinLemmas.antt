@@ -12,7 +12,7 @@ rows_more f xs i x lt at =
     ap (map f) (take_more xs i x lt ∙ ap (λ y. take i xs ++ y ∷ []) at) ∙ map-append f (take i xs) (x ∷ [])
 
 -- one more part
-Joins-push : {A B : Type 0} (P : A → List B → Type 0) (xs : List A) (x : A) (ys added : List B) → Joins P xs ys → P x added → Joins P (xs ++ x ∷ []) (ys ++ added)
+pub Joins-push : {A B : Type 0} (P : A → List B → Type 0) (xs : List A) (x : A) (ys added : List B) → Joins P xs ys → P x added → Joins P (xs ++ x ∷ []) (ys ++ added)
 Joins-push P xs x ys added no_parts is = subst (Joins P (x ∷ [])) (append-nil added) (next_part is no_parts)
 Joins-push P xs x ys added (next_part {x = z} {xs = zs} {front} {rest} is_first are) is =
     subst (Joins P (z ∷ (zs ++ x ∷ []))) (sym (append_assoc front rest added)) (next_part is_first (Joins-push P zs x rest added are is))

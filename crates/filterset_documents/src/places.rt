@@ -1,9 +1,9 @@
 //! Where filtersets are.
 ghost use Rattle.std.specs.Prelude.{◌≡◌, option_map};
-ghost use Rattle.filterset_answers.specs.Placements.{placement_of, spot_of};
+ghost use Rattle.filterset_answers.specs.Placements.{placement_of, span_in, spot_of};
 ghost use Rattle.filterset_documents.specs.Filtersets.{AreTexts, place_span, stretch_at, stretch_span};
 
-use filterset_answers::{ConfiguredTexts, FilePlace, Spot};
+use filterset_answers::{ConfiguredTexts, FilePlace, Spot, file_part};
 use filterset_drawing::Source;
 use filterset_faults::SourceSpan;
 use filterset_places::{Places, Stretch};
@@ -50,4 +50,14 @@ pub fn place_span(place: Option<FilePlace<'_>>) -> SourceSpan
         return SourceSpan::new(0, 0);
     };
     stretch_span(stretch_at(at.spot))
+}
+
+/// Returns the span of the file that a span of a text at this place was read from.
+pub fn span_in(place: FilePlace<'_>, span: SourceSpan) -> SourceSpan
+    ensures { result ≡ span_in (spot_of place.entry.spot) span }
+{
+    match file_part(Some(place), Some(span)) {
+        Some(part) => part.span,
+        None => unreachable!(),
+    }
 }

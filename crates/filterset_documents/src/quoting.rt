@@ -27,8 +27,17 @@ fn push_basic(output: &mut String, text: &str) -> Result<(), AllocError>
     Ok(())
 }
 
+/// Makes a text with escapes for the characters that a string between quotation marks can't have.
+pub fn escape(alloc: Global, text: &str) -> Result<String, AllocError>
+    ensures { IfOk result (λ made. string_bytes made ≡ flat_map basic_char (chars text.now)) }
+{
+    let mut output = String::new(alloc);
+    push_basic(&mut output, text)?;
+    Ok(output)
+}
+
 /// Makes a string between quotation marks, with escapes, or one between apostrophes.
-fn quote(alloc: Global, is_basic: bool, text: &str) -> Result<String, AllocError>
+pub fn quote(alloc: Global, is_basic: bool, text: &str) -> Result<String, AllocError>
     ensures { IfOk result (λ made. string_bytes made ≡ quoted is_basic text.now) }
 {
     if !is_basic {

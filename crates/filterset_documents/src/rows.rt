@@ -27,14 +27,14 @@ fn part_span(part: Option<FileSpan<'_>>) -> SourceSpan
 }
 
 /// Returns where a fault is in the text, if its filterset is at this place.
-fn fault_span(place: Option<FilePlace<'_>>, fault: &ParseSingleError) -> SourceSpan
+pub fn fault_span(place: Option<FilePlace<'_>>, fault: &ParseSingleError) -> SourceSpan
     ensures { result ≡ fault_span (option_map placement_of place.entry) fault.now }
 {
     part_span(file_part(place, fault.span()))
 }
 
 /// Makes the diagnostic of a fault at a span.
-fn fault_value(
+pub fn fault_value(
     alloc: Global,
     shown: &Shown<'_>,
     span: SourceSpan,

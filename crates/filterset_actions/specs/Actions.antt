@@ -1,0 +1,118 @@
+-- Actions that are offered.
+use Rattle.std.specs.Prelude.{◌≡◌, ◌⊎◌, ℕ, List, [], ◌∷◌, MatchBool, MatchOption, Option, None, Some, codes, length, slice_get, string_bytes}
+use Rattle.std.specs.List.{range_with_len}
+use Rattle.std.specs.Str.{bytes_eq}
+use Rattle.serde_json.specs.Data.{Data, array, string, object, member, no_members}
+use Rattle.serde_json.specs.View.{items_of}
+use Rattle.filterset_answers.specs.Checked.{TextRow}
+use Rattle.filterset_answers.specs.Placements.{Placement}
+use Rattle.filterset_documents.specs.Diagnostics.{IsFaultAt, fault_span}
+use Rattle.filterset_documents.specs.Edits.{edit_data}
+use Rattle.filterset_documents.specs.Filtersets.{stretch_at, stretch_span}
+use Rattle.filterset_documents.specs.Joins.{Joins}
+use Rattle.filterset_documents.specs.Ranges.{range_data}
+use Rattle.filterset_editor.specs.Positions.{Text}
+use Rattle.filterset_editor.specs.declared.edits.Change.{Change}
+use Rattle.filterset_editor.specs.declared.positions.Range.{Range}
+use Rattle.filterset_faults.specs.declared.error.ParseSingleError.{ParseSingleError}
+use Rattle.filterset_faults.specs.declared.span.SourceSpan.{SourceSpan}
+use Rattle.filterset_grammar.specs.Printing.{printed}
+use Rattle.filterset_grammar.specs.Tree.{Tree}
+use Rattle.filterset_language.specs.Parsed.{IsUnreadWith, Reads}
+use Rattle.filterset_actions.specs.Changes.{IsChosen}
+use Rattle.filterset_actions.specs.Mending.{IsMending}
+use Rattle.filterset_actions.specs.Proposals.{IsRepairIn, ProposalRow, format_row, repair_proposal}
+use Rattle.filterset_actions.specs.Repairs.{RepairRow}
+use Rattle.filterset_actions.specs.Subjects.{SubjectRow, meets}
+
+-- ---- values
+
+-- the changes of a document: one edit
+abbrev pub changes_data : Text → Data → Data
+changes_data uri edit = object (member uri (array (items_of (edit ∷ []))) no_members)
+
+-- a repair mends a fault, and a format writes the whole filterset anew
+abbrev pub kind_of : Option ParseSingleError → Text
+kind_of None = codes "refactor.rewrite"
+kind_of (Some fault) = codes "quickfix"
+
+-- an action with an edit, and the diagnostics that it mends
+abbrev pub action_data : SubjectRow → ProposalRow → List Data → Data → Data
+action_data subject p diagnostics edit =
+    object (member (codes "diagnostics") (array (items_of diagnostics))
+    (member (codes "edit") (object (member (codes "changes") (changes_data subject.uri edit) no_members))
+    (member (codes "kind") (string (kind_of p.fault)) (member (codes "title") (string p.repair.title) no_members))))
+
+-- the diagnostic of a fault of a filterset at this place
+abbrev pub IsDiagnosticOf : SubjectRow → Placement → ParseSingleError → Data → Type 0
+IsDiagnosticOf subject place fault d =
+    IsFaultAt subject.encoding subject.text (fault_span (Some place) fault) fault d
+
+-- the diagnostic of the fault, if there is one
+abbrev pub AreMended : SubjectRow → Placement → Option ParseSingleError → List Data → Type 0
+AreMended subject place None ds = ds ≡ []
+AreMended subject place (Some fault) ds = (d : Data) × IsDiagnosticOf subject place fault d × (ds ≡ d ∷ [])
+
+-- the action of a proposal, which puts a text in place of a range
+abbrev pub IsAction : SubjectRow → Placement → ProposalRow → Range → Text → Data → Type 0
+IsAction subject place p range text d =
+    (diagnostics : List Data) × AreMended subject place p.fault diagnostics
+    × (d ≡ action_data subject p diagnostics (edit_data text (range_data range)))
+
+-- ---- a filterset
+
+-- the action of a proposal, which puts a text in place of a range, if there is one
+abbrev pub RangeActions : SubjectRow → Placement → ProposalRow → Text → Option Range → List Data → Type 0
+RangeActions subject place p text None ds = ds ≡ []
+RangeActions subject place p text (Some range) ds = (d : Data) × IsAction subject place p range text d × (ds ≡ d ∷ [])
+
+-- the action of a proposal that makes a change, if there is one
+abbrev pub ChangeActions : SubjectRow → Placement → ProposalRow → Option Change → List Data → Type 0
+ChangeActions subject place p None ds = ds ≡ []
+ChangeActions subject place p (Some change) ds = RangeActions subject place p (string_bytes change.text) change.range ds
+
+-- the action by which the filterset at a position gets this text, if a change of the file gives it that and changes no other
+abbrev pub NewActions : SubjectRow → ℕ → Placement → ProposalRow → Text → List Data → Type 0
+NewActions subject at place p new ds =
+    (chosen : Option Change) × IsChosen subject at place.spot p new chosen × ChangeActions subject place p chosen ds
+
+-- the action of a proposal for the text of the filterset at a position, if it mends the text
+abbrev pub ProposalActions : SubjectRow → ℕ → Placement → Text → ProposalRow → List Data → Type 0
+ProposalActions subject at place text p ds =
+    (o : Option Text) × IsMending text p.repair.edit o × MatchOption o (ds ≡ []) (λ new. NewActions subject at place p new ds)
+
+-- the action that mends a fault, if it has a repair, and is in what is asked about
+abbrev pub FaultActions : SubjectRow → ℕ → Placement → Text → ParseSingleError → List Data → Type 0
+FaultActions subject at place text fault ds =
+    (o : Option RepairRow) × IsRepairIn subject place text fault o
+    × MatchOption o (ds ≡ []) (λ repair. ProposalActions subject at place text (repair_proposal fault repair) ds)
+
+-- the action that writes a text as it prints, unless it is so already
+abbrev pub FormatActions : SubjectRow → ℕ → Placement → Text → Text → List Data → Type 0
+FormatActions subject at place text new ds =
+    MatchBool (bytes_eq text new) (ds ≡ []) (ProposalActions subject at place text (format_row text new) ds)
+
+-- The actions for the text of the filterset at a position: if it reads as a tree, that which formats it; else those that mend its
+-- faults, in their order.
+abbrev pub TextActions : SubjectRow → ℕ → Placement → Text → List Data → Type 0
+TextActions subject at place text ds =
+    ((e : Tree SourceSpan) × Reads text e × FormatActions subject at place text (printed e) ds)
+    ⊎ ((faults : List ParseSingleError) × IsUnreadWith text faults × Joins (FaultActions subject at place text) faults ds)
+
+-- the same if the filterset is in what is asked about
+abbrev pub PlaceActions : SubjectRow → ℕ → Placement → Text → List Data → Type 0
+PlaceActions subject at place text ds =
+    MatchBool (meets subject (stretch_span (stretch_at place.spot))) (TextActions subject at place text ds) (ds ≡ [])
+
+abbrev pub RowActions : SubjectRow → ℕ → TextRow → List Data → Type 0
+RowActions subject at row ds = MatchOption row.place (ds ≡ []) (λ place. PlaceActions subject at place row.text ds)
+
+-- ---- documents
+
+-- the actions for the filterset at a position
+abbrev pub ActionsAt : SubjectRow → ℕ → List Data → Type 0
+ActionsAt subject at ds = (row : TextRow) × (slice_get subject.rows at ≡ Some row) × RowActions subject at row ds
+
+-- the actions for a document: those for its filtersets, one after the other
+abbrev pub AreActions : SubjectRow → List Data → Type 0
+AreActions subject ds = Joins (ActionsAt subject) (range_with_len 0 (length subject.rows)) ds

@@ -1,0 +1,36 @@
+-- What may be done with a filterset.
+use Rattle.std.specs.Prelude.{◌≡◌, MatchBool, Option, None, Some, codes, length}
+use Rattle.filterset_answers.specs.Placements.{Placement}
+use Rattle.filterset_documents.specs.Diagnostics.{fault_span}
+use Rattle.filterset_editor.specs.Positions.{Text}
+use Rattle.filterset_faults.specs.declared.error.ParseSingleError.{ParseSingleError}
+use Rattle.filterset_actions.specs.Repairs.{IsRepairOf, RepairRow, repair_row}
+use Rattle.filterset_actions.specs.Subjects.{SubjectRow, meets}
+use Rattle.filterset_actions.specs.declared.proposals.Proposal.{Proposal}
+
+-- an edit of a filterset's text, and the fault that it mends; without one it writes the whole filterset anew
+pub record ProposalRow : Type 0 where
+  pub fault : Option ParseSingleError
+  pub repair : RepairRow
+
+abbrev pub proposal_row : Proposal → ProposalRow
+proposal_row p = record { fault = p.fault; repair = repair_row p.repair }
+
+-- a text is written as it prints
+abbrev pub format_row : Text → Text → ProposalRow
+format_row text printed = record {
+  fault = None;
+  repair = record {
+    title = codes "Format this filterset";
+    edit = record { at = record { from = 0; to = length text }; text = printed };
+  };
+}
+
+-- a fault is mended by its repair
+abbrev pub repair_proposal : ParseSingleError → RepairRow → ProposalRow
+repair_proposal fault repair = record { fault = Some fault; repair = repair }
+
+-- the repair of a fault of a text at this place, if it has one, and is in what is asked about
+abbrev pub IsRepairIn : SubjectRow → Placement → Text → ParseSingleError → Option RepairRow → Type 0
+IsRepairIn subject place text fault o =
+    MatchBool (meets subject (fault_span (Some place) fault)) (IsRepairOf text fault o) (o ≡ None)

@@ -1,0 +1,223 @@
+//! The actions for the filtersets of a document.
+ghost use Rattle.std.specs.Prelude.{◌<◌, IfOk, length, map, string_bytes};
+ghost use Rattle.serde_json.specs.View.{view};
+ghost use Rattle.filterset_answers.specs.Checked.{text_row};
+ghost use Rattle.filterset_answers.specs.Placements.{placement_of};
+ghost use Rattle.filterset_documents.specs.Joins.{Joins};
+ghost use Rattle.filterset_grammar.specs.Printing.{printed};
+ghost use Rattle.filterset_language.specs.Views.{tree_of};
+ghost use Rattle.filterset_actions.specs.Actions.{ActionsAt, AreActions, FaultActions, FormatActions, NewActions, PlaceActions, ProposalActions, RangeActions, RowActions, TextActions};
+ghost use Rattle.filterset_actions.specs.Proposals.{proposal_row};
+ghost use Rattle.filterset_actions.specs.Subjects.{subject_row};
+
+use crate::changes::choose_change;
+use crate::mending::mend;
+use crate::proposals::{Proposal, propose_format, repair_in};
+use crate::reading::{Reading, read_text};
+use crate::subject::{Subject, meets};
+use crate::values::range_actions;
+use filterset_answers::{FilePlace, TextEntry};
+use filterset_documents::{is_same, stretch_at, stretch_span};
+use filterset_editor::Change;
+use filterset_faults::ParseSingleError;
+use filterset_language::ParsedExpr;
+use serde_json::Value;
+use std::alloc::{AllocError, Global};
+
+/// Makes the action that makes a change.
+fn change_actions(
+    alloc: Global,
+    subject: &Subject<'_>,
+    place: FilePlace<'_>,
+    proposal: &Proposal,
+    change: &Change,
+) -> Result<Vec<Value>, AllocError>
+    ensures { IfOk result (λ values. RangeActions (subject_row subject.now) (placement_of place.entry)
+        (proposal_row proposal.now) (string_bytes change.now.text) change.now.range (map view values.items)) }
+{
+    match change.range {
+        Some(range) => {
+            range_actions(alloc, subject, place, proposal, range, change.text.as_str())
+        }
+        None => Ok(Vec::new(alloc)),
+    }
+}
+
+/// Makes the action by which the filterset at a position gets this text, if a change of the file gives it that and changes no
+/// other.
+fn new_actions(
+    alloc: Global,
+    subject: &Subject<'_>,
+    at: usize,
+    place: FilePlace<'_>,
+    proposal: &Proposal,
+    new: &str,
+) -> Result<Vec<Value>, AllocError>
+    requires { at < length subject.now.entries.now }
+    ensures { IfOk result (λ values. NewActions (subject_row subject.now) at (placement_of place.entry)
+        (proposal_row proposal.now) new.now (map view values.items)) }
+{
+    match choose_change(alloc, subject, at, place, proposal, new)? {
+        Some(change) => change_actions(alloc, subject, place, proposal, &change),
+        None => Ok(Vec::new(alloc)),
+    }
+}
+
+/// Makes the action of a proposal for the text of the filterset at a position, if it mends the text.
+fn proposal_actions(
+    alloc: Global,
+    subject: &Subject<'_>,
+    at: usize,
+    place: FilePlace<'_>,
+    text: &str,
+    proposal: &Proposal,
+) -> Result<Vec<Value>, AllocError>
+    requires { at < length subject.now.entries.now }
+    ensures { IfOk result (λ values. ProposalActions (subject_row subject.now) at (placement_of place.entry) text.now
+        (proposal_row proposal.now) (map view values.items)) }
+{
+    match mend(alloc, text, &proposal.repair.edit)? {
+        Some(new) => new_actions(alloc, subject, at, place, proposal, new.as_str()),
+        None => Ok(Vec::new(alloc)),
+    }
+}
+
+/// Makes the action that mends a fault, if it has a repair, and is in what is asked about.
+fn fault_actions(
+    alloc: Global,
+    subject: &Subject<'_>,
+    at: usize,
+    place: FilePlace<'_>,
+    text: &str,
+    fault: &ParseSingleError,
+) -> Result<Vec<Value>, AllocError>
+    requires { at < length subject.now.entries.now }
+    ensures { IfOk result (λ values. FaultActions (subject_row subject.now) at (placement_of place.entry) text.now fault.now
+        (map view values.items)) }
+{
+    let Some(repair) = repair_in(alloc, subject, place, text, fault)? else {
+        return Ok(Vec::new(alloc));
+    };
+    let proposal = Proposal {
+        fault: Some(*fault),
+        repair,
+    };
+    proposal_actions(alloc, subject, at, place, text, &proposal)
+}
+
+/// Makes the actions that mend faults, in their order.
+fn mending_actions(
+    alloc: Global,
+    subject: &Subject<'_>,
+    at: usize,
+    place: FilePlace<'_>,
+    text: &str,
+    faults: &[ParseSingleError],
+) -> Result<Vec<Value>, AllocError>
+    requires { at < length subject.now.entries.now }
+    ensures { IfOk result (λ values. Joins (FaultActions (subject_row subject.now) at (placement_of place.entry) text.now)
+        faults.now (map view values.items)) }
+{
+    let mut values = Vec::new(alloc);
+    for fault in faults {
+        let mut more = fault_actions(alloc, subject, at, place, text, fault)?;
+        values.append(&mut more)?;
+    }
+    Ok(values)
+}
+
+/// Makes the action that writes a text as its tree prints, unless it is so already.
+fn format_actions(
+    alloc: Global,
+    subject: &Subject<'_>,
+    at: usize,
+    place: FilePlace<'_>,
+    text: &str,
+    tree: &ParsedExpr,
+) -> Result<Vec<Value>, AllocError>
+    requires { at < length subject.now.entries.now }
+    ensures { IfOk result (λ values. FormatActions (subject_row subject.now) at (placement_of place.entry) text.now
+        (printed (tree_of tree.now)) (map view values.items)) }
+{
+    let printed = format!(in alloc; "{tree}")?;
+    if is_same(text, printed.as_str()) {
+        return Ok(Vec::new(alloc));
+    }
+    let proposal = propose_format(alloc, text, printed.as_str())?;
+    proposal_actions(alloc, subject, at, place, text, &proposal)
+}
+
+/// Makes the actions for the text of the filterset at a position.
+fn text_actions(
+    alloc: Global,
+    subject: &Subject<'_>,
+    at: usize,
+    place: FilePlace<'_>,
+    text: &str,
+) -> Result<Vec<Value>, AllocError>
+    requires { at < length subject.now.entries.now }
+    ensures { IfOk result (λ values. TextActions (subject_row subject.now) at (placement_of place.entry) text.now
+        (map view values.items)) }
+{
+    match read_text(alloc, text)? {
+        Reading::Tree(tree) => format_actions(alloc, subject, at, place, text, &tree),
+        Reading::Faults(faults) => {
+            mending_actions(alloc, subject, at, place, text, faults.as_slice())
+        }
+    }
+}
+
+/// Makes the actions for the filterset at a position, if it is in what is asked about.
+fn place_actions(
+    alloc: Global,
+    subject: &Subject<'_>,
+    at: usize,
+    place: FilePlace<'_>,
+    text: &str,
+) -> Result<Vec<Value>, AllocError>
+    requires { at < length subject.now.entries.now }
+    ensures { IfOk result (λ values. PlaceActions (subject_row subject.now) at (placement_of place.entry) text.now
+        (map view values.items)) }
+{
+    if meets(subject, stretch_span(stretch_at(place.spot))) {
+        text_actions(alloc, subject, at, place, text)
+    } else {
+        Ok(Vec::new(alloc))
+    }
+}
+
+/// Makes the actions for a filterset, which has this position.
+fn entry_actions(
+    alloc: Global,
+    subject: &Subject<'_>,
+    at: usize,
+    entry: &TextEntry<'_>,
+) -> Result<Vec<Value>, AllocError>
+    requires { at < length subject.now.entries.now }
+    ensures { IfOk result (λ values. RowActions (subject_row subject.now) at (text_row entry.now) (map view values.items)) }
+{
+    match entry.place {
+        Some(place) => place_actions(alloc, subject, at, place, entry.text),
+        None => Ok(Vec::new(alloc)),
+    }
+}
+
+/// Makes the actions for the filterset at a position.
+fn actions_at(alloc: Global, subject: &Subject<'_>, at: usize) -> Result<Vec<Value>, AllocError>
+    requires { at < length subject.now.entries.now }
+    ensures { IfOk result (λ values. ActionsAt (subject_row subject.now) at (map view values.items)) }
+{
+    entry_actions(alloc, subject, at, &subject.entries[at])
+}
+
+/// Makes the actions for the filtersets of a document, one after the other.
+pub fn actions_of(alloc: Global, subject: &Subject<'_>) -> Result<Vec<Value>, AllocError>
+    ensures { IfOk result (λ values. AreActions (subject_row subject.now) (map view values.items)) }
+{
+    let mut values = Vec::new(alloc);
+    for at in 0..subject.entries.len() {
+        let mut more = actions_at(alloc, subject, at)?;
+        values.append(&mut more)?;
+    }
+    Ok(values)
+}

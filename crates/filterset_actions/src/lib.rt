@@ -1,0 +1,17 @@
+//! What may be done with the filtersets in a range of a document: faults mended, and filtersets formatted. Each edit was made
+//! and read again before it is offered.
+#![tactic(auto)]
+
+mod actions;
+mod changes;
+mod documents;
+mod edits;
+mod mending;
+mod proposals;
+mod reading;
+mod repairs;
+mod subject;
+mod texts;
+mod values;
+
+pub use documents::{act_on_configuration, act_on_list};

@@ -1,0 +1,27 @@
+//! The document whose filtersets may be changed.
+ghost use Rattle.std.specs.Prelude.{◌≡◌};
+ghost use Rattle.filterset_actions.specs.Subjects.{meets, subject_row};
+
+use filterset_answers::TextEntry;
+use filterset_documents::Shown;
+use filterset_faults::SourceSpan;
+
+/// A document, and the offsets between which it is asked about.
+#[derive(Clone, Copy, Debug)]
+pub struct Subject<'d> {
+    pub shown: &'d Shown<'d>,
+    pub uri: &'d str,
+    pub from: usize,
+    pub to: usize,
+    /// The names of the test groups, if the document is nextest's configuration. If not, each line is a filterset.
+    pub groups: Option<&'d [String]>,
+    pub entries: &'d [TextEntry<'d>],
+}
+
+/// Returns whether a span of the file is in what is asked about, or touches that.
+pub fn meets(subject: &Subject<'_>, span: SourceSpan) -> bool
+    ensures { result ≡ meets (subject_row subject.now) span }
+{
+    span.offset() <= subject.to
+        && (subject.from <= span.offset() || subject.from - span.offset() <= span.len())
+}
