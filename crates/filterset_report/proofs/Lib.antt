@@ -1,3 +1,4 @@
 pub mod ReportLemmas
 pub mod LookupLemmas
 pub mod IndexLemmas
+pub mod ColumnAnswers

@@ -9,45 +9,100 @@ ghost use Rattle.nextest_filtering.specs.Groups.{IsKnown};
 ghost use Rattle.nextest_filtering.specs.declared.compile.context.KnownGroups.{KnownGroups};
 ghost use Rattle.filterset_expression.specs.Meaning.{IsCompiled};
 ghost use Rattle.filterset_io.specs.Pieces.{Pieces};
-ghost use Rattle.filterset_report.specs.Asking.{ForItsTree, IsLookupOf};
-ghost use Rattle.filterset_report.specs.Library.{background_of};
+ghost use Rattle.filterset_expression.specs.FlatExpressions.{IsTold};
+ghost use Rattle.filterset_report.specs.Asking.{ForItsColumns, ForItsExpr, ForItsTree, IsLookupOf, IsSameExpr};
+ghost use Rattle.filterset_report.specs.Library.{background_of, IsAboutBinary};
 ghost use Rattle.filterset_report.specs.Record.{FiltersetRow};
-ghost use Rattle.filterset_report.specs.Report.{Accepted, BinaryLines, Section, Sections, faults_text, printed_line};
-ghost use Rattle.filterset_report.specs.Rows.{binary_row, filterset_row};
+ghost use Rattle.filterset_report.specs.Report.{Accepted, BinaryLines, Section, Sections, TestLine, faults_text, printed_line};
+ghost use Rattle.filterset_report.specs.Rows.{binary_row, filterset_row, test_row};
 ghost use Rattle.filterset_json.specs.Shape.{Text};
 
 use crate::lookup::RecordLookup;
 use crate::record::{BinaryEntry, Command, FiltersetEntry};
 use crate::report::faults::push_faults;
-use crate::report::lines::{push_binary_line, push_test_line};
+use crate::report::lines::{answer_tests, head_of, push_answer, push_binary_line, push_test_line};
 use crate::report::setting::{Setting, query_of, test_query_of};
-use nextest_filtering::{Filterset, FlatExpr, ParseSingleError, laws};
+use filterset_columns::{ColumnExpr, pays_for};
+use nextest_filtering::{BinaryQuery, Filterset, FlatExpr, ParseSingleError, laws};
 use std::alloc::{AllocError, Global};
 use std::fmt::Write;
 
-/// Adds the lines of a binary: its own, and one for each of its tests. Asks about the binary once.
+/// Binaries with no fewer tests than this are asked by columns: for fewer, a question for each is faster.
+const MANY_TESTS: usize = 32;
+
+/// Adds the lines of a binary: its own, and one for each of its tests. Asks about the binary once, and about many tests by
+/// columns if these pay.
 fn push_binary(
     lines: &mut String,
     alloc: Global,
     flat: &FlatExpr<'_>,
+    columns: &mut ColumnExpr<'_>,
+    columns_pay: bool,
     lookup: &RecordLookup<'_>,
     binary: &BinaryEntry,
 ) -> Result<(), AllocError>
-    ensures { OnOk result ((text : Text) × (string_bytes lines.new ≡ string_bytes lines.old ++ text)
-        × ForItsTree flat.now (λ background tree. IsLookupOf background.binaries lookup.now
+    ensures lines { OnOk result ((text : Text) × (string_bytes lines.new ≡ string_bytes lines.old ++ text)
+        × ForItsColumns flat.now columns.old (λ background tree. IsLookupOf background.binaries lookup.now
         → BinaryLines background tree (binary_row binary.now) text)) }
+    ensures same { IsSameExpr columns.old columns.new }
 {
     let asked = query_of(binary);
     let told = flat.matches_binary(alloc, &asked)?;
     push_binary_line(lines, binary, told)?;
+    let asks_all = columns_pay && told.is_none() && binary.tests.len() >= MANY_TESTS;
+    if asks_all {
+        return push_many_tests(lines, alloc, columns, lookup, &asked, binary);
+    }
+    push_few_tests(lines, alloc, flat, lookup, told, &asked, binary)
+}
+
+/// Adds the lines of a binary's tests, and asks for each. The binary has the answer `told`.
+fn push_few_tests<'a>(
+    lines: &mut String,
+    alloc: Global,
+    flat: &FlatExpr<'_>,
+    lookup: &RecordLookup<'_>,
+    told: Option<bool>,
+    asked: &BinaryQuery<'a>,
+    binary: &'a BinaryEntry,
+) -> Result<(), AllocError>
+    requires told { IsTold flat.now asked.now told }
+    requires about { IsAboutBinary asked.now (binary_row binary.now) }
+    ensures { OnOk result ((text : Text) × (string_bytes lines.new ≡ string_bytes lines.old ++ text)
+        × ForItsTree flat.now (λ background tree. IsLookupOf background.binaries lookup.now
+        → Pieces (TestLine background tree (binary_row binary.now)) (map test_row binary.now.tests.items) text)) }
+{
     let Some(first) = binary.tests.first() else {
         return Ok(());
     };
     // One query serves all tests, since its part about the binary stays the same.
-    let mut query = test_query_of(&asked, first);
+    let mut query = test_query_of(asked, first);
     for test in &binary.tests {
         query.test_name = &test.name;
         push_test_line(lines, alloc, flat, lookup, told, &query)?;
+    }
+    Ok(())
+}
+
+/// Adds the lines of a binary's tests, and asks for all of them at once.
+fn push_many_tests(
+    lines: &mut String,
+    alloc: Global,
+    columns: &mut ColumnExpr<'_>,
+    lookup: &RecordLookup<'_>,
+    asked: &BinaryQuery<'_>,
+    binary: &BinaryEntry,
+) -> Result<(), AllocError>
+    requires about { IsAboutBinary asked.now (binary_row binary.now) }
+    ensures lines { OnOk result ((text : Text) × (string_bytes lines.new ≡ string_bytes lines.old ++ text)
+        × ForItsExpr columns.old (λ background tree. IsLookupOf background.binaries lookup.now
+        → Pieces (TestLine background tree (binary_row binary.now)) (map test_row binary.now.tests.items) text)) }
+    ensures same { IsSameExpr columns.old columns.new }
+{
+    let column = answer_tests(alloc, columns, lookup, asked, &binary.tests)?;
+    let head = head_of(alloc, asked)?;
+    for (position, test) in binary.tests.iter().enumerate() {
+        push_answer(lines, &head, test, column.get(position))?;
     }
     Ok(())
 }
@@ -57,14 +112,16 @@ fn push_answers(
     lines: &mut String,
     alloc: Global,
     flat: &FlatExpr<'_>,
+    columns: &mut ColumnExpr<'_>,
+    columns_pay: bool,
     lookup: &RecordLookup<'_>,
 ) -> Result<(), AllocError>
     ensures { OnOk result ((text : Text) × (string_bytes lines.new ≡ string_bytes lines.old ++ text)
-        × ForItsTree flat.now (λ background tree. IsLookupOf background.binaries lookup.now
+        × ForItsColumns flat.now columns.old (λ background tree. IsLookupOf background.binaries lookup.now
         → Pieces (BinaryLines background tree) background.binaries text)) }
 {
     for binary in lookup.binaries {
-        push_binary(lines, alloc, flat, lookup, binary)?;
+        push_binary(lines, alloc, flat, columns, columns_pay, lookup, binary)?;
     }
     Ok(())
 }
@@ -88,7 +145,16 @@ fn push_asked(
         return Ok(());
     }
     let flat = FlatExpr::new(alloc, &filterset.compiled, &setting.eval_context)?;
-    push_answers(lines, alloc, &flat, &setting.lookup)
+    let mut columns = ColumnExpr::new(alloc, &filterset.compiled, setting.eval_context);
+    let columns_pay = pays_for(&filterset.compiled);
+    push_answers(
+        lines,
+        alloc,
+        &flat,
+        &mut columns,
+        columns_pay,
+        &setting.lookup,
+    )
 }
 
 /// Adds the line of an accepted filterset: `done` says what was done with it, before its text as it prints.

@@ -1,5 +1,5 @@
 use Rattle.std.proofs.Common.{◌≡◌, ◌++◌, map, string_bytes, take}
-use Rattle.filterset_report.specs.Asking.{ForItsTree, IsLookupOf}
+use Rattle.filterset_report.specs.Asking.{ForItsColumns, IsLookupOf, IsSameExpr}
 use Rattle.filterset_json.specs.Shape.{Text}
 use Rattle.filterset_io.specs.Pieces.{Pieces}
 use Rattle.filterset_report.specs.Report.{BinaryLines}
@@ -10,5 +10,6 @@ use Rattle.filterset_report.proofs.report.sections.push_answers.Given as goal
 abbrev pub invariant-loop-binary : goal.invariant-loop-binary
 invariant-loop-binary l =
     (text : Text) × (string_bytes l.lines ≡ string_bytes l.initial.lines ++ text)
-    × ForItsTree l.flat (λ background tree. IsLookupOf background.binaries l.lookup
+    × ForItsColumns l.flat l.initial.columns (λ background tree. IsLookupOf background.binaries l.lookup
     → Pieces (BinaryLines background tree) (map binary_row (take l.binary-index l.lookup.binaries.now)) text)
+    × IsSameExpr l.initial.columns l.columns

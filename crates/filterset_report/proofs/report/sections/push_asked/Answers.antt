@@ -3,6 +3,7 @@ use Rattle.std.proofs.lemmas.Bool.{eqb-true}
 use Rattle.std.proofs.lemmas.Result.{on_ok_weaker}
 use Rattle.std.proofs.lemmas.List.{append-nil, nil_from_length}
 use Rattle.filterset_language.specs.Views.{tree_of}
+use Rattle.filterset_expression.specs.Meaning.{IsCompiled}
 use Rattle.filterset_report.specs.Record.{BinaryRow}
 use Rattle.filterset_report.specs.Rows.{binary_row}
 use Rattle.filterset_report.specs.Library.{background_of}
@@ -28,6 +29,6 @@ returns c =
     let tree = tree_of filterset.parsed in
     on_ok_weaker c.push_answers.result (λ (text, more, told). (
       text,
-      told (background_of c.args.setting.now) tree (filterset.compiled, c.requires, c.in_ok-flat.ensures.flat) refl,
+      told (background_of c.args.setting.now) tree (filterset.compiled, c.requires, c.in_ok-flat.ensures.flat) (subst (IsCompiled (background_of c.args.setting.now).packages tree) (sym c.new-columns.ensures.expr) c.requires) c.new-columns.ensures.default refl,
       more,
     )) c.push_answers.ensures

@@ -1,19 +1,13 @@
 use Rattle.std.specs.Prelude.{MatchOption}
-use Rattle.std.proofs.Common.{rules, arith, ◌≡◌, ◌↔◌, ◌<◌, ◌++◌, Bool, Option, Some, None, List, ap, ◌∙◌, codes, length, get_or, map, refl, slice_get, string_bytes, subst, sym, [], ◌∷◌}
-use Rattle.std.proofs.lemmas.List.{append-nil}
-use Rattle.filterset_expression.specs.FlatExpressions.{IsTold}
+use Rattle.std.proofs.Common.{◌≡◌, ◌↔◌, ◌++◌, Bool, Option, Some, None, codes, refl}
+use Rattle.std.proofs.lemmas.Result.{on_ok_weaker}
 use Rattle.filterset_expression.specs.BinaryMeaning.{IsDefiniteTree, IsUndecidedTree}
 use Rattle.filterset_expression.specs.declared.query.BinaryQuery.{BinaryQuery}
 use Rattle.filterset_faults.specs.declared.span.SourceSpan.{SourceSpan}
 use Rattle.filterset_grammar.specs.Tree.{Tree}
-use Rattle.filterset_report.specs.Record.{TestRow}
-use Rattle.filterset_report.specs.declared.record.binaries.TestEntry.{TestEntry}
-use Rattle.filterset_report.specs.Library.{Background, IsAboutBinary}
-use Rattle.filterset_io.specs.Pieces.{Pieces, no_pieces}
-use Rattle.filterset_report.specs.Report.{TestLine, answer_text}
-use Rattle.filterset_report.specs.Rows.{binary_row, test_row}
-use Rattle.filterset_io.proofs.PieceLemmas.{Pieces-more, added_twice}
-use Rattle.filterset_report.proofs.ReportLemmas.{taken_all}
+use Rattle.filterset_report.specs.Library.{Background}
+use Rattle.filterset_report.specs.Report.{answer_text}
+use Rattle.filterset_io.proofs.PieceLemmas.{added_twice}
 use Rattle.filterset_report.proofs.report.sections.push_binary.Goals as goal
 
 -- what the library tells of the binary that the question is about
@@ -24,75 +18,40 @@ told_of_binary : (background : Background) (tree : Tree SourceSpan) (query : Bin
 told_of_binary background tree query (Some b) definite undecided = (definite b).0 refl
 told_of_binary background tree query None definite undecided = undecided.0 refl
 
--- a list without a first element is empty
-none_first : (tests : List TestEntry) → None ≡ slice_get tests 0 → map test_row tests ≡ []
-none_first [] none = refl
-none_first (test ∷ tests) none = absurd cc
-
-pub returns : goal.returns
-returns c =
+pub returns-then-asks_all-clause-lines : goal.returns-then-asks_all-clause-lines
+returns-then-asks_all-clause-lines c =
     let told = c.in_ok-told.told in
-    let row = binary_row c.args.binary.now in
     let own = codes "  binary " ++ (c.args.binary.now.id ++ (codes ": " ++ (answer_text told ++ codes "\n"))) in
-    let others = c.loop-test.invariant in
-    let tests = c.args.binary.now.tests.items in
-    let end : c.loop-test.test-index ≡ length tests = omega (arith, c.loop-test-test.false, c.loop-test.auto.test-index-end) in
-    let all = taken_all test_row tests c.loop-test.test-index end in (
+    on_ok_weaker c.push_many_tests.result (λ others. (
       own ++ others.0,
       added_twice _ _ _ _ _ c.in_ok-push_binary_line.ensures others.1,
-      λ background tree is of_binaries. (
+      λ background tree is compiled of_default of_binaries. (
         c.query_of-asked.result,
         told,
         others.0,
         c.query_of-asked.ensures,
-        subst (λ (rows : List TestRow). Pieces (TestLine background tree row) rows others.0) all (others.2 background tree is of_binaries),
+        others.2 background tree compiled of_default of_binaries,
         told_of_binary background tree c.query_of-asked.result told
             (c.in_ok-told.ensures.meaning background.packages tree background.default is) (c.in_ok-told.ensures.unknown background.packages tree background.default is),
         refl,
       ),
-    )
+    )) c.push_many_tests.ensures.lines
 
-pub returns-in_default : goal.returns-in_default
-returns-in_default c =
+pub returns-clause-lines : goal.returns-clause-lines
+returns-clause-lines c =
     let told = c.in_ok-told.told in
-    let row = binary_row c.args.binary.now in
     let own = codes "  binary " ++ (c.args.binary.now.id ++ (codes ": " ++ (answer_text told ++ codes "\n"))) in
-    let none : map test_row c.args.binary.now.tests.items ≡ [] = none_first c.args.binary.now.tests.items (rw c.deref.ensures.value at c.in_default.ensures.value) in (
-      own ++ [],
-      c.in_ok-push_binary_line.ensures ∙ ap (λ text. string_bytes c.args.lines.now ++ text) (sym (append-nil own)),
-      λ background tree is of_binaries. (
+    on_ok_weaker c.push_few_tests.result (λ others. (
+      own ++ others.0,
+      added_twice _ _ _ _ _ c.in_ok-push_binary_line.ensures others.1,
+      λ background tree is compiled of_default of_binaries. (
         c.query_of-asked.result,
         told,
-        [],
+        others.0,
         c.query_of-asked.ensures,
-        subst (λ (rows : List TestRow). Pieces (TestLine background tree row) rows []) (sym none) no_pieces,
+        others.2 background tree is of_binaries,
         told_of_binary background tree c.query_of-asked.result told
             (c.in_ok-told.ensures.meaning background.packages tree background.default is) (c.in_ok-told.ensures.unknown background.packages tree background.default is),
         refl,
       ),
-    )
-
-pub push_test_line-requires : goal.push_test_line-requires
-push_test_line-requires c =
-    subst (λ (binary : BinaryQuery). IsTold c.args.flat.now binary c.in_ok-told.told) (sym (c.loop-test.invariant.3 ∙ c.test_query_of-query.ensures.binary)) c.in_ok-told.ensures.told
-
-pub loop-test-init : goal.loop-test-init
-loop-test-init c = ([], sym (append-nil _), λ background tree is of_binaries. no_pieces, refl)
-
-pub loop-test-preserved : goal.loop-test-preserved
-loop-test-preserved c =
-    let before = c.loop-test.invariant in
-    let line = c.in_ok-push_test_line.ensures in
-    let tests = c.args.binary.now.tests.items in
-    let row = binary_row c.args.binary.now in
-    let i = c.loop-test.test-index in
-    let test = c.test-item.result in
-    let lt : i < length tests = omega (arith, c.loop-test-test.true) in
-    let at : get_or tests i test ≡ test = search (rules, c.test-item.is) in
-    let asked = subst (λ (binary : BinaryQuery). IsAboutBinary binary row) (sym (before.3 ∙ c.test_query_of-query.ensures.binary)) c.query_of-asked.ensures in (
-      before.0 ++ line.0,
-      added_twice _ _ _ _ _ before.1 line.1,
-      λ background tree is of_binaries. Pieces-more (TestLine background tree row) test_row tests i test _ _ lt at (before.2 background tree is of_binaries)
-          (line.2 background tree is of_binaries row (test_row test) asked refl),
-      before.3,
-    )
+    )) c.push_few_tests.ensures

@@ -4,7 +4,7 @@ use Rattle.filterset_json.specs.Shape.{Text}
 use Rattle.filterset_io.specs.Pieces.{Pieces}
 use Rattle.filterset_report.specs.Report.{TestLine}
 use Rattle.filterset_report.specs.Rows.{binary_row, test_row}
-use Rattle.filterset_report.proofs.report.sections.push_binary.Given as goal
+use Rattle.filterset_report.proofs.report.sections.push_few_tests.Given as goal
 
 -- the lines of the tests so far were added, and the question is about the binary
 abbrev pub invariant-loop-test : goal.invariant-loop-test

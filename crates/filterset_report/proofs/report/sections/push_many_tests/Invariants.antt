@@ -1,0 +1,14 @@
+use Rattle.std.proofs.Common.{◌≡◌, ◌++◌, map, string_bytes, take}
+use Rattle.filterset_report.specs.Asking.{ForItsExpr, IsLookupOf}
+use Rattle.filterset_json.specs.Shape.{Text}
+use Rattle.filterset_io.specs.Pieces.{Pieces}
+use Rattle.filterset_report.specs.Report.{TestLine}
+use Rattle.filterset_report.specs.Rows.{binary_row, test_row}
+use Rattle.filterset_report.proofs.report.sections.push_many_tests.Given as goal
+
+-- the lines of the tests so far were added
+abbrev pub invariant-loop-position : goal.invariant-loop-position
+invariant-loop-position l =
+    (text : Text) × (string_bytes l.lines ≡ string_bytes l.initial.lines ++ text)
+    × ForItsExpr l.fn.columns (λ background tree. IsLookupOf background.binaries l.lookup
+    → Pieces (TestLine background tree (binary_row l.binary)) (map test_row (take l.position l.binary.tests.items)) text)
