@@ -6,5 +6,6 @@ pub mod Explaining
 pub mod Overriding
 pub mod Asking
 pub mod Checking
+pub mod Deciding
 pub mod Requests
 pub mod Words

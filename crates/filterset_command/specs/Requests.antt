@@ -20,11 +20,12 @@ use Rattle.filterset_io.specs.Runs.{AreLeft}
 use Rattle.filterset_io.specs.declared.fault.RunFault.TheVariants.{Read}
 use Rattle.filterset_command.specs.Asking.{AnswersAsked, IsAskedFault}
 use Rattle.filterset_command.specs.Checking.{AnswersCheck, IsCheckFault}
+use Rattle.filterset_command.specs.Deciding.{AnswersDecision, IsDecisionFault}
 use Rattle.filterset_command.specs.Files.{input_name, is_input}
 use Rattle.filterset_command.specs.declared.fault.CommandFault.{CommandFault}
 use Rattle.filterset_command.specs.declared.fault.CommandFault.TheVariants.{NotText, Run}
 use Rattle.filterset_command.specs.declared.request.Request.{Request}
-use Rattle.filterset_command.specs.declared.request.Request.TheVariants.{Ask, Check, Format, Show}
+use Rattle.filterset_command.specs.declared.request.Request.TheVariants.{Ask, Check, Decide, Format, Show}
 use Rattle.filterset_command.specs.declared.request.Texts.{Texts}
 use Rattle.filterset_command.specs.declared.request.Texts.TheVariants.{Given, StandardInput}
 
@@ -38,6 +39,7 @@ abbrev pub takes_input : Request → Bool
 takes_input (Check kind form texts paths) = are_lines texts || option_map_or (λ p. is_input p.now) paths.configuration false
 takes_input (Format form texts) = are_lines texts
 takes_input (Ask asked) = option_map_or (λ p. is_input p.configuration.now) asked.profile false
+takes_input (Decide asked) = false
 takes_input (Show text) = false
 
 -- the text is what standard input had left, as far as that is known, if the request is about that
@@ -64,6 +66,7 @@ Answers content input (Check kind form texts paths) = λ ending text. (file : Bo
 Answers content input (Format form texts) = λ ending text. (file : Bor Source) × (faulty : ℕ) × IsInputFile input file.now
     × FormatsTexts form (rows_of kinds.Test texts file) faulty text × (ending ≡ ending_of faulty)
 Answers content input (Ask asked) = AnswersAsked content input asked
+Answers content input (Decide asked) = AnswersDecision content asked
 Answers content input (Show shown) = λ ending text. (ending ≡ Fine) × (text ≡ shown.now)
 
 -- the same, where this is left of standard input; if the bytes of that or of files are not known, it is the answer for some
@@ -81,6 +84,7 @@ IsInputFault left failed _ = ⊥
 abbrev pub Faults : (Text → Option Text) → (Text → Error → Type 0) → Text → Request → CommandFault → Type 0
 Faults content fails input (Check kind form texts paths) fault = IsCheckFault content fails input paths fault
 Faults content fails input (Ask asked) fault = IsAskedFault content fails input asked fault
+Faults content fails input (Decide asked) fault = IsDecisionFault content fails asked fault
 Faults content fails input _ fault = ⊥
 
 -- the fault of a request that is not answered, where this is left of standard input, and its reader has failed or not

@@ -1,6 +1,7 @@
 -- What the words of the command line ask for, and what they lack.
-use Rattle.std.specs.Prelude.{◌≡◌, ◌≢◌, Bool, true, false, List, [], ◌∷◌, Option, None, Some, codes, map, option_map, unwrap_or}
+use Rattle.std.specs.Prelude.{◌≡◌, ◌≢◌, ◌<◌, ◌^◌, ℕ, Bool, true, false, List, [], ◌∷◌, Option, None, Some, codes, map, option_map, unwrap_or}
 use Rattle.std.specs.Borrow.{Bor}
+use Rattle.std.specs.Str.Parse.{IsNumeral, digits_value, without_leading_plus}
 use Rattle.clap.specs.Simple.{subcommand_rows_of}
 use Rattle.clap.specs.Walk.{rows_of}
 use Rattle.clap.specs.Words.{first_value, matched_of, one_text, raw_values, subcommand_name_of}
@@ -11,6 +12,8 @@ use Rattle.filterset_answers.specs.declared.form.Form.TheVariants.{Drawn, Github
 use Rattle.filterset_answers.specs.declared.question.Question.TheVariants as questions
 use Rattle.filterset_completions.specs.Scripts.{name_of}
 use Rattle.filterset_completions.specs.declared.shell.Shell.{Shell}
+use Rattle.filterset_deciding.specs.declared.question.Question.{Question}
+use Rattle.filterset_deciding.specs.declared.question.Question.TheVariants.{AllAlike, AtLeastOne, AtMostOne, ExactlyOne}
 use Rattle.filterset_drawing.specs.Columns.{Text}
 use Rattle.filterset_drawing.specs.declared.color.Color.{Color}
 use Rattle.filterset_drawing.specs.declared.color.Color.TheVariants.{Always, Never}
@@ -19,10 +22,10 @@ use Rattle.filterset_faults.specs.declared.kind.FiltersetKind.TheVariants as kin
 use Rattle.filterset_command.specs.declared.fault.CommandFault.{CommandFault}
 use Rattle.filterset_command.specs.declared.asking.Asked.{Asked}
 use Rattle.filterset_command.specs.declared.asking.Asked.TheVariants.{Explanation, Overrides, Question as Asking}
-use Rattle.filterset_command.specs.declared.fault.CommandFault.TheVariants.{Missing, TwoInputs}
+use Rattle.filterset_command.specs.declared.fault.CommandFault.TheVariants.{Missing, TwoInputs, WrongBudget}
 use Rattle.filterset_command.specs.declared.profile.ProfileRequest.{ProfileRequest}
 use Rattle.filterset_command.specs.declared.request.Request.{Request}
-use Rattle.filterset_command.specs.declared.request.Request.TheVariants.{Ask, Check, Format, Show}
+use Rattle.filterset_command.specs.declared.request.Request.TheVariants.{Ask, Check, Decide, Format, Show}
 use Rattle.filterset_command.specs.declared.request.Task.{Task}
 use Rattle.filterset_command.specs.declared.request.Task.TheVariants.{Answer, Complete, Serve}
 use Rattle.filterset_command.specs.declared.request.Texts.{Texts}
@@ -121,6 +124,22 @@ IsQuestionAsked name found form (Overrides filters binary test) =
     × (map (λ t. t.now) filters.now ≡ values_of found (codes "filterset"))
     × IsOptionAsked found (codes "binary") binary × IsOptionAsked found (codes "test") test
 
+-- the command that asks this question about filtersets
+abbrev pub decision_name : Question → Text
+decision_name AllAlike = codes "same"
+decision_name AtLeastOne = codes "cover"
+decision_name AtMostOne = codes "disjoint"
+decision_name ExactlyOne = codes "partition"
+
+-- the text is a decimal number of 64 bits
+abbrev pub IsNumber : Text → Type 0
+IsNumber text = IsNumeral 10 (without_leading_plus text) × (digits_value 10 (without_leading_plus text) < 2 ^ 64)
+
+-- `--budget` gives this number of steps
+abbrev pub IsBudgetAsked : Found → ℕ → Type 0
+IsBudgetAsked found budget = (text : Text) × IsTextAsked found (codes "budget") text × IsNumber text
+    × (budget ≡ digits_value 10 (without_leading_plus text))
+
 -- the command with this name and these arguments asks for this
 abbrev pub IsAskedBy : Text → Found → Request → Type 0
 IsAskedBy name found (Check kind form texts paths) =
@@ -131,6 +150,11 @@ IsAskedBy name found (Format form texts) =
 IsAskedBy name found (Ask asked) =
     IsQuestionAsked name found asked.form asked.asked × ArePathsAsked found asked.paths
     × IsOptionAsked found (codes "default") asked.default_filter × IsProfileAsked found asked.profile
+IsAskedBy name found (Decide asked) =
+    (name ≡ decision_name asked.question) × IsFormAsked found asked.form
+    × (map (λ t. t.now) asked.texts.now ≡ values_of found (codes "filterset"))
+    × IsOptionAsked found (codes "within") asked.within × IsOptionAsked found (codes "metadata") asked.metadata
+    × IsOptionAsked found (codes "default") asked.default_filter × IsBudgetAsked found asked.budget
 IsAskedBy name found (Show text) = ⊥
 
 -- the words ask for this: by the name of their command, and by what it was given
@@ -156,9 +180,17 @@ IsTask matches Serve = subcommand_name_of matches ≡ Some (codes "lsp")
 abbrev pub TakesTwo : Found → Type 0
 TakesTwo found = (values_of found (codes "text") ≡ codes "-" ∷ []) × (first_value found (codes "config") ≡ Some (codes "-"))
 
--- an argument is missing, or standard input is to be two things
+-- there is no budget, or it is no number
+abbrev pub IsBudgetFault : Found → CommandFault → Type 0
+IsBudgetFault found (Missing id) = first_value found id.now ≡ None
+IsBudgetFault found WrongBudget = (text : Text) × IsTextAsked found (codes "budget") text × ¬ IsNumber text
+IsBudgetFault found _ = ⊥
+
+-- an argument is missing, or standard input is to be two things, or the budget is no number
 abbrev pub IsWordsFault : ArgMatches → CommandFault → Type 0
 IsWordsFault matches (Missing id) = Unit {0}
 IsWordsFault matches TwoInputs =
     (found : Found) × (option_map (λ p. p.1) (subcommand_rows_of matches) ≡ Some (rows_of found)) × TakesTwo found
+IsWordsFault matches WrongBudget =
+    (found : Found) × (option_map (λ p. p.1) (subcommand_rows_of matches) ≡ Some (rows_of found)) × IsBudgetFault found WrongBudget
 IsWordsFault matches _ = ⊥

@@ -4,6 +4,7 @@ ghost use Rattle.filterset_command.specs.Files.{OrMemory};
 ghost use Rattle.filterset_command.specs.Requests.{Answers, Faults, IsAnswered, IsFaultOf, IsInput, IsInputFault, takes_input};
 
 use crate::asking::ask;
+use crate::deciding::decide_given;
 use crate::fault::CommandFault;
 use crate::files::FileSource;
 use crate::input::read_input;
@@ -73,6 +74,7 @@ fn answer_with<F: FileSource>(
             let file = input_file(alloc, input)?;
             Ok(format_given(alloc, *form, texts, &file)?)
         }
+        Request::Decide(asked) => decide_given(alloc, files, asked),
         Request::Ask(asked) => ask(alloc, files, input, asked),
         Request::Show(text) => Ok(Answer {
             text: String::from_str(alloc, text)?,

@@ -292,6 +292,92 @@ fn overrides<'a>(alloc: Global) -> Result<Command<'a>, AllocError> {
     with_argument(command, test(alloc).conflicts_with("filterset"))
 }
 
+/// Makes the argument of a question's filtersets.
+fn filtersets<'a>(alloc: Global) -> Arg<'a> {
+    Arg::new(alloc, "filterset")
+        .value_name("TEXT")
+        .num_args(1..)
+        .required(true)
+        .action(ArgAction::Append)
+        .help("filtersets")
+}
+
+/// Makes the option of the tests that a question is about.
+fn within<'a>(alloc: Global) -> Arg<'a> {
+    Arg::new(alloc, "within")
+        .long("within")
+        .value_name("TEXT")
+        .help("a filterset of the tests that count, in place of all tests of the workspace")
+}
+
+/// Makes the option that limits a search.
+fn budget<'a>(alloc: Global) -> Arg<'a> {
+    Arg::new(alloc, "budget")
+        .long("budget")
+        .value_name("STEPS")
+        .default_value("5000000")
+        .help("how many steps the search may take before the answer is `unknown`")
+}
+
+/// Makes a command that asks a question about filtersets and every possible test.
+fn question<'a>(
+    alloc: Global,
+    name: &'a str,
+    about: &'a str,
+    example: &'a str,
+) -> Result<Command<'a>, AllocError> {
+    Command::new(alloc, name)
+        .about(about)
+        .after_help(example)
+        .arg(metadata(alloc))?
+        .arg(default_filter(alloc))?
+        .arg(within(alloc))?
+        .arg(budget(alloc))?
+        .arg(message_format(alloc, FORMATS.as_slice()).help("how the answer is written"))?
+        .arg(color(alloc))?
+        .arg(filtersets(alloc))
+}
+
+/// Makes the command `same`.
+fn same<'a>(alloc: Global) -> Result<Command<'a>, AllocError> {
+    question(
+        alloc,
+        "same",
+        "Decides whether filtersets pick the same of all possible tests, or shows a test on which they differ",
+        "Example: filterset same 'not (test(a) or test(b))' 'not test(a) and not test(b)'",
+    )
+}
+
+/// Makes the command `cover`.
+fn cover<'a>(alloc: Global) -> Result<Command<'a>, AllocError> {
+    question(
+        alloc,
+        "cover",
+        "Decides whether each possible test is picked by at least one filterset, or shows one that is not",
+        "Example: filterset cover --cargo-metadata metadata.json 'package(parser)' 'rdeps(lexer)'",
+    )
+}
+
+/// Makes the command `disjoint`.
+fn disjoint<'a>(alloc: Global) -> Result<Command<'a>, AllocError> {
+    question(
+        alloc,
+        "disjoint",
+        "Decides whether each possible test is picked by at most one filterset, or shows one that is not",
+        "Example: filterset disjoint 'kind(lib)' 'kind(test)'",
+    )
+}
+
+/// Makes the command `partition`.
+fn partition<'a>(alloc: Global) -> Result<Command<'a>, AllocError> {
+    question(
+        alloc,
+        "partition",
+        "Decides whether each possible test is picked by exactly one filterset, or shows one that is not",
+        "Example: filterset partition 'test(~slow)' 'not test(~slow)'",
+    )
+}
+
 /// Makes the command `lsp`.
 fn lsp<'a>(alloc: Global) -> Result<Command<'a>, AllocError> {
     Ok(
@@ -344,6 +430,10 @@ pub fn arguments<'a>(alloc: Global) -> Result<Command<'a>, AllocError> {
     let command = with_command(command, compare(alloc))?;
     let command = with_command(command, explain(alloc))?;
     let command = with_command(command, overrides(alloc))?;
+    let command = with_command(command, same(alloc))?;
+    let command = with_command(command, cover(alloc))?;
+    let command = with_command(command, disjoint(alloc))?;
+    let command = with_command(command, partition(alloc))?;
     let command = with_command(command, lsp(alloc))?;
     with_command(command, completions(alloc))
 }

@@ -27,7 +27,7 @@ pub struct CheckPaths<'w> {
 }
 
 /// Reads the packages. Without a file there are none.
-fn known_packages<F: FileSource>(
+pub fn known_packages<F: FileSource>(
     alloc: Global,
     files: &F,
     path: Option<&str>,

@@ -106,6 +106,8 @@ pub enum CommandFault {
     Missing(&'static str),
     /// `-` stands for the filtersets, and for the configuration too.
     TwoInputs,
+    /// The value of `--budget` is no number of steps.
+    WrongBudget,
     /// The file at this path is not used.
     File {
         role: FileRole,
@@ -139,7 +141,8 @@ impl Drop for CommandFault {
     fn drop(self) {
         match self {
             CommandFault::Words(_error) => {}
-            CommandFault::NoWords | CommandFault::NotText | CommandFault::TwoInputs => {}
+            CommandFault::NoWords | CommandFault::NotText => {}
+            CommandFault::TwoInputs | CommandFault::WrongBudget => {}
             CommandFault::Missing(_) | CommandFault::Run(_) => {}
             CommandFault::File {
                 role: _role,
@@ -225,6 +228,9 @@ impl fmt::Display for CommandFault {
             ),
             CommandFault::TwoInputs => f.write_str(
                 "error: `-` stands for the filtersets and for the configuration\nhelp: give one of them as an argument or a file",
+            ),
+            CommandFault::WrongBudget => f.write_str(
+                "error: the value of `--budget` is no number of steps\nhelp: give a number such as 5000000",
             ),
             CommandFault::Missing(argument) => write!(
                 f,

@@ -1,6 +1,6 @@
 //! The program for people: checks filtersets and draws their faults, prints them, and shows which tests of a workspace they
-//! pick, how two differ, why one picks a test or not, and how the overrides of a profile apply to tests; and serves editors
-//! and shells.
+//! pick, how two differ, why one picks a test or not, and how the overrides of a profile apply to tests; decides questions
+//! about filtersets and every possible test; and serves editors and shells.
 #![tactic(auto)]
 
 mod answering;
@@ -9,6 +9,7 @@ mod asking;
 mod checking;
 mod command_line;
 mod configuration;
+mod deciding;
 mod ending;
 mod explaining;
 mod fault;

@@ -5,11 +5,12 @@ ghost use Rattle.filterset_drawing.specs.Columns.{Text};
 ghost use Rattle.std.specs.Option.{option_map_or};
 ghost use Rattle.filterset_command.specs.Files.{is_input};
 ghost use Rattle.filterset_command.specs.Requests.{are_lines, takes_input};
-ghost use Rattle.filterset_command.specs.Words.{ArePathsAsked, AreTextsAsked, IsAsked, IsAskedBy, IsColorAsked, IsFormAsked, IsKindAsked, IsProfileAsked, IsQuestionAsked, IsTask, IsTextAsked, IsWordsFault, LacksArgument, NamesNoShell, TakesTwo};
+ghost use Rattle.filterset_command.specs.Words.{ArePathsAsked, AreTextsAsked, IsAsked, IsAskedBy, IsBudgetAsked, IsBudgetFault, IsColorAsked, IsFormAsked, IsKindAsked, IsProfileAsked, IsQuestionAsked, IsTask, IsTextAsked, IsWordsFault, LacksArgument, NamesNoShell, TakesTwo, decision_name};
 ghost use Rattle.filterset_completions.specs.Scripts.{name_of};
 
 use crate::asking::{Asked, WorkspaceRequest};
 use crate::checking::CheckPaths;
+use crate::deciding::DecisionRequest;
 use crate::fault::CommandFault;
 use crate::input::is_input;
 use crate::profile::ProfileRequest;
@@ -17,6 +18,7 @@ use crate::workspace::WorkspacePaths;
 use clap::ArgMatches;
 use filterset_answers::{Form, Question};
 use filterset_completions::Shell;
+use filterset_deciding::Question as Decision;
 use filterset_drawing::Color;
 use nextest_filtering::FiltersetKind;
 
@@ -66,6 +68,8 @@ pub enum Request<'w> {
     },
     /// `list`, `compare`, `explain` or `overrides`.
     Ask(WorkspaceRequest<'w>),
+    /// `same`, `cover`, `disjoint` or `partition`.
+    Decide(DecisionRequest<'w>),
     /// To write this text: the help, the version, or the script of a shell.
     Show(&'w str),
 }
@@ -84,7 +88,7 @@ impl Request<'_> {
                 Some(profile) => is_input(profile.configuration),
                 None => false,
             },
-            Request::Show(_) => false,
+            Request::Decide(_) | Request::Show(_) => false,
         }
     }
 }
@@ -136,6 +140,10 @@ fn request_of<'m>(matches: &'m ArgMatches<'_>) -> Result<Request<'m>, CommandFau
         Some(("compare", own)) => compare_of(own),
         Some(("explain", own)) => explain_of(own),
         Some(("overrides", own)) => overrides_of(own),
+        Some(("same", own)) => decision_of(own, Decision::AllAlike),
+        Some(("cover", own)) => decision_of(own, Decision::AtLeastOne),
+        Some(("disjoint", own)) => decision_of(own, Decision::AtMostOne),
+        Some(("partition", own)) => decision_of(own, Decision::ExactlyOne),
         _ => Err(CommandFault::Missing("COMMAND")),
     }
 }
@@ -239,6 +247,37 @@ fn overrides_of<'m>(matches: &'m ArgMatches<'_>) -> Result<Request<'m>, CommandF
         test: matches.get_str("test"),
     };
     ask_of(matches, Form::Drawn(color_of(matches)), asked)
+}
+
+/// Returns what the command that asks this question asks for.
+fn decision_of<'m>(
+    matches: &'m ArgMatches<'_>,
+    question: Decision,
+) -> Result<Request<'m>, CommandFault>
+    ensures asked { IfOk result (IsAskedBy (decision_name question) (found_of matches.now)) }
+    ensures refused { IfErr result (IsBudgetFault (found_of matches.now)) }
+{
+    Ok(Request::Decide(DecisionRequest {
+        question,
+        form: form_of(matches),
+        texts: matches.get_strs("filterset").unwrap_or(&[]),
+        within: matches.get_str("within"),
+        metadata: matches.get_str("metadata"),
+        default_filter: matches.get_str("default"),
+        budget: budget_of(matches)?,
+    }))
+}
+
+/// Returns the number of steps that a search may take.
+fn budget_of(matches: &ArgMatches<'_>) -> Result<u64, CommandFault>
+    ensures asked { IfOk result (IsBudgetAsked (found_of matches.now)) }
+    ensures refused { IfErr result (IsBudgetFault (found_of matches.now)) }
+{
+    let text = text_of(matches, "budget")?;
+    match text.parse::<u64>() {
+        Ok(budget) => Ok(budget),
+        Err(_) => Err(CommandFault::WrongBudget),
+    }
 }
 
 /// Returns the profile, if there is a configuration.

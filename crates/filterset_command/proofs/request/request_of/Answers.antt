@@ -5,7 +5,9 @@ use Rattle.clap.specs.Walk.{rows_of}
 use Rattle.clap.specs.Words.{found_of, subcommand_name_of}
 use Rattle.clap.specs.declared.parser.matches.ArgMatches.{ArgMatches}
 use Rattle.filterset_drawing.specs.Columns.{Text}
-use Rattle.filterset_command.specs.Words.{IsAsked, IsAskedBy, IsWordsFault}
+use Rattle.filterset_command.specs.Words.{IsAsked, IsAskedBy, IsBudgetFault, IsWordsFault}
+use Rattle.filterset_command.specs.declared.fault.CommandFault.{CommandFault}
+use Rattle.filterset_command.specs.declared.fault.CommandFault.TheVariants.{Missing, WrongBudget}
 use Rattle.filterset_command.specs.declared.request.Request.{Request}
 use Rattle.filterset_command.proofs.request.request_of.Goals as goal
 
@@ -48,3 +50,50 @@ pub returns-in-Some-overrides-default-clause-asked : goal.returns-in-Some-overri
 returns-in-Some-overrides-default-clause-asked c =
     IfOk-weaker c.overrides_of.result _ _ (λ request asked.
     asked_by c.args.matches.now c.in-Some-overrides-default.field-0-0.now c.in-Some-overrides-default.own.now (codes "overrides") request c.in-Some-overrides-default.ensures.name c.in-Some-overrides-default.ensures.rows c.in-Some-overrides-default.is-overrides asked) c.overrides_of.ensures.asked
+
+-- a fault of the budget is one of the words
+budget_fault : (matches : ArgMatches) (own : ArgMatches) (fault : CommandFault) → Some (rows_of (found_of own)) ≡ option_map (λ p. p.1) (subcommand_rows_of matches)
+    → IsBudgetFault (found_of own) fault → IsWordsFault matches fault
+budget_fault matches own (Missing id) rows is = tt
+budget_fault matches own WrongBudget rows is = (found_of own, sym rows, is)
+budget_fault matches own _ rows is = absurd is
+
+pub returns-in-Some-same-default-clause-asked : goal.returns-in-Some-same-default-clause-asked
+returns-in-Some-same-default-clause-asked c =
+    IfOk-weaker c.decision_of.result _ _ (λ request asked.
+    asked_by c.args.matches.now c.in-Some-same-default.field-0-0.now c.in-Some-same-default.own.now (codes "same") request c.in-Some-same-default.ensures.name c.in-Some-same-default.ensures.rows c.in-Some-same-default.is-same asked) c.decision_of.ensures.asked
+
+pub returns-in-Some-same-default-clause-refused : goal.returns-in-Some-same-default-clause-refused
+returns-in-Some-same-default-clause-refused c =
+    IfErr-weaker c.decision_of.result _ _ (λ fault is.
+    budget_fault c.args.matches.now c.in-Some-same-default.own.now fault c.in-Some-same-default.ensures.rows is) c.decision_of.ensures.refused
+
+pub returns-in-Some-cover-default-clause-asked : goal.returns-in-Some-cover-default-clause-asked
+returns-in-Some-cover-default-clause-asked c =
+    IfOk-weaker c.decision_of-in-Some-cover-default.result _ _ (λ request asked.
+    asked_by c.args.matches.now c.in-Some-cover-default.field-0-0.now c.in-Some-cover-default.own.now (codes "cover") request c.in-Some-cover-default.ensures.name c.in-Some-cover-default.ensures.rows c.in-Some-cover-default.is-cover asked) c.decision_of-in-Some-cover-default.ensures.asked
+
+pub returns-in-Some-cover-default-clause-refused : goal.returns-in-Some-cover-default-clause-refused
+returns-in-Some-cover-default-clause-refused c =
+    IfErr-weaker c.decision_of-in-Some-cover-default.result _ _ (λ fault is.
+    budget_fault c.args.matches.now c.in-Some-cover-default.own.now fault c.in-Some-cover-default.ensures.rows is) c.decision_of-in-Some-cover-default.ensures.refused
+
+pub returns-in-Some-disjoint-default-clause-asked : goal.returns-in-Some-disjoint-default-clause-asked
+returns-in-Some-disjoint-default-clause-asked c =
+    IfOk-weaker c.decision_of-in-Some-disjoint-default.result _ _ (λ request asked.
+    asked_by c.args.matches.now c.in-Some-disjoint-default.field-0-0.now c.in-Some-disjoint-default.own.now (codes "disjoint") request c.in-Some-disjoint-default.ensures.name c.in-Some-disjoint-default.ensures.rows c.in-Some-disjoint-default.is-disjoint asked) c.decision_of-in-Some-disjoint-default.ensures.asked
+
+pub returns-in-Some-disjoint-default-clause-refused : goal.returns-in-Some-disjoint-default-clause-refused
+returns-in-Some-disjoint-default-clause-refused c =
+    IfErr-weaker c.decision_of-in-Some-disjoint-default.result _ _ (λ fault is.
+    budget_fault c.args.matches.now c.in-Some-disjoint-default.own.now fault c.in-Some-disjoint-default.ensures.rows is) c.decision_of-in-Some-disjoint-default.ensures.refused
+
+pub returns-in-Some-partition-default-clause-asked : goal.returns-in-Some-partition-default-clause-asked
+returns-in-Some-partition-default-clause-asked c =
+    IfOk-weaker c.decision_of-in-Some-partition-default.result _ _ (λ request asked.
+    asked_by c.args.matches.now c.in-Some-partition-default.field-0-0.now c.in-Some-partition-default.own.now (codes "partition") request c.in-Some-partition-default.ensures.name c.in-Some-partition-default.ensures.rows c.in-Some-partition-default.is-partition asked) c.decision_of-in-Some-partition-default.ensures.asked
+
+pub returns-in-Some-partition-default-clause-refused : goal.returns-in-Some-partition-default-clause-refused
+returns-in-Some-partition-default-clause-refused c =
+    IfErr-weaker c.decision_of-in-Some-partition-default.result _ _ (λ fault is.
+    budget_fault c.args.matches.now c.in-Some-partition-default.own.now fault c.in-Some-partition-default.ensures.rows is) c.decision_of-in-Some-partition-default.ensures.refused
