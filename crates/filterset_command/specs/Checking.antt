@@ -1,5 +1,5 @@
 -- What `check` answers, by the names that files give.
-use Rattle.std.specs.Prelude.{◌≡◌, ◌⊎◌, ◌++◌, ℕ, List, [], Option, Some, None, IsSomeAnd, is_some, map, string_bytes}
+use Rattle.std.specs.Prelude.{◌≡◌, ◌⊎◌, ◌+◌, ◌++◌, ℕ, List, [], Option, Some, None, IsSomeAnd, is_some, length, map, string_bytes}
 use Rattle.std.specs.Borrow.{Bor}
 use Rattle.std.specs.Option.{option_map_or}
 use Rattle.std.specs.declared.io.Error.{Error}
@@ -13,14 +13,19 @@ use Rattle.filterset_answers.specs.declared.form.Form.{Form}
 use Rattle.filterset_answers.specs.declared.names.Names.{Names}
 use Rattle.filterset_answers.specs.declared.text.Ending.{Ending}
 use Rattle.filterset_drawing.specs.Columns.{Text}
+use Rattle.filterset_drawing.specs.declared.source.Source.{Source}
+use Rattle.filterset_io.specs.Pieces.{Pieces}
 use Rattle.filterset_graph.specs.declared.package.PackageMetadata.{PackageMetadata}
 use Rattle.filterset_places.specs.declared.place.Place.{Place}
 use Rattle.filterset_places.specs.declared.places.Places.{Places}
+use Rattle.filterset_profiles.specs.Wrong.{AreWrongValues}
+use Rattle.filterset_profiles.specs.declared.wrong.WrongValue.{WrongValue}
 use Rattle.filterset_sources.specs.Configurations.{RefusesConfiguration}
 use Rattle.filterset_sources.specs.Metadata.{RefusesMetadata}
 use Rattle.filterset_sources.specs.declared.configuration.Configuration.{Configuration}
 use Rattle.filterset_command.specs.Configurations.{AreTextsOf, IsConfigurationIn}
 use Rattle.filterset_command.specs.Files.{BySource, IsFileFault, content_of, name_of}
+use Rattle.filterset_values.specs.Values.{IsValuePiece}
 use Rattle.filterset_command.specs.Workspaces.{ArePackagesIn, RefusesValue}
 use Rattle.filterset_command.specs.declared.checking.CheckPaths.{CheckPaths}
 use Rattle.filterset_command.specs.declared.fault.CommandFault.{CommandFault}
@@ -33,24 +38,28 @@ KnownPackages content (Some path) packages = ArePackagesIn (content path.now) pa
 
 -- the configuration is that of the file with these bytes, and has nothing where there is no file
 abbrev pub KnownConfiguration : (Text → Option Text) → Option (Bor Text) → Text → Configuration → List (Option Place) → Type 0
-KnownConfiguration content None bytes c places = (c.filtersets.items ≡ []) × (c.groups.items ≡ [])
+KnownConfiguration content None bytes c places = (c.filtersets.items ≡ []) × (c.groups.items ≡ []) × (bytes ≡ [])
 KnownConfiguration content (Some path) bytes c places = IsConfigurationIn (content path.now) bytes c places
 
 -- what the file of the configuration is called
 abbrev pub file_name : Option (Bor Text) → Text
 file_name path = option_map_or (λ p. name_of roles.Configuration p.now) path []
 
--- What checking answers: the faults of the filtersets of the configuration and of the texts that are given, as far as
--- there are files that say which names there are. Standard input has this text, if that is the configuration.
+-- What checking answers: the wrong values of the configuration, then the faults of its filtersets and of the texts that are
+-- given, as far as there are files that say which names there are. Standard input has this text, if that is the configuration.
 abbrev pub AnswersCheck : (Text → Option Text) → Text → Form → CheckPaths → List TextRow → Ending → Text → Type 0
 AnswersCheck content input form paths given ending text =
     (packages : List PackageMetadata) × (bytes : Text) × (configuration : Configuration) × (places : Places)
-    × (texts : ConfiguredTexts) × (names : Names) × (faulty : ℕ) × KnownPackages content paths.metadata packages
+    × (texts : ConfiguredTexts) × (names : Names) × (faulty : ℕ) × (values : List WrongValue) × (front rest : Text)
+    × KnownPackages content paths.metadata packages
     × KnownConfiguration (content_of content input) paths.configuration bytes configuration places.places.items
     × AreTextsOf (file_name paths.configuration) bytes configuration.filtersets.items places texts
     × KnowsNames (is_some paths.metadata) packages (is_some paths.configuration)
     (map (λ s. string_bytes s) configuration.groups.items) names
-    × ChecksTexts names form (rows_in texts ++ given) faulty text × (ending ≡ ending_of faulty)
+    × AreWrongValues bytes values × (file : Bor Source) × (file.now.origin.now ≡ file_name paths.configuration)
+    × (file.now.text.now ≡ bytes) × Pieces (IsValuePiece form file) values front
+    × ChecksTexts names form (rows_in texts ++ given) faulty rest
+    × (text ≡ front ++ rest) × (ending ≡ ending_of (length values + faulty))
 
 -- one of the files that are given is not used: the configuration, or the one of the packages
 abbrev pub IsCheckFault : (Text → Option Text) → (Text → Error → Type 0) → Text → CheckPaths → CommandFault → Type 0

@@ -14,7 +14,9 @@ use crate::workspace::read_graph;
 use filterset_answers::{Answer, Form, Names, TextEntry, check_configured};
 use filterset_drawing::Source;
 use filterset_graph::PackageGraph;
+use filterset_profiles::find_wrong_values;
 use filterset_sources::Configuration;
+use filterset_values::add_values;
 use std::alloc::Global;
 
 /// The paths of the files that give the names that filtersets may use.
@@ -71,8 +73,8 @@ fn file_name(path: Option<&str>) -> &str
     }
 }
 
-/// Checks the filtersets of the configuration, and after them the texts that are given. Standard input has the text
-/// `input`, if that is the configuration.
+/// Checks the values of the configuration, then its filtersets, and after them the texts that are given. Standard input has
+/// the text `input`, if that is the configuration.
 pub fn check_texts<F: FileSource>(
     alloc: Global,
     files: &F,
@@ -96,5 +98,7 @@ pub fn check_texts<F: FileSource>(
     let names = Names::new(alloc, &graph, has_packages, groups, has_groups)?;
     let file = Source::new(alloc, file_name(paths.configuration), text.as_str())?;
     let configured = configured_texts(&file, filtersets.as_slice(), &places);
-    Ok(check_configured(alloc, &names, form, configured, given)?)
+    let answer = check_configured(alloc, &names, form, configured, given)?;
+    let values = find_wrong_values(alloc, text.as_str())?;
+    Ok(add_values(alloc, form, configured.file, values.as_slice(), answer)?)
 }

@@ -26,6 +26,7 @@ impl ConfigurationFile {
     pub fn empty(alloc: Global) -> ConfigurationFile
         ensures filtersets { result.configuration.filtersets.items ≡ [] }
         ensures groups { result.configuration.groups.items ≡ [] }
+        ensures text { string_bytes result.text ≡ [] }
     {
         ConfigurationFile {
             text: String::new(alloc),
