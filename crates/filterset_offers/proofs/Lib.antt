@@ -1,2 +1,3 @@
 mod GapLemmas
+mod GatherLemmas
 mod StandingLemmas

@@ -1,6 +1,6 @@
--- Candidates that stand, and lists of them.
-use Rattle.std.proofs.Common.{◌≡◌, ◌<◌, ◌+◌, ◌==◌, ℕ, Bool, true, false, not, List, [], ◌∷◌, ◌++◌, map, get_or, take, length, ap, arith, sym, ◌∙◌, subst, inr, Result, Ok, Err}
-use Rattle.std.proofs.lemmas.List.{append-nil, length-map, map-append, take_more}
+-- Candidates that stand, and lists of what comes of them.
+use Rattle.std.proofs.Common.{◌≡◌, ◌==◌, Bool, true, false, not, List, [], ◌∷◌, ◌++◌, map, length, ap, sym, ◌∙◌, subst, inr, Result, Ok, Err}
+use Rattle.std.proofs.lemmas.List.{length-map, map-append}
 use Rattle.std.specs.Prelude.{IfOk, MatchBool}
 use Rattle.std.specs.List.{AllZip}
 use Rattle.filterset_profiles.proofs.Zips.{zip_push}
@@ -13,9 +13,8 @@ use Rattle.std.specs.declared.alloc.AllocError.{AllocError}
 use Rattle.filterset_editor.specs.Positions.{Text}
 use Rattle.filterset_offers.specs.Candidates.{Row}
 use Rattle.filterset_offers.specs.Gaps.{GapRow}
-use Rattle.filterset_offers.specs.Standing.{Falls, Sieves, Stands, text_with}
+use Rattle.filterset_offers.specs.Standing.{Falls, Stands, text_with}
 use Rattle.filterset_offers.specs.Marks.{shows}
-use Rattle.filterset_offers.specs.Standing.Sieves.{left, no_more, taken}
 
 pub false-true : false ≡ true → ⊥
 false-true e = let P : Bool → Type 0 = λ b. MatchBool b (Unit {0}) ⊥ in subst P (sym e) tt
@@ -36,32 +35,6 @@ stands-is kind row gap behind text e (Ok true) same reads is =
     let Q : Text → Type 0 = λ t. Reads t e in (e, subst Q same reads, sym is)
 stands-is kind row gap behind text e (Ok false) same reads is =
     let Q : Text → Type 0 = λ t. Reads t e in inr (e, subst Q same reads, sym is)
-
--- one more element, and what comes of it
-Sieves-then : {A : Type 0} (In Out : A → Type 0) (xs ys more found : List A) → Sieves In Out xs ys → Sieves In Out more found
-    → Sieves In Out (xs ++ more) (ys ++ found)
-Sieves-then In Out xs ys more found no_more last = last
-Sieves-then In Out xs ys more found (taken {x} {xs = zs} {ys = ws} is are) last = taken is (Sieves-then In Out zs ws more found are last)
-Sieves-then In Out xs ys more found (left {x} {xs = zs} {ys = ws} is are) last = left is (Sieves-then In Out zs ws more found are last)
-
--- the rows of one element more
-pub rows_at : {A B : Type 0} (f : A → B) (xs : List A) (i : ℕ) (d : A) → i < length xs
-    → map f (take (i + 1) xs) ≡ map f (take i xs) ++ f (get_or xs i d) ∷ []
-rows_at f xs i d lt = ap (map f) (take_more xs i d lt) ∙ map-append f (take i xs) (get_or xs i d ∷ [])
-
--- the next element is taken
-pub sieve-taken : {A B : Type 0} (In Out : B → Type 0) (f : A → B) (rows : List B) (x : A) (found new : List A)
-    → new ≡ found ++ x ∷ [] → Sieves In Out rows (map f found) → In (f x) → Sieves In Out (rows ++ f x ∷ []) (map f new)
-sieve-taken {A = A} In Out f rows x found new pushed are is =
-    let P : List A → Type 0 = λ ns. Sieves In Out (rows ++ f x ∷ []) (map f ns) in
-    subst P (sym pushed) (rw (map-append f found (x ∷ [])) (Sieves-then In Out rows (map f found) (f x ∷ []) (f x ∷ []) are (taken is no_more)))
-
--- the next element is left out
-pub sieve-left : {B : Type 0} (In Out : B → Type 0) (rows found : List B) (row : B) → Sieves In Out rows found → Out row
-    → Sieves In Out (rows ++ row ∷ []) found
-sieve-left {B = B} In Out rows found row are is =
-    let P : List B → Type 0 = λ ys. Sieves In Out (rows ++ row ∷ []) ys in
-    subst P (append-nil found) (Sieves-then In Out rows found (row ∷ []) [] are (left is no_more))
 
 -- one more pair
 pub zip-pushed : {A B C : Type 0} (R : A → B → Type 0) (g : C → B) (rows : List A) (row : A) (found new : List C) (x : C)

@@ -1,9 +1,11 @@
 -- What may be offered at a position of a filterset.
 use Rattle.std.specs.Prelude.{ℕ, ◌+◌, ◌++◌, ◌==◌, ◌&&◌, ◌||◌, Bool, List, [], ◌∷◌, codes, length, nat_le}
 use Rattle.filterset_editor.specs.Positions.{Text}
+use Rattle.filterset_names.specs.declared.names.Named.{Named}
+use Rattle.filterset_names.specs.declared.names.Named.TheVariants as named
 use Rattle.filterset_offers.specs.declared.candidates.Candidate.{Candidate}
 use Rattle.filterset_offers.specs.declared.candidates.Mark.{Mark}
-use Rattle.filterset_offers.specs.declared.candidates.Mark.TheVariants.{Begins, Precedes, Inside}
+use Rattle.filterset_offers.specs.declared.candidates.Mark.TheVariants.{Begins, Precedes, Inside, Names}
 use Rattle.filterset_offers.specs.declared.candidates.Owner.{Owner}
 use Rattle.filterset_offers.specs.declared.candidates.Owner.TheVariants as owners
 
@@ -126,6 +128,27 @@ values =
     ∷ value_of owners.Group (codes "@global") (codes "Tests in no other group")
     ∷ []
 
+-- ---- names of a workspace
+
+abbrev pub detail_of : Named → Text
+detail_of named.Package = codes "A package of the workspace"
+detail_of named.Binary = codes "A test binary"
+detail_of named.BinaryId = codes "The id of a test binary"
+detail_of named.Test = codes "A test"
+
+-- a name of what is named so: a value (12)
+abbrev pub naming : Named → Text → Row
+naming what name = record {
+  label = name;
+  tail = [];
+  sample = [];
+  mark = Names what;
+  kind = 12;
+  detail = detail_of what;
+}
+
+-- ---- bytes
+
 -- the bytes of words of the language
 abbrev pub is_word_byte : ℕ → Bool
 is_word_byte b =
@@ -135,6 +158,6 @@ is_word_byte b =
 abbrev pub is_name_byte : ℕ → Bool
 is_name_byte b = is_word_byte b || b == 45 || b == 46 || b == 47 || b == 58 || b == 64
 
--- all that may be offered
+-- all that may be offered without a workspace
 abbrev pub all_rows : List Row
 all_rows = predicates ++ operators ++ values

@@ -1,5 +1,5 @@
 -- The word at an offset of a text, which what is offered replaces.
-use Rattle.std.specs.Prelude.{◌≡◌, ℕ, ◌+◌, ◌-◌, ◌<◌, Bool, Option, drop, length, nat_le, take}
+use Rattle.std.specs.Prelude.{ℕ, ◌+◌, ◌-◌, Bool, drop, length, nat_le, take}
 use Rattle.std.specs.List.{prefix_len, suffix_len}
 use Rattle.filterset_answers.specs.Placements.{TextSpot, line, literal}
 use Rattle.filterset_editor.specs.Positions.{Text}

@@ -2,4 +2,5 @@ pub mod Candidates
 pub mod Completion
 pub mod Gaps
 pub mod Marks
+pub mod Names
 pub mod Standing

@@ -1,5 +1,5 @@
 -- How a tree shows that a candidate stands where it may.
-use Rattle.std.specs.Prelude.{ℕ, ◌-◌, ◌==◌, ◌&&◌, Bool, false, Option, None, Some, codes, filter, is_some, length, nat_le, nat_lt, not}
+use Rattle.std.specs.Prelude.{ℕ, ◌-◌, ◌==◌, ◌&&◌, Bool, false, true, Option, None, Some, codes, filter, is_some, length, nat_le, nat_lt, not}
 use Rattle.std.specs.Str.{bytes_eq}
 use Rattle.filterset_editor.specs.Positions.{Text}
 use Rattle.filterset_faults.specs.Span.{length_of, offset_of}
@@ -9,10 +9,15 @@ use Rattle.filterset_grammar.specs.Bans.{ban_reason}
 use Rattle.filterset_grammar.specs.Grammar.{Name}
 use Rattle.filterset_grammar.specs.Tree as tree
 use Rattle.filterset_grammar.specs.Tree.{Leaf, Matching, Platform, Default, Tree, leaf_without_span, tree_leaves}
+use Rattle.filterset_grammar.specs.declared.predicate.Predicate.{Predicate}
+use Rattle.filterset_grammar.specs.declared.predicate.Predicate.TheVariants as predicates
 use Rattle.filterset_language.specs.Faults.{leaf_span}
+use Rattle.filterset_matchers.specs.Matcher.{Matcher, Equal, Contains, Glob, Regex}
+use Rattle.filterset_names.specs.declared.names.Named.{Named}
+use Rattle.filterset_names.specs.declared.names.Named.TheVariants as named
 use Rattle.filterset_offers.specs.Candidates.{Row}
 use Rattle.filterset_offers.specs.declared.candidates.Mark.{Mark}
-use Rattle.filterset_offers.specs.declared.candidates.Mark.TheVariants.{Begins, Precedes, Inside}
+use Rattle.filterset_offers.specs.declared.candidates.Mark.TheVariants.{Begins, Precedes, Inside, Names}
 use Rattle.filterset_offers.specs.declared.candidates.Owner.{Owner}
 use Rattle.filterset_offers.specs.declared.candidates.Owner.TheVariants as owners
 
@@ -47,12 +52,36 @@ is_banned kind leaf = is_some (ban_reason (leaf_without_span leaf) kind)
 abbrev pub is_named : Text → Leaf SourceSpan → Bool
 is_named name leaf = bytes_eq (leaf_name leaf) name
 
+-- the predicate is about what is named so
+abbrev pub is_about : Named → Predicate → Bool
+is_about named.Package predicates.Package = true
+is_about named.Package predicates.Deps = true
+is_about named.Package predicates.Rdeps = true
+is_about named.Binary predicates.Binary = true
+is_about named.BinaryId predicates.BinaryId = true
+is_about named.Test predicates.Test = true
+is_about what predicate = false
+
+-- the text of the matcher is the name, and it is no regular expression
+abbrev pub is_of_name : Text → Matcher → Bool
+is_of_name name (Equal value implicit) = bytes_eq value name
+is_of_name name (Contains value implicit) = bytes_eq value name
+is_of_name name (Glob text tokens implicit) = bytes_eq text name
+is_of_name name (Regex pattern) = false
+
+-- the predicate's argument is the name of what is named so
+abbrev pub takes_name : {S : Type 0} → Named → Text → Leaf S → Bool
+takes_name what name (Matching p m s) = is_about what p && is_of_name name m
+takes_name what name leaf = false
+
 -- A predicate of a text, which is to be of this kind, has this mark of a candidate with this name at an offset.
 abbrev pub has_mark : FiltersetKind → Mark → Text → ℕ → Leaf SourceSpan → Bool
 has_mark kind (Begins far) label at leaf = is_named label leaf && is_behind (leaf_span leaf) at far && not (is_banned kind leaf)
 has_mark kind (Precedes far) label at leaf = is_named (codes "default") leaf && is_behind (leaf_span leaf) at far
 has_mark kind (Inside owner) label at leaf =
     is_named (owner_name owner) leaf && holds (leaf_span leaf) at (length label) && not (is_banned kind leaf)
+has_mark kind (Names what) label at leaf =
+    takes_name what label leaf && holds (leaf_span leaf) at (length label) && not (is_banned kind leaf)
 
 abbrev pub is_marked : FiltersetKind → Row → ℕ → Leaf SourceSpan → Bool
 is_marked kind row at leaf = has_mark kind row.mark row.label at leaf
@@ -68,6 +97,7 @@ abbrev pub is_hiding : Mark → ℕ → Leaf SourceSpan → Bool
 is_hiding (Begins far) at leaf = false
 is_hiding (Precedes far) at leaf = covers (leaf_span leaf) at
 is_hiding (Inside owner) at leaf = false
+is_hiding (Names what) at leaf = false
 
 abbrev pub has_some : (Leaf SourceSpan → Bool) → Tree SourceSpan → Bool
 has_some test e = not (length (filter test (tree_leaves e)) == 0)

@@ -1,5 +1,5 @@
 -- Which candidates stand where they are put.
-use Rattle.std.specs.Prelude.{◌≡◌, ◌⊎◌, ◌-◌, ◌++◌, ◌==◌, ◌&&◌, ℕ, Bool, true, false, List, [], ◌∷◌, MatchBool, length, not, replicate, slice_index, if◌then◌else◌}
+use Rattle.std.specs.Prelude.{◌≡◌, ◌⊎◌, ◌-◌, ◌++◌, ◌==◌, ◌&&◌, ℕ, Bool, true, false, List, [], MatchBool, length, not, replicate, slice_index, if◌then◌else◌}
 use Rattle.std.specs.List.{count_by, starts_with}
 use Rattle.filterset_documents.specs.Filtersets.{IsUnread}
 use Rattle.filterset_editor.specs.Positions.{Text}
@@ -8,11 +8,12 @@ use Rattle.filterset_faults.specs.declared.kind.FiltersetKind.{FiltersetKind}
 use Rattle.filterset_faults.specs.declared.span.SourceSpan.{SourceSpan}
 use Rattle.filterset_grammar.specs.Tree.{Tree}
 use Rattle.filterset_language.specs.Parsed.{Reads}
+use Rattle.filterset_names.specs.Sieves.{Sieves}
 use Rattle.filterset_offers.specs.Candidates.{Row}
 use Rattle.filterset_offers.specs.Gaps.{GapRow, gap_at, gap_row, is_of}
 use Rattle.filterset_offers.specs.Marks.{shows}
 use Rattle.filterset_offers.specs.declared.candidates.Mark.{Mark}
-use Rattle.filterset_offers.specs.declared.candidates.Mark.TheVariants.{Begins, Precedes, Inside}
+use Rattle.filterset_offers.specs.declared.candidates.Mark.TheVariants.{Begins, Precedes, Inside, Names}
 use Rattle.filterset_offers.specs.declared.gaps.Word.TheVariants.{Name, Plain}
 use Rattle.filterset_offers.specs.declared.standing.Gaps.{Gaps}
 
@@ -34,6 +35,7 @@ abbrev pub replaced : Mark → GapRows → GapRow
 replaced (Begins far) gaps = gaps.word
 replaced (Precedes far) gaps = gaps.word
 replaced (Inside owner) gaps = gaps.name
+replaced (Names what) gaps = gaps.name
 
 abbrev pub gap_for : Row → GapRows → GapRow
 gap_for row gaps = replaced row.mark gaps
@@ -96,12 +98,6 @@ Misses kind gaps is_closed row =
     ⊎ Falls kind row (gap_for row gaps) (behind_of is_closed (gap_for row gaps))
 
 -- ---- offers
-
--- the second list has those elements of the first for which `In` holds, in their order; for the others `Out` does
-pub data Sieves {A : Type 0} (In Out : A → Type 0) : List A → List A → Type 0 where
-  no_more : Sieves In Out [] []
-  taken : {x : A} {xs ys : List A} → In x → Sieves In Out xs ys → Sieves In Out (x ∷ xs) (x ∷ ys)
-  left : {x : A} {xs ys : List A} → Out x → Sieves In Out xs ys → Sieves In Out (x ∷ xs) ys
 
 -- the candidates that fit
 abbrev pub AreFitting : FiltersetKind → GapRows → Bool → List Row → List Row → Type 0

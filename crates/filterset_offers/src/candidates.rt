@@ -3,6 +3,7 @@ ghost use Rattle.std.specs.Prelude.{◌≡◌, ◌<◌, ◌^◌, IfOk, length, m
 ghost use Rattle.filterset_offers.specs.Candidates as spec;
 ghost use Rattle.filterset_offers.specs.Candidates.{row_of};
 
+use filterset_names::Named;
 use std::alloc::{AllocError, Global};
 
 /// A predicate with an argument of which some values are known.
@@ -22,13 +23,15 @@ pub enum Mark {
     Precedes(usize),
     /// By a predicate in whose argument it is.
     Inside(Owner),
+    /// By a predicate of what is named so, whose argument is this name.
+    Names(Named),
 }
 
 /// What may be offered.
 #[derive(Clone, Copy, Debug)]
-pub struct Candidate {
+pub struct Candidate<'n> {
     /// What is shown, and what has to begin with what is typed.
-    pub label: &'static str,
+    pub label: &'n str,
     /// What is put behind the label.
     pub tail: &'static str,
     /// What makes a filterset of both, where one is to be tried.
@@ -41,9 +44,9 @@ pub struct Candidate {
 }
 
 /// Makes the candidate of a predicate with an argument.
-fn calling(label: &'static str, sample: &'static str, detail: &'static str) -> Candidate
+fn calling<'n>(label: &'n str, sample: &'static str, detail: &'static str) -> Candidate<'n>
     requires { length label.now < 2 ^ 16 }
-    ensures { row_of result ≡ spec.calling label.now sample.now detail.now }
+    ensures { row_of result ≡ spec.calling label.entry.now sample.now detail.now }
 {
     Candidate {
         label,
@@ -56,9 +59,9 @@ fn calling(label: &'static str, sample: &'static str, detail: &'static str) -> C
 }
 
 /// Makes the candidate of a predicate without an argument.
-fn whole(label: &'static str, detail: &'static str) -> Candidate
+fn whole<'n>(label: &'n str, detail: &'static str) -> Candidate<'n>
     requires { length label.now < 2 ^ 16 }
-    ensures { row_of result ≡ spec.whole label.now detail.now }
+    ensures { row_of result ≡ spec.whole label.entry.now detail.now }
 {
     Candidate {
         label,
@@ -71,7 +74,7 @@ fn whole(label: &'static str, detail: &'static str) -> Candidate
 }
 
 /// Returns the candidates that are predicates.
-fn predicates(alloc: Global) -> Result<Vec<Candidate>, AllocError>
+fn predicates<'n>(alloc: Global) -> Result<Vec<Candidate<'n>>, AllocError>
     ensures { IfOk result (λ made. map row_of made.items ≡ spec.predicates) }
 {
     Ok(vec![in alloc;
@@ -114,9 +117,9 @@ fn predicates(alloc: Global) -> Result<Vec<Candidate>, AllocError>
 }
 
 /// Makes the candidate of an operator.
-fn operator(label: &'static str, kind: u8, detail: &'static str) -> Candidate
+fn operator<'n>(label: &'n str, kind: u8, detail: &'static str) -> Candidate<'n>
     requires { length label.now < 2 ^ 16 }
-    ensures { row_of result ≡ spec.operator label.now kind detail.now }
+    ensures { row_of result ≡ spec.operator label.entry.now kind detail.now }
 {
     Candidate {
         label,
@@ -129,7 +132,7 @@ fn operator(label: &'static str, kind: u8, detail: &'static str) -> Candidate
 }
 
 /// Returns the candidates that are operators.
-fn operators(alloc: Global) -> Result<Vec<Candidate>, AllocError>
+fn operators<'n>(alloc: Global) -> Result<Vec<Candidate<'n>>, AllocError>
     ensures { IfOk result (λ made. map row_of made.items ≡ spec.operators) }
 {
     Ok(vec![in alloc;
@@ -150,8 +153,8 @@ fn operators(alloc: Global) -> Result<Vec<Candidate>, AllocError>
 }
 
 /// Makes the candidate of a value of an argument.
-fn value_of(owner: Owner, label: &'static str, detail: &'static str) -> Candidate
-    ensures { row_of result ≡ spec.value_of owner label.now detail.now }
+fn value_of<'n>(owner: Owner, label: &'n str, detail: &'static str) -> Candidate<'n>
+    ensures { row_of result ≡ spec.value_of owner label.entry.now detail.now }
 {
     Candidate {
         label,
@@ -164,7 +167,7 @@ fn value_of(owner: Owner, label: &'static str, detail: &'static str) -> Candidat
 }
 
 /// Returns the candidates that are values of arguments.
-fn values(alloc: Global) -> Result<Vec<Candidate>, AllocError>
+fn values<'n>(alloc: Global) -> Result<Vec<Candidate<'n>>, AllocError>
     ensures { IfOk result (λ made. map row_of made.items ≡ spec.values) }
 {
     Ok(vec![in alloc;
@@ -182,6 +185,32 @@ fn values(alloc: Global) -> Result<Vec<Candidate>, AllocError>
         value_of(Owner::Platform, "target", "Built for the target"),
         value_of(Owner::Group, "@global", "Tests in no other group"),
     ]?)
+}
+
+/// Returns what a name is of.
+fn detail_of(named: Named) -> &'static str
+    ensures { result.now ≡ spec.detail_of named }
+{
+    match named {
+        Named::Package => "A package of the workspace",
+        Named::Binary => "A test binary",
+        Named::BinaryId => "The id of a test binary",
+        Named::Test => "A test",
+    }
+}
+
+/// Makes the candidate of a name.
+pub fn naming<'n>(named: Named, name: &'n str) -> Candidate<'n>
+    ensures { row_of result ≡ spec.naming named name.entry.now }
+{
+    Candidate {
+        label: name,
+        tail: "",
+        sample: "",
+        mark: Mark::Names(named),
+        kind: 12,
+        detail: detail_of(named),
+    }
 }
 
 /// Returns whether a byte is one of words of the language.
@@ -204,7 +233,7 @@ pub fn is_name_byte(byte: u8) -> bool
 }
 
 /// Returns all candidates.
-pub fn all_candidates(alloc: Global) -> Result<Vec<Candidate>, AllocError>
+pub fn all_candidates<'n>(alloc: Global) -> Result<Vec<Candidate<'n>>, AllocError>
     ensures { IfOk result (λ made. map row_of made.items ≡ spec.all_rows) }
 {
     let mut candidates = predicates(alloc)?;

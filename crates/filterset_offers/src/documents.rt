@@ -3,51 +3,73 @@ ghost use Rattle.std.specs.Prelude.{◌≡◌, IfOk, map};
 ghost use Rattle.serde_json.specs.View.{view};
 ghost use Rattle.filterset_answers.specs.Checked.{text_row};
 ghost use Rattle.filterset_answers.specs.Placements.{spot_of};
-ghost use Rattle.filterset_offers.specs.Completion.{CompletesAt, CompletesGaps, CompletesIn, CompletesRow, CompletesRows};
+ghost use Rattle.filterset_names.specs.Workspaces.{known_of};
+ghost use Rattle.filterset_offers.specs.Completion.{CompletesAt, CompletesGaps, CompletesIn, CompletesRow, CompletesRows, list_data};
 ghost use Rattle.filterset_offers.specs.Standing.{gap_rows};
 
 use crate::candidates::all_candidates;
 use crate::gaps::text_offset;
 use crate::items::{items_of, span_in};
+use crate::names::{known_candidates, may_lack};
 use crate::offering::offered;
 use crate::standing::{Gaps, gaps_at};
 use filterset_answers::{FilePlace, TextEntry};
 use filterset_documents::{Shown, entry_at, is_in};
 use filterset_editor::Position;
-use serde_json::Value;
+use filterset_names::Workspace;
+use serde_json::{Value, json};
 use std::alloc::{AllocError, Global};
+
+/// Makes the value of a list of items, which may lack some.
+fn list_value(alloc: Global, lacks: bool, items: Vec<Value>) -> Result<Value, AllocError>
+    ensures { IfOk result (λ value. view value ≡ list_data lacks (map view items.items)) }
+{
+    let items = Value::Array(items);
+    if lacks {
+        json!(in alloc; { "isIncomplete": true, "items": items })
+    } else {
+        Ok(items)
+    }
+}
 
 /// Makes the items of what is offered in place of words of a filterset at this place.
 fn complete_gaps(
     alloc: Global,
+    workspace: Option<Workspace<'_>>,
     shown: &Shown<'_>,
     place: FilePlace<'_>,
     entry: &TextEntry<'_>,
     gaps: &Gaps<'_>,
 ) -> Result<Value, AllocError>
-    ensures { IfOk result (λ value. CompletesGaps shown.now.encoding shown.now.lines.text.now (spot_of place.entry.spot)
+    ensures { IfOk result (λ value. CompletesGaps (known_of workspace.entry) shown.now.encoding shown.now.lines.text.now
+        (spot_of place.entry.spot)
         (text_row entry.now) (gap_rows gaps.now) (view value)) }
 {
-    let candidates = all_candidates(alloc)?;
+    let mut candidates = all_candidates(alloc)?;
+    let mut known = known_candidates(alloc, workspace, gaps.name.typed)?;
+    let lacks = may_lack(known.as_slice());
+    candidates.append(&mut known)?;
     let found = offered(alloc, entry.kind, gaps, candidates.as_slice())?;
     let items = items_of(alloc, shown, place, gaps, found.as_slice())?;
-    Ok(Value::Array(items))
+    list_value(alloc, lacks, items)
 }
 
 /// Makes what is offered at this offset of the file in place of words of a filterset at this place.
 fn complete_in(
     alloc: Global,
+    workspace: Option<Workspace<'_>>,
     shown: &Shown<'_>,
     offset: usize,
     place: FilePlace<'_>,
     entry: &TextEntry<'_>,
     gaps: &Gaps<'_>,
 ) -> Result<Value, AllocError>
-    ensures { IfOk result (λ value. CompletesIn shown.now.encoding shown.now.lines.text.now offset (spot_of place.entry.spot)
+    ensures { IfOk result (λ value. CompletesIn (known_of workspace.entry) shown.now.encoding shown.now.lines.text.now offset
+        (spot_of place.entry.spot)
         (text_row entry.now) (gap_rows gaps.now) (view value)) }
 {
     if is_in(span_in(place, gaps.word.at), offset) {
-        complete_gaps(alloc, shown, place, entry, gaps)
+        complete_gaps(alloc, workspace, shown, place, entry, gaps)
     } else {
         Ok(Value::Null)
     }
@@ -56,16 +78,18 @@ fn complete_in(
 /// Makes what is offered at this offset of the file in a filterset at this place.
 fn complete_at(
     alloc: Global,
+    workspace: Option<Workspace<'_>>,
     shown: &Shown<'_>,
     offset: usize,
     place: FilePlace<'_>,
     entry: &TextEntry<'_>,
 ) -> Result<Value, AllocError>
-    ensures { IfOk result (λ value. CompletesAt shown.now.encoding shown.now.lines.text.now offset (spot_of place.entry.spot)
+    ensures { IfOk result (λ value. CompletesAt (known_of workspace.entry) shown.now.encoding shown.now.lines.text.now offset
+        (spot_of place.entry.spot)
         (text_row entry.now) (view value)) }
 {
     match gaps_at(entry.text, text_offset(place.spot, offset)) {
-        Some(gaps) => complete_in(alloc, shown, offset, place, entry, &gaps),
+        Some(gaps) => complete_in(alloc, workspace, shown, offset, place, entry, &gaps),
         None => Ok(Value::Null),
     }
 }
@@ -73,33 +97,35 @@ fn complete_at(
 /// Makes what is offered in a filterset at this offset of the file.
 fn complete_entry(
     alloc: Global,
+    workspace: Option<Workspace<'_>>,
     shown: &Shown<'_>,
     offset: usize,
     entry: &TextEntry<'_>,
 ) -> Result<Value, AllocError>
-    ensures { IfOk result (λ value. CompletesRow shown.now.encoding shown.now.lines.text.now offset
+    ensures { IfOk result (λ value. CompletesRow (known_of workspace.entry) shown.now.encoding shown.now.lines.text.now offset
         (text_row entry.now) (view value)) }
 {
     match entry.place {
-        Some(place) => complete_at(alloc, shown, offset, place, entry),
+        Some(place) => complete_at(alloc, workspace, shown, offset, place, entry),
         None => Ok(Value::Null),
     }
 }
 
-/// Makes what is offered at a position of filtersets: an array of items, or `null` where no filterset is. Returns an error only
-/// if out of memory.
+/// Makes what is offered at a position of filtersets: items, or `null` where no filterset is. With a workspace the names of its
+/// packages, test binaries and tests are offered too. Returns an error only if out of memory.
 pub fn complete_entries(
     alloc: Global,
+    workspace: Option<Workspace<'_>>,
     shown: &Shown<'_>,
     position: Position,
     entries: &[TextEntry<'_>],
 ) -> Result<Value, AllocError>
-    ensures { IfOk result (λ value. CompletesRows shown.now.encoding shown.now.lines.text.now position
+    ensures { IfOk result (λ value. CompletesRows (known_of workspace.entry) shown.now.encoding shown.now.lines.text.now position
         (map text_row entries.now) (view value)) }
 {
     let offset = shown.lines.offset(shown.encoding, position);
     match entry_at(entries, offset) {
-        Some(entry) => complete_entry(alloc, shown, offset, entry),
+        Some(entry) => complete_entry(alloc, workspace, shown, offset, entry),
         None => Ok(Value::Null),
     }
 }

@@ -31,7 +31,7 @@ pub fn span_in(place: FilePlace<'_>, span: SourceSpan) -> SourceSpan
 /// Makes the edit that puts a candidate in place of a word, which is in this range.
 fn edit_value(
     alloc: Global,
-    candidate: &Candidate,
+    candidate: &Candidate<'_>,
     gap: &Gap<'_>,
     range: Value,
 ) -> Result<Value, AllocError>
@@ -43,7 +43,7 @@ fn edit_value(
 }
 
 /// Makes the item of a candidate with an edit.
-fn item_value(alloc: Global, candidate: &Candidate, edit: Value) -> Result<Value, AllocError>
+fn item_value(alloc: Global, candidate: &Candidate<'_>, edit: Value) -> Result<Value, AllocError>
     ensures { IfOk result (λ value. view value ≡ item_data (row_of candidate.now) (view edit)) }
 {
     json!(in alloc; {
@@ -60,7 +60,7 @@ fn item_of(
     shown: &Shown<'_>,
     place: FilePlace<'_>,
     gaps: &Gaps<'_>,
-    candidate: &Candidate,
+    candidate: &Candidate<'_>,
 ) -> Result<Value, AllocError>
     ensures { IfOk result (λ value. IsItem shown.now.encoding shown.now.lines.text.now (spot_of place.entry.spot)
         (gap_rows gaps.now) (row_of candidate.now) (view value)) }
@@ -78,7 +78,7 @@ fn push_item(
     shown: &Shown<'_>,
     place: FilePlace<'_>,
     gaps: &Gaps<'_>,
-    candidate: &Candidate,
+    candidate: &Candidate<'_>,
 ) -> Result<(), AllocError>
     ensures { (rows : List Row) → AllZip (IsItem shown.now.encoding shown.now.lines.text.now (spot_of place.entry.spot)
         (gap_rows gaps.now)) rows (map view values.old.items)
@@ -96,7 +96,7 @@ pub fn items_of(
     shown: &Shown<'_>,
     place: FilePlace<'_>,
     gaps: &Gaps<'_>,
-    candidates: &[Candidate],
+    candidates: &[Candidate<'_>],
 ) -> Result<Vec<Value>, AllocError>
     ensures { IfOk result (λ values. AllZip (IsItem shown.now.encoding shown.now.lines.text.now (spot_of place.entry.spot)
         (gap_rows gaps.now)) (map row_of candidates.now) (map view values.items)) }

@@ -6,6 +6,7 @@ mod documents;
 mod gaps;
 mod items;
 mod marks;
+mod names;
 mod offering;
 mod standing;
 

@@ -1,6 +1,7 @@
 //! How a tree shows that a candidate stands where it may.
 ghost use Rattle.std.specs.Prelude.{◌≡◌, IfOk};
 ghost use Rattle.filterset_language.specs.Views.{leaf_of, tree_of};
+ghost use Rattle.filterset_matchers.specs.Matchers.{matcher_of};
 ghost use Rattle.filterset_offers.specs.Candidates.{row_of};
 ghost use Rattle.filterset_offers.specs.Marks as spec;
 ghost use Rattle.filterset_offers.specs.Marks.{has_mark, has_some, is_marked};
@@ -9,6 +10,8 @@ use crate::candidates::{Candidate, Mark, Owner};
 use filterset_documents::{is_same, leaf_span};
 use filterset_faults::SourceSpan;
 use filterset_language::{ParsedExpr, ParsedLeaf};
+use filterset_matchers::NameMatcher;
+use filterset_names::Named;
 use nextest_filtering::FiltersetKind;
 use std::alloc::{AllocError, Global};
 
@@ -88,6 +91,34 @@ fn is_banned(kind: FiltersetKind, leaf: &ParsedLeaf) -> bool
     }
 }
 
+/// Returns whether the text of a matcher is a name, and no regular expression.
+fn is_of_name(name: &str, matcher: &NameMatcher) -> bool
+    ensures { result ≡ spec.is_of_name name.now (matcher_of matcher.now) }
+{
+    match matcher {
+        NameMatcher::Equal { value, .. } | NameMatcher::Contains { value, .. } => {
+            is_same(value.as_str(), name)
+        }
+        NameMatcher::Glob { glob, .. } => is_same(glob.as_str(), name),
+        NameMatcher::Regex(_) => false,
+    }
+}
+
+/// Returns whether the argument of a predicate is the name of what is named so.
+fn takes_name(named: Named, name: &str, leaf: &ParsedLeaf) -> bool
+    ensures { result ≡ spec.takes_name named name.now (leaf_of leaf.now) }
+{
+    match (named, leaf) {
+        (Named::Package, ParsedLeaf::Package(matcher, _))
+        | (Named::Package, ParsedLeaf::Deps(matcher, _))
+        | (Named::Package, ParsedLeaf::Rdeps(matcher, _))
+        | (Named::Binary, ParsedLeaf::Binary(matcher, _))
+        | (Named::BinaryId, ParsedLeaf::BinaryId(matcher, _))
+        | (Named::Test, ParsedLeaf::Test(matcher, _)) => is_of_name(name, matcher),
+        _ => false,
+    }
+}
+
 /// Returns whether a predicate has the mark of a candidate that begins at an offset.
 fn has_mark(kind: FiltersetKind, mark: Mark, label: &str, at: usize, leaf: &ParsedLeaf) -> bool
     ensures { result ≡ has_mark kind mark label.now at (leaf_of leaf.now) }
@@ -99,6 +130,11 @@ fn has_mark(kind: FiltersetKind, mark: Mark, label: &str, at: usize, leaf: &Pars
         Mark::Precedes(far) => { is_named("default", leaf) && is_behind(leaf_span(leaf), at, far) }
         Mark::Inside(owner) => {
             is_named(owner_name(owner), leaf)
+                && holds(leaf_span(leaf), at, label.len())
+                && !is_banned(kind, leaf)
+        }
+        Mark::Names(named) => {
+            takes_name(named, label, leaf)
                 && holds(leaf_span(leaf), at, label.len())
                 && !is_banned(kind, leaf)
         }
@@ -121,7 +157,7 @@ fn is_hiding(mark: Mark, at: usize, leaf: &ParsedLeaf) -> bool
 {
     match mark {
         Mark::Precedes(_) => covers(leaf_span(leaf), at),
-        Mark::Begins(_) | Mark::Inside(_) => false,
+        Mark::Begins(_) | Mark::Inside(_) | Mark::Names(_) => false,
     }
 }
 
@@ -129,7 +165,7 @@ fn is_hiding(mark: Mark, at: usize, leaf: &ParsedLeaf) -> bool
 fn has_marked(
     alloc: Global,
     kind: FiltersetKind,
-    candidate: &Candidate,
+    candidate: &Candidate<'_>,
     at: usize,
     tree: &ParsedExpr,
 ) -> Result<bool, AllocError>
@@ -144,7 +180,7 @@ fn has_marked(
 /// Returns whether a candidate that begins at an offset may be a part of an argument of a tree.
 fn has_hiding(
     alloc: Global,
-    candidate: &Candidate,
+    candidate: &Candidate<'_>,
     at: usize,
     tree: &ParsedExpr,
 ) -> Result<bool, AllocError>
@@ -158,7 +194,7 @@ fn has_hiding(
 pub fn shows(
     alloc: Global,
     kind: FiltersetKind,
-    candidate: &Candidate,
+    candidate: &Candidate<'_>,
     at: usize,
     tree: &ParsedExpr,
 ) -> Result<bool, AllocError>

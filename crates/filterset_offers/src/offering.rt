@@ -9,13 +9,13 @@ use nextest_filtering::FiltersetKind;
 use std::alloc::{AllocError, Global};
 
 /// Adds a candidate, if it fits.
-fn push_fitting(
-    found: &mut Vec<Candidate>,
+fn push_fitting<'n>(
+    found: &mut Vec<Candidate<'n>>,
     alloc: Global,
     kind: FiltersetKind,
     gaps: &Gaps<'_>,
     is_closed: bool,
-    candidate: &Candidate,
+    candidate: &Candidate<'n>,
 ) -> Result<(), AllocError>
     ensures { (rows : List Row) → AreFitting kind (gap_rows gaps.now) is_closed rows (map row_of found.old.items)
         → OnOk result (AreFitting kind (gap_rows gaps.now) is_closed (rows ++ row_of candidate.now ∷ [])
@@ -30,13 +30,13 @@ fn push_fitting(
 }
 
 /// Returns the candidates that fit.
-fn fitting(
+fn fitting<'n>(
     alloc: Global,
     kind: FiltersetKind,
     gaps: &Gaps<'_>,
     is_closed: bool,
-    candidates: &[Candidate],
-) -> Result<Vec<Candidate>, AllocError>
+    candidates: &[Candidate<'n>],
+) -> Result<Vec<Candidate<'n>>, AllocError>
     ensures { IfOk result (λ found. AreFitting kind (gap_rows gaps.now) is_closed (map row_of candidates.now)
         (map row_of found.items)) }
 {
@@ -48,12 +48,12 @@ fn fitting(
 }
 
 /// Returns the candidates that are offered: those that fit with the rest of the text or, if there are none, without it.
-pub fn offered(
+pub fn offered<'n>(
     alloc: Global,
     kind: FiltersetKind,
     gaps: &Gaps<'_>,
-    candidates: &[Candidate],
-) -> Result<Vec<Candidate>, AllocError>
+    candidates: &[Candidate<'n>],
+) -> Result<Vec<Candidate<'n>>, AllocError>
     ensures { IfOk result (λ found. AreOffered kind (gap_rows gaps.now) (map row_of candidates.now) (map row_of found.items)) }
 {
     let found = fitting(alloc, kind, gaps, false, candidates)?;

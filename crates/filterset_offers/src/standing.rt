@@ -32,12 +32,12 @@ pub fn gaps_at(text: &str, offset: usize) -> Option<Gaps<'_>>
 }
 
 /// Returns the word that a candidate replaces.
-pub fn gap_for<'t>(candidate: &Candidate, gaps: &Gaps<'t>) -> Gap<'t>
+pub fn gap_for<'t>(candidate: &Candidate<'_>, gaps: &Gaps<'t>) -> Gap<'t>
     ensures { gap_row result ≡ spec.gap_for (row_of candidate.now) (gap_rows gaps.now) }
 {
     match candidate.mark {
         Mark::Begins(_) | Mark::Precedes(_) => gaps.word,
-        Mark::Inside(_) => gaps.name,
+        Mark::Inside(_) | Mark::Names(_) => gaps.name,
     }
 }
 
@@ -50,14 +50,14 @@ fn is_called(gap: &Gap<'_>) -> bool
 }
 
 /// Returns what is put behind the name of a candidate.
-pub fn tail_in(candidate: &Candidate, gap: &Gap<'_>) -> &'static str
+pub fn tail_in(candidate: &Candidate<'_>, gap: &Gap<'_>) -> &'static str
     ensures { result.now ≡ spec.tail_in (row_of candidate.now) (gap_row gap.now) }
 {
     if is_called(gap) { "" } else { candidate.tail }
 }
 
 /// Returns what follows a candidate where it is tried.
-fn sample_in(candidate: &Candidate, gap: &Gap<'_>) -> &'static str
+fn sample_in(candidate: &Candidate<'_>, gap: &Gap<'_>) -> &'static str
     ensures { result.now ≡ spec.sample_in (row_of candidate.now) (gap_row gap.now) }
 {
     if is_called(gap) && !candidate.tail.is_empty() {
@@ -70,7 +70,7 @@ fn sample_in(candidate: &Candidate, gap: &Gap<'_>) -> &'static str
 /// Makes the text with a candidate in place of a word, and with this behind it.
 fn text_with(
     alloc: Global,
-    candidate: &Candidate,
+    candidate: &Candidate<'_>,
     gap: &Gap<'_>,
     behind: &str,
 ) -> Result<String, AllocError>
@@ -85,7 +85,7 @@ fn text_with(
 fn stands(
     alloc: Global,
     kind: FiltersetKind,
-    candidate: &Candidate,
+    candidate: &Candidate<'_>,
     gap: &Gap<'_>,
     behind: &str,
 ) -> Result<bool, AllocError>
@@ -124,7 +124,7 @@ fn stands_in(
     alloc: Global,
     kind: FiltersetKind,
     is_closed: bool,
-    candidate: &Candidate,
+    candidate: &Candidate<'_>,
     gap: &Gap<'_>,
 ) -> Result<bool, AllocError>
     ensures { IfOk result (λ answer. MatchBool answer
@@ -140,7 +140,7 @@ fn stands_in(
 }
 
 /// Returns whether the name of a candidate begins with what is typed.
-fn is_begun(candidate: &Candidate, gap: &Gap<'_>) -> bool
+fn is_begun(candidate: &Candidate<'_>, gap: &Gap<'_>) -> bool
     ensures { result ≡ spec.is_begun (row_of candidate.now) (gap_row gap.now) }
 {
     candidate.label.as_bytes().starts_with(gap.typed.as_bytes())
@@ -152,7 +152,7 @@ pub fn fits(
     kind: FiltersetKind,
     gaps: &Gaps<'_>,
     is_closed: bool,
-    candidate: &Candidate,
+    candidate: &Candidate<'_>,
 ) -> Result<bool, AllocError>
     ensures { IfOk result (λ answer. MatchBool answer (Fits kind (gap_rows gaps.now) is_closed (row_of candidate.now))
         (Misses kind (gap_rows gaps.now) is_closed (row_of candidate.now))) }

@@ -1,5 +1,5 @@
 -- Steps over tokens of documents.
-use Rattle.std.proofs.Common.{◌≡◌, ℕ, ◌+◌, ◌<◌, ◌∙◌, ◌∷◌, ◌++◌, List, ap, append_assoc, drop, get_or, length, sym, take}
+use Rattle.std.proofs.Common.{◌≡◌, ℕ, ◌+◌, ◌<◌, ◌∙◌, ◌++◌, List, ap, append_assoc, drop, get_or, length, sym, take}
 use Rattle.std.proofs.lemmas.List.{drop_more, get_or_default}
 use Rattle.serde_json.specs.Data.{Data}
 use Rattle.filterset_editor.specs.declared.positions.Position.{Position}

@@ -1,5 +1,5 @@
 -- What the server shows of the predicate at a position.
-use Rattle.std.specs.Prelude.{◌≡◌, ◌⊎◌, ℕ, Bool, List, MatchOption, Option, Some, None, codes, find, false}
+use Rattle.std.specs.Prelude.{◌≡◌, ◌⊎◌, ◌++◌, ℕ, Bool, List, MatchOption, Option, Some, None, codes, find, false}
 use Rattle.serde_json.specs.Data.{Data, string, object, member, no_members, null}
 use Rattle.filterset_answers.specs.Checked.{TextRow}
 use Rattle.filterset_answers.specs.Placements.{Placement, file_part}
@@ -14,6 +14,8 @@ use Rattle.filterset_language.specs.Faults.{leaf_span}
 use Rattle.filterset_language.specs.Parsed.{IsUnreadWith, Reads}
 use Rattle.filterset_documents.specs.Filtersets.{is_in, is_row_at}
 use Rattle.filterset_documents.specs.Ranges.{IsRange}
+use Rattle.filterset_names.specs.Workspaces.{WorkspaceRow}
+use Rattle.filterset_server.specs.Matches.{SaysMatched}
 use Rattle.filterset_server.specs.Words.{leaf_text}
 
 -- ---- predicates
@@ -36,25 +38,26 @@ is_in_part (Some part) offset = is_in part.span offset
 abbrev pub is_leaf_at : Option Placement → ℕ → Leaf SourceSpan → Bool
 is_leaf_at place offset leaf = is_in_part (leaf_part place leaf) offset
 
--- the hover of a predicate: what it means, for the range of its span in the file
-abbrev pub HoversLeaf : Encoding → Text → Option Placement → Leaf SourceSpan → Data → Type 0
-HoversLeaf encoding text place leaf d = MatchOption (leaf_part place leaf) (d ≡ null)
-    (λ part. (range : Data) × IsRange encoding text part.span range × (d ≡ hover_data (leaf_text leaf) range))
+-- the hover of a predicate: what it means, and what it matches in the workspace, for the range of its span in the file
+abbrev pub HoversLeaf : Option WorkspaceRow → Encoding → Text → Option Placement → Leaf SourceSpan → Data → Type 0
+HoversLeaf w encoding text place leaf d = MatchOption (leaf_part place leaf) (d ≡ null)
+    (λ part. (range : Data) × (matched : Text) × IsRange encoding text part.span range × SaysMatched w leaf matched
+    × (d ≡ hover_data (leaf_text leaf ++ matched) range))
 
 -- the hover of the first predicate of the tree at this offset of the file, or `null` without one
-abbrev pub HoversTree : Encoding → Text → Option Placement → ℕ → Tree SourceSpan → Data → Type 0
-HoversTree encoding text place offset e d =
-    MatchOption (find (is_leaf_at place offset) (tree_leaves e)) (d ≡ null) (λ leaf. HoversLeaf encoding text place leaf d)
+abbrev pub HoversTree : Option WorkspaceRow → Encoding → Text → Option Placement → ℕ → Tree SourceSpan → Data → Type 0
+HoversTree w encoding text place offset e d =
+    MatchOption (find (is_leaf_at place offset) (tree_leaves e)) (d ≡ null) (λ leaf. HoversLeaf w encoding text place leaf d)
 
 -- ---- filtersets
 
 -- the hover of a filterset at this offset of the file: that of the tree that its text reads as, or `null` if it reads as none
-abbrev pub HoversRow : Encoding → Text → ℕ → TextRow → Data → Type 0
-HoversRow encoding text offset row d =
-    ((e : Tree SourceSpan) × Reads row.text e × HoversTree encoding text row.place offset e d)
+abbrev pub HoversRow : Option WorkspaceRow → Encoding → Text → ℕ → TextRow → Data → Type 0
+HoversRow w encoding text offset row d =
+    ((e : Tree SourceSpan) × Reads row.text e × HoversTree w encoding text row.place offset e d)
     ⊎ ((faults : List ParseSingleError) × IsUnreadWith row.text faults × (d ≡ null))
 
 -- the hover of the first filterset that is at the position, or `null` without one
-abbrev pub HoversRows : Encoding → Text → Position → List TextRow → Data → Type 0
-HoversRows encoding text position rows d = (offset : ℕ) × IsOffset encoding text position offset
-    × MatchOption (find (is_row_at offset) rows) (d ≡ null) (λ row. HoversRow encoding text offset row d)
+abbrev pub HoversRows : Option WorkspaceRow → Encoding → Text → Position → List TextRow → Data → Type 0
+HoversRows w encoding text position rows d = (offset : ℕ) × IsOffset encoding text position offset
+    × MatchOption (find (is_row_at offset) rows) (d ≡ null) (λ row. HoversRow w encoding text offset row d)

@@ -1,5 +1,5 @@
 -- What the server answers about documents.
-use Rattle.std.specs.Prelude.{◌≡◌, ◌⊎◌, Bool, List, MatchBool, true, false}
+use Rattle.std.specs.Prelude.{◌≡◌, ◌⊎◌, Bool, List, MatchBool, Option, true, false}
 use Rattle.std.specs.Borrow.{Bor}
 use Rattle.serde_json.specs.Data.{Data, null}
 use Rattle.filterset_answers.specs.Checked.{TextRow}
@@ -17,6 +17,7 @@ use Rattle.filterset_sources.specs.Configurations.{IsConfiguration, RefusesConfi
 use Rattle.filterset_sources.specs.declared.configuration.Configuration.{Configuration}
 use Rattle.filterset_sources.specs.declared.refusal.SourceRefusal.{SourceRefusal}
 use Rattle.filterset_documents.specs.Filtersets.{AreTextsOf, SaysWhy, is_list}
+use Rattle.filterset_names.specs.Workspaces.{WorkspaceRow}
 use Rattle.filterset_offers.specs.Completion.{CompletesRows}
 use Rattle.filterset_server.specs.Folding.{AreFolds}
 use Rattle.filterset_server.specs.Formatting.{FormatsConfiguration, FormatsList}
@@ -38,32 +39,32 @@ abilities = record {
 
 -- ---- filtersets
 
--- the result of a request about filtersets of the text; `null` for what the server can't do
-abbrev pub RespondsRows : Encoding → Text → Inquiry → List TextRow → Data → Type 0
-RespondsRows encoding text Symbols rows d = AreSymbols encoding text rows d
-RespondsRows encoding text (Hover position) rows d = HoversRows encoding text position rows d
-RespondsRows encoding text (Completion position) rows d = CompletesRows encoding text position rows d
-RespondsRows encoding text FoldingRanges rows d = AreFolds encoding text rows d
-RespondsRows encoding text SemanticTokens rows d = HighlightsRows encoding text rows d
-RespondsRows encoding text inquiry rows d = d ≡ null
+-- the result of a request about filtersets of the text, where a workspace may be known; `null` for what the server can't do
+abbrev pub RespondsRows : Option WorkspaceRow → Encoding → Text → Inquiry → List TextRow → Data → Type 0
+RespondsRows w encoding text Symbols rows d = AreSymbols encoding text rows d
+RespondsRows w encoding text (Hover position) rows d = HoversRows w encoding text position rows d
+RespondsRows w encoding text (Completion position) rows d = CompletesRows w encoding text position rows d
+RespondsRows w encoding text FoldingRanges rows d = AreFolds encoding text rows d
+RespondsRows w encoding text SemanticTokens rows d = HighlightsRows encoding text rows d
+RespondsRows w encoding text inquiry rows d = d ≡ null
 
 -- ---- documents
 
 -- the result for a text of which each line is a filterset
-abbrev pub RespondsList : Encoding → Text → Inquiry → Data → Type 0
-RespondsList encoding text inquiry d =
-    (file : Bor Source) × (file.now.text.now ≡ text) × RespondsRows encoding text inquiry (line_rows file kinds.Test) d
+abbrev pub RespondsList : Option WorkspaceRow → Encoding → Text → Inquiry → Data → Type 0
+RespondsList w encoding text inquiry d =
+    (file : Bor Source) × (file.now.text.now ≡ text) × RespondsRows w encoding text inquiry (line_rows file kinds.Test) d
 
 -- the result for the filtersets of a configuration that was read from the text
-abbrev pub RespondsFiltersets : Encoding → Text → Inquiry → Configuration → Data → Type 0
-RespondsFiltersets encoding text inquiry configuration d =
-    (texts : ConfiguredTexts) × AreTextsOf text configuration texts × RespondsRows encoding text inquiry (rows_in texts) d
+abbrev pub RespondsFiltersets : Option WorkspaceRow → Encoding → Text → Inquiry → Configuration → Data → Type 0
+RespondsFiltersets w encoding text inquiry configuration d =
+    (texts : ConfiguredTexts) × AreTextsOf text configuration texts × RespondsRows w encoding text inquiry (rows_in texts) d
 
 -- the result for a configuration, or `null` for a text that is none
-abbrev pub RespondsConfiguration : Encoding → Text → Inquiry → Data → Type 0
-RespondsConfiguration encoding text inquiry d =
+abbrev pub RespondsConfiguration : Option WorkspaceRow → Encoding → Text → Inquiry → Data → Type 0
+RespondsConfiguration w encoding text inquiry d =
     ((configuration : Configuration) × IsConfiguration text configuration
-    × RespondsFiltersets encoding text inquiry configuration d)
+    × RespondsFiltersets w encoding text inquiry configuration d)
     ⊎ ((refusal : SourceRefusal) × RefusesConfiguration text refusal × SaysWhy refusal × (d ≡ null))
 
 -- ---- requests
@@ -78,9 +79,9 @@ Formats encoding language text d =
     MatchBool (is_list language) (FormatsList encoding text d) (FormatsConfiguration encoding text d) ⊎ (d ≡ null)
 
 -- the result of a request about a text in a language
-abbrev pub RespondsTo : Encoding → Text → Text → Inquiry → Data → Type 0
-RespondsTo encoding language text inquiry d = MatchBool (is_formatting inquiry) (Formats encoding language text d)
-    (MatchBool (is_list language) (RespondsList encoding text inquiry d) (RespondsConfiguration encoding text inquiry d))
+abbrev pub RespondsTo : Option WorkspaceRow → Encoding → Text → Text → Inquiry → Data → Type 0
+RespondsTo w encoding language text inquiry d = MatchBool (is_formatting inquiry) (Formats encoding language text d)
+    (MatchBool (is_list language) (RespondsList w encoding text inquiry d) (RespondsConfiguration w encoding text inquiry d))
 
-abbrev pub Responds : Encoding → DocumentRow → Inquiry → Data → Type 0
-Responds encoding document = RespondsTo encoding document.language document.text
+abbrev pub Responds : Option WorkspaceRow → Encoding → DocumentRow → Inquiry → Data → Type 0
+Responds w encoding document = RespondsTo w encoding document.language document.text

@@ -5,15 +5,18 @@ ghost use Rattle.filterset_answers.specs.Checked.{text_row};
 ghost use Rattle.filterset_answers.specs.Placements.{placement_of};
 ghost use Rattle.filterset_grammar.specs.Tree.{tree_leaves};
 ghost use Rattle.filterset_language.specs.Views.{leaf_of, tree_of};
+ghost use Rattle.filterset_names.specs.Workspaces.{known_of};
 ghost use Rattle.filterset_server.specs.Hover.{HoversLeaf, HoversRow, HoversRows, HoversTree};
 ghost use Rattle.filterset_server.specs.Hover.{hover_data, is_in_part, is_leaf_at, leaf_part};
 
+use crate::matches::leaf_matches;
 use crate::words::leaf_text;
 use filterset_answers::{FilePlace, TextEntry, file_part};
 use filterset_documents::{Shown, entry_at, is_in, leaf_span, parse_text, span_value};
 use filterset_drawing::FileSpan;
 use filterset_editor::Position;
 use filterset_language::{ParsedExpr, ParsedLeaf};
+use filterset_names::Workspace;
 use serde_json::{Value, json};
 use std::alloc::{AllocError, Global};
 
@@ -51,18 +54,21 @@ fn hover_value(alloc: Global, text: &str, range: Value) -> Result<Value, AllocEr
 /// Makes the hover of a predicate of a text at this place.
 fn hover_leaf(
     alloc: Global,
+    workspace: Option<Workspace<'_>>,
     shown: &Shown<'_>,
     place: Option<FilePlace<'_>>,
     leaf: &ParsedLeaf,
 ) -> Result<Value, AllocError>
-    ensures { IfOk result (λ value. HoversLeaf shown.now.encoding shown.now.lines.text.now
+    ensures { IfOk result (λ value. HoversLeaf (known_of workspace.entry) shown.now.encoding shown.now.lines.text.now
         (option_map placement_of place.entry) (leaf_of leaf.now) (view value)) }
 {
     let Some(part) = leaf_part(place, leaf) else {
         return Ok(Value::Null);
     };
     let range = span_value(alloc, shown, part.span)?;
-    let text = leaf_text(alloc, leaf)?;
+    let mut text = leaf_text(alloc, leaf)?;
+    let matched = leaf_matches(alloc, workspace, leaf)?;
+    text.push_str(matched.as_str())?;
     hover_value(alloc, text.as_str(), range)
 }
 
@@ -82,17 +88,18 @@ fn leaves_at<'e>(
 /// Makes the hover of the first predicate at this offset of the file, in the tree of a text at this place.
 fn hover_tree(
     alloc: Global,
+    workspace: Option<Workspace<'_>>,
     shown: &Shown<'_>,
     place: Option<FilePlace<'_>>,
     offset: usize,
     tree: &ParsedExpr,
 ) -> Result<Value, AllocError>
-    ensures { IfOk result (λ value. HoversTree shown.now.encoding shown.now.lines.text.now
+    ensures { IfOk result (λ value. HoversTree (known_of workspace.entry) shown.now.encoding shown.now.lines.text.now
         (option_map placement_of place.entry) offset (tree_of tree.now) (view value)) }
 {
     let leaves = leaves_at(alloc, place, offset, tree)?;
     match leaves.first() {
-        Some(leaf) => hover_leaf(alloc, shown, place, leaf),
+        Some(leaf) => hover_leaf(alloc, workspace, shown, place, leaf),
         None => Ok(Value::Null),
     }
 }
@@ -100,15 +107,17 @@ fn hover_tree(
 /// Makes the hover of a filterset that is at this offset of the file.
 fn hover_entry(
     alloc: Global,
+    workspace: Option<Workspace<'_>>,
     shown: &Shown<'_>,
     offset: usize,
     entry: &TextEntry<'_>,
 ) -> Result<Value, AllocError>
-    ensures { IfOk result (λ value. HoversRow shown.now.encoding shown.now.lines.text.now offset (text_row entry.now)
+    ensures { IfOk result (λ value. HoversRow (known_of workspace.entry) shown.now.encoding shown.now.lines.text.now offset
+        (text_row entry.now)
         (view value)) }
 {
     match parse_text(alloc, entry.text)? {
-        Some(tree) => hover_tree(alloc, shown, entry.place, offset, &tree),
+        Some(tree) => hover_tree(alloc, workspace, shown, entry.place, offset, &tree),
         None => Ok(Value::Null),
     }
 }
@@ -116,16 +125,17 @@ fn hover_entry(
 /// Makes the hover at a position of filtersets.
 pub(crate) fn hover_entries(
     alloc: Global,
+    workspace: Option<Workspace<'_>>,
     shown: &Shown<'_>,
     position: Position,
     entries: &[TextEntry<'_>],
 ) -> Result<Value, AllocError>
-    ensures { IfOk result (λ value. HoversRows shown.now.encoding shown.now.lines.text.now position
+    ensures { IfOk result (λ value. HoversRows (known_of workspace.entry) shown.now.encoding shown.now.lines.text.now position
         (map text_row entries.now) (view value)) }
 {
     let offset = shown.lines.offset(shown.encoding, position);
     match entry_at(entries, offset) {
-        Some(entry) => hover_entry(alloc, shown, offset, entry),
+        Some(entry) => hover_entry(alloc, workspace, shown, offset, entry),
         None => Ok(Value::Null),
     }
 }

@@ -3,19 +3,24 @@ ghost use Rattle.std.specs.Prelude.{◌≡◌, IfOk, MatchBool, map};
 ghost use Rattle.serde_json.specs.View.{view};
 ghost use Rattle.filterset_documents.specs.Diagnostics.{DiagnosesText};
 ghost use Rattle.filterset_documents.specs.Filtersets.{is_list};
+ghost use Rattle.filterset_names.specs.Workspaces.{known_of};
 ghost use Rattle.filterset_server.specs.Responses.{Formats, RespondsConfiguration, RespondsList, RespondsTo, is_formatting};
 
 use crate::formatting::{format_configuration, format_list};
 use crate::requests::{respond_configuration, respond_list};
 use filterset_documents::{Shown, diagnose_configuration, diagnose_list};
 use filterset_editor::{Abilities, Document, Encoding, Inquiry, Language, Lines};
+use filterset_names::Workspace;
 use serde_json::Value;
 use std::alloc::{AllocError, Global};
 
 /// What a language server says of documents with filtersets. A document whose language is `filterset` has one a line; any
 /// other is nextest's configuration.
 #[derive(Clone, Copy, Debug)]
-pub struct FiltersetLanguage;
+pub struct FiltersetLanguage<'w> {
+    /// The workspace whose names are offered, and in which hovers say what predicates match, if it is known.
+    pub workspace: Option<Workspace<'w>>,
+}
 
 /// Returns whether a document in this language has a filterset a line.
 fn is_list(language: &str) -> bool
@@ -57,45 +62,49 @@ fn edits_of(alloc: Global, shown: &Shown<'_>, language: &str) -> Result<Value, A
 /// Makes the result of a request about the filtersets of a text.
 fn response_of(
     alloc: Global,
+    workspace: Option<Workspace<'_>>,
     shown: &Shown<'_>,
     language: &str,
     inquiry: Inquiry,
 ) -> Result<Value, AllocError>
     ensures { IfOk result (λ value. MatchBool (is_list language.now)
-        (RespondsList shown.now.encoding shown.now.lines.text.now inquiry (view value))
-        (RespondsConfiguration shown.now.encoding shown.now.lines.text.now inquiry (view value))) }
+        (RespondsList (known_of workspace.entry) shown.now.encoding shown.now.lines.text.now inquiry (view value))
+        (RespondsConfiguration (known_of workspace.entry) shown.now.encoding shown.now.lines.text.now inquiry (view value))) }
 {
     if is_list(language) {
-        respond_list(alloc, shown, inquiry)
+        respond_list(alloc, workspace, shown, inquiry)
     } else {
-        respond_configuration(alloc, shown, inquiry)
+        respond_configuration(alloc, workspace, shown, inquiry)
     }
 }
 
 /// Makes the result of a request about a text.
 fn respond_to(
     alloc: Global,
+    workspace: Option<Workspace<'_>>,
     shown: &Shown<'_>,
     language: &str,
     inquiry: Inquiry,
 ) -> Result<Value, AllocError>
-    ensures { IfOk result (λ value. RespondsTo shown.now.encoding language.now shown.now.lines.text.now inquiry
+    ensures { IfOk result (λ value. RespondsTo (known_of workspace.entry) shown.now.encoding language.now
+        shown.now.lines.text.now inquiry
         (view value)) }
 {
     if is_formatting(inquiry) {
         edits_of(alloc, shown, language)
     } else {
-        response_of(alloc, shown, language, inquiry)
+        response_of(alloc, workspace, shown, language, inquiry)
     }
 }
 
-impl Language for FiltersetLanguage {
+impl Language for FiltersetLanguage<'_> {
     ghost use Rattle.filterset_documents.specs.Diagnostics.{Diagnoses};
+    ghost use Rattle.filterset_names.specs.Workspaces.{known_of};
     ghost use Rattle.filterset_server.specs.Responses.{Responds, abilities};
 
     ghost has = { λ _. Diagnoses };
 
-    ghost gives = { λ _. Responds };
+    ghost gives = { λ language. Responds (known_of language.workspace) };
 
     ghost can = { λ _. abilities };
 
@@ -131,6 +140,12 @@ impl Language for FiltersetLanguage {
     ) -> Result<Value, AllocError> {
         let lines = Lines::of(alloc, document.text.as_str())?;
         let shown = Shown { encoding, lines };
-        respond_to(alloc, &shown, document.language.as_str(), inquiry)
+        respond_to(
+            alloc,
+            self.workspace,
+            &shown,
+            document.language.as_str(),
+            inquiry,
+        )
     }
 }

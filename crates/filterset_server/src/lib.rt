@@ -7,6 +7,7 @@ mod formatting;
 mod highlighting;
 mod hover;
 mod language;
+mod matches;
 mod requests;
 mod symbols;
 mod words;

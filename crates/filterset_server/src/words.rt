@@ -41,7 +41,7 @@ fn margin_of(ticks: &str, text: &str) -> &'static str
 }
 
 /// Makes the code span of a text.
-fn code_span(alloc: Global, text: &str) -> Result<String, AllocError>
+pub(crate) fn code_span(alloc: Global, text: &str) -> Result<String, AllocError>
     ensures { IfOk result (λ code. string_bytes code ≡ code_span text.now) }
 {
     let ticks = backticks_of(alloc, text.as_bytes())?;

@@ -1,11 +1,11 @@
 use Rattle.std.proofs.Common.{arith, ◌<◌, List, length, map, subst, sym, take}
+use Rattle.std.proofs.lemmas.List.{map_more}
 use Rattle.std.specs.List.{AllZip}
 use Rattle.serde_json.specs.View.{view}
 use Rattle.filterset_answers.specs.Placements.{spot_of}
 use Rattle.filterset_offers.specs.Candidates.{Row, row_of}
 use Rattle.filterset_offers.specs.Completion.{IsItem}
 use Rattle.filterset_offers.specs.Standing.{gap_rows}
-use Rattle.filterset_offers.proofs.StandingLemmas.{rows_at}
 use Rattle.filterset_offers.proofs.items.items_of.Goals as goal
 
 pub loop-candidate-preserved : goal.loop-candidate-preserved
@@ -16,5 +16,5 @@ loop-candidate-preserved c =
     let lt : i < length candidates = omega (arith, c.loop-candidate-test.true) in
     let P : List Row → Type 0 = λ rows. AllZip (IsItem shown.encoding shown.lines.text.now (spot_of c.args.place.spot) (gap_rows c.args.gaps.now)) rows
     (map view c.push_item.new.values.items) in
-    subst P (sym (rows_at row_of candidates i _ lt))
+    subst P (sym (map_more row_of candidates i _ lt))
     (c.in_ok-push_item.ensures (map row_of (take i candidates)) c.loop-candidate.invariant)

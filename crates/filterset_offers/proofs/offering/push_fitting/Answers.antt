@@ -1,7 +1,6 @@
-use Rattle.std.proofs.Common.{List}
-use Rattle.filterset_offers.specs.Candidates.{Row, row_of}
+use Rattle.filterset_offers.specs.Candidates.{row_of}
 use Rattle.filterset_offers.specs.Standing.{Fits, Misses, gap_rows}
-use Rattle.filterset_offers.proofs.StandingLemmas.{sieve-left, sieve-taken}
+use Rattle.filterset_names.proofs.SieveLemmas.{sieve-left, sieve-taken}
 use Rattle.filterset_offers.proofs.offering.push_fitting.Goals as goal
 
 pub returns-in_ok-push : goal.returns-in_ok-push

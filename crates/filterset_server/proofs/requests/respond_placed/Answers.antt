@@ -2,6 +2,7 @@ use Rattle.std.proofs.Common.{◌∙◌, List, ap, map, subst}
 use Rattle.std.proofs.lemmas.Result.{IfOk-weaker}
 use Rattle.serde_json.specs.View.{view}
 use Rattle.filterset_answers.specs.Checked.{TextRow, text_row}
+use Rattle.filterset_names.specs.Workspaces.{known_of}
 use Rattle.filterset_server.specs.Responses.{RespondsRows}
 use Rattle.filterset_server.proofs.requests.respond_placed.Goals as goal
 
@@ -11,6 +12,6 @@ returns c =
     let rows = ap (map text_row) c.as_slice.ensures.value ∙ c.in_ok-entries.ensures in
     IfOk-weaker c.respond_entries.result _ _
     (λ value is.
-    let Is : List TextRow → Type 0 = λ rs. RespondsRows shown.encoding shown.lines.text.now c.args.inquiry rs (view value) in
+    let Is : List TextRow → Type 0 = λ rs. RespondsRows (known_of c.args.workspace) shown.encoding shown.lines.text.now c.args.inquiry rs (view value) in
     (c.configured_texts-configured.result, c.configured_texts-configured.ensures, subst Is rows is))
     c.respond_entries.ensures
