@@ -5,6 +5,8 @@
 
 A session is a block ```session of a page, named by the heading above it. An indented line continues the line above it.
 
+    with WORDS                   first: the server is started with these arguments too; a word @NAME is the path of a file
+                                 with the text of the block of this page with this name
     > [ID] METHOD [PARAMS]       the client sends a request, or without an ID a notification
     > TEXT                       it sends any other text as a message
     = [COUNT] "BYTES"            it sends these bytes, so many times; `\\udcff` is FF, and each line below has more
@@ -31,6 +33,7 @@ import os
 import re
 import subprocess
 import sys
+import tempfile
 import termios
 import threading
 import time
@@ -48,20 +51,21 @@ DIAGNOSTIC = re.compile(r"(\d+):(\d+)-(\d+):(\d+) (warning )?(\S+) (.*)")
 
 
 def sessions_of(page):
-    """The sessions of a page: where each is, its name, and its steps, each the first word of a line and the rest."""
-    content, name, texts, sessions = page.read_text(), "", {}, []
+    """The sessions of a page: where each is, its name, its steps, each the first word of a line and the rest, and the
+    texts of the page's blocks."""
+    content, name, texts, files, sessions = page.read_text(), "", {}, {}, []
     for part in PART.finditer(content):
         heading, language, label, crlf, text = part.groups()
         name = heading or name
         if language == "session":
             sessions.append((f"{page.relative_to(TOP)}:{content.count(chr(10), 0, part.start()) + 1}", name, text))
         elif language:
-            text = text.replace("\n", "\r\n") if crlf else text
+            text = files[label] = text.replace("\n", "\r\n") if crlf else text
             texts[f'"@{label}"'] = text.strip() if language == "json" else json.dumps(text, ensure_ascii=False)
     for place, name, text in sessions:
         text = re.sub(r'"@\w+"', lambda named: texts.get(named[0], named[0]), text)
         lines = re.split(r"\n(?! )", text.rstrip("\n"))
-        yield place, name, [re.sub(r"\n +", "\n", line).partition(" ")[::2] for line in lines]
+        yield place, name, [re.sub(r"\n +", "\n", line).partition(" ")[::2] for line in lines], files
 
 
 def message_of(text):
@@ -145,10 +149,25 @@ def take(server, step, said, size):
     return "", ""
 
 
-def run(program, steps, size):
+def arguments_of(steps, files, folder):
+    """The arguments of the server, with the files that they name in a folder, and the other steps of the session."""
+    words = steps[0][1].split() if steps[0][0] == "with" else []
+    for name in (word[1:] for word in words if word.startswith("@")):
+        Path(folder, name).write_text(files[name])
+    return [str(Path(folder, word[1:])) if word.startswith("@") else word for word in words], steps[bool(words) :]
+
+
+def run(program, steps, files, size):
     """Runs a session. Returns nothing if all that it shows came, or else what had to come and what came."""
+    with tempfile.TemporaryDirectory() as folder:
+        words, steps = arguments_of(steps, files, folder)
+        return talk(program, words, steps, size)
+
+
+def talk(program, words, steps, size):
+    """Takes the steps of a session with a server that is started with these arguments."""
     said, pipes = [], dict.fromkeys(("stdin", "stdout", "stderr"), subprocess.PIPE)
-    with subprocess.Popen(["filterset", "lsp"], executable=program, **pipes) as server:
+    with subprocess.Popen(["filterset", "lsp", *words], executable=program, **pipes) as server:
         timer = threading.Timer(SECONDS, server.kill)
         timer.start()
         try:
@@ -171,9 +190,9 @@ def main(arguments):
     if not program.is_file():
         print(f"sessions: there is no {program}: run rt ci first")
         failed, pages = 1, []
-    for place, name, steps in (session for page in sorted(pages) for session in sessions_of(page)):
+    for place, name, steps, files in (session for page in sorted(pages) for session in sessions_of(page)):
         for way, size in WAYS.items():
-            pair = run(program, steps, size)
+            pair = run(program, steps, files, size)
             if pair is None and steps[-1][0] == "status":
                 passed += 1
                 continue

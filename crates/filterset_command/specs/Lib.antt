@@ -9,3 +9,4 @@ pub mod Checking
 pub mod Deciding
 pub mod Requests
 pub mod Words
+pub mod Serving

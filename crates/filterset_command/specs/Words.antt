@@ -170,11 +170,22 @@ IsShellAsked matches shell =
     × (option_map (λ p. p.1) (subcommand_rows_of matches) ≡ Some (rows_of found))
     × IsTextAsked found (codes "shell") (name_of shell)
 
+-- the files of the workspace, if there is one: both or none
+abbrev pub IsWorkspaceAsked : Found → Option WorkspacePaths → Type 0
+IsWorkspaceAsked found None = first_value found (codes "metadata") ≡ None
+IsWorkspaceAsked found (Some paths) = ArePathsAsked found paths
+
+-- `lsp` asks for an editor to be served, with a workspace or without
+abbrev pub IsServiceAsked : ArgMatches → Option WorkspacePaths → Type 0
+IsServiceAsked matches paths =
+    (found : Found) × (subcommand_name_of matches ≡ Some (codes "lsp"))
+    × (option_map (λ p. p.1) (subcommand_rows_of matches) ≡ Some (rows_of found)) × IsWorkspaceAsked found paths
+
 -- the words ask for a request, for the script of a shell, or to serve an editor
 abbrev pub IsTask : ArgMatches → Task → Type 0
 IsTask matches (Answer request) = IsAsked matches request
 IsTask matches (Complete shell) = IsShellAsked matches shell
-IsTask matches Serve = subcommand_name_of matches ≡ Some (codes "lsp")
+IsTask matches (Serve paths) = IsServiceAsked matches paths
 
 -- standard input is to be the filtersets, and the configuration too
 abbrev pub TakesTwo : Found → Type 0

@@ -107,7 +107,6 @@ fn nextest_list<'a>(alloc: Global) -> Arg<'a> {
     Arg::new(alloc, "list")
         .long("nextest-list")
         .value_name("FILE")
-        .required(true)
         .help("the output of `cargo nextest list --message-format json`")
 }
 
@@ -159,7 +158,7 @@ fn with_profile<'a>(alloc: Global, command: Command<'a>) -> Result<Command<'a>, 
 fn with_workspace<'a>(alloc: Global, command: Command<'a>) -> Result<Command<'a>, AllocError> {
     command
         .arg(metadata(alloc).required(true))?
-        .arg(nextest_list(alloc))?
+        .arg(nextest_list(alloc).required(true))?
         .arg(default_filter(alloc))
 }
 
@@ -380,13 +379,13 @@ fn partition<'a>(alloc: Global) -> Result<Command<'a>, AllocError> {
 
 /// Makes the command `lsp`.
 fn lsp<'a>(alloc: Global) -> Result<Command<'a>, AllocError> {
-    Ok(
-        Command::new(alloc, "lsp")
-            .about(
-                "Serves an editor over standard input and output, by the Language Server Protocol",
-            )
-            .after_help("Example: filterset lsp"),
-    )
+    let command = Command::new(alloc, "lsp")
+        .about("Serves an editor over standard input and output, by the Language Server Protocol")
+        .after_help(
+            "Example: filterset lsp --cargo-metadata metadata.json --nextest-list list.json",
+        );
+    let command = with_argument(command, metadata(alloc).requires_arg("list"))?;
+    with_argument(command, nextest_list(alloc).requires_arg("metadata"))
 }
 
 /// Makes the command `completions`.

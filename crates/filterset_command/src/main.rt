@@ -37,6 +37,7 @@ use serving::serve_editor;
 use std::alloc::AllocError;
 use std::process::ExitCode;
 use std::{env, io};
+use workspace::WorkspacePaths;
 
 /// Returns the words of the command line.
 fn words_of(rt: &HostRuntime) -> Result<Vec<String>, CommandFault> {
@@ -58,10 +59,11 @@ fn answer_request(rt: &HostRuntime, request: &Request<'_>) -> Result<Ended, Comm
 }
 
 /// Serves an editor on standard input and output.
-fn serve(rt: &HostRuntime) -> Result<Ended, CommandFault> {
+fn serve(rt: &HostRuntime, paths: Option<WorkspacePaths<'_>>) -> Result<Ended, CommandFault> {
+    let files = HostFiles { runtime: rt };
     let mut input = FromReader::new(rt.stdin());
     let mut output = ToWriter::new(rt.stdout());
-    Ok(Ended::Served(serve_editor(rt.alloc(), &mut input, &mut output)?))
+    Ok(Ended::Served(serve_editor(rt.alloc(), &files, paths, &mut input, &mut output)?))
 }
 
 /// Does what the command line asks for.
@@ -72,7 +74,7 @@ fn perform(rt: &HostRuntime, task: &Task<'_>) -> Result<Ended, CommandFault> {
             let script = completions_for(rt.alloc(), *shell)?;
             answer_request(rt, &Request::Show(script.as_str()))
         }
-        Task::Serve => serve(rt),
+        Task::Serve(paths) => serve(rt, *paths),
     }
 }
 

@@ -5,7 +5,7 @@ ghost use Rattle.filterset_drawing.specs.Columns.{Text};
 ghost use Rattle.std.specs.Option.{option_map_or};
 ghost use Rattle.filterset_command.specs.Files.{is_input};
 ghost use Rattle.filterset_command.specs.Requests.{are_lines, takes_input};
-ghost use Rattle.filterset_command.specs.Words.{ArePathsAsked, AreTextsAsked, IsAsked, IsAskedBy, IsBudgetAsked, IsBudgetFault, IsColorAsked, IsFormAsked, IsKindAsked, IsProfileAsked, IsQuestionAsked, IsTask, IsTextAsked, IsWordsFault, LacksArgument, NamesNoShell, TakesTwo, decision_name};
+ghost use Rattle.filterset_command.specs.Words.{ArePathsAsked, AreTextsAsked, IsAsked, IsAskedBy, IsBudgetAsked, IsBudgetFault, IsColorAsked, IsFormAsked, IsKindAsked, IsProfileAsked, IsQuestionAsked, IsTask, IsTextAsked, IsWordsFault, IsWorkspaceAsked, LacksArgument, NamesNoShell, TakesTwo, decision_name};
 ghost use Rattle.filterset_completions.specs.Scripts.{name_of};
 
 use crate::asking::{Asked, WorkspaceRequest};
@@ -99,8 +99,8 @@ pub enum Task<'w> {
     Answer(Request<'w>),
     /// To write the script by which a shell completes command lines.
     Complete(Shell),
-    /// To serve an editor.
-    Serve,
+    /// To serve an editor, with the names of the workspace at these paths, if it is given.
+    Serve(Option<WorkspacePaths<'w>>),
 }
 
 /// Returns what matched words ask for.
@@ -111,10 +111,10 @@ pub fn task_of<'m>(matches: &'m ArgMatches<'_>) -> Result<Task<'m>, CommandFault
     if let Some(own) = matches.subcommand_matches("completions") {
         return Ok(Task::Complete(shell_of(own)?));
     }
-    match matches.subcommand_matches("lsp") {
-        Some(_) => Ok(Task::Serve),
-        None => Ok(Task::Answer(request_of(matches)?)),
+    if let Some(own) = matches.subcommand_matches("lsp") {
+        return Ok(Task::Serve(workspace_of(own)?));
     }
+    Ok(Task::Answer(request_of(matches)?))
 }
 
 /// Returns the shell that `completions` is asked for.
@@ -313,6 +313,17 @@ fn paths_of<'w>(matches: &ArgMatches<'w>) -> Result<WorkspacePaths<'w>, CommandF
         metadata: text_of(matches, "metadata")?,
         list: text_of(matches, "list")?,
     })
+}
+
+/// Returns the paths of the files that describe the workspace, if there is one.
+fn workspace_of<'w>(matches: &ArgMatches<'w>) -> Result<Option<WorkspacePaths<'w>>, CommandFault>
+    ensures asked { IfOk result (IsWorkspaceAsked (found_of matches.now)) }
+    ensures missing { IfErr result (LacksArgument (found_of matches.now)) }
+{
+    match matches.get_str("metadata") {
+        Some(_) => Ok(Some(paths_of(matches)?)),
+        None => Ok(None),
+    }
 }
 
 /// Returns the form of the answer: for people, as JSON or as commands of a workflow.
