@@ -7,7 +7,8 @@ use Rattle.std.specs.Str.{bytes_eq}
 use Rattle.toml.specs.View.{members_view}
 use Rattle.toml.proofs.Views.{Entry}
 use Rattle.filterset_platforms.specs.Trees.{Text}
-use Rattle.filterset_profiles.specs.Profiles.{keys_but, keys_of}
+use Rattle.filterset_profiles.specs.Profiles.{keys_but}
+use Rattle.filterset_sources.specs.Configurations.{keys_of}
 
 -- the keys of the members are those of the entries
 pub keys-entries : (es : List Entry) → map string_bytes (maps.keys_of es) ≡ keys_of (members_view es)

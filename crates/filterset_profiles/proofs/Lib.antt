@@ -5,4 +5,7 @@ pub mod KeyLemmas
 pub mod Ranks
 pub mod OverrideDefaults
 pub mod Chains
+pub mod LeadLemmas
+pub mod EndLemmas
+pub mod CircleLemmas
 pub mod WrongLemmas

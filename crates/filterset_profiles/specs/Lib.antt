@@ -1,3 +1,5 @@
+pub mod Circles
+pub mod Leads
 pub mod Lineages
 pub mod Paths
 pub mod Profiles

@@ -6,6 +6,7 @@ use Rattle.std.specs.declared.alloc.Global.{Global}
 use Rattle.toml.specs.Data.{Data, string, array, table, no_items, Members, no_members, member, as_table, get}
 use Rattle.toml.specs.Parse.{parse_document}
 use Rattle.toml.specs.View.{items_of, members_of}
+use Rattle.filterset_sources.specs.Configurations.{keys_of}
 use Rattle.filterset_platforms.specs.Grammar.{Spells}
 use Rattle.filterset_platforms.specs.Trees.{Text, spec_of}
 use Rattle.filterset_platforms.specs.declared.filter.PlatformFilter.{PlatformFilter}
@@ -36,11 +37,6 @@ is_group file t = bytes_eq t (codes "@global") || is_some (option_and_then (get 
 
 abbrev pub IsGroup : Data → Data → String Global → Type 0
 IsGroup file e s = IsText e s × IsTrue (is_group file (string_bytes s))
-
--- the keys of a table, in its order
-abbrev pub keys_of : Members → List Text
-keys_of no_members = []
-keys_of (member key d ms) = key ∷ keys_of ms
 
 -- the keys, without those among the others
 abbrev pub keys_but : List Text → List Text → List Text

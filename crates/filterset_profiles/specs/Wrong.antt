@@ -9,12 +9,13 @@ use Rattle.filterset_places.specs.declared.place.Place.{Place}
 use Rattle.filterset_places.specs.declared.stretch.Stretch.{Stretch}
 use Rattle.filterset_platforms.specs.Grammar.{Spells}
 use Rattle.filterset_platforms.specs.Trees.{Spec, Text}
+use Rattle.filterset_profiles.specs.Circles.{IsInCircle}
 use Rattle.filterset_profiles.specs.Paths.{override_path, profile_path}
 use Rattle.filterset_profiles.specs.Profiles.{is_group}
 use Rattle.filterset_profiles.specs.declared.placing.NumberedValues.{NumberedValues}
 use Rattle.filterset_profiles.specs.declared.wrong.ProfileValue.{ProfileValue}
 use Rattle.filterset_profiles.specs.declared.wrong.ValueRole.{ValueRole}
-use Rattle.filterset_profiles.specs.declared.wrong.ValueRole.TheVariants.{ForBoth, ForNothing, Group, NoText, Parent, Platform}
+use Rattle.filterset_profiles.specs.declared.wrong.ValueRole.TheVariants.{ForBoth, ForNothing, Group, NoCircle, NoText, Parent, Platform}
 use Rattle.filterset_profiles.specs.declared.wrong.WrongValue.{WrongValue}
 
 -- ---- the values that are checked
@@ -82,16 +83,26 @@ item_values path at (item d ds) = override_values (override_path path at) d ++ i
 abbrev pub list_values : Text → Data → List ValueRow
 list_values path d = option_map_or (item_values path 0) (option_and_then as_array (get (codes "overrides") d)) []
 
-abbrev pub profile_values : Text → Data → List ValueRow
-profile_values path d = value_under path (codes "inherits") Parent d ++ list_values path d
+-- the name that the profile at a position inherits from is also to lead to no circle
+abbrev pub circle_values : Text → ℕ → Data → List ValueRow
+circle_values path at d =
+    option_to_list (option_map (λ t. record { path = below path (codes "inherits"); role = NoCircle at; text = t })
+    (option_and_then as_str (get (codes "inherits") d)))
 
-abbrev pub member_values : Members → List ValueRow
-member_values no_members = []
-member_values (member name d ms) = profile_values (profile_path name) d ++ member_values ms
+abbrev pub inherited_values : Text → ℕ → Data → List ValueRow
+inherited_values path at d = value_under path (codes "inherits") Parent d ++ circle_values path at d
+
+abbrev pub profile_values : Text → ℕ → Data → List ValueRow
+profile_values path at d = inherited_values path at d ++ list_values path d
+
+-- those of profiles, of which the first has this position
+abbrev pub member_values : ℕ → Members → List ValueRow
+member_values at no_members = []
+member_values at (member name d ms) = profile_values (profile_path name) at d ++ member_values (at + 1) ms
 
 -- those of a file, with profiles by the order of their names
 abbrev pub values_of : Data → List ValueRow
-values_of file = option_map_or member_values (option_and_then as_table (get (codes "profile") file)) []
+values_of file = option_map_or (member_values 0) (option_and_then as_table (get (codes "profile") file)) []
 
 -- ---- which of them are wrong
 
@@ -101,6 +112,7 @@ is_parent file t = bytes_eq t (codes "default") || is_some (option_and_then (get
 
 abbrev pub IsRight : Data → ValueRole → Text → Type 0
 IsRight file Parent t = IsTrue (is_parent file t)
+IsRight file (NoCircle at) t = ¬ IsInCircle file at
 IsRight file Group t = IsTrue (is_group file t)
 IsRight file Platform t = (spec : Spec) × Spells t spec
 IsRight file _ t = ⊥
@@ -108,6 +120,7 @@ IsRight file _ t = ⊥
 -- what such a value must be
 abbrev pub expected : ValueRole → Text
 expected Parent = codes "`default` or a key of `[profile]`"
+expected (NoCircle at) = codes "a profile that does not fall back on this one"
 expected Group = codes "`@global` or a key of `[test-groups]`"
 expected Platform = codes "a triple, or `cfg(..)`"
 expected NoText = codes "a text"

@@ -4,9 +4,11 @@ ghost use Rattle.std.specs.Bool.{OnFalse, OnTrue};
 ghost use Rattle.toml.specs.View.{view};
 ghost use Rattle.filterset_platforms.specs.Grammar.{Spells};
 ghost use Rattle.filterset_platforms.specs.Trees.{Spec};
+ghost use Rattle.filterset_profiles.specs.Circles.{IsInCircle, KnowsCircles};
 ghost use Rattle.filterset_profiles.specs.Wrong.{AreNumbered, AreWrongValues, FindsWrong, IsRight, IsWrongValue, Judged, is_parent, value_row, value_rows, values_of};
 ghost use Rattle.filterset_profiles.specs.declared.wrong.WrongValue.{WrongValue};
 
+use crate::circles::mark_circles;
 use crate::placing::{NumberedValues, numbered_values, place_in, read_table};
 use crate::values::is_group;
 use crate::walking::values_of;
@@ -40,14 +42,40 @@ fn is_platform(alloc: Global, text: &str) -> Result<bool, AllocError>
     }
 }
 
+/// A file, and which of its profiles fall back on themselves.
+#[derive(Drop)]
+struct CheckedFile<'f> {
+    file: &'f Value,
+    circles: Vec<bool>,
+}
+
+/// Returns whether the profile at a position does not fall back on itself.
+fn is_in_no_circle(file: &CheckedFile<'_>, at: usize) -> bool
+    requires { KnowsCircles file.now }
+    ensures right { OnTrue result (¬ IsInCircle (view file.now.file.now) at) }
+    ensures wrong { OnFalse result (IsInCircle (view file.now.file.now) at) }
+{
+    match file.circles.get(at) {
+        Some(is_in_circle) => !*is_in_circle,
+        None => true,
+    }
+}
+
 /// Returns whether a value of a file is right.
-fn is_right(alloc: Global, file: &Value, role: ValueRole, text: &str) -> Result<bool, AllocError>
-    ensures right { IfOk result (λ is. OnTrue is (IsRight (view file.now) role text.now)) }
-    ensures wrong { IfOk result (λ is. OnFalse is (¬ IsRight (view file.now) role text.now)) }
+fn is_right(
+    alloc: Global,
+    file: &CheckedFile<'_>,
+    role: ValueRole,
+    text: &str,
+) -> Result<bool, AllocError>
+    requires { KnowsCircles file.now }
+    ensures right { IfOk result (λ is. OnTrue is (IsRight (view file.now.file.now) role text.now)) }
+    ensures wrong { IfOk result (λ is. OnFalse is (¬ IsRight (view file.now.file.now) role text.now)) }
 {
     match role {
-        ValueRole::Parent => Ok(is_parent(file, text)),
-        ValueRole::Group => Ok(is_group(file, text)),
+        ValueRole::Parent => Ok(is_parent(file.file, text)),
+        ValueRole::NoCircle(at) => Ok(is_in_no_circle(file, at)),
+        ValueRole::Group => Ok(is_group(file.file, text)),
         ValueRole::Platform => is_platform(alloc, text),
         ValueRole::NoText | ValueRole::ForNothing | ValueRole::ForBoth => Ok(false),
     }
@@ -81,14 +109,15 @@ fn push_wrong(
     found: &mut Vec<WrongValue>,
     alloc: Global,
     text: &str,
-    file: &Value,
+    file: &CheckedFile<'_>,
     numbered: Option<&NumberedValues>,
     at: usize,
     value: &ProfileValue,
 ) -> Result<(), AllocError>
-    requires { IfSome numbered (λ n. AreNumbered text.now n.now) }
+    requires circles { KnowsCircles file.now }
+    requires numbered { IfSome numbered (λ n. AreNumbered text.now n.now) }
     ensures { OnOk result ((front : List WrongValue) × (found.new.items ≡ found.old.items ++ front)
-        × Judged text.now (view file.now) at (value_row value.now) front) }
+        × Judged text.now (view file.now.file.now) at (value_row value.now) front) }
 {
     if is_right(alloc, file, value.role, value.text.as_str())? {
         return Ok(());
@@ -101,12 +130,13 @@ fn push_wrong(
 fn wrong_among(
     alloc: Global,
     text: &str,
-    file: &Value,
+    file: &CheckedFile<'_>,
     numbered: Option<&NumberedValues>,
     values: &[ProfileValue],
 ) -> Result<Vec<WrongValue>, AllocError>
-    requires { IfSome numbered (λ n. AreNumbered text.now n.now) }
-    ensures { IfOk result (λ found. FindsWrong text.now (view file.now) 0 (value_rows values.now) found.items) }
+    requires circles { KnowsCircles file.now }
+    requires numbered { IfSome numbered (λ n. AreNumbered text.now n.now) }
+    ensures { IfOk result (λ found. FindsWrong text.now (view file.now.file.now) 0 (value_rows values.now) found.items) }
 {
     let mut found = Vec::new(alloc);
     for (at, value) in values.iter().enumerate() {
@@ -121,14 +151,16 @@ fn wrong_in(alloc: Global, text: &str, file: &Value) -> Result<Vec<WrongValue>, 
 {
     let values = values_of(alloc, file)?;
     let numbered = numbered_values(alloc, text, values.as_slice())?;
-    wrong_among(alloc, text, file, numbered.as_ref(), values.as_slice())
+    let circles = mark_circles(alloc, file)?;
+    let file = CheckedFile { file, circles };
+    wrong_among(alloc, text, &file, numbered.as_ref(), values.as_slice())
 }
 
-/// Finds the values of a configuration that are wrong, other than its filtersets, each with its place: a profile that
-/// falls back on none, a group that the file lacks, what is no platform, and an override that is for nothing.
+/// Finds the values of a configuration that are wrong, other than its filtersets, each with its place: what a profile
+/// inherits from if it is no profile, or falls back on that profile; a group that the file lacks; what is no platform; and
+/// an override that is for nothing.
 ///
-/// Each place is right. That each text has one is tested only. Does not look for profiles that fall back on themselves.
-/// Returns an error only if out of memory.
+/// Each place is right. That each text has one is tested only. Returns an error only if out of memory.
 pub fn find_wrong_values(alloc: Global, text: &str) -> Result<Vec<WrongValue>, AllocError>
     ensures { IfOk result (λ found. AreWrongValues text.now found.items) }
 {

@@ -7,6 +7,7 @@
 #![tactic(auto)]
 
 mod checking;
+mod circles;
 mod defaults;
 mod fault;
 mod inheritance;

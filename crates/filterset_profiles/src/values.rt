@@ -3,8 +3,9 @@ ghost use Rattle.std.specs.Prelude.{◌≡◌, Option, String, IfErr, IfOk, code
 ghost use Rattle.std.specs.declared.alloc.Global.{Global};
 ghost use Rattle.toml.specs.View.{table_view, view};
 ghost use Rattle.filterset_platforms.specs.declared.specification.PlatformSpec.{PlatformSpec};
-ghost use Rattle.filterset_profiles.specs.Profiles.{IsGroup, IsPlatform, IsText, Under, is_group, keys_but, keys_of, settings_but};
+ghost use Rattle.filterset_profiles.specs.Profiles.{IsGroup, IsPlatform, IsText, Under, is_group, keys_but, settings_but};
 ghost use Rattle.filterset_profiles.specs.Refusals.{IsWrong, Refuses};
+ghost use Rattle.filterset_sources.specs.Configurations.{keys_of};
 
 use crate::refusal::ProfileRefusal;
 use filterset_platforms::{PlatformRefusal, PlatformSpec};

@@ -1,7 +1,7 @@
 //! Finds the values of profiles that are checked.
 ghost use Rattle.std.specs.Prelude.{◌≡◌, ◌++◌, IfOk, OnOk, codes};
 ghost use Rattle.toml.specs.View.{items_view, table_view, view};
-ghost use Rattle.filterset_profiles.specs.Wrong.{has_platform, item_values, list_values, member_values, override_values, part_values, platform_values, profile_values, shape_of, shape_values, target_values, text_values, value_rows, value_under, values_of};
+ghost use Rattle.filterset_profiles.specs.Wrong.{circle_values, has_platform, inherited_values, item_values, list_values, member_values, override_values, part_values, platform_values, profile_values, shape_of, shape_values, target_values, text_values, value_rows, value_under, values_of};
 
 use crate::paths::{override_path, profile_path};
 use crate::wrong::{ProfileValue, ValueRole};
@@ -190,17 +190,58 @@ fn push_overrides(
     }
 }
 
-/// Adds the values of the profile at `path`.
+/// Adds the name that the profile at `path`, which has this position, inherits from.
+fn push_circle(
+    output: &mut Vec<ProfileValue>,
+    alloc: Global,
+    path: &str,
+    at: usize,
+    value: &Value,
+) -> Result<(), AllocError>
+    ensures { OnOk result (value_rows output.new.items
+        ≡ value_rows output.old.items ++ circle_values path.now at (view value.now)) }
+{
+    let Some(found) = value.get("inherits") else {
+        return Ok(());
+    };
+    let Some(name) = found.as_str() else {
+        return Ok(());
+    };
+    output.push(ProfileValue {
+        path: format!(in alloc; "{path}.inherits")?,
+        role: ValueRole::NoCircle(at),
+        text: String::from_str(alloc, name)?,
+    })?;
+    Ok(())
+}
+
+/// Adds what the profile at `path`, which has this position, falls back on.
+fn push_inherited(
+    output: &mut Vec<ProfileValue>,
+    alloc: Global,
+    path: &str,
+    at: usize,
+    value: &Value,
+) -> Result<(), AllocError>
+    ensures { OnOk result (value_rows output.new.items
+        ≡ value_rows output.old.items ++ inherited_values path.now at (view value.now)) }
+{
+    push_under(output, alloc, path, "inherits", ValueRole::Parent, value)?;
+    push_circle(output, alloc, path, at, value)
+}
+
+/// Adds the values of the profile at `path`, which has this position.
 fn push_profile(
     output: &mut Vec<ProfileValue>,
     alloc: Global,
     path: &str,
+    at: usize,
     value: &Value,
 ) -> Result<(), AllocError>
     ensures { OnOk result (value_rows output.new.items
-        ≡ value_rows output.old.items ++ profile_values path.now (view value.now)) }
+        ≡ value_rows output.old.items ++ profile_values path.now at (view value.now)) }
 {
-    push_under(output, alloc, path, "inherits", ValueRole::Parent, value)?;
+    push_inherited(output, alloc, path, at, value)?;
     push_overrides(output, alloc, path, value)
 }
 
@@ -211,11 +252,11 @@ fn push_members(
     members: &Table,
 ) -> Result<(), AllocError>
     ensures { OnOk result (value_rows output.new.items
-        ≡ value_rows output.old.items ++ member_values (table_view members.now)) }
+        ≡ value_rows output.old.items ++ member_values 0 (table_view members.now)) }
 {
-    for (name, value) in members.iter() {
+    for (at, (name, value)) in members.iter().enumerate() {
         let path = profile_path(alloc, name.as_str())?;
-        push_profile(output, alloc, path.as_str(), value)?;
+        push_profile(output, alloc, path.as_str(), at, value)?;
     }
     Ok(())
 }

@@ -9,6 +9,8 @@ use filterset_places::Place;
 pub enum ValueRole {
     /// The profile that a profile falls back on.
     Parent,
+    /// The same, of the profile at this position: it must not lead back there.
+    NoCircle(usize),
     /// The group that an override puts its tests in.
     Group,
     /// A platform that an override is for.
@@ -28,6 +30,7 @@ impl ValueRole {
     {
         match self {
             ValueRole::Parent => "`default` or a key of `[profile]`",
+            ValueRole::NoCircle(_) => "a profile that does not fall back on this one",
             ValueRole::Group => "`@global` or a key of `[test-groups]`",
             ValueRole::Platform => "a triple, or `cfg(..)`",
             ValueRole::NoText => "a text",

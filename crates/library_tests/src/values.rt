@@ -28,7 +28,7 @@ fn list_values(alloc: Global, file: &str) -> Result<String, AllocError> {
 }
 
 /// Files, and their wrong values.
-static FILES: [(&str, &str); 11] = [
+static FILES: [(&str, &str); 12] = [
     // What is no TOML, and what has no profiles.
     ("profile = [", ""),
     ("test-groups = 3", ""),
@@ -84,8 +84,28 @@ profile.\"z z\".overrides[0].test-group 60..61: `@global` or a key of `[test-gro
         "profile.ci.inherits = '0'",
         "profile.ci.inherits: `default` or a key of `[profile]`\n",
     ),
-    // Profiles that fall back on themselves are not looked for.
-    ("profile.a.inherits = 'b'\nprofile.b.inherits = 'a'", ""),
+    // Profiles of circles, but not one that leads to a circle; a name that no profile has, and no text, end a chain.
+    (
+        "profile.a.inherits = 'b'
+profile.b.inherits = 'c'
+profile.c.inherits = 'b'
+profile.d.inherits = 'd'
+profile.e.inherits = 'f'
+profile.f.inherits = 0
+profile.g.inherits = 'h'
+",
+        "profile.b.inherits 47..48: a profile that does not fall back on this one
+profile.c.inherits 72..73: a profile that does not fall back on this one
+profile.d.inherits 97..98: a profile that does not fall back on this one
+profile.f.inherits: a text
+profile.g.inherits 170..171: `default` or a key of `[profile]`
+",
+    ),
+    // `default` falls back on itself by way of a profile that inherits from none.
+    (
+        "profile = { a = {}, b.inherits = 'default', default.inherits = 'a' }",
+        "profile.default.inherits 64..65: a profile that does not fall back on this one\n",
+    ),
 ];
 
 #[test]

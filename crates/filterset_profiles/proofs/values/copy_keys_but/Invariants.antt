@@ -1,6 +1,7 @@
 use Rattle.std.proofs.Common.{◌≡◌, ◌++◌, map, string_bytes}
 use Rattle.toml.specs.View.{members_view}
-use Rattle.filterset_profiles.specs.Profiles.{keys_but, keys_of}
+use Rattle.filterset_profiles.specs.Profiles.{keys_but}
+use Rattle.filterset_sources.specs.Configurations.{keys_of}
 use Rattle.filterset_profiles.proofs.values.copy_keys_but.Given as goal
 
 -- the keys so far, and those that are left

@@ -1,23 +1,43 @@
-use Rattle.std.proofs.Common.{rules, ◌≡◌, ◌++◌, ◌∷◌, append_assoc, ap, string_bytes, sym, ◌∙◌}
+use Rattle.std.proofs.Common.{rules, arith, ◌≡◌, ◌+◌, ◌++◌, ◌∷◌, append-nil, append_assoc, ap, length, string_bytes, sym, ◌∙◌}
 use Rattle.toml.specs.View.{members_view, view}
 use Rattle.toml.proofs.Views.{Entry}
 use Rattle.filterset_profiles.specs.Paths.{profile_path}
 use Rattle.filterset_profiles.specs.Wrong.{member_values, profile_values, value_rows}
 use Rattle.filterset_profiles.proofs.walking.push_members.Goals as goal
 
-pub loop-name-init : goal.loop-name-init
-loop-name-init c =
-    let first : c.args.members.now.entries ≡ c.into_iter-name-iterator.result = search (rules, c.iter-name-items.ensures.rest, c.into_iter-name-iterator.ensures.into_iter_gives) in
-    ap (λ es. value_rows c.args.output.now.items ++ member_values (members_view es)) (sym first)
+pub loop-at-init : goal.loop-at-init
+loop-at-init c =
+    let first : c.args.members.now.entries ≡ c.iter-name-items.result = search (rules, c.iter-name-items.ensures.rest) in
+    record {
+      count = omega (arith, ap length first);
+      rows = ap (λ es. value_rows c.args.output.now.items ++ member_values 0 (members_view es)) (sym first);
+    }
 
-pub loop-name-preserved : goal.loop-name-preserved
-loop-name-preserved c =
+pub overflow_step-at : goal.overflow_step-at
+overflow_step-at c =
     let e : Entry = (c.in-Some.name.now, c.in-Some.value.now) in
-    let step : c.loop-name.name-iterator ≡ e ∷ c.next.new.self = search (rules, c.in-Some.ensures.steps) in
-    let old = value_rows c.loop-name.output.items in
-    let more = member_values (members_view c.next.new.self) in
-    let at : c.as_str-in-loop-name.result.now ≡ profile_path (string_bytes e.0) = search (rules, c.as_str-in-loop-name.ensures.value, c.in_ok-path.ensures, c.as_str.ensures) in
-    ap (λ r. r ++ more) (c.in_ok-push_profile.ensures ∙ ap (λ p. old ++ profile_values p (view e.1)) at)
-    ∙ append_assoc old (profile_values (profile_path (string_bytes e.0)) (view e.1)) more
-    ∙ ap (λ es. old ++ member_values (members_view es)) (sym step)
-    ∙ c.loop-name.invariant
+    let step : c.loop-at.name-iterator ≡ e ∷ c.next.new.self = search (rules, c.in-Some.ensures.steps) in
+    omega (arith, c.iter-name-items.ensures.fits, c.loop-at.invariant.count, ap length step)
+
+pub loop-at-preserved : goal.loop-at-preserved
+loop-at-preserved c =
+    let e : Entry = (c.in-Some.name.now, c.in-Some.value.now) in
+    let at = c.loop-at.at in
+    let step : c.loop-at.name-iterator ≡ e ∷ c.next.new.self = search (rules, c.in-Some.ensures.steps) in
+    let old = value_rows c.loop-at.output.items in
+    let more = member_values (at + 1) (members_view c.next.new.self) in
+    let path : c.as_str-in-loop-at.result.now ≡ profile_path (string_bytes e.0) = search (rules, c.as_str-in-loop-at.ensures.value, c.in_ok-path.ensures, c.as_str.ensures) in
+    record {
+      count = omega (arith, c.loop-at.invariant.count, ap length step);
+      rows = ap (λ r. r ++ more) (c.in_ok-push_profile.ensures ∙ ap (λ p. old ++ profile_values p at (view e.1)) path)
+          ∙ append_assoc old (profile_values (profile_path (string_bytes e.0)) at (view e.1)) more
+          ∙ ap (λ es. old ++ member_values at (members_view es)) (sym step)
+          ∙ c.loop-at.invariant.rows;
+    }
+
+pub returns : goal.returns
+returns c =
+    let rows = value_rows c.loop-at.output.items in
+    sym (append-nil rows)
+    ∙ ap (λ es. rows ++ member_values c.loop-at.at (members_view es)) (sym c.in-None.ensures.steps.0)
+    ∙ c.loop-at.invariant.rows
