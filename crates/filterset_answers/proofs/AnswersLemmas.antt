@@ -19,9 +19,10 @@ use Rattle.nextest_filtering.specs.declared.filterset.ParseRefusal.TheVariants.{
 use Rattle.filterset_faults.specs.declared.parse_errors.FiltersetParseErrors.{FiltersetParseErrors}
 use Rattle.nextest_filtering.specs.declared.compile.context.KnownGroups.{KnownGroups}
 use Rattle.filterset_faults.specs.declared.error.ParseSingleError.{ParseSingleError}
-use Rattle.filterset_answers.specs.Answers.{FaultsOf, no_texts, next_text, FormatsTexts, FormattedLine, FormattedPart, TextFaults, has_some}
+use Rattle.filterset_answers.specs.Answers.{FaultsOf, no_texts, next_text, RewritesTexts, FormattedLine, FormattedPart, TextFaults, has_some}
 use Rattle.filterset_answers.specs.Checked.{HasReadingFaults, TextRow}
 use mir.Val.{bool_byte}
+use Rattle.filterset_answers.specs.declared.formatting.Rewriting.{Rewriting}
 use Rattle.filterset_answers.specs.declared.form.Form.{Form}
 
 -- one if so, and else none
@@ -89,19 +90,19 @@ Pieces-next Writes faults i d pieces piece lt are is =
     rw (take_more faults i d lt) (Pieces-push Writes (take i faults) (get_or faults i d) pieces piece are is)
 
 -- the line of the next text, as long as none has faults
-pub FormattedLines-next : (rows : List TextRow) (row : TextRow) (lines line : Text) (faulty : ℕ) (has : Bool)
-    → (faulty ≡ 0 → Pieces FormattedLine rows lines) → FormattedPart has row line
-    → (faulty + one_if has ≡ 0 → Pieces FormattedLine (rows ++ row ∷ []) (lines ++ line))
-FormattedLines-next rows row lines line faulty true are is none = absurd (omega (arith, none))
-FormattedLines-next rows row lines line faulty false are is none = Pieces-push FormattedLine rows row lines line (are (omega (arith, none))) is
+pub FormattedLines-next : (rewriting : Rewriting) (rows : List TextRow) (row : TextRow) (lines line : Text) (faulty : ℕ) (has : Bool)
+    → (faulty ≡ 0 → Pieces (FormattedLine rewriting) rows lines) → FormattedPart rewriting has row line
+    → (faulty + one_if has ≡ 0 → Pieces (FormattedLine rewriting) (rows ++ row ∷ []) (lines ++ line))
+FormattedLines-next rewriting rows row lines line faulty true are is none = absurd (omega (arith, none))
+FormattedLines-next rewriting rows row lines line faulty false are is none = Pieces-push (FormattedLine rewriting) rows row lines line (are (omega (arith, none))) is
 
 -- what formatting answers
-pub formats : (form : Form) (rows : List TextRow) (faulty : ℕ) (lines pieces formatted faults text : Text)
-    → FaultsOf HasReadingFaults form 1 rows faulty pieces → (faulty ≡ 0 → Pieces FormattedLine rows lines)
+pub formats : (form : Form) (rewriting : Rewriting) (rows : List TextRow) (faulty : ℕ) (lines pieces formatted faults text : Text)
+    → FaultsOf HasReadingFaults form 1 rows faulty pieces → (faulty ≡ 0 → Pieces (FormattedLine rewriting) rows lines)
     → formatted ≡ lines → faults ≡ pieces → (faulty ≡ 0 → text ≡ formatted) → (faulty ≢ 0 → text ≡ faults)
-    → FormatsTexts form rows faulty text
-formats form rows faulty lines pieces formatted faults text are_pieces are_lines is_lines is_pieces fine other =
-    (pieces, are_pieces, λ none. subst (Pieces FormattedLine rows) (sym (fine none ∙ is_lines)) (are_lines none), λ some. other some ∙ is_pieces)
+    → RewritesTexts rewriting form rows faulty text
+formats form rewriting rows faulty lines pieces formatted faults text are_pieces are_lines is_lines is_pieces fine other =
+    (pieces, are_pieces, λ none. subst (Pieces (FormattedLine rewriting) rows) (sym (fine none ∙ is_lines)) (are_lines none), λ some. other some ∙ is_pieces)
 
 -- there are some where there are not none
 pub some_is : (faults : List ParseSingleError) → faults ≢ [] → true ≡ has_some faults

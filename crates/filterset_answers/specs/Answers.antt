@@ -11,7 +11,10 @@ use Rattle.filterset_answers.specs.Checked.{HasFaults, HasReadingFaults, TextRow
 use Rattle.filterset_answers.specs.Forms.{FaultPieces}
 use Rattle.filterset_answers.specs.declared.form.Form.{Form}
 use Rattle.filterset_answers.specs.declared.form.Form.TheVariants.{Drawn}
+use Rattle.filterset_answers.specs.declared.formatting.Rewriting.{Rewriting}
+use Rattle.filterset_answers.specs.declared.formatting.Rewriting.TheVariants.{Printed, Simplified}
 use Rattle.filterset_answers.specs.declared.names.Names.{Names}
+use Rattle.filterset_simplifying.specs.Simplified.{IsSimplified}
 
 -- ---- faults
 
@@ -54,18 +57,32 @@ ChecksTexts names form rows faulty text =
 
 -- ---- formatting
 
--- the line of a text that reads as a tree: the tree as it prints
-abbrev pub FormattedLine : TextRow → Text → Type 0
-FormattedLine row line = (e : Tree SourceSpan) × Reads row.text e × (line ≡ printed e ++ codes "\n")
+-- a tree as it is to be printed: as it is, or simplified
+abbrev pub IsRewritten : Rewriting → Tree SourceSpan → Tree SourceSpan → Type 0
+IsRewritten Printed e d = d ≡ e
+IsRewritten Simplified e d = IsSimplified e d
+
+-- the line of a text that reads as a tree: the tree as it prints, or simplified
+abbrev pub FormattedLine : Rewriting → TextRow → Text → Type 0
+FormattedLine rewriting row line = (e : Tree SourceSpan) × (d : Tree SourceSpan) × Reads row.text e
+    × IsRewritten rewriting e d × (line ≡ printed d ++ codes "\n")
 
 -- what is written of a text that has faults or not: nothing, or its line
-abbrev pub FormattedPart : Bool → TextRow → Text → Type 0
-FormattedPart true row line = line ≡ []
-FormattedPart false row line = FormattedLine row line
+abbrev pub FormattedPart : Rewriting → Bool → TextRow → Text → Type 0
+FormattedPart rewriting true row line = line ≡ []
+FormattedPart rewriting false row line = FormattedLine rewriting row line
 
--- What formatting texts answers: how many of them have faults as the parser reads them. Where none has, each is written
--- as its tree prints, in a line of its own; else what is written are the faults, and nothing else.
-abbrev pub FormatsTexts : Form → List TextRow → ℕ → Text → Type 0
-FormatsTexts form rows faulty text =
+-- What is answered: how many of the texts have faults as the parser reads them. Where none has, each is written as its tree
+-- prints, or simplified, in a line of its own; else what is written are the faults, and nothing else.
+abbrev pub RewritesTexts : Rewriting → Form → List TextRow → ℕ → Text → Type 0
+RewritesTexts rewriting form rows faulty text =
     (pieces : Text) × FaultsOf HasReadingFaults form 1 rows faulty pieces
-    × (faulty ≡ 0 → Pieces FormattedLine rows text) × (faulty ≢ 0 → text ≡ pieces)
+    × (faulty ≡ 0 → Pieces (FormattedLine rewriting) rows text) × (faulty ≢ 0 → text ≡ pieces)
+
+-- what formatting texts answers
+abbrev pub FormatsTexts : Form → List TextRow → ℕ → Text → Type 0
+FormatsTexts form rows faulty text = RewritesTexts Printed form rows faulty text
+
+-- what simplifying texts answers
+abbrev pub SimplifiesTexts : Form → List TextRow → ℕ → Text → Type 0
+SimplifiesTexts form rows faulty text = RewritesTexts Simplified form rows faulty text

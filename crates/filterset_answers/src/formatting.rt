@@ -1,17 +1,28 @@
-//! Filtersets as they print.
+//! Filtersets as they print, or simplified.
 ghost use Rattle.std.specs.Prelude.{◌≡◌, ◌≢◌, ◌++◌, IfOk, ℕ, map, string_bytes};
 ghost use Rattle.filterset_drawing.specs.Columns.{Text};
 ghost use Rattle.filterset_io.specs.Pieces.{Pieces};
-ghost use Rattle.filterset_answers.specs.Answers.{FaultsOf, FormatsTexts, FormattedLine, FormattedPart, TextFaults};
+ghost use Rattle.filterset_answers.specs.Answers.{FaultsOf, FormatsTexts, FormattedLine, FormattedPart, IsRewritten, RewritesTexts, SimplifiesTexts, TextFaults};
 ghost use Rattle.filterset_answers.specs.Checked.{HasReadingFaults, text_row};
 ghost use Rattle.filterset_answers.specs.Endings.{ending_of};
 ghost use Rattle.filterset_answers.specs.Readings.{IsReadingOf};
+ghost use Rattle.filterset_language.specs.Views.{tree_of};
 
 use crate::form::{Form, push_faults};
 use crate::text::{Answer, TextEntry, ending_of};
+use filterset_simplifying::simplify;
 use nextest_filtering::{ParseSingleError, Parsed, ParsedExpr};
 use std::alloc::{AllocError, Global};
 use std::fmt::Write;
+
+/// How filtersets are written.
+#[derive(Clone, Copy, Debug)]
+pub enum Rewriting {
+    /// As they print.
+    Printed,
+    /// Without what changes nothing for every test.
+    Simplified,
+}
 
 /// What parsing a text gives.
 #[derive(Drop)]
@@ -33,24 +44,36 @@ fn parse_text(alloc: Global, text: &str) -> Result<ParsedText, AllocError>
     }
 }
 
+/// Returns a tree as it is to be printed.
+fn rewrite(alloc: Global, rewriting: Rewriting, tree: ParsedExpr) -> Result<ParsedExpr, AllocError>
+    ensures { IfOk result (λ new. IsRewritten rewriting (tree_of tree) (tree_of new)) }
+{
+    match rewriting {
+        Rewriting::Printed => Ok(tree),
+        Rewriting::Simplified => simplify(alloc, &tree),
+    }
+}
+
 /// Writes a text as it prints, or its faults, and returns whether it has any.
 fn push_text(
     formatted: &mut String,
     output: &mut String,
     alloc: Global,
     form: Form,
+    rewriting: Rewriting,
     number: usize,
     entry: &TextEntry<'_>,
 ) -> Result<bool, AllocError>
     ensures { IfOk result (λ has. (line : Text) × (piece : Text)
         × (string_bytes formatted.new ≡ string_bytes formatted.old ++ line)
         × (string_bytes output.new ≡ string_bytes output.old ++ piece)
-        × FormattedPart has (text_row entry.now) line
+        × FormattedPart rewriting has (text_row entry.now) line
         × TextFaults HasReadingFaults form number (text_row entry.now) has piece) }
 {
     match parse_text(alloc, entry.text)? {
         ParsedText::Tree(tree) => {
-            writeln!(formatted, "{tree}")?;
+            let rewritten = rewrite(alloc, rewriting, tree)?;
+            writeln!(formatted, "{rewritten}")?;
             Ok(false)
         }
         ParsedText::Faults(faults) => {
@@ -66,17 +89,18 @@ fn push_texts(
     output: &mut String,
     alloc: Global,
     form: Form,
+    rewriting: Rewriting,
     texts: &[TextEntry<'_>],
 ) -> Result<usize, AllocError>
     ensures { IfOk result (λ faulty. (lines : Text) × (pieces : Text)
         × (string_bytes formatted.new ≡ string_bytes formatted.old ++ lines)
         × (string_bytes output.new ≡ string_bytes output.old ++ pieces)
-        × (faulty ≡ 0 → Pieces FormattedLine (map text_row texts.now) lines)
+        × (faulty ≡ 0 → Pieces (FormattedLine rewriting) (map text_row texts.now) lines)
         × FaultsOf HasReadingFaults form 1 (map text_row texts.now) faulty pieces) }
 {
     let mut faulty = 0;
     for (i, entry) in texts.iter().enumerate() {
-        let has = push_text(formatted, output, alloc, form, i + 1, entry)?;
+        let has = push_text(formatted, output, alloc, form, rewriting, i + 1, entry)?;
         faulty += usize::from(has);
     }
     Ok(faulty)
@@ -90,6 +114,25 @@ fn choose(formatted: String, faults: String, faulty: usize) -> String
     if faulty == 0 { formatted } else { faults }
 }
 
+/// Writes texts as they print, or simplified, a line each, or their faults.
+fn rewrite_texts(
+    alloc: Global,
+    form: Form,
+    rewriting: Rewriting,
+    texts: &[TextEntry<'_>],
+) -> Result<Answer, AllocError>
+    ensures { IfOk result (λ answer. (faulty : ℕ) × RewritesTexts rewriting form (map text_row texts.now) faulty
+        (string_bytes answer.text) × (answer.ending ≡ ending_of faulty)) }
+{
+    let mut formatted = String::new(alloc);
+    let mut faults = String::new(alloc);
+    let faulty = push_texts(&mut formatted, &mut faults, alloc, form, rewriting, texts)?;
+    Ok(Answer {
+        text: choose(formatted, faults, faulty),
+        ending: ending_of(faulty),
+    })
+}
+
 /// Writes texts as they print, a line each. If some do not parse, it writes their faults instead. Texts are numbered from 1.
 ///
 /// Returns an error only if out of memory.
@@ -101,11 +144,19 @@ pub fn format_texts(
     ensures { IfOk result (λ answer. (faulty : ℕ) × FormatsTexts form (map text_row texts.now) faulty
         (string_bytes answer.text) × (answer.ending ≡ ending_of faulty)) }
 {
-    let mut formatted = String::new(alloc);
-    let mut faults = String::new(alloc);
-    let faulty = push_texts(&mut formatted, &mut faults, alloc, form, texts)?;
-    Ok(Answer {
-        text: choose(formatted, faults, faulty),
-        ending: ending_of(faulty),
-    })
+    rewrite_texts(alloc, form, Rewriting::Printed, texts)
+}
+
+/// Writes texts without what changes nothing for every test, a line each, or their faults, as [`format_texts`] does.
+///
+/// Returns an error only if out of memory.
+pub fn simplify_texts(
+    alloc: Global,
+    form: Form,
+    texts: &[TextEntry<'_>],
+) -> Result<Answer, AllocError>
+    ensures { IfOk result (λ answer. (faulty : ℕ) × SimplifiesTexts form (map text_row texts.now) faulty
+        (string_bytes answer.text) × (answer.ending ≡ ending_of faulty)) }
+{
+    rewrite_texts(alloc, form, Rewriting::Simplified, texts)
 }

@@ -30,7 +30,7 @@ pub use entries::{
 pub use explaining::explain_filterset;
 pub use faults::faults_of;
 pub use form::Form;
-pub use formatting::format_texts;
+pub use formatting::{format_texts, simplify_texts};
 pub use names::Names;
 pub use overriding::explain_test_overrides;
 pub use picking::ask_workspace;

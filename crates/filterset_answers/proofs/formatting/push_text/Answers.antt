@@ -4,7 +4,7 @@ use Rattle.filterset_io.specs.Pieces.{no_pieces}
 use Rattle.filterset_grammar.specs.Printing.{printed}
 use Rattle.filterset_language.specs.Parsed.{IsUnreadWith, Reads}
 use Rattle.filterset_language.specs.Views.{tree_of}
-use Rattle.filterset_answers.specs.Answers.{has_some}
+use Rattle.filterset_answers.specs.Answers.{has_some, IsRewritten}
 use Rattle.filterset_answers.specs.Checked.{text_row}
 use Rattle.filterset_answers.specs.Forms.{FaultPieces}
 use Rattle.filterset_answers.proofs.formatting.push_text.Goals as goal
@@ -12,10 +12,12 @@ use Rattle.filterset_answers.proofs.formatting.push_text.Goals as goal
 pub returns-in_ok-writeln-in-Tree : goal.returns-in_ok-writeln-in-Tree
 returns-in_ok-writeln-in-Tree c =
     let e = tree_of c.in-Tree.tree in
-    let line = printed e ++ codes "\n" in
+    let d = tree_of c.in_ok-rewritten-in-Tree.rewritten in
+    let line = printed d ++ codes "\n" in
     let reads : Reads c.args.entry.now.text.now e = search rules in
     let written : string_bytes c.writeln.new.self ≡ string_bytes c.args.formatted.now ++ line = search rules in
-    (line, [], written, sym (append-nil _), (e, reads, refl), ([], inl (e, reads, refl), refl, no_pieces))
+    let is : IsRewritten c.args.rewriting e d = c.in_ok-rewritten-in-Tree.ensures in
+    (line, [], written, sym (append-nil _), (e, d, reads, is, refl), ([], inl (e, reads, refl), refl, no_pieces))
 
 pub returns-in_ok-push_faults-in-Faults : goal.returns-in_ok-push_faults-in-Faults
 returns-in_ok-push_faults-in-Faults c =

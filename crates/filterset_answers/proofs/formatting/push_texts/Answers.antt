@@ -27,7 +27,7 @@ loop-i-preserved c =
         pieces ++ piece,
         added_twice _ _ _ _ _ lines_added line_added,
         added_twice _ _ _ _ _ pieces_added piece_added,
-        rw (c.from-faulty.ensures, number_of has, rows_more text_row texts i entry lt at) (FormattedLines-next (map text_row (take i texts)) (text_row entry) lines line c.loop-i.faulty has are_lines is_line),
+        rw (c.from-faulty.ensures, number_of has, rows_more text_row texts i entry lt at) (FormattedLines-next c.args.rewriting (map text_row (take i texts)) (text_row entry) lines line c.loop-i.faulty has are_lines is_line),
         rw (c.from-faulty.ensures, number_of has, rows_more text_row texts i entry lt at) more,
       ),
     )

@@ -11,5 +11,5 @@ invariant-loop-i l =
     (l.faulty ≤ l.i) × ((lines : Text) × (pieces : Text)
     × (string_bytes l.formatted ≡ string_bytes l.initial.formatted ++ lines)
     × (string_bytes l.output ≡ string_bytes l.initial.output ++ pieces)
-    × (l.faulty ≡ 0 → Pieces FormattedLine (map text_row (take l.i l.texts)) lines)
+    × (l.faulty ≡ 0 → Pieces (FormattedLine l.rewriting) (map text_row (take l.i l.texts)) lines)
     × FaultsOf HasReadingFaults l.form 1 (map text_row (take l.i l.texts)) l.faulty pieces)

@@ -1,7 +1,7 @@
 use Rattle.std.proofs.Common.{rules, map, string_bytes, ap, ◌≡◌}
 use Rattle.filterset_answers.specs.Checked.{text_row}
 use Rattle.filterset_answers.proofs.AnswersLemmas.{formats}
-use Rattle.filterset_answers.proofs.formatting.format_texts.Goals as goal
+use Rattle.filterset_answers.proofs.formatting.rewrite_texts.Goals as goal
 
 pub returns : goal.returns
 returns c =
@@ -9,7 +9,7 @@ returns c =
     let formatted : string_bytes c.push_texts.new.formatted ≡ lines = search rules in
     let faults : string_bytes c.push_texts.new.output ≡ pieces = search rules in (
       c.in_ok-faulty.faulty,
-      formats c.args.form (map text_row c.args.texts.now) c.in_ok-faulty.faulty lines pieces _ _ (string_bytes c.choose.result) are_pieces are_lines formatted faults
+      formats c.args.form c.args.rewriting (map text_row c.args.texts.now) c.in_ok-faulty.faulty lines pieces _ _ (string_bytes c.choose.result) are_pieces are_lines formatted faults
           (λ none. ap (λ s. string_bytes s) (c.choose.ensures.formatted none)) (λ some. ap (λ s. string_bytes s) (c.choose.ensures.faults some)),
       c.ending_of.ensures,
     )
