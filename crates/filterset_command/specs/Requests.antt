@@ -6,7 +6,7 @@ use Rattle.std.specs.Str.{IsUtf8}
 use Rattle.std.specs.declared.io.Error.{Error}
 use Rattle.clap.specs.declared.error.kind.ErrorKind.{ErrorKind}
 use Rattle.clap.specs.declared.error.kind.ErrorKind.TheVariants.{DisplayHelp, DisplayVersion}
-use Rattle.filterset_answers.specs.Answers.{FormatsTexts}
+use Rattle.filterset_answers.specs.Answers.{FormatsTexts, SimplifiesTexts}
 use Rattle.filterset_answers.specs.Checked.{TextRow}
 use Rattle.filterset_answers.specs.Endings.{ending_of}
 use Rattle.filterset_answers.specs.Entries.{line_rows, numbered_rows}
@@ -25,7 +25,7 @@ use Rattle.filterset_command.specs.Files.{input_name, is_input}
 use Rattle.filterset_command.specs.declared.fault.CommandFault.{CommandFault}
 use Rattle.filterset_command.specs.declared.fault.CommandFault.TheVariants.{NotText, Run}
 use Rattle.filterset_command.specs.declared.request.Request.{Request}
-use Rattle.filterset_command.specs.declared.request.Request.TheVariants.{Ask, Check, Decide, Format, Show}
+use Rattle.filterset_command.specs.declared.request.Request.TheVariants.{Ask, Check, Decide, Format, Show, Simplify}
 use Rattle.filterset_command.specs.declared.request.Texts.{Texts}
 use Rattle.filterset_command.specs.declared.request.Texts.TheVariants.{Given, StandardInput}
 
@@ -38,6 +38,7 @@ are_lines StandardInput = true
 abbrev pub takes_input : Request → Bool
 takes_input (Check kind form texts paths) = are_lines texts || option_map_or (λ p. is_input p.now) paths.configuration false
 takes_input (Format form texts) = are_lines texts
+takes_input (Simplify form texts) = are_lines texts
 takes_input (Ask asked) = option_map_or (λ p. is_input p.configuration.now) asked.profile false
 takes_input (Decide asked) = false
 takes_input (Show text) = false
@@ -65,6 +66,8 @@ Answers content input (Check kind form texts paths) = λ ending text. (file : Bo
     × AnswersCheck content input form paths (rows_of kind texts file) ending text
 Answers content input (Format form texts) = λ ending text. (file : Bor Source) × (faulty : ℕ) × IsInputFile input file.now
     × FormatsTexts form (rows_of kinds.Test texts file) faulty text × (ending ≡ ending_of faulty)
+Answers content input (Simplify form texts) = λ ending text. (file : Bor Source) × (faulty : ℕ) × IsInputFile input file.now
+    × SimplifiesTexts form (rows_of kinds.Test texts file) faulty text × (ending ≡ ending_of faulty)
 Answers content input (Ask asked) = AnswersAsked content input asked
 Answers content input (Decide asked) = AnswersDecision content asked
 Answers content input (Show shown) = λ ending text. (ending ≡ Fine) × (text ≡ shown.now)

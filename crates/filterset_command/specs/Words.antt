@@ -25,7 +25,7 @@ use Rattle.filterset_command.specs.declared.asking.Asked.TheVariants.{Explanatio
 use Rattle.filterset_command.specs.declared.fault.CommandFault.TheVariants.{Missing, TwoInputs, WrongBudget}
 use Rattle.filterset_command.specs.declared.profile.ProfileRequest.{ProfileRequest}
 use Rattle.filterset_command.specs.declared.request.Request.{Request}
-use Rattle.filterset_command.specs.declared.request.Request.TheVariants.{Ask, Check, Decide, Format, Show}
+use Rattle.filterset_command.specs.declared.request.Request.TheVariants.{Ask, Check, Decide, Format, Show, Simplify}
 use Rattle.filterset_command.specs.declared.request.Task.{Task}
 use Rattle.filterset_command.specs.declared.request.Task.TheVariants.{Answer, Complete, Serve}
 use Rattle.filterset_command.specs.declared.request.Texts.{Texts}
@@ -147,6 +147,8 @@ IsAskedBy name found (Check kind form texts paths) =
     × IsOptionAsked found (codes "metadata") paths.metadata × IsOptionAsked found (codes "config") paths.configuration
 IsAskedBy name found (Format form texts) =
     (name ≡ codes "format") × IsDrawnAsked found form × AreTextsAsked found texts
+IsAskedBy name found (Simplify form texts) =
+    (name ≡ codes "simplify") × IsDrawnAsked found form × AreTextsAsked found texts
 IsAskedBy name found (Ask asked) =
     IsQuestionAsked name found asked.form asked.asked × ArePathsAsked found asked.paths
     × IsOptionAsked found (codes "default") asked.default_filter × IsProfileAsked found asked.profile

@@ -9,7 +9,7 @@ use crate::fault::CommandFault;
 use crate::files::FileSource;
 use crate::input::read_input;
 use crate::request::Request;
-use crate::texts::{check_given, format_given, input_file};
+use crate::texts::{check_given, format_given, input_file, simplify_given};
 use filterset_answers::{Answer, Ending};
 use filterset_io::Source;
 use std::alloc::Global;
@@ -73,6 +73,10 @@ fn answer_with<F: FileSource>(
         Request::Format { form, texts } => {
             let file = input_file(alloc, input)?;
             Ok(format_given(alloc, *form, texts, &file)?)
+        }
+        Request::Simplify { form, texts } => {
+            let file = input_file(alloc, input)?;
+            Ok(simplify_given(alloc, *form, texts, &file)?)
         }
         Request::Decide(asked) => decide_given(alloc, files, asked),
         Request::Ask(asked) => ask(alloc, files, input, asked),

@@ -102,6 +102,15 @@ fn format<'a>(alloc: Global) -> Result<Command<'a>, AllocError> {
         .arg(texts(alloc).required(true))
 }
 
+/// Makes the command `simplify`.
+fn simplify<'a>(alloc: Global) -> Result<Command<'a>, AllocError> {
+    Command::new(alloc, "simplify")
+        .about("Prints filtersets without what changes nothing for every test")
+        .after_help("Example: filterset simplify 'test(a) or (test(a) and test(b))'")
+        .arg(color(alloc))?
+        .arg(texts(alloc).required(true))
+}
+
 /// Makes the option of the file with the tests.
 fn nextest_list<'a>(alloc: Global) -> Arg<'a> {
     Arg::new(alloc, "list")
@@ -425,6 +434,7 @@ pub fn arguments<'a>(alloc: Global) -> Result<Command<'a>, AllocError> {
         .subcommand_required(true);
     let command = with_command(command, check(alloc))?;
     let command = with_command(command, format(alloc))?;
+    let command = with_command(command, simplify(alloc))?;
     let command = with_command(command, list(alloc))?;
     let command = with_command(command, compare(alloc))?;
     let command = with_command(command, explain(alloc))?;

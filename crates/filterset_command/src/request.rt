@@ -22,7 +22,7 @@ use filterset_deciding::Question as Decision;
 use filterset_drawing::Color;
 use nextest_filtering::FiltersetKind;
 
-/// The filtersets to check or to format.
+/// The filtersets to check, to format or to simplify.
 #[derive(Clone, Copy)]
 pub enum Texts<'w> {
     /// The arguments.
@@ -66,6 +66,10 @@ pub enum Request<'w> {
         form: Form,
         texts: Texts<'w>,
     },
+    Simplify {
+        form: Form,
+        texts: Texts<'w>,
+    },
     /// `list`, `compare`, `explain` or `overrides`.
     Ask(WorkspaceRequest<'w>),
     /// `same`, `cover`, `disjoint` or `partition`.
@@ -84,6 +88,7 @@ impl Request<'_> {
                 texts.is_input() || is_some_input(paths.configuration)
             }
             Request::Format { texts, .. } => texts.is_input(),
+            Request::Simplify { texts, .. } => texts.is_input(),
             Request::Ask(asked) => match &asked.profile {
                 Some(profile) => is_input(profile.configuration),
                 None => false,
@@ -136,6 +141,7 @@ fn request_of<'m>(matches: &'m ArgMatches<'_>) -> Result<Request<'m>, CommandFau
     match matches.subcommand() {
         Some(("check", own)) => check_of(own),
         Some(("format", own)) => Ok(format_of(own)),
+        Some(("simplify", own)) => Ok(simplify_of(own)),
         Some(("list", own)) => list_of(own),
         Some(("compare", own)) => compare_of(own),
         Some(("explain", own)) => explain_of(own),
@@ -173,6 +179,16 @@ fn format_of<'m>(matches: &'m ArgMatches<'_>) -> Request<'m>
     ensures { IsAskedBy (codes "format") (found_of matches.now) result }
 {
     Request::Format {
+        form: Form::Drawn(color_of(matches)),
+        texts: texts_of(matches),
+    }
+}
+
+/// Returns what `simplify` asks for.
+fn simplify_of<'m>(matches: &'m ArgMatches<'_>) -> Request<'m>
+    ensures { IsAskedBy (codes "simplify") (found_of matches.now) result }
+{
+    Request::Simplify {
         form: Form::Drawn(color_of(matches)),
         texts: texts_of(matches),
     }

@@ -1,6 +1,6 @@
-//! The filtersets to check or to format.
+//! The filtersets to check, to format or to simplify.
 ghost use Rattle.std.specs.Prelude.{◌≡◌, IfErr, IfOk, ℕ, map, string_bytes};
-ghost use Rattle.filterset_answers.specs.Answers.{FormatsTexts};
+ghost use Rattle.filterset_answers.specs.Answers.{FormatsTexts, SimplifiesTexts};
 ghost use Rattle.filterset_answers.specs.Checked.{text_row};
 ghost use Rattle.filterset_answers.specs.Endings.{ending_of};
 ghost use Rattle.filterset_command.specs.Checking.{AnswersCheck, IsCheckFault};
@@ -12,7 +12,9 @@ use crate::fault::CommandFault;
 use crate::files::FileSource;
 use crate::input::INPUT_NAME;
 use crate::request::Texts;
-use filterset_answers::{Answer, Form, TextEntry, format_texts, given_entries, line_entries};
+use filterset_answers::{
+    Answer, Form, TextEntry, format_texts, given_entries, line_entries, simplify_texts,
+};
 use filterset_drawing::Source;
 use nextest_filtering::FiltersetKind;
 use std::alloc::{AllocError, Global};
@@ -70,4 +72,19 @@ pub fn format_given(
 {
     let entries = entries_of(alloc, FiltersetKind::Test, texts, file)?;
     format_texts(alloc, form, entries.as_slice())
+}
+
+/// Simplifies the texts, or the lines of standard input, which is this file.
+pub fn simplify_given(
+    alloc: Global,
+    form: Form,
+    texts: &Texts<'_>,
+    file: &Source<'_>,
+) -> Result<Answer, AllocError>
+    ensures { IfOk result (λ answer. (faulty : ℕ) × SimplifiesTexts form
+        (rows_of FiltersetKind.Test texts.now file.entry) faulty (string_bytes answer.text)
+        × (answer.ending ≡ ending_of faulty)) }
+{
+    let entries = entries_of(alloc, FiltersetKind::Test, texts, file)?;
+    simplify_texts(alloc, form, entries.as_slice())
 }

@@ -1,7 +1,7 @@
 use Rattle.std.proofs.Common.{◌≡◌, ℕ, Option, string_bytes, subst, sym}
 use Rattle.std.proofs.lemmas.Result.{IfOk-weaker}
 use Rattle.std.specs.Borrow.{Bor}
-use Rattle.filterset_answers.specs.Answers.{FormatsTexts}
+use Rattle.filterset_answers.specs.Answers.{FormatsTexts, SimplifiesTexts}
 use Rattle.filterset_answers.specs.Endings.{ending_of}
 use Rattle.filterset_answers.specs.declared.form.Form.{Form}
 use Rattle.filterset_answers.specs.declared.text.Ending.{Ending}
@@ -13,7 +13,7 @@ use Rattle.filterset_command.specs.Checking.{AnswersCheck}
 use Rattle.filterset_command.specs.Requests.{Answers, IsInputFile, rows_of}
 use Rattle.filterset_command.specs.declared.checking.CheckPaths.{CheckPaths}
 use Rattle.filterset_command.specs.declared.request.Request.{Request}
-use Rattle.filterset_command.specs.declared.request.Request.TheVariants.{Check, Format}
+use Rattle.filterset_command.specs.declared.request.Request.TheVariants.{Check, Format, Simplify}
 use Rattle.filterset_command.specs.declared.request.Texts.{Texts}
 use Rattle.filterset_command.proofs.answering.answer_with.Goals as goal
 
@@ -45,3 +45,17 @@ returns-in_ok-format_given-in-Format-clause-answered g c =
     let answer = c.in_ok-format_given-in-Format.field-0 in
     formatted (g.F.FileSource.content c.args.files.now) c.args.input.now c.in-Format.form c.in-Format.texts _ answer.ending (string_bytes answer.text) c.args.request.now
     c.in-Format.is c.in_ok-file-in-Format.ensures c.in_ok-format_given-in-Format.ensures
+
+-- and so is that to a request to simplify
+simplified : (content : Text → Option Text) (input : Text) (form : Form) (texts : Texts) (file : Bor Source)
+    (ending : Ending) (text : Text) (request : Request) → request ≡ Simplify form texts → IsInputFile input file.now
+    → ((faulty : ℕ) × SimplifiesTexts form (rows_of kinds.Test texts file) faulty text × (ending ≡ ending_of faulty))
+    → Answers content input request ending text
+simplified content input form texts file ending text request is named answers =
+    subst (λ r. Answers content input r ending text) (sym is) (file, answers.0, named, answers.1, answers.2)
+
+pub returns-in_ok-simplify_given-in-Simplify-clause-answered : goal.returns-in_ok-simplify_given-in-Simplify-clause-answered
+returns-in_ok-simplify_given-in-Simplify-clause-answered g c =
+    let answer = c.in_ok-simplify_given-in-Simplify.field-0 in
+    simplified (g.F.FileSource.content c.args.files.now) c.args.input.now c.in-Simplify.form c.in-Simplify.texts _ answer.ending (string_bytes answer.text) c.args.request.now
+    c.in-Simplify.is c.in_ok-file-in-Simplify.ensures c.in_ok-simplify_given-in-Simplify.ensures

@@ -31,6 +31,10 @@ pub returns-in-Some-format-default-clause-asked : goal.returns-in-Some-format-de
 returns-in-Some-format-default-clause-asked c =
     asked_by c.args.matches.now c.in-Some-format-default.field-0-0.now c.in-Some-format-default.own.now (codes "format") c.format_of.result c.in-Some-format-default.ensures.name c.in-Some-format-default.ensures.rows c.in-Some-format-default.is-format c.format_of.ensures
 
+pub returns-in-Some-simplify-default-clause-asked : goal.returns-in-Some-simplify-default-clause-asked
+returns-in-Some-simplify-default-clause-asked c =
+    asked_by c.args.matches.now c.in-Some-simplify-default.field-0-0.now c.in-Some-simplify-default.own.now (codes "simplify") c.simplify_of.result c.in-Some-simplify-default.ensures.name c.in-Some-simplify-default.ensures.rows c.in-Some-simplify-default.is-simplify c.simplify_of.ensures
+
 pub returns-in-Some-list-default-clause-asked : goal.returns-in-Some-list-default-clause-asked
 returns-in-Some-list-default-clause-asked c =
     IfOk-weaker c.list_of.result _ _ (λ request asked.
