@@ -84,7 +84,9 @@ fn push_few_tests<'a>(
     Ok(())
 }
 
-/// Adds the lines of a binary's tests, and asks for all of them at once.
+/// Adds the lines of a binary's tests, and asks for all of them at once. It is not inlined, which would slow down the
+/// questions for few tests.
+#[inline(never)]
 fn push_many_tests(
     lines: &mut String,
     alloc: Global,
