@@ -2,3 +2,4 @@ pub mod ColumnLemmas
 pub mod JsonLemmas
 pub mod LineLemmas
 pub mod MetLemmas
+mod WarningLemmas

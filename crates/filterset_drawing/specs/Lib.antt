@@ -7,3 +7,4 @@ pub mod Drawings
 pub mod Json
 pub mod Annotations
 pub mod Errors
+pub mod Warnings

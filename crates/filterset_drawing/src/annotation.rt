@@ -1,6 +1,7 @@
 //! Annotations of errors.
-ghost use Rattle.std.specs.Prelude.{◌≡◌, ◌++◌, OnOk, option_map, string_bytes};
-ghost use Rattle.filterset_drawing.specs.Annotations.{annotation, region_text};
+ghost use Rattle.std.specs.Prelude.{◌≡◌, ◌++◌, OnOk, codes, option_map, string_bytes};
+ghost use Rattle.filterset_drawing.specs.Annotations.{annotation, escaped, message_char, property_char, region_text};
+ghost use Rattle.filterset_drawing.specs.Warnings.{warning_annotation};
 
 use crate::escaping::{Part, push_escaped};
 use crate::source::Location;
@@ -36,6 +37,27 @@ fn push_region(output: &mut String, region: Option<&Region<'_>>) -> Result<(), A
     )
 }
 
+/// Writes a workflow command that begins so.
+fn push_command(
+    output: &mut String,
+    start: &str,
+    region: Option<&Region<'_>>,
+    title: &str,
+    message: &str,
+) -> Result<(), AllocError>
+    ensures { OnOk result (string_bytes output.new
+        ≡ string_bytes output.old ++ (start.now ++ (region_text (option_map (λ r. r.now) region.entry)
+        ++ (codes "title=" ++ (escaped property_char title.now ++ (codes "::" ++ (escaped message_char message.now ++ codes "\n"))))))) }
+{
+    output.push_str(start)?;
+    push_region(output, region)?;
+    output.push_str("title=")?;
+    push_escaped(output, Part::Property, title)?;
+    output.push_str("::")?;
+    push_escaped(output, Part::Message, message)?;
+    output.push_str("\n")
+}
+
 /// Writes an error as a workflow command in a line of its own: with its title, its message, and its region, if it is in
 /// a file.
 ///
@@ -49,11 +71,20 @@ pub fn push_annotation(
     ensures { OnOk result (string_bytes output.new
         ≡ string_bytes output.old ++ annotation (option_map (λ r. r.now) region.entry) title.now message.now) }
 {
-    output.push_str("::error ")?;
-    push_region(output, region)?;
-    output.push_str("title=")?;
-    push_escaped(output, Part::Property, title)?;
-    output.push_str("::")?;
-    push_escaped(output, Part::Message, message)?;
-    output.push_str("\n")
+    push_command(output, "::error ", region, title, message)
+}
+
+/// Writes a warning as [`push_annotation`] writes an error.
+///
+/// Returns an error only if out of memory.
+pub fn push_warning(
+    output: &mut String,
+    region: Option<&Region<'_>>,
+    title: &str,
+    message: &str,
+) -> Result<(), AllocError>
+    ensures { OnOk result (string_bytes output.new
+        ≡ string_bytes output.old ++ warning_annotation (option_map (λ r. r.now) region.entry) title.now message.now) }
+{
+    push_command(output, "::warning ", region, title, message)
 }

@@ -220,7 +220,7 @@ fn push_label(
 }
 
 /// Writes a remark below the lines, after the word for its kind.
-fn push_remark(
+pub fn push_remark(
     drawing: &mut String,
     margin: Margin,
     word: &str,

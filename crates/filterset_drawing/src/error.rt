@@ -53,7 +53,7 @@ pub fn draw_error(
 }
 
 /// Adds a text to the members of an object.
-fn put_text(
+pub fn put_text(
     members: &mut Map<String, Value>,
     alloc: Global,
     key: &str,

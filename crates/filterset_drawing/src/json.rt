@@ -50,7 +50,11 @@ fn put_fault(
 }
 
 /// Adds the position of a fault in its text.
-fn put_spot(members: &mut Map<String, Value>, alloc: Global, spot: Spot) -> Result<(), AllocError>
+pub fn put_spot(
+    members: &mut Map<String, Value>,
+    alloc: Global,
+    spot: Spot,
+) -> Result<(), AllocError>
     ensures { OnOk result (members_view members.new.entries ≡ with_spot spot (members_view members.old.entries)) }
 {
     put(members, alloc, "column", number_value(spot.column))?;
@@ -101,7 +105,7 @@ const NOWHERE: Spot = Spot {
 };
 
 /// Returns the position of a span.
-fn spot_of(source: &Source<'_>, span: Option<SourceSpan>) -> Spot
+pub fn spot_of(source: &Source<'_>, span: Option<SourceSpan>) -> Spot
     ensures { IsSpotOf (BeginsAt source.now.text.now span) span result }
 {
     match span {

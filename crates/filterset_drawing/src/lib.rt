@@ -11,10 +11,12 @@ mod escaping;
 mod json;
 mod line;
 mod source;
+mod warning;
 
-pub use annotation::{Region, push_annotation};
+pub use annotation::{Region, push_annotation, push_warning};
 pub use color::Color;
 pub use drawing::{draw, draw_at};
 pub use error::{draw_error, error_json};
 pub use json::fault_json;
 pub use source::{FileSpan, Location, Source};
+pub use warning::{Warning, draw_warning, warning_json};
