@@ -1,5 +1,6 @@
 -- cited by public contracts
 pub mod Subjects
+pub mod Listed
 pub mod Needless
 pub mod Finding
 -- for the proofs

@@ -23,8 +23,8 @@ pub struct Subject<'s> {
 
 /// A lookup in which every test is in one group.
 #[derive(Clone, Copy, Debug)]
-struct OneGroup<'g> {
-    group: &'g str,
+pub(crate) struct OneGroup<'g> {
+    pub group: &'g str,
 }
 
 impl GroupLookup for OneGroup<'_> {
@@ -41,7 +41,7 @@ impl GroupLookup for OneGroup<'_> {
 }
 
 /// Returns whether the expression picks the test in this group.
-fn picks_in(
+pub(crate) fn picks_in(
     alloc: Global,
     flat: &FlatExpr<'_>,
     lookup: &OneGroup<'_>,

@@ -1,0 +1,10 @@
+use Rattle.std.proofs.Common.{◌≡◌, map, take}
+use Rattle.std.specs.Prelude.{All}
+use Rattle.filterset_expression.specs.Contexts.{default_of}
+use Rattle.filterset_hints.specs.Listed.{IsLaid, given_of}
+use Rattle.filterset_hints.proofs.listed.lay_out.Given as goal
+
+-- the overrides so far are laid out
+abbrev pub invariant-loop-given : goal.invariant-loop-given
+invariant-loop-given l =
+    (map given_of l.laid.items ≡ take l.given-index l.overrides) × All (IsLaid (default_of l.context)) l.laid.items
