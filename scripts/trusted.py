@@ -25,8 +25,8 @@ PAGE, BEGIN, END = "docs/TRUST.md", "<!-- trusted.py begins -->\n", "<!-- truste
 LIBRARY, PROGRAM, PROGRAMS, COMMAND = "nextest_filtering", "filterset_cli", "filterset_io", "filterset_command"
 # What its command `lsp` alone uses, and the call that serves an editor.
 EDITORS = (
-    "filterset_editor", "filterset_documents", "filterset_names", "filterset_tokens", "filterset_offers", "filterset_actions",
-    "filterset_server",
+    "filterset_editor", "filterset_documents", "filterset_names", "filterset_tokens", "filterset_rewriting",
+    "filterset_offers", "filterset_actions", "filterset_server",
 )
 SERVE = "serve_editor"
 LIBRARY_OF_C = "filterset_c"

@@ -1,0 +1,4 @@
+pub mod CallLemmas
+pub mod FrontLemmas
+pub mod OperandLemmas
+pub mod Shown

@@ -1,0 +1,4 @@
+pub mod Calls
+pub mod Fronts
+pub mod Links
+pub mod Showing
