@@ -17,6 +17,8 @@ mod lineages;
 #[cfg(test)]
 mod matchers;
 #[cfg(test)]
+mod nesting;
+#[cfg(test)]
 mod places;
 #[cfg(test)]
 mod platforms;
