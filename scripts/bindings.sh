@@ -2,6 +2,8 @@
 # Tests the library for C that scripts/library.sh built in out/lib/, and the callers in bindings/:
 # - the header compiles as C and as C++, and declares just the functions that the library exports;
 # - the example in C writes what it should, also under valgrind, and with each request for memory refused in turn;
+# - copies of a filterset are asked on several threads at once, and valgrind finds no race, but finds one where handles share;
+# - wrong arguments get the statuses that the header says, in their order (bindings/c/wrong.c);
 # - the callers in C, Python and Rust give the answers of bindings/cases.json.
 # What is not built, or what the machine lacks, is skipped, and counted as skipped. The last line is 'N passed, M failed'.
 set -uo pipefail
@@ -97,8 +99,37 @@ in_c() {
     try "the example with refused memory" example_refused
 }
 
+# Returns whether valgrind finds races where handles share a default filter.
+finds_races() { ! valgrind -q --tool=helgrind --error-exitcode=99 "$room/threads" shared > "$room/wrote" 2> "$room/errors" && grep -q 'data race' "$room/errors"; }
+
+on_threads() {
+    try "threads in C" "$compiler" -std=c99 -O2 -Wall -Wextra -Wpedantic -Werror -Ibindings/c bindings/c/threads.c \
+        "$lib/libfilterset.a" -pthread -o "$room/threads"
+    try "copies on threads" "$room/threads" copies
+    if ! has valgrind; then skip "races" "there is no valgrind"; return; fi
+    try "copies on threads under helgrind" valgrind -q --tool=helgrind --error-exitcode=99 "$room/threads" copies
+    try "copies on threads under memcheck" valgrind -q --error-exitcode=99 --leak-check=full --errors-for-leak-kinds=all "$room/threads" copies
+    try "races of handles that share" finds_races
+}
+
+with_wrong_arguments() {
+    try "wrong arguments in C" "$compiler" -std=c99 -O2 -Wall -Wextra -Wpedantic -Werror -Ibindings/c bindings/c/wrong.c \
+        "$lib/libfilterset.a" -o "$room/wrong"
+    try "the statuses of wrong arguments" "$room/wrong"
+}
+
+# Returns whether the callers in Python refuse a library that says that it is another version.
+refuses_another() {
+    mkdir "$room/another"
+    sed -n 's/^[a-z0-9_]* \(filterset_[a-z_]*\)(.*/int \1(void); int \1(void) { return 2000; }/p' bindings/c/filterset.h > "$room/another.c"
+    "$compiler" -shared -fPIC -o "$room/another/libfilterset.so" "$room/another.c" || return 1
+    ! FILTERSET_LIB="$room/another" PYTHONDONTWRITEBYTECODE=1 PYTHONPATH=bindings/python python3 -c 'import filterset' 2> "$room/errors" &&
+        grep 'another version' "$room/errors"
+}
+
 in_python() {
     if ! has python3; then skip "the callers in Python" "there is no python3"; return; fi
+    try "another version in Python" refuses_another
     try "the tests in Python" env PYTHONDONTWRITEBYTECODE=1 FILTERSET_LIB="$lib" python3 -m unittest discover -s bindings/python
 }
 
@@ -123,6 +154,8 @@ fi
 try "the library is of these sources" is_current
 try "the exported functions" exports
 in_c
+on_threads
+with_wrong_arguments
 in_python
 in_rust
 end

@@ -3,7 +3,8 @@
 # - the programs run with an empty environment, need no library but those of C, and hold pages of examples/transcripts/;
 # - each command has a manual page; man, mandoc and groff show all pages without a warning;
 # - scripts/completions.py presses TAB in the shells that are there;
-# - the example of the library for C is built by what pkg-config says, and runs;
+# - the example of the library for C is built by what pkg-config says, and runs, but not with another version; wrong
+#   arguments get their statuses;
 # - nothing is left, but what others put there.
 # What this machine lacks for a part is named, and the part counted as skipped. The last line is 'N passed, M failed', or
 # 'N passed, M failed, K skipped'.
@@ -86,11 +87,25 @@ build_example() {
         LD_LIBRARY_PATH=$prefix/lib "$room/example" crates/filterset_command/data/cargo-metadata.json 'deps(parser)'
 }
 
+# Builds the program of wrong arguments with the installed header and static library, and runs it.
+build_wrong() {
+    "${CC:-cc}" -I"$prefix/include" -o "$room/wrong" bindings/c/wrong.c "$prefix/lib/libfilterset.a" && "$room/wrong"
+}
+
+# Returns whether the example does not start with a library that has the name of another version alone.
+refuses_another() {
+    mkdir "$room/another" && cp "$prefix/lib/libfilterset.so" "$room/another/libfilterset.so.1" || return 1
+    ! LD_LIBRARY_PATH=$room/another "$room/example" crates/filterset_command/data/cargo-metadata.json 'all()' 2> "$room/errors" &&
+        grep 'libfilterset.so.0' "$room/errors"
+}
+
 try_library() {
     export PKG_CONFIG_PATH=$prefix/lib/pkgconfig
     if [ ! -f "$prefix/include/filterset.h" ]; then skip "the library for C is not built"; return; fi
     if ! command -v pkg-config > /dev/null; then skip "there is no pkg-config"; return; fi
     holds "the example in C" build_example
+    holds "wrong arguments in C" build_wrong
+    holds "a library of another version" refuses_another
 }
 
 # Returns whether a folder has these files below it, and no others.

@@ -26,8 +26,8 @@
 //! # }
 //! ```
 //!
-//! Values of one context share its default filter without locks, if it has one, so no type here is `Send`: use a context and
-//! all that was parsed with it on one thread.
+//! No two values share anything, so each is `Send`. None is `Sync`: give each thread a filterset of its own, by
+//! [`Filterset::try_clone`].
 
 mod errors;
 mod ffi;
@@ -141,6 +141,7 @@ fn check(status: u8) -> Result<(), FiltersetError> {
     match status {
         ffi::OK => Ok(()),
         ffi::OUT_OF_MEMORY => Err(FiltersetError::OutOfMemory),
+        ffi::TOO_LARGE => Err(FiltersetError::TooLarge),
         status => Err(FiltersetError::Status(status)),
     }
 }
@@ -187,6 +188,8 @@ fn faults_of(handle: &Handle, input: &str) -> Result<FiltersetParseErrors, Filte
 #[derive(Debug)]
 pub struct ParseContext {
     handle: Handle,
+    /// Whether a default filter was set, which filtersets share when they are parsed.
+    is_shared: bool,
 }
 
 impl ParseContext {
@@ -205,7 +208,7 @@ impl ParseContext {
     fn made(call: impl FnOnce(&mut RawHandle) -> u8) -> Result<ParseContext, FiltersetError> {
         let handle = Handle::empty();
         match handle.with(call) {
-            ffi::OK => Ok(ParseContext { handle }),
+            ffi::OK => Ok(ParseContext { handle, is_shared: false }),
             ffi::OUT_OF_MEMORY => Err(FiltersetError::OutOfMemory),
             _ => Err(FiltersetError::NotAWorkspace),
         }
@@ -227,7 +230,11 @@ impl ParseContext {
         });
         match status {
             ffi::REJECTED => Err(FiltersetError::Faults(faults_of(&faults, input)?)),
-            status => check(status),
+            status => {
+                check(status)?;
+                self.is_shared = true;
+                Ok(())
+            }
         }
     }
 
@@ -244,7 +251,8 @@ pub struct Filterset {
 }
 
 impl Filterset {
-    /// Parses a filterset. A rejected text is returned with its faults.
+    /// Parses a filterset. A rejected text is returned with its faults. If the context has a default filter, this makes a copy
+    /// too, as [`Filterset::try_clone`] does.
     pub fn parse(
         input: String,
         cx: &ParseContext,
@@ -258,8 +266,19 @@ impl Filterset {
         });
         match status {
             ffi::REJECTED => Err(FiltersetError::Faults(faults_of(&handle, &input)?)),
-            status => check(status).map(|()| Filterset { handle }),
+            status => {
+                check(status)?;
+                let parsed = Filterset { handle };
+                if cx.is_shared { parsed.try_clone() } else { Ok(parsed) }
+            }
         }
+    }
+
+    /// Copies the filterset. Globs are parsed and patterns compiled again, so that costs about as much as a parse.
+    pub fn try_clone(&self) -> Result<Filterset, FiltersetError> {
+        let handle = Handle::empty();
+        check(self.handle.with(|raw| handle.with(|copy| unsafe { ffi::filterset_try_clone(raw, copy) })))?;
+        Ok(Filterset { handle })
     }
 
     /// Returns whether the filterset matches all tests of a binary (`Some(true)`) or none (`Some(false)`), or `None` if that

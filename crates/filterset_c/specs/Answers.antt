@@ -12,7 +12,7 @@ use Rattle.filterset_grammar.specs.Printing.{printed}
 use Rattle.filterset_grammar.specs.Tree.{Tree}
 use Rattle.filterset_graph.specs.declared.package.PackageMetadata.{PackageMetadata}
 use Rattle.filterset_language.specs.Views.{tree_of}
-use Rattle.filterset_c.specs.Queries.{matches_named, IsAbout, IsAboutTest}
+use Rattle.filterset_c.specs.Queries.{matches_named, IsAbout, IsAboutTest, IsWellTest}
 use Rattle.filterset_c.specs.declared.object.BoundFilterset.{BoundFilterset}
 use Rattle.filterset_c.specs.declared.object.Object.{Object}
 use Rattle.filterset_c.specs.declared.object.Object.TheVariants.{Filterset}
@@ -70,10 +70,10 @@ IsPrint text bound = text ≡ printed (tree_of bound.filterset.parsed)
 
 -- ---- by steps that are laid out once
 
--- the number of the answer that the steps give for a test of the binary
+-- the number of the answer that the steps give for a test of the binary, whose texts are UTF-8
 abbrev pub IsFlatNumber : FlatExpr → BinaryQuery → Test → ℕ → Type 0
 IsFlatNumber flat binary_query test number =
-    (answer : Bool) × (number ≡ yes_or_no answer)
+    IsWellTest test × (answer : Bool) × (number ≡ yes_or_no answer)
     × ((packages : List PackageMetadata) (e : Tree SourceSpan) (default : CompiledExpr) → IsFlatOfTree flat packages e default
     → (query : TestQuery) × (query.binary_query ≡ binary_query) × (query.test_name.now ≡ test.name.now)
     × (IsTrue answer ↔ Meaning e packages query default (matches_named test.group.now)))

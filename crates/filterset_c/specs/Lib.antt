@@ -1,4 +1,5 @@
 pub mod Answers
+pub mod Copies
 pub mod Facts
 pub mod Faulty
 pub mod Owning

@@ -1,16 +1,20 @@
 -- What C asks about.
-use Rattle.std.specs.Prelude.{◌≡◌, ◌<◌, ℕ, List}
+use Rattle.std.specs.Prelude.{◌≡◌, ◌⊎◌, ◌<◌, ℕ, All, List}
 use Rattle.std.specs.Str.{IsUtf8}
+use Rattle.filterset_asking.specs.declared.asked.AskedTest.{AskedTest}
 use Rattle.filterset_expression.specs.Expression.{Lookup}
 use Rattle.filterset_expression.specs.declared.query.BinaryQuery.{BinaryQuery}
 use Rattle.filterset_expression.specs.declared.query.TestQuery.{TestQuery}
 use Rattle.filterset_graph.specs.declared.package.BuildPlatform.{BuildPlatform}
 use Rattle.filterset_graph.specs.declared.package.BuildPlatform.TheVariants.{Target, Host}
 use Rattle.filterset_matchers.specs.Matcher.{MatchesName}
+use Rattle.filterset_c.specs.declared.failure.Failure.{Failure}
+use Rattle.filterset_c.specs.declared.failure.Failure.TheVariants.{OutOfMemory, NotUtf8}
 use Rattle.filterset_c.specs.declared.queries.Binary.{Binary}
 use Rattle.filterset_c.specs.declared.queries.KnownBinary.{KnownBinary}
 use Rattle.filterset_c.specs.declared.queries.KnownTest.{KnownTest}
 use Rattle.filterset_c.specs.declared.queries.Test.{Test}
+use Rattle.filterset_c.specs.declared.queries.Text.{Text}
 
 -- the platform that has this number
 abbrev pub HasPlatform : ℕ → BuildPlatform → Type 0
@@ -30,14 +34,34 @@ pub record IsAboutTest (binary : Binary) (test : Test) (query : TestQuery) : Typ
   pub of_binary : IsAbout binary query.binary_query
   pub name : query.test_name.now ≡ test.name.now
 
--- the texts of a binary are UTF-8, and its platform is one
+-- the texts of a binary are UTF-8
+abbrev pub HasTexts : Binary → Type 0
+HasTexts binary = IsUtf8 binary.package_id.now × IsUtf8 binary.binary_id.now × IsUtf8 binary.name.now
+    × IsUtf8 binary.kind.now
+
+-- the same, and its platform is one
 abbrev pub IsWellBinary : Binary → Type 0
-IsWellBinary binary = IsUtf8 binary.package_id.now × IsUtf8 binary.binary_id.now × IsUtf8 binary.name.now
-    × IsUtf8 binary.kind.now × (binary.platform < 2)
+IsWellBinary binary = HasTexts binary × (binary.platform < 2)
 
 -- the texts of a test are UTF-8
 abbrev pub IsWellTest : Test → Type 0
 IsWellTest test = IsUtf8 test.name.now × IsUtf8 test.group.now
+
+-- Why a question about a binary fails whose platform is one: a text is not UTF-8; or there is not enough memory, and then
+-- the texts of the binary are.
+abbrev pub IsQuestionFailure : Binary → Failure → Type 0
+IsQuestionFailure binary failure = (failure ≡ NotUtf8) ⊎ ((failure ≡ OutOfMemory) × HasTexts binary)
+
+-- the text is UTF-8
+abbrev pub IsText : Text → Type 0
+IsText text = IsUtf8 text.bytes.now
+
+-- all texts of a question are UTF-8
+abbrev pub AreTexts : Binary → Test → Type 0
+AreTexts binary test = HasTexts binary × IsWellTest test
+
+abbrev pub AreAllTexts : Binary → List Test → Type 0
+AreAllTexts binary tests = HasTexts binary × All IsWellTest tests
 
 -- every test is in the group that has this name
 abbrev pub matches_named : List ℕ → Lookup
@@ -57,3 +81,13 @@ pub record IsKnownBinary (binary : Binary) (known : KnownBinary) : Type 0 where
 pub record IsKnownTest (test : Test) (known : KnownTest) : Type 0 where
   pub name : known.name ≡ test.name.now
   pub group : known.group.name.now ≡ test.group.now
+
+-- the same with all texts of the question
+pub record IsAskedTest (binary : Binary) (test : Test) (asked : AskedTest) : Type 0 where
+  pub package_id : asked.package_id.now ≡ binary.package_id.now
+  pub binary_id : asked.binary_id.now ≡ binary.binary_id.now
+  pub binary_name : asked.binary_name.now ≡ binary.name.now
+  pub kind : asked.kind.now ≡ binary.kind.now
+  pub platform : HasPlatform binary.platform asked.platform
+  pub name : asked.name.now ≡ test.name.now
+  pub group : asked.group.now ≡ test.group.now

@@ -1,12 +1,18 @@
 -- What makes a workspace, and what changes one.
-use Rattle.std.specs.Prelude.{◌≡◌, ℕ, List, Option, Some}
+use Rattle.std.specs.Prelude.{◌≡◌, ◌⊎◌, ℕ, List, Option, None, Some}
 use Rattle.serde_json.specs.Data.{Data}
 use Rattle.serde_json.specs.Read.{read}
 use Rattle.filterset_expression.specs.Expression.{CompiledLeaf, formula}
 use Rattle.filterset_expression.specs.Expression as leaves
 use Rattle.filterset_expression.specs.Formula as formulas
+use Rattle.filterset_graph.specs.Refusals.{IsRefusalOf}
+use Rattle.filterset_graph.specs.declared.refusal.GraphRefusal.{GraphRefusal}
+use Rattle.filterset_graph.specs.declared.refusal.GraphRefusal.TheVariants as graph
+use Rattle.filterset_graph.specs.declared.package.PackageMetadata.{PackageMetadata}
 use Rattle.filterset_report.specs.Record.{RecordRow, IsRecord}
-use Rattle.filterset_sources.specs.Metadata.{IsMetadata}
+use Rattle.filterset_sources.specs.Metadata.{IsMetadata, RefusesMetadata}
+use Rattle.filterset_sources.specs.declared.refusal.SourceRefusal.{SourceRefusal}
+use Rattle.filterset_sources.specs.declared.refusal.SourceRefusal.TheVariants.{OutOfMemory}
 use Rattle.nextest_filtering.specs.Groups.{AreGroups, IsGlobalOnly}
 use Rattle.filterset_c.specs.Parsing.{IsDefaultFilter}
 use Rattle.filterset_c.specs.declared.object.Object.{Object}
@@ -30,6 +36,23 @@ pub record IsOfMetadata (text : List ℕ) (workspace : Workspace) : Type 0 where
   pub default : HasNoFilter workspace
   pub depth : workspace.depth ≡ usual_depth
 
+-- the refusal is about the file, and not about memory
+abbrev pub IsFault : SourceRefusal → Type 0
+IsFault (OutOfMemory error) = ⊥
+IsFault _ = Unit {0}
+
+abbrev pub IsGraphFault : GraphRefusal → Type 0
+IsGraphFault (graph.OutOfMemory error) = ⊥
+IsGraphFault _ = Unit {0}
+
+-- a value of what `cargo metadata` writes is wrong, or an id names no package
+abbrev pub IsNoGraph : Data → Type 0
+IsNoGraph value = (refusal : SourceRefusal) × IsFault refusal × RefusesMetadata value refusal
+
+-- the text is no JSON, or its value is not what `cargo metadata` writes
+abbrev pub IsNoMetadata : List ℕ → Type 0
+IsNoMetadata text = (read text ≡ None) ⊎ ((value : Data) × (read text ≡ Some value) × IsNoGraph value)
+
 -- the workspace has the packages and the groups of a record, and the default filter all()
 pub record IsOfRecord (text : List ℕ) (workspace : Workspace) : Type 0 where
   pub value : Data
@@ -40,6 +63,16 @@ pub record IsOfRecord (text : List ℕ) (workspace : Workspace) : Type 0 where
   pub groups : AreGroups row.groups workspace.known_groups
   pub default : HasNoFilter workspace
   pub depth : workspace.depth ≡ usual_depth
+
+-- an id of the packages is repeated, or a link names none of them
+abbrev pub IsNoGraphOf : List PackageMetadata → Type 0
+IsNoGraphOf packages = (refusal : GraphRefusal) × IsGraphFault refusal × IsRefusalOf packages refusal
+
+-- the text is no JSON, or its value is no record, or its packages make no graph
+abbrev pub IsNoRecord : List ℕ → Type 0
+IsNoRecord text = (read text ≡ None) ⊎ ((value : Data) × (read text ≡ Some value)
+    × ((¬ ((row : RecordRow) × IsRecord value row))
+    ⊎ ((row : RecordRow) × IsRecord value row × IsNoGraphOf row.packages)))
 
 -- the handle holds a workspace, of which P holds
 abbrev pub HoldsWorkspace : (Workspace → Type 0) → Option Object → Type 0

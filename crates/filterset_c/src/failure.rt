@@ -17,6 +17,8 @@ pub enum Failure {
     Rejected,
     /// A number has no meaning, or two lists differ in length.
     InvalidArgument,
+    /// `regex` finds a pattern too large that it compiled before.
+    TooLarge,
 }
 
 impl Failure {
@@ -30,6 +32,7 @@ impl Failure {
             Failure::NotUtf8 => 3,
             Failure::Rejected => 4,
             Failure::InvalidArgument => 5,
+            Failure::TooLarge => 6,
         }
     }
 }

@@ -1,6 +1,7 @@
 //! The faults of rejected texts.
-ghost use Rattle.std.specs.Prelude.{◌≡◌, IfOk, Some, slice_get, string_bytes};
+ghost use Rattle.std.specs.Prelude.{◌≡◌, ◌<◌, ◌≤◌, Err, IfErr, IfOk, Some, length, slice_get, string_bytes};
 ghost use Rattle.filterset_c.specs.Faulty.{count_of, deep_text, fault_count, fault_text, written, IsSpanAt, IsSpanOf, IsSpanOfFault, IsTextAt, IsTextOf, IsTextOfFault};
+ghost use Rattle.filterset_c.specs.declared.failure.Failure.TheVariants.{InvalidArgument, OutOfMemory};
 
 use crate::failure::Failure;
 use crate::object::{Object, Refusal};
@@ -37,7 +38,9 @@ fn count_of(refusal: &Refusal) -> usize
 
 /// Returns the fault at a position.
 fn fault_at(faults: &[ParseSingleError], index: usize) -> Result<&ParseSingleError, Failure>
-    ensures { IfOk result (λ fault. slice_get faults.now index ≡ Some fault.now) }
+    ensures fault { IfOk result (λ fault. slice_get faults.now index ≡ Some fault.now) }
+    ensures well { index < length faults.now → IfErr result (λ failure. ⊥) }
+    ensures no_fault { length faults.now ≤ index → result ≡ Err InvalidArgument }
 {
     match faults.get(index) {
         Some(fault) => Ok(fault),
@@ -47,7 +50,9 @@ fn fault_at(faults: &[ParseSingleError], index: usize) -> Result<&ParseSingleErr
 
 /// Returns where the fault at a position is.
 pub fn span_at(object: &Object, index: usize) -> Result<Span, Failure>
-    ensures { IfOk result (IsSpanAt (Some object.now) index) }
+    ensures span { IfOk result (IsSpanAt (Some object.now) index) }
+    ensures well { index < fault_count (Some object.now) → IfErr result (λ failure. ⊥) }
+    ensures no_fault { fault_count (Some object.now) ≤ index → result ≡ Err InvalidArgument }
 {
     match object {
         Object::Refused(refusal) => span_of(refusal, index),
@@ -57,7 +62,9 @@ pub fn span_at(object: &Object, index: usize) -> Result<Span, Failure>
 
 /// Returns where the fault of a rejected text at a position is.
 fn span_of(refusal: &Refusal, index: usize) -> Result<Span, Failure>
-    ensures { IfOk result (IsSpanOf refusal.now index) }
+    ensures span { IfOk result (IsSpanOf refusal.now index) }
+    ensures well { index < count_of refusal.now → IfErr result (λ failure. ⊥) }
+    ensures no_fault { count_of refusal.now ≤ index → result ≡ Err InvalidArgument }
 {
     match refusal {
         Refusal::Faults(refused) => span_of_fault(&refused.errors, index),
@@ -68,7 +75,9 @@ fn span_of(refusal: &Refusal, index: usize) -> Result<Span, Failure>
 
 /// Returns where the fault at a position is, of a text that was parsed.
 fn span_of_fault(faults: &[ParseSingleError], index: usize) -> Result<Span, Failure>
-    ensures { IfOk result (IsSpanOfFault faults.now index) }
+    ensures span { IfOk result (IsSpanOfFault faults.now index) }
+    ensures well { index < length faults.now → IfErr result (λ failure. ⊥) }
+    ensures no_fault { length faults.now ≤ index → result ≡ Err InvalidArgument }
 {
     let fault = fault_at(faults, index)?;
     match fault.span() {
@@ -86,7 +95,10 @@ fn span_of_fault(faults: &[ParseSingleError], index: usize) -> Result<Span, Fail
 /// Returns a text of the fault at a position: its code (0), its label (1) or its help (2). The text is empty if the fault
 /// has none.
 pub fn text_at(alloc: Global, object: &Object, index: usize, part: u8) -> Result<String, Failure>
-    ensures { IfOk result (λ text. IsTextAt (Some object.now) index part (string_bytes text)) }
+    ensures text { IfOk result (λ text. IsTextAt (Some object.now) index part (string_bytes text)) }
+    ensures well { index < fault_count (Some object.now) → part < 3 → IfErr result (λ failure. failure ≡ OutOfMemory) }
+    ensures no_fault { fault_count (Some object.now) ≤ index → result ≡ Err InvalidArgument }
+    ensures no_part { 3 ≤ part → result ≡ Err InvalidArgument }
 {
     match object {
         Object::Refused(refusal) => text_of(alloc, refusal, index, part),
@@ -96,7 +108,10 @@ pub fn text_at(alloc: Global, object: &Object, index: usize, part: u8) -> Result
 
 /// Returns a text of the fault of a rejected text at a position.
 fn text_of(alloc: Global, refusal: &Refusal, index: usize, part: u8) -> Result<String, Failure>
-    ensures { IfOk result (λ text. IsTextOf refusal.now index part (string_bytes text)) }
+    ensures text { IfOk result (λ text. IsTextOf refusal.now index part (string_bytes text)) }
+    ensures well { index < count_of refusal.now → part < 3 → IfErr result (λ failure. failure ≡ OutOfMemory) }
+    ensures no_fault { count_of refusal.now ≤ index → result ≡ Err InvalidArgument }
+    ensures no_part { 3 ≤ part → result ≡ Err InvalidArgument }
 {
     match refusal {
         Refusal::Faults(refused) => text_of_fault(alloc, &refused.errors, index, part),
@@ -112,7 +127,10 @@ fn text_of_fault(
     index: usize,
     part: u8,
 ) -> Result<String, Failure>
-    ensures { IfOk result (λ text. IsTextOfFault faults.now index part (string_bytes text)) }
+    ensures text { IfOk result (λ text. IsTextOfFault faults.now index part (string_bytes text)) }
+    ensures well { index < length faults.now → part < 3 → IfErr result (λ failure. failure ≡ OutOfMemory) }
+    ensures no_fault { length faults.now ≤ index → result ≡ Err InvalidArgument }
+    ensures no_part { 3 ≤ part → result ≡ Err InvalidArgument }
 {
     let fault = fault_at(faults, index)?;
     match part {
@@ -131,7 +149,9 @@ fn text_of_fault(
 
 /// Returns a text of the fault that a text nests too deeply.
 fn deep_text(alloc: Global, part: u8) -> Result<String, Failure>
-    ensures { IfOk result (λ text. deep_text part ≡ Some (string_bytes text)) }
+    ensures text { IfOk result (λ text. deep_text part ≡ Some (string_bytes text)) }
+    ensures well { part < 3 → IfErr result (λ failure. failure ≡ OutOfMemory) }
+    ensures no_part { 3 ≤ part → result ≡ Err InvalidArgument }
 {
     match part {
         0 => Ok(String::from_str(alloc, "NestedTooDeeply")?),

@@ -5,19 +5,21 @@
 //! status: 0 if it did not fail.
 #![tactic(auto)]
 
-ghost use Rattle.std.specs.Prelude.{◌≡◌, ◌≢◌, ◌<◌, Err, MatchOption, Some, None, IfErr, IfOk, map, string_bytes};
+ghost use Rattle.std.specs.Prelude.{◌≡◌, ◌≢◌, ◌<◌, ◌≤◌, All, Err, MatchOption, Some, None, IfErr, IfOk, IsSome, length, map, string_bytes};
 ghost use Rattle.std.specs.List.{AllZip};
 ghost use Rattle.std.specs.Str.{IsUtf8};
 ghost use Rattle.filterset_expression.specs.Expression.{has_leaf, is_group};
 ghost use Rattle.filterset_c.specs.Answers.{yes_or_no, HoldsFilterset, IsBinaryNumber, IsFilterset, IsNoFilterset, IsPrint, IsTestNumber};
+ghost use Rattle.filterset_c.specs.Copies.{HasLarge, IsCopied, IsCopy, IsFiltersetStored};
 ghost use Rattle.filterset_c.specs.Faulty.{IsSpanAt, IsTextAt, fault_count};
 ghost use Rattle.filterset_c.specs.Parsing.{object_status, IsOutcome, IsStored, IsWorkspaceStored, ParsesIn};
-ghost use Rattle.filterset_c.specs.Workspaces.{Changes, HasDepth, HasFilter, HasGroups, HoldsWorkspace, IsNoWorkspace, IsOfMetadata, IsOfRecord, IsWorkspace};
+ghost use Rattle.filterset_c.specs.Workspaces.{Changes, HasDepth, HasFilter, HasGroups, HoldsWorkspace, IsNoMetadata, IsNoRecord, IsNoWorkspace, IsOfMetadata, IsOfRecord, IsWorkspace};
 ghost use Rattle.filterset_c.specs.declared.failure.Failure.TheVariants.{OutOfMemory, WrongHandle};
-ghost use Rattle.filterset_c.specs.Queries.{IsWellBinary, IsWellTest};
+ghost use Rattle.filterset_c.specs.Queries.{AreAllTexts, AreTexts, HasTexts, IsText, IsWellBinary, IsWellTest};
 ghost use Rattle.filterset_c.specs.Statuses.{IsDone, IsJudged};
 ghost use Rattle.filterset_c.specs.Written.{AreWritten, IsTextWritten, IsWritten, IsWrittenText};
 
+mod copying;
 mod failure;
 mod faults;
 mod handle;
@@ -28,11 +30,12 @@ mod queries;
 mod raw_box;
 mod workspaces;
 
+use copying::copy_of;
 use failure::{Failure, status_of};
 use faults::{Span, copy_text, fault_count, span_at, text_at};
 use handle::Handle;
 use matching::{number_of_binary, test_number, test_numbers, yes_or_no};
-use object::{Object, Workspace};
+use object::{BoundFilterset, Object, Workspace};
 use parsing::parse_in;
 use queries::{Binary, Test, Text};
 use std::alloc::Global;
@@ -106,6 +109,9 @@ pub extern "C" fn filterset_workspace_from_cargo_metadata(
 ) -> u8
     ensures made { result ≡ 0 → HoldsWorkspace (IsOfMetadata metadata.now) workspace.new.held }
     ensures failed { result ≢ 0 → workspace.new.held ≡ workspace.old.held }
+    ensures rejected { result ≡ 4 → IsNoMetadata metadata.now }
+    ensures well { IsUtf8 metadata.now → IsJudged result }
+    ensures not_utf8 { (IsUtf8 metadata.now → ⊥) → result ≡ 3 }
 {
     let made = workspace_of_metadata(alloc, metadata);
     store_workspace(alloc, workspace, made)
@@ -120,6 +126,9 @@ pub extern "C" fn filterset_workspace_from_record(
 ) -> u8
     ensures made { result ≡ 0 → HoldsWorkspace (IsOfRecord json.now) workspace.new.held }
     ensures failed { result ≢ 0 → workspace.new.held ≡ workspace.old.held }
+    ensures rejected { result ≡ 4 → IsNoRecord json.now }
+    ensures well { IsUtf8 json.now → IsJudged result }
+    ensures not_utf8 { (IsUtf8 json.now → ⊥) → result ≡ 3 }
 {
     let made = workspace_of_record(alloc, json);
     store_workspace(alloc, workspace, made)
@@ -145,7 +154,9 @@ pub extern "C" fn filterset_workspace_set_groups(
     ensures set { result ≡ 0 →
         Changes (HasGroups (map (λ t. t.bytes.now) names.now)) workspace.old.held workspace.new.held }
     ensures failed { result ≢ 0 → workspace.new.held ≡ workspace.old.held }
+    ensures well { IsWorkspace workspace.old.held → All IsText names.now → IsDone result }
     ensures wrong { IsNoWorkspace workspace.old.held → result ≡ 2 }
+    ensures not_utf8 { IsWorkspace workspace.old.held → (All IsText names.now → ⊥) → result ≡ 3 }
 {
     let Some(mut object) = take(alloc, workspace) else {
         return Failure::WrongHandle.code();
@@ -189,7 +200,9 @@ pub extern "C" fn filterset_workspace_set_default_filter(
     ensures failed { result ≢ 0 → workspace.new.held ≡ workspace.old.held }
     ensures rejected { result ≢ 0 →
         IsOutcome (ParsesIn workspace.old.held text.now 3) faults.old.held result faults.new.held }
+    ensures well { IsWorkspace workspace.old.held → IsUtf8 text.now → IsJudged result }
     ensures wrong { IsNoWorkspace workspace.old.held → result ≡ 2 }
+    ensures not_utf8 { IsWorkspace workspace.old.held → (IsUtf8 text.now → ⊥) → result ≡ 3 }
 {
     let Some(mut object) = take(alloc, workspace) else {
         return Failure::WrongHandle.code();
@@ -225,6 +238,8 @@ pub extern "C" fn filterset_parse(
     ensures parsed { IsOutcome (ParsesIn workspace.old.held text.now kind) parsed.old.held result parsed.new.held }
     ensures well { IsWorkspace workspace.old.held → IsUtf8 text.now → kind < 4 → IsJudged result }
     ensures wrong { IsNoWorkspace workspace.old.held → result ≡ 2 }
+    ensures no_kind { IsWorkspace workspace.old.held → 4 ≤ kind → result ≡ 5 }
+    ensures not_utf8 { IsWorkspace workspace.old.held → kind < 4 → (IsUtf8 text.now → ⊥) → result ≡ 3 }
 {
     let Some(object) = take(alloc, workspace) else {
         return Failure::WrongHandle.code();
@@ -232,6 +247,39 @@ pub extern "C" fn filterset_parse(
     let made = parse_in(alloc, &object, text, kind);
     give(alloc, workspace, object);
     store(alloc, parsed, made)
+}
+
+/// Copies a filterset, and stores the copy in `copy`. The two share nothing.
+#[unsafe(no_mangle)]
+pub extern "C" fn filterset_try_clone(
+    alloc: Global,
+    filterset: &mut Handle,
+    copy: &mut Handle,
+) -> u8
+    ensures kept { filterset.new.held ≡ filterset.old.held }
+    ensures copied { result ≡ 0 →
+        HoldsFilterset (λ bound. HoldsFilterset (IsCopy bound) copy.new.held) filterset.old.held }
+    ensures failed { result ≢ 0 → copy.new.held ≡ copy.old.held }
+    ensures well { IsFilterset filterset.old.held → IsCopied result }
+    ensures too_large { result ≡ 6 → HoldsFilterset HasLarge filterset.old.held }
+    ensures wrong { IsNoFilterset filterset.old.held → result ≡ 2 }
+{
+    let Some(object) = take(alloc, filterset) else {
+        return Failure::WrongHandle.code();
+    };
+    let made = copy_of(alloc, &object);
+    give(alloc, filterset, object);
+    store_filterset(alloc, copy, made)
+}
+
+/// Stores a filterset in a handle, as `store` does.
+fn store_filterset(alloc: Global, handle: &mut Handle, made: Result<BoundFilterset, Failure>) -> u8
+    ensures { IsFiltersetStored handle.old.held made result handle.new.held }
+{
+    match made {
+        Ok(bound) => store(alloc, handle, Ok(Object::Filterset(bound))),
+        Err(failure) => store(alloc, handle, Err(failure)),
+    }
 }
 
 /// Writes 0 or 1, or 2 for unknown: whether the filterset matches the tests of a binary, if the binary decides that.
@@ -248,6 +296,9 @@ pub extern "C" fn filterset_matches_binary(
     ensures failed { result ≢ 0 → answer.new ≡ answer.old }
     ensures well { IsFilterset filterset.old.held → IsWellBinary binary.now → IsDone result }
     ensures wrong { IsNoFilterset filterset.old.held → result ≡ 2 }
+    ensures no_platform { IsFilterset filterset.old.held → 2 ≤ binary.now.platform → result ≡ 5 }
+    ensures not_utf8 { IsFilterset filterset.old.held → binary.now.platform < 2
+        → (HasTexts binary.now → ⊥) → result ≡ 3 }
 {
     let Some(object) = take(alloc, filterset) else {
         return Failure::WrongHandle.code();
@@ -285,6 +336,9 @@ pub extern "C" fn filterset_matches_test(
     ensures failed { result ≢ 0 → answer.new ≡ answer.old }
     ensures well { IsFilterset filterset.old.held → IsWellBinary binary.now → IsWellTest test.now → IsDone result }
     ensures wrong { IsNoFilterset filterset.old.held → result ≡ 2 }
+    ensures no_platform { IsFilterset filterset.old.held → 2 ≤ binary.now.platform → result ≡ 5 }
+    ensures not_utf8 { IsFilterset filterset.old.held → binary.now.platform < 2
+        → (AreTexts binary.now test.now → ⊥) → result ≡ 3 }
 {
     let Some(object) = take(alloc, filterset) else {
         return Failure::WrongHandle.code();
@@ -295,6 +349,7 @@ pub extern "C" fn filterset_matches_test(
 }
 
 /// Writes 0 or 1 for each test of a binary: whether the filterset matches it. There must be an answer for each test.
+#[tactic(auto, using(crate::proofs::Statuses::numbers_done, crate::proofs::Statuses::numbers_failed))]
 #[unsafe(no_mangle)]
 pub extern "C" fn filterset_matches_tests(
     alloc: Global,
@@ -307,12 +362,18 @@ pub extern "C" fn filterset_matches_tests(
     ensures answered { result ≡ 0 →
         HoldsFilterset (λ bound. AllZip (IsTestNumber bound binary.now) tests.now answers.new) filterset.old.held }
     ensures failed { result ≢ 0 → answers.new ≡ answers.old }
+    ensures well { IsFilterset filterset.old.held → IsWellBinary binary.now → All IsWellTest tests.now
+        → length tests.now ≡ length answers.old → IsDone result }
     ensures wrong { IsNoFilterset filterset.old.held → result ≡ 2 }
+    ensures other_count { IsFilterset filterset.old.held → length tests.now ≢ length answers.old → result ≡ 5 }
+    ensures no_platform { IsFilterset filterset.old.held → 2 ≤ binary.now.platform → result ≡ 5 }
+    ensures not_utf8 { IsFilterset filterset.old.held → binary.now.platform < 2
+        → length tests.now ≡ length answers.old → (AreAllTexts binary.now tests.now → ⊥) → result ≡ 3 }
 {
     let Some(object) = take(alloc, filterset) else {
         return Failure::WrongHandle.code();
     };
-    let numbers = test_numbers(alloc, &object, binary, tests);
+    let numbers = test_numbers(alloc, &object, binary, tests, answers.len());
     give(alloc, filterset, object);
     write_numbers(numbers, answers)
 }
@@ -443,7 +504,9 @@ pub extern "C" fn filterset_fault_span(
     ensures kept { faults.new.held ≡ faults.old.held }
     ensures written { result ≡ 0 → IsSpanAt faults.old.held index span.new }
     ensures failed { result ≢ 0 → span.new ≡ span.old }
+    ensures well { index < fault_count faults.old.held → result ≡ 0 }
     ensures wrong { faults.old.held ≡ None → result ≡ 2 }
+    ensures no_fault { IsSome faults.old.held → fault_count faults.old.held ≤ index → result ≡ 5 }
 {
     let Some(object) = take(alloc, faults) else {
         return Failure::WrongHandle.code();
@@ -473,7 +536,10 @@ pub extern "C" fn filterset_fault_text(
     ensures kept { faults.new.held ≡ faults.old.held }
     ensures written { result ≡ 0 → IsWrittenText (IsTextAt faults.old.held index part) room.old room.new text_length.new }
     ensures failed { result ≢ 0 → (room.new ≡ room.old) × (text_length.new ≡ text_length.old) }
+    ensures well { index < fault_count faults.old.held → part < 3 → IsDone result }
     ensures wrong { faults.old.held ≡ None → result ≡ 2 }
+    ensures no_fault { IsSome faults.old.held → fault_count faults.old.held ≤ index → result ≡ 5 }
+    ensures no_part { IsSome faults.old.held → 3 ≤ part → result ≡ 5 }
 {
     let Some(object) = take(alloc, faults) else {
         return Failure::WrongHandle.code();

@@ -1,5 +1,5 @@
 //! Evaluates filtersets for tests and binaries.
-ghost use Rattle.std.specs.Prelude.{◌≡◌, ◌↔◌, Err, IfErr, IfOk, IsTrue, List, MatchResult, Some};
+ghost use Rattle.std.specs.Prelude.{◌≡◌, ◌≢◌, ◌≤◌, ◌<◌, ◌↔◌, All, Err, IfErr, IfOk, IsTrue, List, Some, length};
 ghost use Rattle.std.specs.List.{AllZip};
 ghost use Rattle.filterset_expression.specs.FlatExpressions.{IsFlatOfTree, IsTold};
 ghost use Rattle.filterset_expression.specs.Meaning.{IsCompiled, Meaning};
@@ -9,12 +9,14 @@ ghost use Rattle.filterset_grammar.specs.Tree.{Tree};
 ghost use Rattle.filterset_graph.specs.declared.package.PackageMetadata.{PackageMetadata};
 ghost use Rattle.filterset_language.specs.Views.{tree_of};
 ghost use Rattle.filterset_c.specs.Answers.{binary_number, yes_or_no, HoldsFilterset, IsBinaryAnswer, IsBinaryNumber, IsFilterset, IsFlatNumber, IsNoFilterset, IsTestAnswer, IsTestNumber};
-ghost use Rattle.filterset_c.specs.Queries.{matches_named, IsWellBinary, IsWellTest};
-ghost use Rattle.filterset_c.specs.declared.failure.Failure.TheVariants.{OutOfMemory, WrongHandle};
+ghost use Rattle.filterset_c.specs.Queries.{matches_named, AreAllTexts, AreTexts, HasTexts, IsQuestionFailure, IsWellBinary, IsWellTest};
+ghost use Rattle.filterset_c.specs.Statuses.{IsTextFailure};
+ghost use Rattle.filterset_c.specs.declared.failure.Failure.TheVariants.{InvalidArgument, NotUtf8, OutOfMemory, WrongHandle};
 
 use crate::failure::Failure;
 use crate::object::{BoundFilterset, Object};
-use crate::queries::{Binary, KnownBinary, KnownTest, NamedGroup, Test};
+use crate::queries::{Binary, KnownBinary, KnownTest, NamedGroup, Test, are_texts, asked_test};
+use filterset_asking::{Unanswered, matches_asked};
 use nextest_filtering::{BinaryQuery, FlatExpr, TestQuery};
 use std::alloc::{AllocError, Global};
 
@@ -51,15 +53,41 @@ fn matches_named(
         .matches_test_with_groups(alloc, query, &bound.eval_context(), group)
 }
 
-/// Returns whether the filterset matches a test.
+/// Returns whether the filterset matches a test. The texts are used where they are, unless the expression has so many levels
+/// that its steps are laid out.
 pub fn match_test(
     alloc: Global,
     bound: &BoundFilterset,
     binary: &Binary<'_>,
     test: &Test<'_>,
 ) -> Result<bool, Failure>
-    ensures { MatchResult result (IsTestAnswer bound.now binary.now test.now)
-        (λ failure. IsWellBinary binary.now → IsWellTest test.now → failure ≡ OutOfMemory) }
+    ensures answer { IfOk result (IsTestAnswer bound.now binary.now test.now) }
+    ensures number { 2 ≤ binary.now.platform → result ≡ Err InvalidArgument }
+    ensures not_utf8 { binary.now.platform < 2 → (AreTexts binary.now test.now → ⊥) → result ≡ Err NotUtf8 }
+    ensures well { IsWellBinary binary.now → IsWellTest test.now → IfErr result (λ failure. failure ≡ OutOfMemory) }
+{
+    let asked = asked_test(binary, test)?;
+    let compiled = &bound.filterset.compiled;
+    match matches_asked(alloc, compiled, &bound.default_filter, &asked) {
+        Ok(answer) => Ok(answer),
+        Err(Unanswered::OutOfMemory(_)) => Err(Failure::OutOfMemory),
+        Err(Unanswered::TooDeep) => match_by_steps(alloc, bound, binary, test),
+    }
+}
+
+/// Returns whether the filterset matches a test whose texts are UTF-8.
+#[cold]
+#[inline(never)]
+fn match_by_steps(
+    alloc: Global,
+    bound: &BoundFilterset,
+    binary: &Binary<'_>,
+    test: &Test<'_>,
+) -> Result<bool, Failure>
+    requires binary { IsWellBinary binary.now }
+    requires test { IsWellTest test.now }
+    ensures answer { IfOk result (IsTestAnswer bound.now binary.now test.now) }
+    ensures failed { IfErr result (λ failure. failure ≡ OutOfMemory) }
 {
     let known = KnownBinary::read(alloc, binary)?;
     let known_test = KnownTest::read(alloc, test)?;
@@ -74,8 +102,10 @@ pub fn match_binary(
     bound: &BoundFilterset,
     binary: &Binary<'_>,
 ) -> Result<Option<bool>, Failure>
-    ensures { MatchResult result (IsBinaryAnswer bound.now binary.now)
-        (λ failure. IsWellBinary binary.now → failure ≡ OutOfMemory) }
+    ensures answer { IfOk result (IsBinaryAnswer bound.now binary.now) }
+    ensures number { 2 ≤ binary.now.platform → result ≡ Err InvalidArgument }
+    ensures not_utf8 { binary.now.platform < 2 → (HasTexts binary.now → ⊥) → result ≡ Err NotUtf8 }
+    ensures well { IsWellBinary binary.now → IfErr result (λ failure. failure ≡ OutOfMemory) }
 {
     let known = KnownBinary::read(alloc, binary)?;
     let answer = bound
@@ -110,8 +140,9 @@ fn flat_number(
     test: &Test<'_>,
 ) -> Result<u8, Failure>
     requires { IsTold flat.now binary_query.now told }
-    ensures { MatchResult result (IsFlatNumber flat.now binary_query.now test.now)
-        (λ failure. IsWellTest test.now → failure ≡ OutOfMemory) }
+    ensures number { IfOk result (IsFlatNumber flat.now binary_query.now test.now) }
+    ensures failed { IfErr result IsTextFailure }
+    ensures well { IsWellTest test.now → IfErr result (λ failure. failure ≡ OutOfMemory) }
 {
     let known_test = KnownTest::read(alloc, test)?;
     let query = known_test.query(*binary_query);
@@ -126,7 +157,9 @@ fn flat_numbers(
     binary_query: &BinaryQuery<'_>,
     tests: &[Test<'_>],
 ) -> Result<Vec<u8>, Failure>
-    ensures { IfOk result (λ numbers. AllZip (IsFlatNumber flat.now binary_query.now) tests.now numbers.items) }
+    ensures numbers { IfOk result (λ numbers. AllZip (IsFlatNumber flat.now binary_query.now) tests.now numbers.items) }
+    ensures failed { IfErr result IsTextFailure }
+    ensures well { All IsWellTest tests.now → IfErr result (λ failure. failure ≡ OutOfMemory) }
 {
     let told = flat.matches_binary(alloc, binary_query)?;
     let mut numbers = Vec::with_capacity(alloc, tests.len())?;
@@ -137,19 +170,56 @@ fn flat_numbers(
 }
 
 /// Returns the numbers of the answers for all tests of a binary. The steps of the filterset are laid out once, and a binary
-/// that decides the filterset answers for its tests.
+/// that decides the filterset answers for its tests. Stops at the first text that is not UTF-8.
+fn numbers_of(
+    alloc: Global,
+    bound: &BoundFilterset,
+    binary: &Binary<'_>,
+    tests: &[Test<'_>],
+) -> Result<Vec<u8>, Failure>
+    ensures numbers { IfOk result (λ numbers. AllZip (IsTestNumber bound.now binary.now) tests.now numbers.items) }
+    ensures texts { IfOk result (λ _. AreAllTexts binary.now tests.now) }
+    ensures number { 2 ≤ binary.now.platform → result ≡ Err InvalidArgument }
+    ensures failed { binary.now.platform < 2 → IfErr result (IsQuestionFailure binary.now) }
+    ensures well { IsWellBinary binary.now → All IsWellTest tests.now → IfErr result (λ failure. failure ≡ OutOfMemory) }
+{
+    let known = KnownBinary::read(alloc, binary)?;
+    let flat = FlatExpr::new(alloc, &bound.filterset.compiled, &bound.eval_context())?;
+    let numbers = flat_numbers(alloc, &flat, &known.query(), tests)?;
+    Ok(numbers)
+}
+
+/// Returns the numbers of the answers for all tests of a binary. Reports a text that is not UTF-8 also if memory runs out
+/// before it is reached.
+#[tactic(auto, using(crate::proofs::Numbers::told_first))]
 pub fn match_tests(
     alloc: Global,
     bound: &BoundFilterset,
     binary: &Binary<'_>,
     tests: &[Test<'_>],
 ) -> Result<Vec<u8>, Failure>
-    ensures { IfOk result (λ numbers. AllZip (IsTestNumber bound.now binary.now) tests.now numbers.items) }
+    ensures numbers { IfOk result (λ numbers. AllZip (IsTestNumber bound.now binary.now) tests.now numbers.items) }
+    ensures number { 2 ≤ binary.now.platform → result ≡ Err InvalidArgument }
+    ensures not_utf8 { binary.now.platform < 2 → (AreAllTexts binary.now tests.now → ⊥) → result ≡ Err NotUtf8 }
+    ensures well { IsWellBinary binary.now → All IsWellTest tests.now → IfErr result (λ failure. failure ≡ OutOfMemory) }
 {
-    let known = KnownBinary::read(alloc, binary)?;
-    let flat = FlatExpr::new(alloc, &bound.filterset.compiled, &bound.eval_context())?;
-    let numbers = flat_numbers(alloc, &flat, &known.query(), tests)?;
-    Ok(numbers)
+    match numbers_of(alloc, bound, binary, tests) {
+        Ok(numbers) => Ok(numbers),
+        Err(failure) => Err(first_failure(failure, tests)),
+    }
+}
+
+/// Returns the failure to report: out of memory only if the texts of all tests are UTF-8.
+fn first_failure(failure: Failure, tests: &[Test<'_>]) -> Failure
+    ensures memory { failure ≡ OutOfMemory → All IsWellTest tests.now → result ≡ OutOfMemory }
+    ensures not_utf8 { failure ≡ OutOfMemory → (All IsWellTest tests.now → ⊥) → result ≡ NotUtf8 }
+    ensures text { failure ≡ NotUtf8 → result ≡ NotUtf8 }
+    ensures number { failure ≡ InvalidArgument → result ≡ InvalidArgument }
+{
+    match failure {
+        Failure::OutOfMemory if !are_texts(tests) => Failure::NotUtf8,
+        _ => failure,
+    }
 }
 
 /// Returns the number of the answer for a test.
@@ -164,6 +234,9 @@ pub fn test_number(
     ensures well { IsFilterset (Some object.now) → IsWellBinary binary.now → IsWellTest test.now
         → IfErr result (λ failure. failure ≡ OutOfMemory) }
     ensures wrong { IsNoFilterset (Some object.now) → result ≡ Err WrongHandle }
+    ensures no_platform { IsFilterset (Some object.now) → 2 ≤ binary.now.platform → result ≡ Err InvalidArgument }
+    ensures not_utf8 { IsFilterset (Some object.now) → binary.now.platform < 2
+        → (AreTexts binary.now test.now → ⊥) → result ≡ Err NotUtf8 }
 {
     match object {
         Object::Filterset(bound) => {
@@ -181,6 +254,9 @@ pub fn number_of_binary(alloc: Global, object: &Object, binary: &Binary<'_>) -> 
     ensures well { IsFilterset (Some object.now) → IsWellBinary binary.now
         → IfErr result (λ failure. failure ≡ OutOfMemory) }
     ensures wrong { IsNoFilterset (Some object.now) → result ≡ Err WrongHandle }
+    ensures no_platform { IsFilterset (Some object.now) → 2 ≤ binary.now.platform → result ≡ Err InvalidArgument }
+    ensures not_utf8 { IsFilterset (Some object.now) → binary.now.platform < 2
+        → (HasTexts binary.now → ⊥) → result ≡ Err NotUtf8 }
 {
     match object {
         Object::Filterset(bound) => {
@@ -191,19 +267,33 @@ pub fn number_of_binary(alloc: Global, object: &Object, binary: &Binary<'_>) -> 
     }
 }
 
-/// Returns the numbers of the answers for all tests of a binary.
+/// Returns the numbers of the answers for all tests of a binary, of which there must be so many.
 pub fn test_numbers(
     alloc: Global,
     object: &Object,
     binary: &Binary<'_>,
     tests: &[Test<'_>],
+    count: usize,
 ) -> Result<Vec<u8>, Failure>
     ensures numbers { IfOk result (λ numbers.
         HoldsFilterset (λ bound. AllZip (IsTestNumber bound binary.now) tests.now numbers.items) (Some object.now)) }
+    ensures count { IfOk result (λ numbers. length numbers.items ≡ count) }
+    ensures well { IsFilterset (Some object.now) → IsWellBinary binary.now → All IsWellTest tests.now
+        → length tests.now ≡ count → IfErr result (λ failure. failure ≡ OutOfMemory) }
     ensures wrong { IsNoFilterset (Some object.now) → result ≡ Err WrongHandle }
+    ensures other_count { IsFilterset (Some object.now) → length tests.now ≢ count → result ≡ Err InvalidArgument }
+    ensures no_platform { IsFilterset (Some object.now) → 2 ≤ binary.now.platform → result ≡ Err InvalidArgument }
+    ensures not_utf8 { IsFilterset (Some object.now) → binary.now.platform < 2 → length tests.now ≡ count
+        → (AreAllTexts binary.now tests.now → ⊥) → result ≡ Err NotUtf8 }
 {
     match object {
-        Object::Filterset(bound) => match_tests(alloc, bound, binary, tests),
+        Object::Filterset(bound) => {
+            if tests.len() != count {
+                return Err(Failure::InvalidArgument);
+            }
+            let numbers = match_tests(alloc, bound, binary, tests)?;
+            Ok(numbers)
+        }
         Object::Workspace(_) | Object::Refused(_) => Err(Failure::WrongHandle),
     }
 }

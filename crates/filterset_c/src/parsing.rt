@@ -23,7 +23,7 @@ use std::alloc::{AllocError, Global};
 fn kind_of(number: u8) -> Result<FiltersetKind, Failure>
     ensures kind { IfOk result (HasKind number) }
     ensures well { IfErr result (λ failure. 4 ≤ number) }
-    ensures failed { IfErr result (λ failure. failure ≢ failures.Rejected) }
+    ensures failed { IfErr result (λ failure. failure ≡ failures.InvalidArgument) }
 {
     match number {
         0 => Ok(FiltersetKind::Test),
@@ -84,6 +84,7 @@ fn parse_within(
     ensures parsed { IfOk result (IsParsed workspace.now bytes.now kind) }
     ensures failed { IfErr result (λ failure. failure ≢ failures.Rejected) }
     ensures well { IsUtf8 bytes.now → IfErr result (λ failure. failure ≡ failures.OutOfMemory) }
+    ensures not_utf8 { (IsUtf8 bytes.now → ⊥) → result ≡ Err failures.NotUtf8 }
 {
     let text = text_of(bytes)?;
     match find_deep_place(alloc, workspace.depth, bytes)? {
@@ -99,6 +100,8 @@ pub fn parse_in(alloc: Global, object: &Object, bytes: &[u8], kind: u8) -> Resul
     ensures well { IsWorkspace (Some object.now) → IsUtf8 bytes.now → kind < 4
         → IfErr result (λ failure. failure ≡ failures.OutOfMemory) }
     ensures wrong { IsNoWorkspace (Some object.now) → result ≡ Err failures.WrongHandle }
+    ensures no_kind { IsWorkspace (Some object.now) → 4 ≤ kind → result ≡ Err failures.InvalidArgument }
+    ensures not_utf8 { IsWorkspace (Some object.now) → kind < 4 → (IsUtf8 bytes.now → ⊥) → result ≡ Err failures.NotUtf8 }
 {
     match object {
         Object::Workspace(workspace) => {
@@ -120,7 +123,7 @@ fn parse_default_text(
     ensures no_default { IfOk result (λ parsed. IfOk parsed (λ filter. has_leaf is_default filter ≡ false)) }
     ensures no_group { IfOk result (λ parsed. IfOk parsed (λ filter. has_leaf is_group filter ≡ false)) }
     ensures refused { IfOk result (λ parsed. IfErr parsed (IsRefused workspace.now text.now kinds.DefaultFilter)) }
-    ensures failed { IfErr result (λ failure. failure ≢ failures.Rejected) }
+    ensures failed { IfErr result (λ failure. failure ≡ failures.OutOfMemory) }
 {
     let input = String::from_str(alloc, text)?;
     let context = ParseContext::new(alloc, &workspace.graph)?;
@@ -143,6 +146,8 @@ pub fn parse_default_filter(
     ensures no_group { IfOk result (λ parsed. IfOk parsed (λ filter. has_leaf is_group filter ≡ false)) }
     ensures refused { IfOk result (λ parsed. IfErr parsed (IsRefused workspace.now bytes.now kinds.DefaultFilter)) }
     ensures failed { IfErr result (λ failure. failure ≢ failures.Rejected) }
+    ensures well { IsUtf8 bytes.now → IfErr result (λ failure. failure ≡ failures.OutOfMemory) }
+    ensures not_utf8 { (IsUtf8 bytes.now → ⊥) → result ≡ Err failures.NotUtf8 }
 {
     let text = text_of(bytes)?;
     match find_deep_place(alloc, workspace.depth, bytes)? {

@@ -1,12 +1,14 @@
 //! What C asks about: test binaries and tests, whose texts are slices of bytes.
-ghost use Rattle.std.specs.Prelude.{◌≡◌, ◌≤◌, MatchResult};
+ghost use Rattle.std.specs.Prelude.{◌≡◌, ◌≤◌, ◌<◌, ◌↔◌, All, Err, IfErr, IfOk, IsTrue, MatchResult};
 ghost use Rattle.std.specs.Str.{IsUtf8};
-ghost use Rattle.filterset_c.specs.Queries.{matches_named, HasPlatform, IsAbout, IsAboutTest, IsKnownBinary, IsWellBinary, IsWellTest};
-ghost use Rattle.filterset_c.specs.declared.failure.Failure.TheVariants.{NotUtf8, OutOfMemory};
+ghost use Rattle.filterset_c.specs.Queries.{matches_named, AreTexts, HasPlatform, HasTexts, IsAbout, IsAboutTest, IsAskedTest, IsKnownBinary, IsQuestionFailure, IsText, IsWellBinary, IsWellTest};
+ghost use Rattle.filterset_c.specs.Statuses.{IsTextFailure};
+ghost use Rattle.filterset_c.specs.declared.failure.Failure.TheVariants.{InvalidArgument, NotUtf8, OutOfMemory};
 ghost use Rattle.filterset_c.specs.declared.queries.Binary.{Binary as BinaryOfC};
 ghost use Rattle.filterset_c.specs.declared.queries.Test.{Test as TestOfC};
 
 use crate::failure::Failure;
+use filterset_asking::AskedTest;
 use nextest_filtering::{
     BinaryQuery, BuildPlatform, GroupLookup, NameMatcher, PackageId, RustBinaryId,
     RustTestBinaryKind, TestCaseName, TestQuery,
@@ -41,7 +43,7 @@ pub struct Text<'a> {
 
 /// Returns the bytes as a text. Fails if they are not UTF-8.
 pub fn text_of(bytes: &[u8]) -> Result<&str, Failure>
-    ensures { MatchResult result (λ text. text.now ≡ bytes.now)
+    ensures { MatchResult result (λ text. (text.now ≡ bytes.now) × IsUtf8 bytes.now)
         (λ failure. (failure ≡ NotUtf8) × (IsUtf8 bytes.now → ⊥)) }
 {
     match std::str::from_utf8(bytes) {
@@ -52,13 +54,69 @@ pub fn text_of(bytes: &[u8]) -> Result<&str, Failure>
 
 /// Returns the platform that has this number.
 fn platform_of(number: u8) -> Result<BuildPlatform, Failure>
-    ensures { MatchResult result (HasPlatform number) (λ failure. 2 ≤ number) }
+    ensures { MatchResult result (HasPlatform number) (λ failure. (failure ≡ InvalidArgument) × (2 ≤ number)) }
 {
     match number {
         0 => Ok(BuildPlatform::Target),
         1 => Ok(BuildPlatform::Host),
         _ => Err(Failure::InvalidArgument),
     }
+}
+
+/// Returns the texts of a question about a test. Checks the platform, then the texts.
+pub fn asked_test<'a>(binary: &Binary<'a>, test: &Test<'a>) -> Result<AskedTest<'a>, Failure>
+    ensures asked { IfOk result (IsAskedTest binary.now test.now) }
+    ensures number { 2 ≤ binary.now.platform → result ≡ Err InvalidArgument }
+    ensures not_utf8 { binary.now.platform < 2 → (AreTexts binary.now test.now → ⊥) → result ≡ Err NotUtf8 }
+    ensures well { IsWellBinary binary.now → IsWellTest test.now → IfErr result (λ failure. ⊥) }
+{
+    Ok(AskedTest {
+        platform: platform_of(binary.platform)?,
+        package_id: text_of(binary.package_id)?,
+        binary_id: text_of(binary.binary_id)?,
+        binary_name: text_of(binary.name)?,
+        kind: text_of(binary.kind)?,
+        name: text_of(test.name)?,
+        group: text_of(test.group)?,
+    })
+}
+
+/// Returns whether the bytes are UTF-8.
+fn is_utf8(bytes: &[u8]) -> bool
+    ensures { IsTrue result ↔ IsUtf8 bytes.now }
+{
+    text_of(bytes).is_ok()
+}
+
+/// Returns whether the texts of a test are UTF-8.
+fn is_well_test(test: &Test<'_>) -> bool
+    ensures { IsTrue result ↔ IsWellTest test.now }
+{
+    is_utf8(test.name) && is_utf8(test.group)
+}
+
+/// Returns whether the texts of all tests are UTF-8.
+pub fn are_texts(tests: &[Test<'_>]) -> bool
+    ensures { IsTrue result ↔ All IsWellTest tests.now }
+{
+    for asked in tests {
+        if !is_well_test(asked) {
+            return false;
+        }
+    }
+    true
+}
+
+/// Returns whether all texts are UTF-8.
+pub fn are_utf8(texts: &[Text<'_>]) -> bool
+    ensures { IsTrue result ↔ All IsText texts.now }
+{
+    for text in texts {
+        if !is_utf8(text.bytes) {
+            return false;
+        }
+    }
+    true
 }
 
 /// A test binary in types of the library.
@@ -72,17 +130,26 @@ pub struct KnownBinary<'a> {
 }
 
 impl<'a> KnownBinary<'a> {
-    /// Reads the description of a binary. Fails if a part is not UTF-8, or the platform is no platform.
+    /// Reads the description of a binary. Checks the platform, then the texts, then copies.
     pub fn read(alloc: Global, binary: &Binary<'a>) -> Result<KnownBinary<'a>, Failure>
-        ensures { MatchResult result (IsKnownBinary binary.now)
-            (λ failure. IsWellBinary binary.now → failure ≡ OutOfMemory) }
+        ensures known { IfOk result (IsKnownBinary binary.now) }
+        ensures texts { IfOk result (λ _. HasTexts binary.now) }
+        ensures number { 2 ≤ binary.now.platform → result ≡ Err InvalidArgument }
+        ensures failed { binary.now.platform < 2 → IfErr result (IsQuestionFailure binary.now) }
+        ensures not_utf8 { binary.now.platform < 2 → (HasTexts binary.now → ⊥) → result ≡ Err NotUtf8 }
+        ensures well { IsWellBinary binary.now → IfErr result (λ failure. failure ≡ OutOfMemory) }
     {
+        let platform = platform_of(binary.platform)?;
+        let package_id = text_of(binary.package_id)?;
+        let binary_id = text_of(binary.binary_id)?;
+        let name = text_of(binary.name)?;
+        let kind = text_of(binary.kind)?;
         Ok(KnownBinary {
-            package_id: PackageId::new(String::from_str(alloc, text_of(binary.package_id)?)?),
-            binary_id: RustBinaryId::new(alloc, text_of(binary.binary_id)?)?,
-            name: text_of(binary.name)?,
-            kind: RustTestBinaryKind::new(String::from_str(alloc, text_of(binary.kind)?)?),
-            platform: platform_of(binary.platform)?,
+            package_id: PackageId::new(String::from_str(alloc, package_id)?),
+            binary_id: RustBinaryId::new(alloc, binary_id)?,
+            name,
+            kind: RustTestBinaryKind::new(String::from_str(alloc, kind)?),
+            platform,
         })
     }
 
@@ -131,14 +198,16 @@ impl<'a> KnownTest<'a> {
 
     /// Reads the description of a test. Fails if a part is not UTF-8.
     pub fn read(alloc: Global, test: &Test<'a>) -> Result<KnownTest<'a>, Failure>
-        ensures { MatchResult result (IsKnownTest test.now)
-            (λ failure. IsWellTest test.now → failure ≡ OutOfMemory) }
+        ensures known { IfOk result (IsKnownTest test.now) }
+        ensures texts { IfOk result (λ _. IsWellTest test.now) }
+        ensures failed { IfErr result IsTextFailure }
+        ensures well { IsWellTest test.now → IfErr result (λ failure. failure ≡ OutOfMemory) }
     {
+        let name = text_of(test.name)?;
+        let group = text_of(test.group)?;
         Ok(KnownTest {
-            name: TestCaseName::new(alloc, text_of(test.name)?)?,
-            group: NamedGroup {
-                name: text_of(test.group)?,
-            },
+            name: TestCaseName::new(alloc, name)?,
+            group: NamedGroup { name: group },
         })
     }
 

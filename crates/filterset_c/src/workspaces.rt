@@ -1,20 +1,23 @@
 //! Makes workspaces, and changes them.
-ghost use Rattle.std.specs.Prelude.{◌≡◌, ◌≢◌, Err, Some, IfErr, IfNone, IfOk, IfSome, OnOk, map, string_bytes};
+ghost use Rattle.std.specs.Prelude.{◌≡◌, ◌≢◌, ◌⊎◌, All, Err, None, Some, IfErr, IfNone, IfOk, IfSome, OnOk, map, string_bytes};
+ghost use Rattle.std.specs.Str.{IsUtf8};
 ghost use Rattle.serde_json.specs.Read.{read};
 ghost use Rattle.serde_json.specs.View.{view};
 ghost use Rattle.filterset_faults.specs.declared.kind.FiltersetKind.TheVariants as kinds;
-ghost use Rattle.filterset_report.specs.Record.{IsRecord};
+ghost use Rattle.filterset_report.specs.Record.{IsRecord, RecordRow};
 ghost use Rattle.filterset_report.specs.Rows.{record_row};
 ghost use Rattle.filterset_sources.specs.Metadata.{IsMetadata};
 ghost use Rattle.nextest_filtering.specs.Groups.{AreGroups, IsKnown};
 ghost use Rattle.filterset_c.specs.Parsing.{IsRefused};
-ghost use Rattle.filterset_c.specs.Workspaces.{Changes, HasDepth, HasFilter, HasGroups, HoldsWorkspace, IsNoWorkspace, IsOfMetadata, IsOfRecord, IsWorkspace};
+ghost use Rattle.filterset_c.specs.Queries.{IsText};
+ghost use Rattle.filterset_c.specs.Statuses.{IsSourceFailure};
+ghost use Rattle.filterset_c.specs.Workspaces.{Changes, HasDepth, HasFilter, HasGroups, HoldsWorkspace, IsFault, IsNoGraph, IsNoGraphOf, IsNoMetadata, IsNoRecord, IsNoWorkspace, IsOfMetadata, IsOfRecord, IsWorkspace};
 ghost use Rattle.filterset_c.specs.declared.failure.Failure.TheVariants as failures;
 
 use crate::failure::Failure;
 use crate::object::{Object, Refusal, Workspace};
 use crate::parsing::parse_default_filter;
-use crate::queries::{Text, text_of};
+use crate::queries::{Text, are_utf8, text_of};
 use filterset_json::{Entry, EntryRefusal};
 use filterset_report::Record;
 use filterset_sources::{SourceRefusal, read_json, read_metadata};
@@ -26,18 +29,23 @@ use std::alloc::Global;
 const USUAL_DEPTH: usize = 256;
 
 /// Returns why bytes describe no workspace.
-fn failure_of(refusal: &SourceRefusal) -> Failure {
+fn failure_of(refusal: &SourceRefusal) -> Failure
+    ensures failure { (result ≡ failures.Rejected) ⊎ (result ≡ failures.OutOfMemory) }
+    ensures fault { result ≡ failures.Rejected → IsFault refusal.now }
+{
     match refusal {
         SourceRefusal::OutOfMemory(_) => Failure::OutOfMemory,
-        _ => Failure::Rejected,
+        SourceRefusal::NotJson(_) | SourceRefusal::NotToml { .. } | SourceRefusal::WrongValue(_) =>
+            { Failure::Rejected }
     }
 }
 
-/// Parses bytes as JSON.
-fn json_of(alloc: Global, bytes: &[u8]) -> Result<Value, Failure>
-    ensures { IfOk result (λ value. read bytes.now ≡ Some (view value)) }
+/// Parses a text as JSON.
+fn json_of(alloc: Global, text: &str) -> Result<Value, Failure>
+    ensures value { IfOk result (λ value. read text.now ≡ Some (view value)) }
+    ensures failed { IfErr result IsSourceFailure }
+    ensures rejected { IfErr result (λ failure. failure ≡ failures.Rejected → read text.now ≡ None) }
 {
-    let text = text_of(bytes)?;
     match read_json(alloc, text) {
         Ok(value) => Ok(value),
         Err(refusal) => Err(failure_of(&refusal)),
@@ -46,7 +54,9 @@ fn json_of(alloc: Global, bytes: &[u8]) -> Result<Value, Failure>
 
 /// Returns the packages of what `cargo metadata` writes.
 fn graph_of(alloc: Global, value: &Value) -> Result<PackageGraph, Failure>
-    ensures { IfOk result (IsMetadata (view value.now)) }
+    ensures graph { IfOk result (IsMetadata (view value.now)) }
+    ensures failed { IfErr result IsSourceFailure }
+    ensures rejected { IfErr result (λ failure. failure ≡ failures.Rejected → IsNoGraph (view value.now)) }
 {
     match read_metadata(alloc, value) {
         Ok(graph) => Ok(graph),
@@ -56,9 +66,13 @@ fn graph_of(alloc: Global, value: &Value) -> Result<PackageGraph, Failure>
 
 /// Makes a workspace of what `cargo metadata` writes. It has no custom groups, and the default filter `all()`.
 pub fn workspace_of_metadata(alloc: Global, bytes: &[u8]) -> Result<Workspace, Failure>
-    ensures { IfOk result (IsOfMetadata bytes.now) }
+    ensures made { IfOk result (IsOfMetadata bytes.now) }
+    ensures rejected { IfErr result (λ failure. failure ≡ failures.Rejected → IsNoMetadata bytes.now) }
+    ensures well { IsUtf8 bytes.now → IfErr result IsSourceFailure }
+    ensures not_utf8 { (IsUtf8 bytes.now → ⊥) → result ≡ Err failures.NotUtf8 }
 {
-    let value = json_of(alloc, bytes)?;
+    let text = text_of(bytes)?;
+    let value = json_of(alloc, text)?;
     let graph = graph_of(alloc, &value)?;
     let known_groups = KnownGroups::global_only(alloc);
     Ok(Workspace {
@@ -71,7 +85,10 @@ pub fn workspace_of_metadata(alloc: Global, bytes: &[u8]) -> Result<Workspace, F
 
 /// Reads a record.
 fn record_of(alloc: Global, value: &Value) -> Result<Record, Failure>
-    ensures { IfOk result (λ made. IsRecord (view value.now) (record_row made)) }
+    ensures record { IfOk result (λ made. IsRecord (view value.now) (record_row made)) }
+    ensures failed { IfErr result IsSourceFailure }
+    ensures rejected { IfErr result (λ failure. failure ≡ failures.Rejected
+        → ¬ ((row : RecordRow) × IsRecord (view value.now) row)) }
 {
     match Record::read(alloc, value) {
         Ok(record) => Ok(record),
@@ -82,20 +99,29 @@ fn record_of(alloc: Global, value: &Value) -> Result<Record, Failure>
 
 /// Returns the graph of the packages of a record. Fails if an id is repeated, or a link names no package.
 fn graph_with(alloc: Global, packages: Vec<PackageMetadata>) -> Result<PackageGraph, Failure>
-    ensures { IfOk result (λ graph. graph ≡ packages.items) }
+    ensures graph { IfOk result (λ graph. graph ≡ packages.items) }
+    ensures failed { IfErr result IsSourceFailure }
+    ensures rejected { IfErr result (λ failure. failure ≡ failures.Rejected → IsNoGraphOf packages.items) }
 {
     match PackageGraph::new(alloc, packages) {
         Ok(graph) => Ok(graph),
         Err(GraphRefusal::OutOfMemory(_)) => Err(Failure::OutOfMemory),
-        Err(_) => Err(Failure::Rejected),
+        Err(GraphRefusal::RepeatedId { .. } | GraphRefusal::UnknownLink { .. }) => {
+            Err(Failure::Rejected)
+        }
     }
 }
 
 /// Makes a workspace of the packages and the groups of a record. Its default filter is `all()`.
+#[tactic(auto, using(crate::proofs::Records::value_is_no_record, crate::proofs::Records::packages_are_no_graph))]
 pub fn workspace_of_record(alloc: Global, bytes: &[u8]) -> Result<Workspace, Failure>
-    ensures { IfOk result (IsOfRecord bytes.now) }
+    ensures made { IfOk result (IsOfRecord bytes.now) }
+    ensures rejected { IfErr result (λ failure. failure ≡ failures.Rejected → IsNoRecord bytes.now) }
+    ensures well { IsUtf8 bytes.now → IfErr result IsSourceFailure }
+    ensures not_utf8 { (IsUtf8 bytes.now → ⊥) → result ≡ Err failures.NotUtf8 }
 {
-    let value = json_of(alloc, bytes)?;
+    let text = text_of(bytes)?;
+    let value = json_of(alloc, text)?;
     let made = record_of(alloc, &value)?;
     let Record {
         filtersets: _filtersets,
@@ -117,8 +143,9 @@ pub fn workspace_of_record(alloc: Global, bytes: &[u8]) -> Result<Workspace, Fai
 
 /// Copies texts of C.
 fn names_of(alloc: Global, texts: &[Text<'_>]) -> Result<Vec<String>, Failure>
-    ensures { IfOk result (λ names.
+    ensures names { IfOk result (λ names.
         map (λ s. string_bytes s) names.items ≡ map (λ t. t.bytes.now) texts.now) }
+    ensures well { All IsText texts.now → IfErr result (λ failure. failure ≡ failures.OutOfMemory) }
 {
     let mut names = Vec::with_capacity(alloc, texts.len())?;
     for text in texts {
@@ -131,7 +158,12 @@ fn names_of(alloc: Global, texts: &[Text<'_>]) -> Result<Vec<String>, Failure>
 pub fn groups_of(alloc: Global, texts: &[Text<'_>]) -> Result<KnownGroups, Failure>
     ensures groups { IfOk result (AreGroups (map (λ t. t.bytes.now) texts.now)) }
     ensures known { IfOk result IsKnown }
+    ensures well { All IsText texts.now → IfErr result (λ failure. failure ≡ failures.OutOfMemory) }
+    ensures not_utf8 { (All IsText texts.now → ⊥) → result ≡ Err failures.NotUtf8 }
 {
+    if !are_utf8(texts) {
+        return Err(Failure::NotUtf8);
+    }
     let names = names_of(alloc, texts)?;
     let groups = KnownGroups::of(alloc, names)?;
     Ok(groups)
@@ -141,7 +173,10 @@ pub fn groups_of(alloc: Global, texts: &[Text<'_>]) -> Result<KnownGroups, Failu
 pub fn set_groups(alloc: Global, object: &mut Object, texts: &[Text<'_>]) -> Result<(), Failure>
     ensures set { OnOk result (Changes (HasGroups (map (λ t. t.bytes.now) texts.now)) (Some object.old) (Some object.new)) }
     ensures failed { IfErr result (λ _. object.new ≡ object.old) }
+    ensures well { IsWorkspace (Some object.old) → All IsText texts.now
+        → IfErr result (λ failure. failure ≡ failures.OutOfMemory) }
     ensures wrong { IsNoWorkspace (Some object.old) → result ≡ Err failures.WrongHandle }
+    ensures not_utf8 { IsWorkspace (Some object.old) → (All IsText texts.now → ⊥) → result ≡ Err failures.NotUtf8 }
 {
     match object {
         Object::Workspace(workspace) => {
@@ -179,7 +214,10 @@ pub fn set_default_filter(
     ensures rejected { IfOk result (λ refused. IfSome refused (λ refusal.
         HoldsWorkspace (λ w. IsRefused w bytes.now kinds.DefaultFilter refusal) (Some object.old) × (object.new ≡ object.old))) }
     ensures failed { IfErr result (λ failure. (failure ≢ failures.Rejected) × (object.new ≡ object.old)) }
+    ensures well { IsWorkspace (Some object.old) → IsUtf8 bytes.now
+        → IfErr result (λ failure. failure ≡ failures.OutOfMemory) }
     ensures wrong { IsNoWorkspace (Some object.old) → result ≡ Err failures.WrongHandle }
+    ensures not_utf8 { IsWorkspace (Some object.old) → (IsUtf8 bytes.now → ⊥) → result ≡ Err failures.NotUtf8 }
 {
     match object {
         Object::Workspace(workspace) => match parse_default_filter(alloc, workspace, bytes)? {

@@ -5,7 +5,7 @@ mod json;
 use json::Json;
 use nextest_filtering_proved::{
     version, BinaryQuery, BuildPlatform, Filterset, FiltersetError, FiltersetKind, FiltersetParseErrors, GroupLookup,
-    KnownGroups, ParseContext, ParseSingleError, SourceSpan, TestQuery,
+    KnownGroups, NoGroups, ParseContext, ParseSingleError, SourceSpan, TestQuery,
 };
 
 fn cases() -> Json {
@@ -62,7 +62,7 @@ fn accepted() -> Result<(), FiltersetError> {
     let cases = cases();
     for case in cases.at("accepted").list() {
         let text = case.at("text").text();
-        let filterset = parse(&cases, case)?;
+        let filterset = parse(&cases, case)?.try_clone()?;
         assert_eq!(filterset.to_string(), case.get("print").map_or(text, Json::text));
         assert_eq!(filterset.has_group_matchers()?, case.at("needs_groups").boolean(), "{text}");
         for asked in case.at("asked").list() {
@@ -83,6 +83,40 @@ fn accepted() -> Result<(), FiltersetError> {
                 assert_eq!(filterset.matches_test_with_groups(&test, &groups)?, wanted, "{text}: {name}");
             }
         }
+    }
+    Ok(())
+}
+
+#[test]
+fn copies_on_threads() -> Result<(), FiltersetError> {
+    fn is_send<T: Send>() {}
+    is_send::<ParseContext>();
+    is_send::<Filterset>();
+    let mut context = ParseContext::from_record(br#"{"filtersets": []}"#)?;
+    context.set_default_filter("test(#case_*) and not test(/[02468]$/)")?;
+    let text = "default() or test(/^slow::/)";
+    let parse = || Filterset::parse(text.to_owned(), &context, FiltersetKind::Test, &KnownGroups::default());
+    let filtersets = (0..4).map(|_| parse()?.try_clone()).chain((0..4).map(|_| parse())).collect::<Result<Vec<_>, _>>()?;
+    let threads: Vec<_> = filtersets.into_iter().map(|own| std::thread::spawn(move || ask_all(&own))).collect();
+    for _ in 0..8 {
+        assert_eq!(parse()?.to_string(), text);
+    }
+    for thread in threads {
+        thread.join().expect("a thread that does not panic")?;
+    }
+    Ok(())
+}
+
+/// Asks a filterset that matches the tests of `slow` and the odd cases.
+fn ask_all(filterset: &Filterset) -> Result<(), FiltersetError> {
+    let binary_query =
+        BinaryQuery { package_id: "p", binary_id: "p", binary_name: "p", kind: "lib", platform: BuildPlatform::Target };
+    let copy = filterset.try_clone()?;
+    for number in 0..20 {
+        let (case, slow) = (format!("case_{number}"), format!("slow::{number}"));
+        let wanted = vec![number % 2 == 1, true];
+        assert_eq!(filterset.matches_tests(&binary_query, &[&case, &slow], &NoGroups)?, wanted, "{number}");
+        assert_eq!(copy.matches_test(&TestQuery { binary_query, test_name: &case })?, wanted[0], "{number}");
     }
     Ok(())
 }

@@ -8,15 +8,16 @@ use Rattle.filterset_c.proofs.matching.flat_number.Goals as goal
 pub told_named-requires : goal.told_named-requires
 told_named-requires c = subst (λ (binary : BinaryQuery). IsTold c.args.flat.now binary c.args.told) (sym c.query-query.ensures.binary) c.requires
 
-pub returns : goal.returns
-returns c = (
+pub returns-clause-number : goal.returns-clause-number
+returns-clause-number c = (
+  c.in_ok-known_test.ensures.texts,
   c.in_ok-answer.answer,
   c.yes_or_no.ensures,
   λ packages e default of_tree. (
     c.query-query.result,
     c.query-query.ensures.binary,
-    c.query-query.ensures.name ∙ c.in_ok-known_test.ensures.name,
+    c.query-query.ensures.name ∙ c.in_ok-known_test.ensures.known.name,
     subst (λ (group : List ℕ). IsTrue c.in_ok-answer.answer ↔ Meaning e packages c.query-query.result default (matches_named group))
-        c.in_ok-known_test.ensures.group (c.in_ok-answer.ensures packages e default of_tree),
+        c.in_ok-known_test.ensures.known.group (c.in_ok-answer.ensures packages e default of_tree),
   ),
 )

@@ -9,6 +9,6 @@ use Rattle.filterset_c.proofs.parsing.parse_default_filter.Goals as goal
 pub returns-in-None-clause-filter : goal.returns-in-None-clause-filter
 returns-in-None-clause-filter c =
     let workspace = c.args.workspace.now in
-    limited_filter workspace c.args.bytes.now c.in_ok-text.text.now c.parse_default_text.result c.in_ok-text.ensures
+    limited_filter workspace c.args.bytes.now c.in_ok-text.text.now c.parse_default_text.result c.in_ok-text.ensures.0
     (λ e spells. subst (λ (found : Option Span). IfNone found (IsWithin workspace.depth (depth e))) c.in-None.is (c.in_ok-place.ensures.within e spells))
     c.parse_default_text.ensures.filter

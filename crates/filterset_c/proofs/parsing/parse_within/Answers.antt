@@ -9,6 +9,6 @@ use Rattle.filterset_c.proofs.parsing.parse_within.Goals as goal
 pub returns-in-None-clause-parsed : goal.returns-in-None-clause-parsed
 returns-in-None-clause-parsed c =
     let workspace = c.args.workspace.now in
-    limited workspace c.args.bytes.now c.in_ok-text.text.now c.args.kind c.parse_text.result c.in_ok-text.ensures
+    limited workspace c.args.bytes.now c.in_ok-text.text.now c.args.kind c.parse_text.result c.in_ok-text.ensures.0
     (λ e spells. subst (λ (found : Option Span). IfNone found (IsWithin workspace.depth (depth e))) c.in-None.is (c.in_ok-place.ensures.within e spells))
     c.parse_text.ensures.parsed

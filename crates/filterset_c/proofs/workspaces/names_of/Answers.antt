@@ -15,5 +15,5 @@ loop-text-preserved c =
     let said : List ℕ → List (List ℕ) = λ bytes. map (λ (t : Text). t.bytes.now) (take i xs) ++ bytes ∷ [] in
     rw (c.in_ok-push.ensures.items, more) (map-append (λ s. string_bytes s) c.loop-text.names.items (name ∷ [])
     ∙ ap (λ front. front ++ string_bytes name ∷ []) c.loop-text.invariant
-    ∙ ap said (c.in_ok-from_str.ensures.ok ∙ c.in_ok-text_of.ensures)
+    ∙ ap said (c.in_ok-from_str.ensures.ok ∙ c.in_ok-text_of.ensures.0)
     ∙ sym (map-append (λ (t : Text). t.bytes.now) (take i xs) (text ∷ [])))
