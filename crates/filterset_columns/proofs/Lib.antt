@@ -1,3 +1,4 @@
 pub mod BitLemmas
 pub mod ColumnLemmas
 pub mod Defaults
+pub mod HitLemmas

@@ -24,6 +24,12 @@ pub record Answered {A : Type 0} (column : Column) (items : List A) (holds : A �
   pub counted : column.len ≡ length items
   pub each : (position : ℕ) (item : A) → IsAt items position item → IsTrue (answer_of column position) ↔ holds item
 
+-- the same where another column is true; the answers elsewhere may be any
+pub record AnsweredWhere {A : Type 0} (wanted column : Column) (items : List A) (holds : A → Type 0) : Type 0 where
+  pub counted : column.len ≡ length items
+  pub each : (position : ℕ) (item : A) → IsAt items position item → IsTrue (answer_of wanted position)
+      → IsTrue (answer_of column position) ↔ holds item
+
 -- the test of this binary that has this name
 abbrev pub test_of : BinaryQuery → Bor TestCaseName → TestQuery
 test_of binary name = record { binary_query = binary; test_name = name }

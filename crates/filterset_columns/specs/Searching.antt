@@ -16,7 +16,7 @@ Finds (Glob glob) name = Matches glob.tokens (chars name)
 Finds (Pattern pattern) name = HasMatch pattern name
 
 -- so many items have been answered by bits, and the bits of the others are not set
-pub record AnsweredSoFar {A : Type 0} (bits : List ℕ) (items : List A) (holds : A → Type 0) (count : ℕ) : Type 0 where
+pub record AnsweredSoFar {A : Type 0} (bits : List ℕ) (items : List A) (holds : ℕ → A → Type 0) (count : ℕ) : Type 0 where
   pub answered : (position : ℕ) (item : A) → position < count → IsAt items position item
-      → IsTrue (bit_of bits position) ↔ holds item
+      → IsTrue (bit_of bits position) ↔ holds position item
   pub open_ones : (position : ℕ) → count ≤ position → bit_of bits position ≡ false

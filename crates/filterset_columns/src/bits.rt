@@ -41,6 +41,21 @@ impl Bits {
         (self.words[position / 64] >> (position % 64)) & 1 == 1
     }
 
+    /// Returns a position behind this one and no later than `len`, such that the answers from this one on and before it are
+    /// the same: the first of the same word with another answer, or where the word ends.
+    pub(crate) fn run_end(&self, position: usize, len: usize) -> usize
+        requires some { position < len }
+        requires room { position < 64 * vec_len self.now.words }
+        ensures later { position < result }
+        ensures within { result ≤ len }
+        ensures same { (i : ℕ) → position ≤ i → i < result
+            → bit_of self.now.words.items i ≡ bit_of self.now.words.items position }
+    {
+        let place = position % 64;
+        let run = run_len(self.words[position / 64] >> place);
+        position + run.min(64 - place).min(len - position)
+    }
+
     /// Makes the answer at a position `true`.
     pub(crate) fn set(&mut self, position: usize)
         requires { position < 64 * vec_len self.old.words }
@@ -83,6 +98,18 @@ impl Bits {
         for (place, word) in self.words.iter_mut().enumerate() {
             *word = combine_words(connective, *word, other.words[place]);
         }
+    }
+}
+
+/// Returns how many of the lowest bits of a word are the same.
+fn run_len(word: u64) -> usize
+    ensures some { 0 < result }
+    ensures same { (i : ℕ) → i < result → (bit_at word i == 1) ≡ (bit_at word 0 == 1) }
+{
+    if word & 1 == 1 {
+        word.trailing_ones() as usize
+    } else {
+        word.trailing_zeros() as usize
     }
 }
 

@@ -1,5 +1,5 @@
 //! Columns of answers.
-ghost use Rattle.std.specs.Prelude.{◌≡◌, ◌↔◌, ◌<◌, ◌+◌, ◌*◌, ◌/◌, ℕ, Bool, not, IfOk, IsTrue, vec_len};
+ghost use Rattle.std.specs.Prelude.{◌≡◌, ◌↔◌, ◌<◌, ◌≤◌, ◌+◌, ◌*◌, ◌/◌, ◌&&◌, ℕ, Bool, not, IfOk, IsTrue, vec_len};
 ghost use Rattle.filterset_columns.specs.Bits.{bit_of};
 ghost use Rattle.filterset_expression.specs.Connectives.{connected};
 ghost use Rattle.filterset_columns.specs.Answers.{answer_at, HasRoom};
@@ -50,6 +50,19 @@ impl Column {
         match &self.answers {
             Answers::Same(answer) => *answer,
             Answers::Each(bits) => bits.get(position),
+        }
+    }
+
+    /// Returns a position behind this one, such that the answers from this one on and before it are the same.
+    pub fn run_end(&self, position: usize) -> usize
+        requires { position < self.now.len }
+        ensures later { position < result }
+        ensures within { result ≤ self.now.len }
+        ensures same { (i : ℕ) → position ≤ i → i < result → answer_of self.now i ≡ answer_of self.now position }
+    {
+        match &self.answers {
+            Answers::Same(_) => self.len,
+            Answers::Each(bits) => bits.run_end(position, self.len),
         }
     }
 
@@ -128,6 +141,29 @@ impl Column {
             }
         };
         Column { len, answers }
+    }
+
+    /// Returns where both columns are true. The only error is out of memory.
+    pub(crate) fn both(&self, other: &Column) -> Result<Column, AllocError>
+        requires { self.now.len ≡ other.now.len }
+        ensures len { IfOk result (λ both. both.len ≡ self.now.len) }
+        ensures both { IfOk result (λ both. (i : ℕ) → i < self.now.len
+            → answer_of both i ≡ (answer_of self.now i && answer_of other.now i)) }
+    {
+        let own = self.try_clone()?;
+        Ok(own.combined(Connective::Conjunction, other.try_clone()?))
+    }
+
+    /// Returns where this column is true and the other is false. The only error is out of memory.
+    pub(crate) fn without(&self, other: &Column) -> Result<Column, AllocError>
+        requires { self.now.len ≡ other.now.len }
+        ensures len { IfOk result (λ rest. rest.len ≡ self.now.len) }
+        ensures rest { IfOk result (λ rest. (i : ℕ) → i < self.now.len
+            → answer_of rest i ≡ (answer_of self.now i && not (answer_of other.now i))) }
+    {
+        let own = self.try_clone()?;
+        let others = other.try_clone()?.negated();
+        Ok(own.combined(Connective::Conjunction, others))
     }
 
     /// Copies the column. The only error is out of memory.

@@ -8,12 +8,13 @@ ghost use Rattle.filterset_expression.specs.Expression.{compiled_leaf, formula, 
 ghost use Rattle.filterset_expression.specs.Expression.{Holds, HoldsOfBinary, HoldsOfTest, IsDefinite};
 ghost use Rattle.filterset_expression.specs.Formula.{TrueWhere};
 ghost use Rattle.filterset_expression.specs.Meaning.{IsCompiled, Meaning};
-ghost use Rattle.filterset_columns.specs.Columns.{answer_of, names_of, test_of, Answered};
+ghost use Rattle.filterset_columns.specs.Columns.{answer_of, names_of, test_of, Answered, AnsweredWhere};
 
 use crate::column::Column;
 use crate::names::Names;
 use crate::search::{Searchers, search_groups, search_names};
 use filterset_expression::{BinaryQuery, CompiledExpr, Connective, FiltersetLeaf, GroupLookup};
+use filterset_matchers::NameMatcher;
 use std::alloc::{AllocError, Global};
 
 /// The answers of a default filter.
@@ -45,7 +46,60 @@ fn matches_binary(
     }
 }
 
-/// Evaluates a leaf. The only error is out of memory, here or in the lookup.
+/// Returns whether the expression searches a name for a glob or a pattern, or looks up a group, so that it pays to ask it
+/// about few tests.
+fn searches(expr: &CompiledExpr) -> bool {
+    match expr {
+        CompiledExpr::Not(operand) => searches(operand),
+        CompiledExpr::Union(left, right)
+        | CompiledExpr::Intersection(left, right)
+        | CompiledExpr::SymmetricDifference(left, right) => searches(left) || searches(right),
+        CompiledExpr::Set(FiltersetLeaf::Test(matcher, _)) => {
+            matches!(matcher, NameMatcher::Glob { .. } | NameMatcher::Regex(_))
+        }
+        CompiledExpr::Set(leaf) => matches!(leaf, FiltersetLeaf::Group(..)),
+    }
+}
+
+/// Returns the tests for which the right operand of a conjunction is wanted: at least those that the left one matches.
+/// The only error is out of memory.
+fn narrow_to_matched(
+    right: &CompiledExpr,
+    wanted: &Column,
+    left: &Column,
+) -> Result<Column, AllocError>
+    requires { wanted.now.len ≡ left.now.len }
+    ensures len { IfOk result (λ narrowed. narrowed.len ≡ wanted.now.len) }
+    ensures least { IfOk result (λ narrowed. (i : ℕ) → i < wanted.now.len → IsTrue (answer_of wanted.now i)
+        → IsTrue (answer_of left.now i) → IsTrue (answer_of narrowed i)) }
+{
+    if searches(right) {
+        wanted.both(left)
+    } else {
+        wanted.try_clone()
+    }
+}
+
+/// Returns the tests for which the right operand of a union is wanted: at least those that the left one does not match. The
+/// only error is out of memory.
+fn narrow_to_unmatched(
+    right: &CompiledExpr,
+    wanted: &Column,
+    left: &Column,
+) -> Result<Column, AllocError>
+    requires { wanted.now.len ≡ left.now.len }
+    ensures len { IfOk result (λ narrowed. narrowed.len ≡ wanted.now.len) }
+    ensures least { IfOk result (λ narrowed. (i : ℕ) → i < wanted.now.len → IsTrue (answer_of wanted.now i)
+        → answer_of left.now i ≡ false → IsTrue (answer_of narrowed i)) }
+{
+    if searches(right) {
+        wanted.without(left)
+    } else {
+        wanted.try_clone()
+    }
+}
+
+/// Evaluates a leaf for the wanted tests. The only error is out of memory, here or in the lookup.
 fn evaluate_leaf<'a>(
     alloc: Global,
     leaf: &'a FiltersetLeaf,
@@ -53,17 +107,21 @@ fn evaluate_leaf<'a>(
     names: &Names<'_>,
     groups: &dyn GroupLookup,
     default: &DefaultAnswers<'_>,
+    wanted: &Column,
     searchers: &mut Searchers<'a>,
 ) -> Result<Column, AllocError>
-    requires { Answered default.now.column (names_of names.now) (λ name.
+    requires default { Answered default.now.column (names_of names.now) (λ name.
         TrueWhere (HoldsOfTest (test_of query.now name) (matches_group groups.now)) (formula default.now.filter.now)) }
-    ensures { IfOk result (λ column. Answered column (names_of names.now) (λ name.
+    requires wanted { wanted.now.len ≡ length (names_of names.now) }
+    ensures { IfOk result (λ column. AnsweredWhere wanted.now column (names_of names.now) (λ name.
         TrueWhere (HoldsOfTest (test_of query.now name) (matches_group groups.now))
         (leaf_with_default default.now.filter.now (compiled_leaf leaf.now)))) }
 {
     match leaf {
-        FiltersetLeaf::Test(matcher, _) => search_names(alloc, matcher, names, searchers),
-        FiltersetLeaf::Group(matcher, _) => search_groups(alloc, matcher, query, names, groups),
+        FiltersetLeaf::Test(matcher, _) => search_names(alloc, matcher, names, wanted, searchers),
+        FiltersetLeaf::Group(matcher, _) => {
+            search_groups(alloc, matcher, query, names, groups, wanted)
+        }
         FiltersetLeaf::Default => default.column.try_clone(),
         _ => {
             let answer = matches_binary(alloc, leaf, query)?;
@@ -72,8 +130,78 @@ fn evaluate_leaf<'a>(
     }
 }
 
-/// Evaluates an expression, where the answers of the default filter replace each `default` leaf. A right operand is not
-/// evaluated if the left one decides the connective for all tests. The only error is out of memory, here or in the lookup.
+/// Evaluates an expression for the wanted tests, where the answers of the default filter replace each `default` leaf. A
+/// right operand is evaluated only for tests for which the left one does not decide the connective, if that pays. The
+/// only error is out of memory, here or in the lookup.
+fn evaluate_where<'a>(
+    alloc: Global,
+    expr: &'a CompiledExpr,
+    query: &BinaryQuery<'_>,
+    names: &Names<'_>,
+    groups: &dyn GroupLookup,
+    default: &DefaultAnswers<'_>,
+    wanted: &Column,
+    searchers: &mut Searchers<'a>,
+) -> Result<Column, AllocError>
+    requires default { Answered default.now.column (names_of names.now) (λ name.
+        TrueWhere (HoldsOfTest (test_of query.now name) (matches_group groups.now)) (formula default.now.filter.now)) }
+    requires wanted { wanted.now.len ≡ length (names_of names.now) }
+    ensures { IfOk result (λ column. AnsweredWhere wanted.now column (names_of names.now) (λ name.
+        TrueWhere (HoldsOfTest (test_of query.now name) (matches_group groups.now))
+        (with_default default.now.filter.now expr.now))) }
+{
+    match expr {
+        CompiledExpr::Not(operand) => {
+            let column = evaluate_where(
+                alloc, operand, query, names, groups, default, wanted, searchers,
+            )?;
+            Ok(column.negated())
+        }
+        CompiledExpr::Union(left, right) => {
+            let column = evaluate_where(
+                alloc, left, query, names, groups, default, wanted, searchers,
+            )?;
+            if column.is_same(true) {
+                searchers.pass(right);
+                return Ok(column);
+            }
+            let narrowed = narrow_to_unmatched(right, wanted, &column)?;
+            let other = evaluate_where(
+                alloc, right, query, names, groups, default, &narrowed, searchers,
+            )?;
+            Ok(column.combined(Connective::Disjunction, other))
+        }
+        CompiledExpr::Intersection(left, right) => {
+            let column = evaluate_where(
+                alloc, left, query, names, groups, default, wanted, searchers,
+            )?;
+            if column.is_same(false) {
+                searchers.pass(right);
+                return Ok(column);
+            }
+            let narrowed = narrow_to_matched(right, wanted, &column)?;
+            let other = evaluate_where(
+                alloc, right, query, names, groups, default, &narrowed, searchers,
+            )?;
+            Ok(column.combined(Connective::Conjunction, other))
+        }
+        CompiledExpr::SymmetricDifference(left, right) => {
+            let column = evaluate_where(
+                alloc, left, query, names, groups, default, wanted, searchers,
+            )?;
+            let other = evaluate_where(
+                alloc, right, query, names, groups, default, wanted, searchers,
+            )?;
+            Ok(column.combined(Connective::ExclusiveDisjunction, other))
+        }
+        CompiledExpr::Set(leaf) => evaluate_leaf(
+            alloc, leaf, query, names, groups, default, wanted, searchers,
+        ),
+    }
+}
+
+/// Evaluates an expression, where the answers of the default filter replace each `default` leaf. The only error is out of
+/// memory, here or in the lookup.
 pub(crate) fn evaluate<'a>(
     alloc: Global,
     expr: &'a CompiledExpr,
@@ -89,38 +217,10 @@ pub(crate) fn evaluate<'a>(
         TrueWhere (HoldsOfTest (test_of query.now name) (matches_group groups.now))
         (with_default default.now.filter.now expr.now))) }
 {
-    match expr {
-        CompiledExpr::Not(operand) => {
-            let column = evaluate(alloc, operand, query, names, groups, default, searchers)?;
-            Ok(column.negated())
-        }
-        CompiledExpr::Union(left, right) => {
-            let column = evaluate(alloc, left, query, names, groups, default, searchers)?;
-            if column.is_same(true) {
-                searchers.pass(right);
-                return Ok(column);
-            }
-            let other = evaluate(alloc, right, query, names, groups, default, searchers)?;
-            Ok(column.combined(Connective::Disjunction, other))
-        }
-        CompiledExpr::Intersection(left, right) => {
-            let column = evaluate(alloc, left, query, names, groups, default, searchers)?;
-            if column.is_same(false) {
-                searchers.pass(right);
-                return Ok(column);
-            }
-            let other = evaluate(alloc, right, query, names, groups, default, searchers)?;
-            Ok(column.combined(Connective::Conjunction, other))
-        }
-        CompiledExpr::SymmetricDifference(left, right) => {
-            let column = evaluate(alloc, left, query, names, groups, default, searchers)?;
-            let other = evaluate(alloc, right, query, names, groups, default, searchers)?;
-            Ok(column.combined(Connective::ExclusiveDisjunction, other))
-        }
-        CompiledExpr::Set(leaf) => evaluate_leaf(
-            alloc, leaf, query, names, groups, default, searchers,
-        ),
-    }
+    let wanted = Column::same(names.len(), true);
+    evaluate_where(
+        alloc, expr, query, names, groups, default, &wanted, searchers,
+    )
 }
 
 /// Evaluates an expression in which a `default` leaf matches nothing. The only error is out of memory, here or in the

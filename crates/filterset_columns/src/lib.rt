@@ -5,11 +5,10 @@ mod bits;
 mod column;
 mod evaluating;
 mod expression;
+mod hits;
 mod names;
-mod paying;
 mod search;
 
 pub use column::Column;
 pub use expression::ColumnExpr;
 pub use names::Names;
-pub use paying::pays_for;

@@ -1,5 +1,6 @@
 //! The names of a binary's tests.
-ghost use Rattle.std.specs.Prelude.{◌≡◌, ◌↔◌, ◌++◌, ◌∷◌, [], IsTrue, OnOk, length};
+ghost use Rattle.std.specs.Prelude.{◌≡◌, ◌↔◌, ◌++◌, ◌∷◌, [], IsTrue, OnOk, length, string_bytes};
+ghost use Rattle.filterset_columns.specs.Joined.{joined};
 
 use filterset_graph::TestCaseName;
 use std::alloc::{AllocError, Global};
@@ -8,6 +9,9 @@ use std::alloc::{AllocError, Global};
 #[derive(Debug, Drop)]
 pub struct Names<'a> {
     pub(crate) tests: Vec<&'a TestCaseName>,
+    /// The names, one after the other.
+    pub(crate) text: String,
+    ghost laid: { string_bytes text ≡ joined tests.items },
 }
 
 impl<'a> Names<'a> {
@@ -19,6 +23,7 @@ impl<'a> Names<'a> {
     {
         Names {
             tests: Vec::new(alloc),
+            text: String::new(alloc),
         }
     }
 
@@ -27,7 +32,11 @@ impl<'a> Names<'a> {
         ensures { OnOk result (names_of self.new ≡ names_of self.old ++ name.entry ∷ []) }
     {
         self.tests.push(name)?;
-        Ok(())
+        let appended = self.text.push_str(name.as_str());
+        if appended.is_err() {
+            self.tests.pop();
+        }
+        appended
     }
 
     /// Returns the number of names.

@@ -1,14 +1,18 @@
 //! Searches of names for a matcher.
-ghost use Rattle.std.specs.Prelude.{◌≡◌, ◌↔◌, List, ℕ, IfOk, IsTrue};
+ghost use Rattle.std.specs.Prelude.{◌≡◌, ◌↔◌, ◌<◌, ◌+◌, ◌/◌, List, ℕ, IfOk, IsTrue, length, vec_len};
+ghost use Rattle.std.specs.Str.Iter.{HasSubslice};
 ghost use Rattle.filterset_matchers.specs.Matcher.{MatchesName};
 ghost use Rattle.filterset_matchers.specs.Matchers.{matcher_of};
-ghost use Rattle.filterset_columns.specs.Columns.{names_of, test_of, Answered};
+ghost use Rattle.filterset_columns.specs.Columns.{names_of, test_of, Answered, AnsweredWhere};
+ghost use Rattle.filterset_columns.specs.Searching.{AnsweredSoFar};
 
 use crate::bits::Bits;
 use crate::column::Column;
+use crate::hits::{Place, next_hit};
 use crate::names::Names;
 use filterset_expression::{BinaryQuery, CompiledExpr, FiltersetLeaf, GroupLookup, TestQuery};
 use filterset_matchers::{GlobMatcher, NameMatcher, PatternMatcher};
+use memchr::memmem::Finder;
 use std::alloc::{AllocError, Global};
 
 /// A matcher that is prepared for many names.
@@ -58,6 +62,22 @@ impl<'a> Searcher<'a> {
             Searcher::Glob(matcher) => matcher.is_match(alloc, name),
             Searcher::Pattern(matcher) => Ok(matcher.is_match(name)),
         }
+    }
+
+    /// Returns whether the name is wanted and the matcher matches it. The only error is out of memory.
+    fn is_match_if(
+        &mut self,
+        alloc: Global,
+        is_wanted: bool,
+        name: &str,
+    ) -> Result<bool, AllocError>
+        ensures finds { IfOk result (λ found. IsTrue found ↔ (IsTrue is_wanted × Finds self.old name.now)) }
+        ensures same { self.new ≡ self.old }
+    {
+        if !is_wanted {
+            return Ok(false);
+        }
+        self.is_match(alloc, name)
     }
 }
 
@@ -136,37 +156,128 @@ impl<'a> Searchers<'a> {
     }
 }
 
-/// Searches the names for the matcher: the answer for a test is whether the matcher matches its name. The only error is
-/// out of memory.
+/// Searches the names for the matcher: the answer for a wanted test is whether the matcher matches its name. The only error
+/// is out of memory.
 pub(crate) fn search_names<'a>(
     alloc: Global,
     matcher: &'a NameMatcher,
     names: &Names<'_>,
+    wanted: &Column,
     searchers: &mut Searchers<'a>,
 ) -> Result<Column, AllocError>
-    ensures { IfOk result (λ column. Answered column (names_of names.now)
+    requires { wanted.now.len ≡ length (names_of names.now) }
+    ensures { IfOk result (λ column. AnsweredWhere wanted.now column (names_of names.now)
+        (λ name. MatchesName (matcher_of matcher.now) name.now)) }
+{
+    match matcher {
+        NameMatcher::Equal { value, implicit: _ } => {
+            searchers.advance();
+            find_name(alloc, value.as_str(), names)
+        }
+        NameMatcher::Contains { value, implicit: _ } => {
+            searchers.advance();
+            find_text(alloc, value.as_str(), names)
+        }
+        _ => search_each(alloc, matcher, names, wanted, searchers),
+    }
+}
+
+/// Finds the names that are equal to a value. The only error is out of memory.
+fn find_name(alloc: Global, value: &str, names: &Names<'_>) -> Result<Column, AllocError>
+    ensures { IfOk result (λ column. Answered column (names_of names.now) (λ name. name.now ≡ value.now)) }
+{
+    let mut bits = Bits::with_len(alloc, names.len())?;
+    for (position, name) in names.tests.iter().enumerate() {
+        let answer = name.as_str() == value;
+        bits.put(position, answer);
+    }
+    Ok(Column::of_bits(names.len(), bits))
+}
+
+/// Finds the names that contain a text, by one search over all of them. The only error is out of memory.
+fn find_text(alloc: Global, value: &str, names: &Names<'_>) -> Result<Column, AllocError>
+    ensures { IfOk result (λ column. Answered column (names_of names.now) (λ name. HasSubslice name.now value.now)) }
+{
+    if value.is_empty() {
+        return Ok(Column::same(names.len(), true));
+    }
+    let bits = find_some_text(alloc, value, names)?;
+    Ok(Column::of_bits(names.len(), bits))
+}
+
+/// Finds the names that contain a text of some bytes. The only error is out of memory.
+fn find_some_text(alloc: Global, value: &str, names: &Names<'_>) -> Result<Bits, AllocError>
+    requires { 0 < length value.now }
+    ensures room { IfOk result (λ bits. vec_len bits.words ≡ length (names_of names.now) / 64 + 1) }
+    ensures found { IfOk result (λ bits. AnsweredSoFar bits.words.items (names_of names.now)
+        (λ position name. HasSubslice name.now value.now) (length (names_of names.now))) }
+{
+    let finder = Finder::new(value.as_bytes());
+    let mut bits = Bits::with_len(alloc, names.len())?;
+    let mut place = Place {
+        position: 0,
+        start: 0,
+    };
+    while let Some(hit) = next_hit(names, &finder, place) {
+        bits.put(hit.position, hit.is_within);
+        place = hit.after();
+    }
+    Ok(bits)
+}
+
+/// Asks the matcher about each wanted name: the answer for another is `false`. The only error is out of memory.
+fn search_each<'a>(
+    alloc: Global,
+    matcher: &'a NameMatcher,
+    names: &Names<'_>,
+    wanted: &Column,
+    searchers: &mut Searchers<'a>,
+) -> Result<Column, AllocError>
+    requires { wanted.now.len ≡ length (names_of names.now) }
+    ensures { IfOk result (λ column. AnsweredWhere wanted.now column (names_of names.now)
         (λ name. MatchesName (matcher_of matcher.now) name.now)) }
 {
     let mut searcher = searchers.take(alloc, matcher)?;
     let mut bits = Bits::with_len(alloc, names.len())?;
     for (position, name) in names.tests.iter().enumerate() {
-        let answer = searcher.is_match(alloc, name.as_str())?;
+        let is_wanted = wanted.get(position);
+        let answer = searcher.is_match_if(alloc, is_wanted, name.as_str())?;
         bits.put(position, answer);
     }
     searchers.keep(searcher)?;
     Ok(Column::of_bits(names.len(), bits))
 }
 
-/// Asks for the groups of the tests: the answer for a test is whether the matcher matches its group. The only error is out
+/// Asks for the group of the test if it is wanted: returns whether it is and the matcher matches it. The only error is out
 /// of memory, here or in the lookup.
+fn is_member_if(
+    alloc: Global,
+    is_wanted: bool,
+    matcher: &NameMatcher,
+    test: &TestQuery<'_>,
+    groups: &dyn GroupLookup,
+) -> Result<bool, AllocError>
+    ensures { IfOk result (λ found. IsTrue found
+        ↔ (IsTrue is_wanted × matches_group groups.now test.now (matcher_of matcher.now))) }
+{
+    if !is_wanted {
+        return Ok(false);
+    }
+    groups.is_member_test(alloc, test, matcher)
+}
+
+/// Asks for the groups of the wanted tests: the answer for one is whether the matcher matches its group. The only error is
+/// out of memory, here or in the lookup.
 pub(crate) fn search_groups(
     alloc: Global,
     matcher: &NameMatcher,
     query: &BinaryQuery<'_>,
     names: &Names<'_>,
     groups: &dyn GroupLookup,
+    wanted: &Column,
 ) -> Result<Column, AllocError>
-    ensures { IfOk result (λ column. Answered column (names_of names.now)
+    requires { wanted.now.len ≡ length (names_of names.now) }
+    ensures { IfOk result (λ column. AnsweredWhere wanted.now column (names_of names.now)
         (λ name. matches_group groups.now (test_of query.now name) (matcher_of matcher.now))) }
 {
     let mut bits = Bits::with_len(alloc, names.len())?;
@@ -175,7 +286,8 @@ pub(crate) fn search_groups(
             binary_query: *query,
             test_name: *name,
         };
-        let answer = groups.is_member_test(alloc, &test, matcher)?;
+        let is_wanted = wanted.get(position);
+        let answer = is_member_if(alloc, is_wanted, matcher, &test, groups)?;
         bits.put(position, answer);
     }
     Ok(Column::of_bits(names.len(), bits))

@@ -1,13 +1,13 @@
-use Rattle.std.proofs.Common.{◌≡◌, ◌↔◌, ◌+◌, ◌/◌, ℕ, List, length, vec_len}
+use Rattle.std.proofs.Common.{◌≡◌, ◌↔◌, ◌+◌, ◌/◌, ℕ, IsTrue, List, length, vec_len}
 use Rattle.filterset_matchers.specs.Matcher.{MatchesName}
 use Rattle.filterset_matchers.specs.Matchers.{matcher_of}
-use Rattle.filterset_columns.specs.Columns.{names_of}
+use Rattle.filterset_columns.specs.Columns.{answer_of, names_of}
 use Rattle.filterset_columns.specs.Searching.{Finds, AnsweredSoFar}
-use Rattle.filterset_columns.proofs.search.search_names.Given as goal
+use Rattle.filterset_columns.proofs.search.search_each.Given as goal
 
 abbrev pub invariant-loop-position : goal.invariant-loop-position
 invariant-loop-position l = record {
   room : vec_len l.bits.words ≡ length (names_of l.names) / 64 + 1;
   finds : (name : List ℕ) → Finds l.searcher name ↔ MatchesName (matcher_of l.matcher) name;
-  answered : AnsweredSoFar l.bits.words.items (names_of l.names) (λ name. MatchesName (matcher_of l.matcher) name.now) l.position;
+  answered : AnsweredSoFar l.bits.words.items (names_of l.names) (λ position name. IsTrue (answer_of l.wanted position) × MatchesName (matcher_of l.matcher) name.now) l.position;
 }
