@@ -1,7 +1,8 @@
 #!/bin/bash
 # Counts the instructions of the program that `rt ci` built, by callgrind, and prints them as a table: those of one
 # filterset, and those of one question and its line. Each number is a difference: a record has the filtersets of another
-# twice, so that starting, and reading the packages and binaries, count for nothing. It is not part of the gate.
+# twice, so that starting, and reading the packages and binaries, count for nothing. The rows of memory are the program's
+# peak, in MB, for a record of 2,000 packages and 100,000 tests. It is not part of the gate.
 #
 #     bash scripts/instructions.sh            # every row
 #     bash scripts/instructions.sh tests      # the rows whose names begin so
@@ -43,9 +44,10 @@ if row.startswith("graph"):
         links = [i + 1] if chain else [(i // 40 + 1) * 40 + (i + k) % 40 for k in (0, 7, 13)]
         packages.append({"id": f"p{i}", "name": f"crate-{i}", "links": [f"p{k}" for k in links if k < 2000]})
 elif not row.startswith("texts") or row == "texts-packages":
-    packages = [{"id": f"p{i}", "name": f"crate-{i}", "links": [f"p{i + 1}"] if i < 19 else []} for i in range(20)]
-if row.startswith("tests") or row.startswith("answers"):
-    for b in range(2):
+    links = 1999 if row == "memory" else 19
+    packages = [{"id": f"p{i}", "name": f"crate-{i}", "links": [f"p{i + 1}"] if i < links else []} for i in range(links + 1)]
+if row.startswith("tests") or row.startswith("answers") or row == "memory":
+    for b in range(333 if row == "memory" else 2):
         tests = [{"name": f"module_{t % 7}::sub_{t % 3}::test_case_{t}_of_300", **({"group": groups[t % 3]} if t % 4 == 0 else {})}
                  for t in range(300)]
         binaries.append({"package": f"p{b}", "id": f"crate-{b}", "name": f"crate-{b}", "kind": "lib", "platform": "target", "tests": tests})
@@ -65,6 +67,7 @@ texts = {
     "answers-groups": lambda i: "group(=slow) or group(#fl*)",
     "answers-unions": lambda i: " or ".join(f"test(=name_{i}_{k})" for k in range(1000)),
     "answers-patterns": lambda i: f"test(/case_{i}\\d_of/) or test(/::sub_[01]::/)",
+    "memory": lambda i: f"test(~case_{i}) and not test(=test_case_{i}) or package(crate-{i})",
     "answers-globs": lambda i: f"test(#*_case_{i}?_*) or test(#module_[0-3]::*)",
 }
 filtersets = [texts[row](i) for i in range(count)]
@@ -80,6 +83,12 @@ instructions() {
     grep -q refused "$room/wrote" && echo "$script: $1: a filterset is refused" >&2
 }
 
+# The peak of the program's memory for a record with so many filtersets, in MB.
+memory() {
+    record memory "$1" > "$room/record" || return
+    /usr/bin/time -f %M "$program" < "$room/record" 2>&1 > "$room/wrote" | awk '{ print int($1 / 1000) }'
+}
+
 echo "| row | instructions of a filterset | of a question and its line |"
 echo "|---|---|---|"
 while read -r row count; do
@@ -92,3 +101,11 @@ while read -r row count; do
     *) echo "| $row | $each | – |" ;;
     esac
 done < <(rows)
+
+echo
+echo "| row | peak in MB |"
+echo "|---|---|"
+for count in 0 8; do
+    [[ memory == "${1:-}"* ]] || continue
+    echo "| memory-$count | $(memory $count) |"
+done

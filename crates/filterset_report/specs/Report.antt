@@ -1,5 +1,5 @@
 -- Which reports, and which outcomes, a record may have.
-use Rattle.std.specs.Prelude.{◌≡◌, ◌⊎◌, ◌↔◌, ◌++◌, ◌&&◌, Bool, true, false, IsTrue, ℕ, suc, List, [], ◌∷◌, length, Option, Some, None, MatchOption, codes, decimal}
+use Rattle.std.specs.Prelude.{◌≡◌, ◌⊎◌, ◌↔◌, ◌++◌, ◌&&◌, Bool, true, false, IsTrue, ℕ, suc, List, [], ◌∷◌, length, Option, Some, MatchOption, codes, decimal}
 use Rattle.std.specs.List.{flat_map}
 use Rattle.std.specs.Option.{option_map_or}
 use Rattle.std.specs.Str.{IsUtf8}
@@ -27,6 +27,7 @@ use Rattle.filterset_expression.specs.declared.expression.CompiledExpr.{Compiled
 use Rattle.filterset_expression.specs.declared.query.BinaryQuery.{BinaryQuery}
 use Rattle.filterset_expression.specs.declared.query.TestQuery.{TestQuery}
 use Rattle.filterset_report.specs.Library.{Background, IsAboutBinary}
+use Rattle.filterset_report.specs.Lines.{answer_text}
 use Rattle.filterset_report.specs.Lookup.{matches_recorded_group}
 use Rattle.filterset_report.specs.declared.record.commands.Command.{Command}
 use Rattle.filterset_report.specs.declared.record.commands.Command.TheVariants as commands
@@ -34,12 +35,6 @@ use Rattle.filterset_report.specs.declared.outcome.ReportOutcome.{ReportOutcome}
 use Rattle.filterset_report.specs.declared.outcome.ReportOutcome.TheVariants.{AllAccepted, SomeRefused, RecordRefused}
 
 -- ---- an accepted filterset
-
--- whether it is so, where None is that it depends on the test
-abbrev pub answer_text : Option Bool → Text
-answer_text (Some true) = codes "yes"
-answer_text (Some false) = codes "no"
-answer_text None = codes "unknown"
 
 -- the line of a test, which says whether the tree is true of it
 abbrev pub TestLine : Background → Tree SourceSpan → BinaryRow → TestRow → Text → Type 0

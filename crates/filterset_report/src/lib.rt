@@ -1,6 +1,7 @@
 //! Reads a record of filtersets, packages, binaries and tests from JSON, and writes what the library says about them.
 #![tactic(auto)]
 
+mod listed;
 mod lookup;
 mod outcome;
 mod program;

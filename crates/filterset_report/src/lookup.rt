@@ -7,6 +7,7 @@ ghost use Rattle.filterset_report.specs.Index.{HasFirsts, IsIndexOf};
 ghost use Rattle.filterset_report.specs.Lookup.{matches_recorded_group};
 ghost use Rattle.filterset_report.specs.Rows.{binary_row};
 
+use crate::listed::{ListedBinary, list_binaries};
 use crate::record::{BinaryEntry, TestEntry};
 use nextest_filtering::{GroupLookup, NameMatcher, RustBinaryId, TestCaseName, TestQuery};
 use std::alloc::{AllocError, Global};
@@ -73,8 +74,11 @@ impl IndexedBinary<'_> {
 #[derive(Debug, Drop)]
 pub struct RecordLookup<'a> {
     pub binaries: &'a [BinaryEntry],
+    /// The binaries, with the names and lines of their tests.
+    pub listed: Vec<ListedBinary<'a>>,
     /// The first binary with each id.
     by_id: BTreeMap<&'a str, IndexedBinary<'a>>,
+    ghost all_listed: { map (λ l. l.binary.now) listed.items ≡ binaries.now },
     ghost indexed: { IsIndexOf (λ b. b.id) (λ b. b.binary.now) binaries.now by_id },
 }
 
@@ -98,7 +102,7 @@ fn binaries_by_id<'a>(
 }
 
 impl<'a> RecordLookup<'a> {
-    /// Indexes these binaries, and their tests too if that is wanted: it takes longer, and groups are found faster. The
+    /// Lists and indexes these binaries, and indexes their tests too if that is wanted: it takes longer, and groups are found faster. The
     /// only error is out of memory.
     pub fn new(
         alloc: Global,
@@ -107,8 +111,13 @@ impl<'a> RecordLookup<'a> {
     ) -> Result<RecordLookup<'a>, AllocError>
         ensures { IfOk result (λ lookup. lookup.binaries.now ≡ binaries.now) }
     {
+        let listed = list_binaries(alloc, binaries)?;
         let by_id = binaries_by_id(alloc, binaries, is_wanted)?;
-        Ok(RecordLookup { binaries, by_id })
+        Ok(RecordLookup {
+            binaries,
+            listed,
+            by_id,
+        })
     }
 
     /// Looks up the first binary with an id.

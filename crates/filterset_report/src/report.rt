@@ -1,5 +1,8 @@
 //! Writes the report of a record.
-ghost use Rattle.std.specs.Prelude.{◌≡◌, ◌++◌, Bool, IfOk, List, codes, map, string_bytes};
+ghost use Rattle.std.specs.Prelude.{◌≡◌, ◌++◌, Bool, IfErr, IfOk, List, codes, map, string_bytes};
+ghost use Rattle.serde_json.specs.View.{view};
+ghost use Rattle.filterset_json.specs.Refusals.{Refuses};
+ghost use Rattle.filterset_report.specs.Record.{IsRecord, RecordRow};
 ghost use Rattle.filterset_graph.specs.Packages.{AllDiffer, LinksKnown, ids};
 ghost use Rattle.filterset_graph.specs.Refusals.{IsRefusalOf};
 ghost use Rattle.filterset_graph.specs.declared.package.PackageMetadata.{PackageMetadata};
@@ -37,11 +40,19 @@ pub fn report_of(alloc: Global, input: &[u8]) -> Result<(String, ReportOutcome),
         Err(error) if error.is_memory() => return Err(AllocError),
         Err(_) => return refusal(alloc, "record refused: not JSON\n"),
     };
-    match Record::read(alloc, &value) {
+    match read_record(alloc, value) {
         Ok(record) => report_record(alloc, record),
         Err(EntryRefusal::Wrong(_)) => refusal(alloc, "record refused: not a record\n"),
         Err(EntryRefusal::OutOfMemory(refused)) => Err(refused),
     }
+}
+
+/// Reads a record from its JSON value, and lets go of the value.
+fn read_record(alloc: Global, value: Value) -> Result<Record, EntryRefusal>
+    ensures read { IfOk result (λ entries. IsRecord (view value) (record_row entries)) }
+    ensures refused { IfErr result (Refuses ((row : RecordRow) × IsRecord (view value) row)) }
+{
+    Record::read(alloc, &value)
 }
 
 /// Refuses the record by a report of one line.

@@ -1,19 +1,21 @@
 //! Writes the lines of a binary and of a test.
-ghost use Rattle.std.specs.Prelude.{◌≡◌, ◌↔◌, ◌++◌, ℕ, IfOk, IsTrue, OnOk, Some, codes, length, map, string_bytes};
+ghost use Rattle.std.specs.Prelude.{◌≡◌, ◌↔◌, ◌++◌, ℕ, IfOk, IsTrue, OnOk, Some, codes, length, string_bytes};
 ghost use Rattle.filterset_expression.specs.FlatExpressions.{IsTold};
 ghost use Rattle.filterset_expression.specs.Meaning.{Meaning};
 ghost use Rattle.filterset_report.specs.Record.{BinaryRow, TestRow};
 ghost use Rattle.filterset_json.specs.Shape.{Text};
 ghost use Rattle.filterset_report.specs.Asking.{ForItsExpr, ForItsTree, IsAnswered, IsLookupOf, IsSameExpr};
 ghost use Rattle.filterset_report.specs.declared.record.binaries.TestEntry.{TestEntry};
-ghost use Rattle.filterset_columns.specs.Columns.{answer_of, names_of, IsAt};
+ghost use Rattle.filterset_columns.specs.Columns.{answer_of, IsAt};
 ghost use Rattle.filterset_report.specs.Library.{IsAboutBinary};
 ghost use Rattle.filterset_report.specs.Lookup.{matches_recorded_group};
-ghost use Rattle.filterset_report.specs.Report.{TestLine, answer_text};
+ghost use Rattle.filterset_report.specs.Lines.{answer_text};
+ghost use Rattle.filterset_report.specs.Report.{TestLine};
 
+use crate::listed::ListedBinary;
 use crate::lookup::RecordLookup;
-use crate::record::{BinaryEntry, TestEntry};
-use filterset_columns::{Column, ColumnExpr, Names};
+use crate::record::BinaryEntry;
+use filterset_columns::{Column, ColumnExpr};
 use nextest_filtering::{BinaryQuery, FlatExpr, TestQuery};
 use std::alloc::{AllocError, Global};
 use std::fmt::Write;
@@ -82,55 +84,19 @@ pub fn push_test_line(
     lines.push_str(line_end(holds))
 }
 
-/// Lists the names of tests. The only error is out of memory.
-fn names_of_tests(alloc: Global, tests: &[TestEntry]) -> Result<Names<'_>, AllocError>
-    ensures { IfOk result (λ names. map (λ name. name.now) (names_of names) ≡ map (λ t. t.name) tests.now) }
-{
-    let mut names = Names::new(alloc);
-    for test in tests {
-        names.push(&test.name)?;
-    }
-    Ok(names)
-}
-
-/// Returns whether the expression matches each of the tests, which are those of the binary that is asked about. The only
-/// error is out of memory.
+/// Returns whether the expression matches each test of the binary that is asked about. The only error is out of memory.
 pub fn answer_tests(
     alloc: Global,
     columns: &mut ColumnExpr<'_>,
     lookup: &RecordLookup<'_>,
     asked: &BinaryQuery<'_>,
-    tests: &[TestEntry],
+    listed: &ListedBinary<'_>,
 ) -> Result<Column, AllocError>
-    ensures answers { IfOk result (λ column. (column.len ≡ length tests.now)
+    ensures answers { IfOk result (λ column. (column.len ≡ length listed.now.binary.now.tests.items)
         × ForItsExpr columns.old (λ background tree. IsLookupOf background.binaries lookup.now
-        → (position : ℕ) (test : TestEntry) → IsAt tests.now position test
+        → (position : ℕ) (test : TestEntry) → IsAt listed.now.binary.now.tests.items position test
         → IsAnswered background tree asked.now test.name (answer_of column position))) }
     ensures same { IsSameExpr columns.old columns.new }
 {
-    let names = names_of_tests(alloc, tests)?;
-    columns.matches_tests(alloc, asked, &names, lookup)
-}
-
-/// Returns how the lines of the tests of a binary begin. The only error is out of memory.
-pub fn head_of(alloc: Global, asked: &BinaryQuery<'_>) -> Result<String, AllocError>
-    ensures { IfOk result (λ head. string_bytes head ≡ codes "  test " ++ (asked.now.binary_id.now ++ codes " ")) }
-{
-    let id = asked.binary_id.as_str();
-    format!(in alloc; "  test {id} ")
-}
-
-/// Adds the line of a test, which begins with `head`.
-pub fn push_answer(
-    lines: &mut String,
-    head: &str,
-    test: &TestEntry,
-    holds: bool,
-) -> Result<(), AllocError>
-    ensures { OnOk result (string_bytes lines.new ≡ string_bytes lines.old
-        ++ (head.now ++ (test.now.name ++ (codes ": " ++ (answer_text (Some holds) ++ codes "\n"))))) }
-{
-    lines.push_str(head)?;
-    lines.push_str(test.name.as_str())?;
-    lines.push_str(line_end(holds))
+    columns.matches_tests(alloc, asked, &listed.names, lookup)
 }

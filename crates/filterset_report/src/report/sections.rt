@@ -1,5 +1,5 @@
 //! Writes what a report says about each filterset.
-ghost use Rattle.std.specs.Prelude.{◌≡◌, ◌++◌, IfOk, List, OnOk, codes, decimal, map, string_bytes};
+ghost use Rattle.std.specs.Prelude.{◌≡◌, ◌++◌, IfOk, List, OnOk, Some, codes, decimal, map, string_bytes};
 ghost use Rattle.filterset_language.specs.Views.{tree_of};
 ghost use Rattle.filterset_faults.specs.declared.kind.FiltersetKind.{FiltersetKind};
 ghost use Rattle.filterset_graph.specs.declared.package.PackageMetadata.{PackageMetadata};
@@ -17,12 +17,13 @@ ghost use Rattle.filterset_report.specs.Report.{Accepted, BinaryLines, Section, 
 ghost use Rattle.filterset_report.specs.Rows.{binary_row, filterset_row, test_row};
 ghost use Rattle.filterset_json.specs.Shape.{Text};
 
+use crate::listed::ListedBinary;
 use crate::lookup::RecordLookup;
 use crate::record::{BinaryEntry, Command, FiltersetEntry};
 use crate::report::faults::push_faults;
-use crate::report::lines::{answer_tests, head_of, push_answer, push_binary_line, push_test_line};
+use crate::report::lines::{answer_tests, push_binary_line, push_test_line};
 use crate::report::setting::{Setting, query_of, test_query_of};
-use filterset_columns::{ColumnExpr, pays_for};
+use filterset_columns::ColumnExpr;
 use nextest_filtering::{BinaryQuery, Filterset, FlatExpr, ParseSingleError, laws};
 use std::alloc::{AllocError, Global};
 use std::fmt::Write;
@@ -30,30 +31,73 @@ use std::fmt::Write;
 /// Binaries with no fewer tests than this are asked by columns: for fewer, a question for each is faster.
 const MANY_TESTS: usize = 32;
 
-/// Adds the lines of a binary: its own, and one for each of its tests. Asks about the binary once, and about many tests by
-/// columns if these pay.
+/// Adds the lines of a binary: its own, and one for each of its tests. Asks about the binary once, and only then about its
+/// tests if they differ.
 fn push_binary(
     lines: &mut String,
     alloc: Global,
     flat: &FlatExpr<'_>,
     columns: &mut ColumnExpr<'_>,
-    columns_pay: bool,
     lookup: &RecordLookup<'_>,
-    binary: &BinaryEntry,
+    listed: &ListedBinary<'_>,
 ) -> Result<(), AllocError>
     ensures lines { OnOk result ((text : Text) × (string_bytes lines.new ≡ string_bytes lines.old ++ text)
         × ForItsColumns flat.now columns.old (λ background tree. IsLookupOf background.binaries lookup.now
-        → BinaryLines background tree (binary_row binary.now) text)) }
+        → BinaryLines background tree (binary_row listed.now.binary.now) text)) }
     ensures same { IsSameExpr columns.old columns.new }
 {
-    let asked = query_of(binary);
+    let asked = query_of(listed.binary);
     let told = flat.matches_binary(alloc, &asked)?;
-    push_binary_line(lines, binary, told)?;
-    let asks_all = columns_pay && told.is_none() && binary.tests.len() >= MANY_TESTS;
-    if asks_all {
-        return push_many_tests(lines, alloc, columns, lookup, &asked, binary);
+    push_binary_line(lines, listed.binary, told)?;
+    push_tests(lines, alloc, flat, columns, lookup, told, &asked, listed)
+}
+
+/// Adds the lines of a binary's tests. The binary has the answer `told`. If that decides the tests, their lines are copied;
+/// if not, many tests are asked about at once, and few one by one.
+fn push_tests(
+    lines: &mut String,
+    alloc: Global,
+    flat: &FlatExpr<'_>,
+    columns: &mut ColumnExpr<'_>,
+    lookup: &RecordLookup<'_>,
+    told: Option<bool>,
+    asked: &BinaryQuery<'_>,
+    listed: &ListedBinary<'_>,
+) -> Result<(), AllocError>
+    requires told { IsTold flat.now asked.now told }
+    requires about { IsAboutBinary asked.now (binary_row listed.now.binary.now) }
+    ensures lines { OnOk result ((text : Text) × (string_bytes lines.new ≡ string_bytes lines.old ++ text)
+        × ForItsColumns flat.now columns.old (λ background tree. IsLookupOf background.binaries lookup.now
+        → Pieces (TestLine background tree (binary_row listed.now.binary.now))
+        (map test_row listed.now.binary.now.tests.items) text)) }
+    ensures same { IsSameExpr columns.old columns.new }
+{
+    if let Some(answer) = told {
+        return push_told_tests(lines, flat, answer, asked, listed);
     }
-    push_few_tests(lines, alloc, flat, lookup, told, &asked, binary)
+    let asks_all = listed.binary.tests.len() >= MANY_TESTS;
+    if asks_all {
+        return push_many_tests(lines, alloc, columns, lookup, asked, listed);
+    }
+    push_few_tests(lines, alloc, flat, lookup, told, asked, listed.binary)
+}
+
+/// Adds the lines of a binary's tests, which all have the answer of the binary.
+fn push_told_tests(
+    lines: &mut String,
+    flat: &FlatExpr<'_>,
+    answer: bool,
+    asked: &BinaryQuery<'_>,
+    listed: &ListedBinary<'_>,
+) -> Result<(), AllocError>
+    requires told { IsTold flat.now asked.now (Some answer) }
+    requires about { IsAboutBinary asked.now (binary_row listed.now.binary.now) }
+    ensures { OnOk result ((text : Text) × (string_bytes lines.new ≡ string_bytes lines.old ++ text)
+        × ForItsTree flat.now (λ background tree.
+        Pieces (TestLine background tree (binary_row listed.now.binary.now))
+        (map test_row listed.now.binary.now.tests.items) text)) }
+{
+    lines.push_str(listed.lines_between(answer, 0, listed.binary.tests.len()))
 }
 
 /// Adds the lines of a binary's tests, and asks for each. The binary has the answer `told`.
@@ -84,8 +128,8 @@ fn push_few_tests<'a>(
     Ok(())
 }
 
-/// Adds the lines of a binary's tests, and asks for all of them at once. It is not inlined, which would slow down the
-/// questions for few tests.
+/// Adds the lines of a binary's tests, and asks for all of them at once. Copies the lines of tests in a row that have the
+/// same answer together. It is not inlined, which would slow down the questions for few tests.
 #[inline(never)]
 fn push_many_tests(
     lines: &mut String,
@@ -93,18 +137,21 @@ fn push_many_tests(
     columns: &mut ColumnExpr<'_>,
     lookup: &RecordLookup<'_>,
     asked: &BinaryQuery<'_>,
-    binary: &BinaryEntry,
+    listed: &ListedBinary<'_>,
 ) -> Result<(), AllocError>
-    requires about { IsAboutBinary asked.now (binary_row binary.now) }
+    requires about { IsAboutBinary asked.now (binary_row listed.now.binary.now) }
     ensures lines { OnOk result ((text : Text) × (string_bytes lines.new ≡ string_bytes lines.old ++ text)
         × ForItsExpr columns.old (λ background tree. IsLookupOf background.binaries lookup.now
-        → Pieces (TestLine background tree (binary_row binary.now)) (map test_row binary.now.tests.items) text)) }
+        → Pieces (TestLine background tree (binary_row listed.now.binary.now))
+        (map test_row listed.now.binary.now.tests.items) text)) }
     ensures same { IsSameExpr columns.old columns.new }
 {
-    let column = answer_tests(alloc, columns, lookup, asked, &binary.tests)?;
-    let head = head_of(alloc, asked)?;
-    for (position, test) in binary.tests.iter().enumerate() {
-        push_answer(lines, &head, test, column.get(position))?;
+    let column = answer_tests(alloc, columns, lookup, asked, listed)?;
+    let mut position = 0;
+    while position < column.len() {
+        let end = column.run_end(position);
+        lines.push_str(listed.lines_between(column.get(position), position, end))?;
+        position = end;
     }
     Ok(())
 }
@@ -115,15 +162,14 @@ fn push_answers(
     alloc: Global,
     flat: &FlatExpr<'_>,
     columns: &mut ColumnExpr<'_>,
-    columns_pay: bool,
     lookup: &RecordLookup<'_>,
 ) -> Result<(), AllocError>
     ensures { OnOk result ((text : Text) × (string_bytes lines.new ≡ string_bytes lines.old ++ text)
         × ForItsColumns flat.now columns.old (λ background tree. IsLookupOf background.binaries lookup.now
         → Pieces (BinaryLines background tree) background.binaries text)) }
 {
-    for binary in lookup.binaries {
-        push_binary(lines, alloc, flat, columns, columns_pay, lookup, binary)?;
+    for listed in &lookup.listed {
+        push_binary(lines, alloc, flat, columns, lookup, listed)?;
     }
     Ok(())
 }
@@ -148,15 +194,7 @@ fn push_asked(
     }
     let flat = FlatExpr::new(alloc, &filterset.compiled, &setting.eval_context)?;
     let mut columns = ColumnExpr::new(alloc, &filterset.compiled, setting.eval_context);
-    let columns_pay = pays_for(&filterset.compiled);
-    push_answers(
-        lines,
-        alloc,
-        &flat,
-        &mut columns,
-        columns_pay,
-        &setting.lookup,
-    )
+    push_answers(lines, alloc, &flat, &mut columns, &setting.lookup)
 }
 
 /// Adds the line of an accepted filterset: `done` says what was done with it, before its text as it prints.

@@ -22,13 +22,14 @@ pub returns-clause-answers : goal.returns-clause-answers
 returns-clause-answers c =
     let columns = c.args.columns.now in
     let asked = c.args.asked.now in
-    let tests = c.args.tests.now in
-    let names = names_of c.in_ok-names.names in
+    let listed_tests = c.args.listed.now in
+    let tests = listed_tests.binary.now.tests.items in
+    let names = names_of listed_tests.names in
     let answered = c.matches_tests.result in
     let recorded = subst (λ (lookup : Lookup). IfOk answered (λ column. (packages : List PackageMetadata) (e : Tree SourceSpan)
     → IsCompiled packages e (expr_of columns) → Answered column names (λ name. Meaning e packages (test_of asked name) (default_filter_of columns) lookup)))
     (reads-GroupLookup-matches_group-1-1 _ c.args.lookup) c.matches_tests.ensures.meaning in
-    let listed : map (λ (name : Bor TestCaseName). name.now) names ≡ map (λ (t : TestEntry). t.name) tests = c.in_ok-names.ensures in
+    let listed : map (λ (name : Bor TestCaseName). name.now) names ≡ map (λ (t : TestEntry). t.name) tests = listed_tests.named in
     let counted : length names ≡ length tests = same_length (λ (name : Bor TestCaseName). name.now) (λ (t : TestEntry). t.name) names tests listed in
     let lens = IfOk-weaker answered _ (λ column. column.len ≡ length tests) (λ column holds. holds.counted ∙ counted) c.matches_tests.ensures.holds in
     both_ok answered _ _ _ (λ column len means. (

@@ -1,5 +1,5 @@
 use Rattle.std.proofs.Common.{rules, ◌≡◌, ◌++◌, Err, List, Ok, Some, OnOk, Result, append_assoc, cond, codes, is_ok, refl, string_bytes, ◌∙◌, ℕ}
-use Rattle.filterset_report.specs.Report.{answer_text}
+use Rattle.filterset_report.specs.Lines.{answer_text}
 use Rattle.filterset_report.proofs.report.lines.push_test_line.Goals as goal
 
 -- what follows of a text that is as wanted where a call succeeds

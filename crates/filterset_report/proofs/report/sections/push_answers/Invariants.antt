@@ -7,9 +7,9 @@ use Rattle.filterset_report.specs.Rows.{binary_row}
 use Rattle.filterset_report.proofs.report.sections.push_answers.Given as goal
 
 -- the lines of the binaries so far were added
-abbrev pub invariant-loop-binary : goal.invariant-loop-binary
-invariant-loop-binary l =
+abbrev pub invariant-loop-listed : goal.invariant-loop-listed
+invariant-loop-listed l =
     (text : Text) × (string_bytes l.lines ≡ string_bytes l.initial.lines ++ text)
     × ForItsColumns l.flat l.initial.columns (λ background tree. IsLookupOf background.binaries l.lookup
-    → Pieces (BinaryLines background tree) (map binary_row (take l.binary-index l.lookup.binaries.now)) text)
+    → Pieces (BinaryLines background tree) (map (λ b. binary_row b.binary.now) (take l.listed-index l.lookup.listed.items)) text)
     × IsSameExpr l.initial.columns l.columns

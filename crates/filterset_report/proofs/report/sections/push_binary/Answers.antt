@@ -6,7 +6,7 @@ use Rattle.filterset_expression.specs.declared.query.BinaryQuery.{BinaryQuery}
 use Rattle.filterset_faults.specs.declared.span.SourceSpan.{SourceSpan}
 use Rattle.filterset_grammar.specs.Tree.{Tree}
 use Rattle.filterset_report.specs.Library.{Background}
-use Rattle.filterset_report.specs.Report.{answer_text}
+use Rattle.filterset_report.specs.Lines.{answer_text}
 use Rattle.filterset_io.proofs.PieceLemmas.{added_twice}
 use Rattle.filterset_report.proofs.report.sections.push_binary.Goals as goal
 
@@ -18,30 +18,11 @@ told_of_binary : (background : Background) (tree : Tree SourceSpan) (query : Bin
 told_of_binary background tree query (Some b) definite undecided = (definite b).0 refl
 told_of_binary background tree query None definite undecided = undecided.0 refl
 
-pub returns-then-asks_all-clause-lines : goal.returns-then-asks_all-clause-lines
-returns-then-asks_all-clause-lines c =
-    let told = c.in_ok-told.told in
-    let own = codes "  binary " ++ (c.args.binary.now.id ++ (codes ": " ++ (answer_text told ++ codes "\n"))) in
-    on_ok_weaker c.push_many_tests.result (λ others. (
-      own ++ others.0,
-      added_twice _ _ _ _ _ c.in_ok-push_binary_line.ensures others.1,
-      λ background tree is compiled of_default of_binaries. (
-        c.query_of-asked.result,
-        told,
-        others.0,
-        c.query_of-asked.ensures,
-        others.2 background tree compiled of_default of_binaries,
-        told_of_binary background tree c.query_of-asked.result told
-            (c.in_ok-told.ensures.meaning background.packages tree background.default is) (c.in_ok-told.ensures.unknown background.packages tree background.default is),
-        refl,
-      ),
-    )) c.push_many_tests.ensures.lines
-
 pub returns-clause-lines : goal.returns-clause-lines
 returns-clause-lines c =
     let told = c.in_ok-told.told in
-    let own = codes "  binary " ++ (c.args.binary.now.id ++ (codes ": " ++ (answer_text told ++ codes "\n"))) in
-    on_ok_weaker c.push_few_tests.result (λ others. (
+    let own = codes "  binary " ++ (c.args.listed.now.binary.now.id ++ (codes ": " ++ (answer_text told ++ codes "\n"))) in
+    on_ok_weaker c.push_tests.result (λ others. (
       own ++ others.0,
       added_twice _ _ _ _ _ c.in_ok-push_binary_line.ensures others.1,
       λ background tree is compiled of_default of_binaries. (
@@ -49,9 +30,9 @@ returns-clause-lines c =
         told,
         others.0,
         c.query_of-asked.ensures,
-        others.2 background tree is of_binaries,
+        others.2 background tree is compiled of_default of_binaries,
         told_of_binary background tree c.query_of-asked.result told
             (c.in_ok-told.ensures.meaning background.packages tree background.default is) (c.in_ok-told.ensures.unknown background.packages tree background.default is),
         refl,
       ),
-    )) c.push_few_tests.ensures
+    )) c.push_tests.ensures.lines
