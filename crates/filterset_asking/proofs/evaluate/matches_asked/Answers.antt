@@ -8,5 +8,5 @@ pub returns : goal.returns
 returns c =
     let test = c.args.test.now in
     subst (λ (Says : Type 0). IfOk c.evaluate.result (λ answer. IsTrue answer ↔ Says))
-        (sym (truth-replaced (HoldsOfTest (query_of test) (in_group test.group.now)) (leaf_with_default c.args.default.now) (formula c.args.expr.now)))
-        c.evaluate.ensures
+    (sym (truth-replaced (HoldsOfTest (query_of test) (in_group test.group.now)) (leaf_with_default c.args.default.now) (formula c.args.expr.now)))
+    c.evaluate.ensures
