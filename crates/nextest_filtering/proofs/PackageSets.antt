@@ -7,11 +7,13 @@ use Rattle.std.specs.declared.cmp.Ordering.TheVariants.{Less, Equal, Greater}
 use Rattle.std.specs.Cmp.Lexicographic.{slice_cmp}
 use Rattle.std.specs.Ordering.{nat_cmp, is_eq}
 use Rattle.std.specs.Global.{Global}
+use Rattle.std.specs.Str.Iter.{HasSubslice}
 use Rattle.std.proofs.lemmas.Cmp.{nat_list_cmp_total}
 use Rattle.std.proofs.lemmas.List.Elements.{Contains-append_left, Contains-append_right, Contains-append_cases}
 use Rattle.std.proofs.lemmas.Map.Text.{is_eq-slice_cmp}
 use Rattle.std.proofs.lemmas.Map.Views.{btree_set_contains_from_list, btree_set_contains_iff}
 use Rattle.std.proofs.lemmas.Slice.Eq.{bytes_eq-Decides}
+use Rattle.std.proofs.lemmas.Str.{IsUtf8-string_bytes}
 use Rattle.std.proofs.lemmas.Option.{same_Some, slice_get_within}
 use Rattle.std.proofs.lemmas.Bool.{cases_lt}
 use Rattle.filterset_graph.proofs.Rows.{pushed_at, pushed_keeps, pushed_cases}
@@ -23,7 +25,10 @@ use Rattle.filterset_graph.specs.declared.package.PackageMetadata.{PackageMetada
 use Rattle.filterset_matchers.specs.Matcher.{Matcher, MatchesName}
 use Rattle.filterset_expression.specs.Meaning.{IsMember, IsNamed, IsPackage, IsDependency, IsDependent}
 use Rattle.nextest_filtering.specs.Binaries.{members_of}
-use Rattle.nextest_filtering.specs.PackageMarks.{IsNamedAt, MarksNamed, IsMarkedMember}
+use Rattle.nextest_filtering.specs.PackageMarks.{IsMatchAt, HasNamed, IsNamedAt, MarksNamed, IsMarkedMember}
+use Rattle.nextest_filtering.specs.Candidates.{AreCandidates}
+use Rattle.nextest_filtering.specs.Joined.{name_of}
+use Rattle.nextest_filtering.proofs.Those.{those_found, those_items}
 use Rattle.nextest_filtering.proofs.Members.{none_in, first, later, first_or_later, kept, from_filter}
 
 -- ---- a set with one id more
@@ -220,11 +225,6 @@ module _ (Gives : ℕ → List ℕ → Type 0) where
     pub all_given : ((k : ℕ) (id : List ℕ) → Gives k id → k < n) → (id : List ℕ) → Contains keys id ↔ ((k : ℕ) × Gives k id)
     all_given within id = ((λ c. let is = (so_far id).0 c in (is.0, is.2)), (λ g. (so_far id).1 (g.0, within g.0 id g.1, g.1)))
 
--- at this position stands a package with this id whose name the matcher matches
-abbrev pub IsMatchAt : List (Bor PackageMetadata) → Matcher → ℕ → List ℕ → Type 0
-IsMatchAt packages matcher k id =
-    (p : Bor PackageMetadata) × (slice_get packages k ≡ Some p) × MatchesName matcher (string_bytes p.now.name) × (p.now.id ≡ id)
-
 -- over the packages of the workspace, these are the ids of those that are named
 pub match_members : (packages : List PackageMetadata) (matcher : Matcher) (members : List (Bor PackageMetadata)) → map (λ (p : Bor PackageMetadata). p.now) members ≡ members_of packages
     → (id : List ℕ) → ((k : ℕ) × IsMatchAt members matcher k id) ↔ IsPackage packages matcher id
@@ -244,6 +244,27 @@ match_members packages matcher members are id = (to, from)
         let at = position_from_Contains _ p (subst (λ (ps : List PackageMetadata). Contains ps p) (sym are) c) in
         let m = element_from_mapped (λ (q : Bor PackageMetadata). q.now) members at.0 p at.1 in
         (at.0, (m.0, m.1, subst (λ (q : PackageMetadata). MatchesName matcher (string_bytes q.name)) (sym m.2) is.1.1, ap (λ (q : PackageMetadata). q.id) m.2 ∙ is.2))
+
+-- what is named among candidates is named among all
+pub match_candidates : (packages found : List (Bor PackageMetadata)) (matcher : Matcher) (id : List ℕ) → AreCandidates packages matcher found
+    → HasNamed found matcher id ↔ HasNamed packages matcher id
+match_candidates packages found matcher id are = (to, from)
+  where
+    has : Bor PackageMetadata → Type 0
+    has p = HasSubslice (name_of p) are.text
+
+    to : HasNamed found matcher id → HasNamed packages matcher id
+    to is =
+        let p = is.1.0 in
+        let at = position_from_Contains packages p (those_items has packages found p are.those (Contains-from_position found p is.0 is.1.1)) in
+        (at.0, (p, at.1, is.1.2, is.1.3))
+
+    from : HasNamed packages matcher id → HasNamed found matcher id
+    from is =
+        let p = is.1.0 in
+        let has_text = are.stands (name_of p) (IsUtf8-string_bytes p.now.name) is.1.2 in
+        let at = position_from_Contains found p (those_found has packages found p are.those (Contains-from_position packages p is.0 is.1.1) has_text) in
+        (at.0, (p, at.1, is.1.2, is.1.3))
 
 -- one mark more
 pub marked_one_more : (packages : List PackageMetadata) (matcher : Matcher) (marks : List Bool) (n : ℕ) (mark : Bool) → length marks ≡ n

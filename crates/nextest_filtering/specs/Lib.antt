@@ -2,6 +2,9 @@ pub mod Equality
 pub mod Groups
 pub mod Bans
 pub mod Binaries
+pub mod Candidates
+pub mod Hits
+pub mod Joined
 pub mod PackageMarks
 pub mod ReadyMatchers
 pub mod Checks

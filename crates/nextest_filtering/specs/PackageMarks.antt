@@ -1,5 +1,6 @@
--- Packages that are marked by their positions.
+-- Packages that are named or marked by their positions.
 use Rattle.std.specs.Prelude.{◌≡◌, ◌↔◌, ℕ, Bool, List, Some, IsTrue, slice_get, string_bytes}
+use Rattle.std.specs.Borrow.{Bor}
 use Rattle.filterset_graph.specs.Walks.{IsMarked}
 use Rattle.filterset_graph.specs.declared.package.PackageMetadata.{PackageMetadata}
 use Rattle.filterset_matchers.specs.Matcher.{Matcher, MatchesName}
@@ -12,6 +13,15 @@ IsNamedAt packages matcher k =
 -- exactly the positions of such packages are marked
 abbrev pub MarksNamed : List PackageMetadata → Matcher → List Bool → Type 0
 MarksNamed packages matcher marks = (k : ℕ) → IsMarked marks k ↔ IsNamedAt packages matcher k
+
+-- at the position stands a package with this id whose name the matcher matches
+abbrev pub IsMatchAt : List (Bor PackageMetadata) → Matcher → ℕ → List ℕ → Type 0
+IsMatchAt packages matcher k id =
+    (p : Bor PackageMetadata) × (slice_get packages k ≡ Some p) × MatchesName matcher (string_bytes p.now.name) × (p.now.id ≡ id)
+
+-- one of these packages has this id, and a name that the matcher matches
+abbrev pub HasNamed : List (Bor PackageMetadata) → Matcher → List ℕ → Type 0
+HasNamed packages matcher id = (k : ℕ) × IsMatchAt packages matcher k id
 
 -- the position is marked, and its package has this id and is of the workspace
 abbrev pub IsMarkedMemberAt : List PackageMetadata → List Bool → ℕ → List ℕ → Type 0

@@ -17,9 +17,12 @@ use filterset_language::{ParseStop, ParsedExpr, ParsedLeaf};
 use std::alloc::{AllocError, Global};
 
 mod bans;
+mod candidates;
 mod checks;
 mod context;
 mod leaves;
+mod literal;
+mod members;
 mod packages;
 mod ready;
 

@@ -3,6 +3,7 @@ ghost use Rattle.std.specs.Prelude.{◌≡◌, ◌++◌, IfOk, OnOk, map, string
 ghost use Rattle.std.specs.List.{flat_map};
 ghost use Rattle.nextest_filtering.specs.Binaries.{binaries_of, name_and_id, binary_with, members_of, test_binaries};
 
+use crate::compile::members::Members;
 use filterset_graph::{
     BuildTarget, PackageGraph, PackageMetadata, RustBinaryId, RustTestBinaryKind,
 };
@@ -20,11 +21,11 @@ pub(super) struct TestBinary<'g> {
 #[derive(Debug)]
 pub struct ParseContext<'g> {
     graph: &'g PackageGraph,
-    /// The packages of the workspace, in the graph's order.
-    members: Vec<&'g PackageMetadata>,
+    /// The packages of the workspace.
+    members: Members<'g>,
     /// Their test binaries.
     binaries: Vec<TestBinary<'g>>,
-    ghost members_are: { map (λ p. p.now) members.items ≡ members_of graph.now },
+    ghost members_are: { map (λ p. p.now) members.packages.items ≡ members_of graph.now },
     ghost binaries_are: { map name_and_id binaries.items ≡ test_binaries graph.now },
 }
 
@@ -42,13 +43,14 @@ impl Drop for ParseContext<'_> {
 impl<'g> ParseContext<'g> {
     ghost use Rattle.nextest_filtering.specs.Compiling.{packages_of};
 
-    /// Returns the context over these packages. It lists the packages of the workspace and their test binaries, once for
-    /// all filtersets. The only error is out of memory.
+    /// Returns the context over these packages. It lists the packages of the workspace, their names and their test
+    /// binaries, once for all filtersets. The only error is out of memory.
     pub fn new(alloc: Global, graph: &'g PackageGraph) -> Result<ParseContext<'g>, AllocError>
         ensures { IfOk result (λ cx. packages_of cx ≡ graph.now) }
     {
-        let members = list_members(alloc, graph.packages())?;
-        let binaries = list_binaries(alloc, &members)?;
+        let packages = list_members(alloc, graph.packages())?;
+        let members = Members::new(alloc, packages)?;
+        let binaries = list_binaries(alloc, members.packages())?;
         Ok(ParseContext {
             graph,
             members,
@@ -64,8 +66,8 @@ impl<'g> ParseContext<'g> {
     }
 
     /// Returns the packages of the workspace, in the graph's order.
-    pub(super) fn members(&self) -> &[&'g PackageMetadata]
-        ensures { map (λ p. p.now) result.now ≡ members_of (packages_of self.now) }
+    pub(super) fn members(&self) -> &Members<'g>
+        ensures { map (λ p. p.now) result.now.packages.items ≡ members_of (packages_of self.now) }
     {
         &self.members
     }

@@ -2,9 +2,10 @@
 ghost use Rattle.std.specs.Prelude.{◌≡◌, ◌↔◌, ℕ, Contains, IfOk, List, length, vec_len};
 ghost use Rattle.filterset_matchers.specs.Matchers.{matcher_of};
 ghost use Rattle.filterset_expression.specs.Meaning.{IsDependency, IsDependent, IsPackage};
-ghost use Rattle.nextest_filtering.specs.PackageMarks.{IsMarkedMember, MarksNamed};
+ghost use Rattle.nextest_filtering.specs.PackageMarks.{HasNamed, IsMarkedMember, MarksNamed};
 ghost use Rattle.nextest_filtering.specs.Compiling.{packages_of};
 
+use crate::compile::candidates::list_candidates;
 use crate::compile::context::ParseContext;
 use crate::compile::ready::ReadyMatcher;
 use filterset_graph::{PackageId, PackageMetadata};
@@ -21,10 +22,25 @@ pub(super) fn select_named(
     ensures { IfOk result (λ ids. (id : List ℕ) → Contains ids.keys id
         ↔ IsPackage (packages_of cx.now) (matcher_of matcher.now) id) }
 {
+    let members = cx.members();
+    match list_candidates(alloc, members, matcher)? {
+        Some(candidates) => select_among(alloc, &candidates, matcher),
+        None => select_among(alloc, members.packages(), matcher),
+    }
+}
+
+/// Returns those of these packages whose names match.
+fn select_among(
+    alloc: Global,
+    packages: &[&PackageMetadata],
+    matcher: &NameMatcher,
+) -> Result<BTreeSet<PackageId>, AllocError>
+    ensures { IfOk result (λ ids. (id : List ℕ) → Contains ids.keys id
+        ↔ HasNamed packages.now (matcher_of matcher.now) id) }
+{
     let mut ready = ReadyMatcher::new(alloc, matcher)?;
     let mut ids = BTreeSet::new(alloc);
-    let members = cx.members();
-    for package in members {
+    for package in packages {
         if ready.matches(alloc, package.name())? {
             ids.insert(package.id.try_clone(alloc)?)?;
         }

@@ -1,47 +1,27 @@
-use Rattle.std.proofs.Common.{◌≡◌, ◌<◌, Bor, length, refl, sym, ◌∙◌, ap, subst, true, arith}
-use Rattle.std.specs.Prelude.{Some, slice_get, string_bytes}
-use Rattle.std.proofs.lemmas.Option.{slice_get_within, slice_get-get_or, same_Some}
+use Rattle.std.proofs.Common.{Bor, List, ℕ, subst}
+use Rattle.std.proofs.lemmas.Result.{IfOk-weaker}
 use Rattle.filterset_graph.specs.declared.package.PackageMetadata.{PackageMetadata}
-use Rattle.filterset_matchers.specs.Matcher.{Matcher, MatchesName}
 use Rattle.filterset_matchers.specs.Matchers.{matcher_of}
+use Rattle.nextest_filtering.specs.Candidates.{AreCandidates}
 use Rattle.nextest_filtering.specs.Compiling.{packages_of}
-use Rattle.nextest_filtering.proofs.PackageSets.{IsMatchAt, none_given, one_given, passed_over, all_given, match_members}
+use Rattle.nextest_filtering.proofs.PackageSets.{match_candidates, match_members}
 use Rattle.nextest_filtering.proofs.compile.packages.select_named.Goals as goal
-use Rattle.nextest_filtering.proofs.compile.packages.select_named.Goals.{then-branch+in_ok-try_clone+in_ok-insert, else-branch}
 
-pub loop-package-init : goal.loop-package-init
-loop-package-init c =
-    (c.in_ok-ready.ensures, none_given (IsMatchAt c.members-members.result.now (matcher_of c.args.matcher.now)) c.new-ids.result.keys c.new-ids.ensures.empty)
-
-pub loop-package-preserved : goal.loop-package-preserved
-loop-package-preserved c =
-    let members = c.members-members.result.now in
+pub returns-in-Some : goal.returns-in-Some
+returns-in-Some c =
     let matcher = matcher_of c.args.matcher.now in
-    let n = c.loop-package.package-index in
-    let p = c.package-item.result in
-    let gives = IsMatchAt members matcher in
-    let at : slice_get members n ≡ Some p = slice_get-get_or members n p c.loop-package-test.true ∙ ap (λ (q : Bor PackageMetadata). Some q) (sym c.package-item.is) in
-    let so_far = c.loop-package.invariant.1 in (
-      c.matches.ensures.same ∙ c.loop-package.invariant.0,
-      elim c.if-branch.branch [
-        | then-branch+in_ok-try_clone+in_ok-insert w ↦
-            let matched = subst (MatchesName matcher) c.name.ensures (subst (λ (m : Matcher). MatchesName m c.name.result.now) c.loop-package.invariant.0 (c.in_ok-matches.ensures.matches.0 w.if-branch.true)) in
-            rw w.ids-is (one_given gives c.loop-package.ids.keys n so_far _ p.now.id (rw (← w.in_ok-try_clone.ensures) w.in_ok-insert.ensures.keys)
-            (p, at, matched, refl) (λ id is. ap (λ (q : Bor PackageMetadata). q.now.id) (same_Some p is.0 (sym at ∙ is.1)) ∙ is.3))
-        | else-branch w ↦
-            rw w.ids-is (passed_over gives c.loop-package.ids.keys n so_far (λ id is.
-            let same : p ≡ is.0 = same_Some p is.0 (sym at ∙ is.1) in
-            let matched = subst (λ (q : Bor PackageMetadata). MatchesName matcher (string_bytes q.now.name)) (sym same) is.2 in
-            let h : c.in_ok-matches.field-0 ≡ true = c.in_ok-matches.ensures.matches.1 (subst (λ (m : Matcher). MatchesName m c.name.result.now) (sym c.loop-package.invariant.0) (subst (MatchesName matcher) (sym c.name.ensures) matched)) in
-            let e = w.if-branch.false in cc))
-      ],
-    )
+    let members = c.members-members.result.now.packages.items in
+    let candidates = rw c.in-Some.is at c.in_ok-candidates.ensures in
+    let among : AreCandidates members matcher c.deref.result.now = rw c.deref.ensures.value candidates in
+    IfOk-weaker c.select_among.result _ _ (λ ids are id.
+    let found = match_candidates members c.deref.result.now matcher id among in
+    let named = match_members (packages_of c.args.cx.now) matcher members c.members-members.ensures id in
+    ((λ has. named.0 (found.0 ((are id).0 has))), (λ is. (are id).1 (found.1 (named.1 is))))) c.select_among.ensures
 
-pub returns : goal.returns
-returns c = λ id.
-    let members = c.members-members.result.now in
+pub returns-in-None : goal.returns-in-None
+returns-in-None c =
     let matcher = matcher_of c.args.matcher.now in
-    let all = all_given (IsMatchAt members matcher) c.loop-package.ids.keys c.loop-package.package-index c.loop-package.invariant.1
-    (λ k id is. let within : k < length members = slice_get_within members k is.0 is.1 in omega (arith, within, c.loop-package-test.false)) id in
-    let are = match_members (packages_of c.args.cx.now) matcher members c.members-members.ensures id in
-    ((λ has. are.0 (all.0 has)), (λ is. all.1 (are.1 is)))
+    let members = c.members-members.result.now.packages.items in
+    IfOk-weaker c.select_among-in-None.result _ _ (λ ids are id.
+    let named = match_members (packages_of c.args.cx.now) matcher c.packages.result.now (rw c.packages.ensures c.members-members.ensures) id in
+    ((λ has. named.0 ((are id).0 has)), (λ is. (are id).1 (named.1 is)))) c.select_among-in-None.ensures

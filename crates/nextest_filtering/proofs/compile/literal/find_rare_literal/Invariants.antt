@@ -1,0 +1,11 @@
+use Rattle.std.specs.Prelude.{take, string_bytes}
+use Rattle.filterset_glob.specs.Tokens.{tokens_of}
+use Rattle.filterset_matchers.specs.Literals.{EndsEach, StandsInEach}
+use Rattle.nextest_filtering.proofs.compile.literal.find_rare_literal.Given as goal
+
+-- each text that the tokens so far match ends in the run, and the longest run stands in it
+abbrev pub invariant-loop-token : goal.invariant-loop-token
+invariant-loop-token l = record {
+  ends : EndsEach (tokens_of (take l.token-index l.tokens)) (string_bytes l.run);
+  stands : StandsInEach (tokens_of (take l.token-index l.tokens)) (string_bytes l.longest);
+}
