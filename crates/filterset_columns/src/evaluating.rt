@@ -11,9 +11,10 @@ ghost use Rattle.filterset_expression.specs.Meaning.{IsCompiled, Meaning};
 ghost use Rattle.filterset_columns.specs.Columns.{answer_of, names_of, test_of, Answered, AnsweredWhere};
 
 use crate::column::Column;
+use crate::groups::PlacedLookup;
 use crate::names::Names;
 use crate::search::{Searchers, search_groups, search_names};
-use filterset_expression::{BinaryQuery, CompiledExpr, Connective, FiltersetLeaf, GroupLookup};
+use filterset_expression::{BinaryQuery, CompiledExpr, Connective, FiltersetLeaf};
 use filterset_matchers::NameMatcher;
 use std::alloc::{AllocError, Global};
 
@@ -105,7 +106,7 @@ fn evaluate_leaf<'a>(
     leaf: &'a FiltersetLeaf,
     query: &BinaryQuery<'_>,
     names: &Names<'_>,
-    groups: &dyn GroupLookup,
+    groups: &dyn PlacedLookup,
     default: &DefaultAnswers<'_>,
     wanted: &Column,
     searchers: &mut Searchers<'a>,
@@ -138,7 +139,7 @@ fn evaluate_where<'a>(
     expr: &'a CompiledExpr,
     query: &BinaryQuery<'_>,
     names: &Names<'_>,
-    groups: &dyn GroupLookup,
+    groups: &dyn PlacedLookup,
     default: &DefaultAnswers<'_>,
     wanted: &Column,
     searchers: &mut Searchers<'a>,
@@ -207,7 +208,7 @@ pub(crate) fn evaluate<'a>(
     expr: &'a CompiledExpr,
     query: &BinaryQuery<'_>,
     names: &Names<'_>,
-    groups: &dyn GroupLookup,
+    groups: &dyn PlacedLookup,
     default: &DefaultAnswers<'_>,
     searchers: &mut Searchers<'a>,
 ) -> Result<Column, AllocError>
@@ -230,7 +231,7 @@ pub(crate) fn evaluate_itself<'a>(
     expr: &'a CompiledExpr,
     query: &BinaryQuery<'_>,
     names: &Names<'_>,
-    groups: &dyn GroupLookup,
+    groups: &dyn PlacedLookup,
     searchers: &mut Searchers<'a>,
 ) -> Result<Column, AllocError>
     ensures { IfOk result (λ column. Answered column (names_of names.now) (λ name.

@@ -9,9 +9,10 @@ ghost use Rattle.filterset_expression.specs.Meaning.{IsCompiled, Meaning};
 
 use crate::column::Column;
 use crate::evaluating::{DefaultAnswers, evaluate, evaluate_itself};
+use crate::groups::PlacedLookup;
 use crate::names::Names;
 use crate::search::Searchers;
-use filterset_expression::{BinaryQuery, CompiledExpr, EvalContext, GroupLookup};
+use filterset_expression::{BinaryQuery, CompiledExpr, EvalContext};
 use std::alloc::{AllocError, Global};
 
 /// An expression to evaluate for all tests of a binary at once. It keeps what it prepares for names from one binary to the
@@ -49,7 +50,7 @@ impl<'a> ColumnExpr<'a> {
         alloc: Global,
         query: &BinaryQuery<'_>,
         names: &Names<'_>,
-        groups: &dyn GroupLookup,
+        groups: &dyn PlacedLookup,
     ) -> Result<Column, AllocError>
         ensures holds { IfOk result (λ column. Answered column (names_of names.now) (λ name.
             Holds (expr_of self.old) (test_of query.now name) (default_filter_of self.old) (matches_group groups.now))) }
@@ -89,7 +90,7 @@ impl<'a> ColumnExpr<'a> {
         alloc: Global,
         query: &BinaryQuery<'_>,
         names: &Names<'_>,
-        groups: &dyn GroupLookup,
+        groups: &dyn PlacedLookup,
     ) -> Result<Column, AllocError>
         ensures holds { IfOk result (λ column. Answered column (names_of names.now) (λ name.
             Holds (expr_of self.old) (test_of query.now name) (default_filter_of self.old) (matches_group groups.now))) }

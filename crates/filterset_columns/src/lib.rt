@@ -5,10 +5,13 @@ mod bits;
 mod column;
 mod evaluating;
 mod expression;
+mod groups;
 mod hits;
 mod names;
 mod search;
 
 pub use column::Column;
 pub use expression::ColumnExpr;
+pub use groups::PlacedLookup;
 pub use names::Names;
+pub use search::Searchers;

@@ -8,9 +8,10 @@ ghost use Rattle.filterset_columns.specs.Searching.{AnsweredSoFar};
 
 use crate::bits::Bits;
 use crate::column::Column;
+use crate::groups::PlacedLookup;
 use crate::hits::{Place, next_hit};
 use crate::names::Names;
-use filterset_expression::{BinaryQuery, CompiledExpr, FiltersetLeaf, GroupLookup, TestQuery};
+use filterset_expression::{BinaryQuery, CompiledExpr, FiltersetLeaf, TestQuery};
 use filterset_matchers::{GlobMatcher, NameMatcher, PatternMatcher};
 use memchr::memmem::Finder;
 use std::alloc::{AllocError, Global};
@@ -84,7 +85,7 @@ impl<'a> Searcher<'a> {
 /// The searchers of an expression's `test` leaves, which are kept from one binary to the next. A searcher knows its
 /// matcher, so no answer depends on what is kept.
 #[derive(Drop)]
-pub(crate) struct Searchers<'a> {
+pub struct Searchers<'a> {
     kept: Vec<Option<Searcher<'a>>>,
     /// The place of the next leaf among the `test` leaves.
     next: usize,
@@ -94,7 +95,7 @@ impl<'a> Searchers<'a> {
     ghost use Rattle.filterset_columns.specs.Searching.{Finds};
 
     /// Keeps nothing.
-    pub(crate) fn new(alloc: Global) -> Searchers<'a> {
+    pub fn new(alloc: Global) -> Searchers<'a> {
         Searchers {
             kept: Vec::new(alloc),
             next: 0,
@@ -102,12 +103,12 @@ impl<'a> Searchers<'a> {
     }
 
     /// Begins again with the first leaf.
-    pub(crate) fn rewind(&mut self) {
+    pub fn rewind(&mut self) {
         self.next = 0;
     }
 
     /// Passes over the `test` leaves of an expression.
-    pub(crate) fn pass(&mut self, expr: &CompiledExpr) {
+    pub fn pass(&mut self, expr: &CompiledExpr) {
         match expr {
             CompiledExpr::Not(operand) => self.pass(operand),
             CompiledExpr::Union(left, right)
@@ -124,6 +125,40 @@ impl<'a> Searchers<'a> {
     /// Goes on to the next leaf.
     fn advance(&mut self) {
         self.next = self.next.saturating_add(1);
+    }
+
+    /// Returns whether the matcher of the next leaf matches a name, and goes on to the leaf after it. The only error is out of
+    /// memory.
+    pub fn search(
+        &mut self,
+        alloc: Global,
+        matcher: &'a NameMatcher,
+        name: &str,
+    ) -> Result<bool, AllocError>
+        ensures { IfOk result (λ found. IsTrue found ↔ MatchesName (matcher_of matcher.now) name.now) }
+    {
+        match matcher {
+            NameMatcher::Equal { .. } | NameMatcher::Contains { .. } => {
+                self.advance();
+                matcher.is_match(alloc, name)
+            }
+            _ => self.search_prepared(alloc, matcher, name),
+        }
+    }
+
+    /// Does the same by a searcher that is kept.
+    fn search_prepared(
+        &mut self,
+        alloc: Global,
+        matcher: &'a NameMatcher,
+        name: &str,
+    ) -> Result<bool, AllocError>
+        ensures { IfOk result (λ found. IsTrue found ↔ MatchesName (matcher_of matcher.now) name.now) }
+    {
+        let mut searcher = self.take(alloc, matcher)?;
+        let found = searcher.is_match(alloc, name)?;
+        self.keep(searcher)?;
+        Ok(found)
     }
 
     /// Returns the searcher of the next leaf, whose matcher is this one. The only error is out of memory.
@@ -254,8 +289,9 @@ fn is_member_if(
     alloc: Global,
     is_wanted: bool,
     matcher: &NameMatcher,
+    position: usize,
     test: &TestQuery<'_>,
-    groups: &dyn GroupLookup,
+    groups: &dyn PlacedLookup,
 ) -> Result<bool, AllocError>
     ensures { IfOk result (λ found. IsTrue found
         ↔ (IsTrue is_wanted × matches_group groups.now test.now (matcher_of matcher.now))) }
@@ -263,7 +299,7 @@ fn is_member_if(
     if !is_wanted {
         return Ok(false);
     }
-    groups.is_member_test(alloc, test, matcher)
+    groups.is_member_at(alloc, position, test, matcher)
 }
 
 /// Asks for the groups of the wanted tests: the answer for one is whether the matcher matches its group. The only error is
@@ -273,7 +309,7 @@ pub(crate) fn search_groups(
     matcher: &NameMatcher,
     query: &BinaryQuery<'_>,
     names: &Names<'_>,
-    groups: &dyn GroupLookup,
+    groups: &dyn PlacedLookup,
     wanted: &Column,
 ) -> Result<Column, AllocError>
     requires { wanted.now.len ≡ length (names_of names.now) }
@@ -287,7 +323,7 @@ pub(crate) fn search_groups(
             test_name: *name,
         };
         let is_wanted = wanted.get(position);
-        let answer = is_member_if(alloc, is_wanted, matcher, &test, groups)?;
+        let answer = is_member_if(alloc, is_wanted, matcher, position, &test, groups)?;
         bits.put(position, answer);
     }
     Ok(Column::of_bits(names.len(), bits))

@@ -1,13 +1,13 @@
 -- The groups that a record puts tests in.
 use Rattle.std.proofs.Common.{◌≡◌, ◌↔◌, true, false, Bool, cond, List, [], ◌∷◌, map, Option, None, Some, ◌∙◌, ap, subst, sym, refl}
-use Rattle.std.specs.Prelude.{IsSomeAnd, option_map}
+use Rattle.std.specs.Prelude.{IsSomeAnd, option_map, string_bytes}
 use Rattle.std.specs.List.{find}
 use Rattle.std.specs.Str.{bytes_eq}
 use Rattle.filterset_matchers.specs.Matcher.{Matcher, MatchesName}
 use Rattle.filterset_expression.specs.declared.query.TestQuery.{TestQuery}
 use Rattle.filterset_json.specs.Shape.{Text}
 use Rattle.filterset_report.specs.Record.{BinaryRow, TestRow}
-use Rattle.filterset_report.specs.Lookup.{matches_recorded_group}
+use Rattle.filterset_report.specs.Lookup.{group_in, matches_recorded_group, recorded_group}
 use Rattle.filterset_report.specs.Rows.{binary_row, test_row}
 use Rattle.filterset_report.specs.declared.record.binaries.BinaryEntry.{BinaryEntry}
 use Rattle.filterset_report.specs.declared.record.binaries.TestEntry.{TestEntry}
@@ -58,3 +58,32 @@ of_test binaries query matcher binary test found named =
     let Matches = λ (o : Option TestRow). IsSomeAnd o (λ (t : TestRow). MatchesName matcher t.group) in
     let inside = in_binary binaries query matcher binary found in
     (λ here. inside.0 (subst Matches (sym named) here), λ there. subst Matches named (inside.1 there))
+
+-- the matcher matches the group that the entries put the test in
+recorded_test : (binaries : List BinaryEntry) (query : TestQuery) (matcher : Matcher) (binary : BinaryEntry) (named : Option TestEntry)
+    → find (λ (b : BinaryEntry). bytes_eq b.id query.binary_query.binary_id.now) binaries ≡ Some binary
+    → find (λ (t : TestEntry). bytes_eq t.name query.test_name.now) binary.tests.items ≡ named
+    → IsSomeAnd (option_map (λ (t : TestEntry). string_bytes t.group) named) (MatchesName matcher) ↔ matches_recorded_group (map binary_row binaries) query matcher
+recorded_test binaries query matcher binary None found is = (
+  λ none. absurd none,
+  λ some. absurd (no_test (map binary_row binaries) query matcher (binary_row binary)
+      (first_binary query.binary_query.binary_id.now binaries (Some binary) found) (first_test query.test_name.now binary.tests.items None is) some),
+)
+recorded_test binaries query matcher binary (Some test) found is =
+    of_test (map binary_row binaries) query matcher (binary_row binary) (test_row test)
+    (first_binary query.binary_query.binary_id.now binaries (Some binary) found) (first_test query.test_name.now binary.tests.items (Some test) is)
+
+recorded_in : (binaries : List BinaryEntry) (query : TestQuery) (matcher : Matcher) (found : Option BinaryEntry)
+    → find (λ (b : BinaryEntry). bytes_eq b.id query.binary_query.binary_id.now) binaries ≡ found
+    → IsSomeAnd (group_in found query.test_name.now) (MatchesName matcher) ↔ matches_recorded_group (map binary_row binaries) query matcher
+recorded_in binaries query matcher None is = (
+  λ none. absurd none,
+  λ some. absurd (no_binary (map binary_row binaries) query matcher (first_binary query.binary_query.binary_id.now binaries None is) some),
+)
+recorded_in binaries query matcher (Some binary) is =
+    recorded_test binaries query matcher binary (find (λ (t : TestEntry). bytes_eq t.name query.test_name.now) binary.tests.items) is refl
+
+pub recorded : (binaries : List BinaryEntry) (query : TestQuery) (matcher : Matcher)
+    → IsSomeAnd (recorded_group binaries query) (MatchesName matcher) ↔ matches_recorded_group (map binary_row binaries) query matcher
+recorded binaries query matcher =
+    recorded_in binaries query matcher (find (λ (b : BinaryEntry). bytes_eq b.id query.binary_query.binary_id.now) binaries) refl

@@ -1,14 +1,16 @@
 //! Looks up the groups of a record's tests.
-ghost use Rattle.std.specs.Prelude.{◌≡◌, ◌↔◌, IfOk, MatchOption, map, option_map};
+ghost use Rattle.std.specs.Prelude.{◌≡◌, ◌↔◌, IfOk, IsSomeAnd, IsTrue, map, option_map};
 ghost use Rattle.std.specs.List.{find};
 ghost use Rattle.std.specs.Str.{bytes_eq};
-ghost use Rattle.filterset_matchers.specs.Matcher.{Matcher, MatchesName};
-ghost use Rattle.filterset_report.specs.Index.{HasFirsts, IsIndexOf};
-ghost use Rattle.filterset_report.specs.Lookup.{matches_recorded_group};
+ghost use Rattle.filterset_matchers.specs.Matcher.{MatchesName};
+ghost use Rattle.filterset_matchers.specs.Matchers.{matcher_of};
+ghost use Rattle.filterset_report.specs.Index.{group_with, HasFirsts, HasGroups, IsIndexOf};
+ghost use Rattle.filterset_report.specs.Lookup.{matches_recorded_group, recorded_group};
 ghost use Rattle.filterset_report.specs.Rows.{binary_row};
 
 use crate::listed::{ListedBinary, list_binaries};
 use crate::record::{BinaryEntry, TestEntry};
+use filterset_columns::PlacedLookup;
 use nextest_filtering::{GroupLookup, NameMatcher, RustBinaryId, TestCaseName, TestQuery};
 use std::alloc::{AllocError, Global};
 use std::collections::BTreeMap;
@@ -22,7 +24,10 @@ struct IndexedBinary<'a> {
     binary: &'a BinaryEntry,
     /// The first test with each name; empty if there is no index.
     by_name: BTreeMap<&'a str, &'a TestEntry>,
+    /// For each test, the group of the first test with its name; empty if there is no index.
+    groups: Vec<&'a str>,
     ghost firsts: { HasFirsts binary.now.tests.items by_name },
+    ghost placed: { HasGroups binary.now.tests.items groups.items },
 }
 
 /// Indexes tests by their names: the first test with each name.
@@ -57,6 +62,25 @@ fn index_if_wanted<'a>(
     }
 }
 
+/// Lists for each test the group of the first test with its name. Stops at a test that the index does not have.
+fn groups_of_tests<'a>(
+    alloc: Global,
+    tests: &[TestEntry],
+    by_name: &BTreeMap<&'a str, &'a TestEntry>,
+) -> Result<Vec<&'a str>, AllocError>
+    requires { HasFirsts tests.now by_name.now }
+    ensures { IfOk result (λ groups. HasGroups tests.now groups.items) }
+{
+    let mut groups = Vec::new(alloc);
+    for test in tests {
+        match by_name.get(test.name.as_str()) {
+            Some(first) => groups.push(first.group.as_str())?,
+            None => return Ok(groups),
+        }
+    }
+    Ok(groups)
+}
+
 impl IndexedBinary<'_> {
     /// Looks up the first test with a name.
     fn test_with(&self, name: &TestCaseName) -> Option<&TestEntry>
@@ -65,6 +89,24 @@ impl IndexedBinary<'_> {
         match self.by_name.get(name.as_str()) {
             Some(test) => Some(*test),
             None => self.binary.tests.iter().find(|test| test.name == *name),
+        }
+    }
+
+    /// Looks up the group of the first test with a name.
+    fn group_with(&self, name: &TestCaseName) -> Option<&str>
+        ensures { option_map (λ group. group.now) result ≡ group_with name.now self.now.binary.now.tests.items }
+    {
+        let test = self.test_with(name)?;
+        Some(test.group.as_str())
+    }
+
+    /// Does the same, where a test with the name may stand at a position.
+    fn group_at(&self, position: usize, name: &TestCaseName) -> Option<&str>
+        ensures { option_map (λ group. group.now) result ≡ group_with name.now self.now.binary.now.tests.items }
+    {
+        match (self.binary.tests.get(position), self.groups.get(position)) {
+            (Some(test), Some(group)) if test.name == *name => Some(*group),
+            _ => self.group_with(name),
         }
     }
 }
@@ -95,7 +137,15 @@ fn binaries_by_id<'a>(
         let id = binary.id.as_str();
         if !index.contains_key(id) {
             let by_name = index_if_wanted(alloc, &binary.tests, is_wanted)?;
-            index.insert(id, IndexedBinary { binary, by_name })?;
+            let groups = groups_of_tests(alloc, &binary.tests, &by_name)?;
+            index.insert(
+                id,
+                IndexedBinary {
+                    binary,
+                    by_name,
+                    groups,
+                },
+            )?;
         }
     }
     Ok(index)
@@ -130,14 +180,34 @@ impl<'a> RecordLookup<'a> {
 
     /// Looks up the group of a test. Returns `None` if the record does not have the test.
     fn group_of(&self, test: &TestQuery<'_>) -> Option<&str>
-        ensures { MatchOption result
-            ((matcher : Matcher) → ¬ matches_recorded_group (map binary_row self.now.binaries.now) test.now matcher)
-            (λ group. (matcher : Matcher) → MatchesName matcher group.now
-            ↔ matches_recorded_group (map binary_row self.now.binaries.now) test.now matcher) }
+        ensures { option_map (λ group. group.now) result ≡ recorded_group self.now.binaries.now test.now }
     {
         let binary = self.binary_with(test.binary_query.binary_id)?;
-        let entry = binary.test_with(test.test_name)?;
-        Some(entry.group.as_str())
+        binary.group_with(test.test_name)
+    }
+
+    /// Does the same for a test that may stand at this position in its binary.
+    fn group_at(&self, position: usize, test: &TestQuery<'_>) -> Option<&str>
+        ensures { option_map (λ group. group.now) result ≡ recorded_group self.now.binaries.now test.now }
+    {
+        let binary = self.binary_with(test.binary_query.binary_id)?;
+        binary.group_at(position, test.test_name)
+    }
+}
+
+/// Returns whether a test in this group, if it is in one, is in a group that the matcher matches. The only error is out of
+/// memory.
+fn is_in_group(
+    alloc: Global,
+    matcher: &NameMatcher,
+    group: Option<&str>,
+) -> Result<bool, AllocError>
+    ensures { IfOk result (λ answer. IsTrue answer
+        ↔ IsSomeAnd (option_map (λ g. g.now) group.entry) (MatchesName (matcher_of matcher.now))) }
+{
+    match group {
+        Some(group) => matcher.is_match(alloc, group),
+        None => Ok(false),
     }
 }
 
@@ -150,9 +220,21 @@ impl GroupLookup for RecordLookup<'_> {
         test: &TestQuery<'_>,
         matcher: &NameMatcher,
     ) -> Result<bool, AllocError> {
-        match self.group_of(test) {
-            Some(group) => matcher.is_match(alloc, group),
-            None => Ok(false),
-        }
+        is_in_group(alloc, matcher, self.group_of(test))
+    }
+}
+
+/// A group is found by the position of its test, if the test stands there in its binary.
+impl PlacedLookup for RecordLookup<'_> {
+    ghost matches_group = { λ lookup. matches_recorded_group (map binary_row lookup.binaries.now) };
+
+    fn is_member_at(
+        &self,
+        alloc: Global,
+        position: usize,
+        test: &TestQuery<'_>,
+        matcher: &NameMatcher,
+    ) -> Result<bool, AllocError> {
+        is_in_group(alloc, matcher, self.group_at(position, test))
     }
 }

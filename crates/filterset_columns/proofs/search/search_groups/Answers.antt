@@ -8,7 +8,7 @@ pub loop-position-preserved : goal.loop-position-preserved
 loop-position-preserved g c =
     let before = c.loop-position.invariant in
     let name = c.name-item.result in
-    let lookup = (goal.GroupLookup-dyn g c.args.groups.now).GroupLookup.matches_group c.args.groups.now.1 in
+    let lookup = (goal.PlacedLookup-dyn g c.args.groups.now).PlacedLookup.matches_group c.args.groups.now.1 in
     let i = c.loop-position.position in
     let at : IsAt (names_of c.args.names.now) i name = search (rules, c.name-item.is, c.deref-name-items.ensures.value, c.loop-position-test.true) in
     let found : IsTrue c.in_ok-answer.answer ↔ (IsTrue (answer_of c.args.wanted.now i) × lookup (test_of c.args.query.now name) (matcher_of c.args.matcher.now)) = rw c.get-is_wanted.ensures at c.in_ok-answer.ensures in

@@ -7,5 +7,5 @@ use Rattle.filterset_columns.proofs.search.search_groups.Given as goal
 abbrev pub invariant-loop-position : goal.invariant-loop-position
 invariant-loop-position g l = record {
   room : vec_len l.bits.words ≡ length (names_of l.names) / 64 + 1;
-  answered : AnsweredSoFar l.bits.words.items (names_of l.names) (λ position name. IsTrue (answer_of l.wanted position) × (goal.GroupLookup-dyn g l.groups.now).GroupLookup.matches_group l.groups.now.1 (test_of l.query name) (matcher_of l.matcher)) l.position;
+  answered : AnsweredSoFar l.bits.words.items (names_of l.names) (λ position name. IsTrue (answer_of l.wanted position) × (goal.PlacedLookup-dyn g l.groups.now).PlacedLookup.matches_group l.groups.now.1 (test_of l.query name) (matcher_of l.matcher)) l.position;
 }

@@ -13,5 +13,5 @@ returns-then-not-self-clause-holds g c =
 
 pub returns-clause-holds : goal.returns-clause-holds
 returns-clause-holds g c =
-    let lookup = (goal.GroupLookup-dyn g c.args.groups.now).GroupLookup.matches_group c.args.groups.now.1 in
+    let lookup = (goal.PlacedLookup-dyn g c.args.groups.now).PlacedLookup.matches_group c.args.groups.now.1 in
     subst (λ (default : CompiledExpr). IfOk c.evaluate.result (λ column. Answered column (names_of c.args.names.now) (λ name. TrueWhere (HoldsOfTest (test_of c.args.query.now name) lookup) (with_default default (expr_of c.args.self.now))))) c.default_filter-filter.ensures.same c.evaluate.ensures

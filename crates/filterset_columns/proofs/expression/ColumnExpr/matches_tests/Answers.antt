@@ -9,7 +9,7 @@ use Rattle.filterset_columns.proofs.expression.ColumnExpr.matches_tests.Goals as
 
 pub returns-clause-settled : goal.returns-clause-settled
 returns-clause-settled g c =
-    let lookup = (goal.GroupLookup-dyn g c.args.groups.now).GroupLookup.matches_group c.args.groups.now.1 in
+    let lookup = (goal.PlacedLookup-dyn g c.args.groups.now).PlacedLookup.matches_group c.args.groups.now.1 in
     let expr = (expr_of c.args.self.now) in
     let default = default_filter_of c.args.self.now in
     let names = names_of c.args.names.now in
@@ -19,13 +19,13 @@ returns-clause-settled g c =
 
 pub returns-clause-ungrouped : goal.returns-clause-ungrouped
 returns-clause-ungrouped g c = λ none.
-    let lookup = (goal.GroupLookup-dyn g c.args.groups.now).GroupLookup.matches_group c.args.groups.now.1 in
+    let lookup = (goal.PlacedLookup-dyn g c.args.groups.now).PlacedLookup.matches_group c.args.groups.now.1 in
     let expr = (expr_of c.args.self.now) in
     let default = default_filter_of c.args.self.now in
     IfOk-weaker c.evaluate.result _ _ (λ column answered. answered_alike column (names_of c.args.names.now) _ _ (λ name. lookups_alike (with_default default expr) (test_of c.args.query.now name) lookup no_groups (without_groups default expr c.args.self.now.context.no_group none)) answered) c.evaluate.ensures.holds
 
 pub returns-clause-meaning : goal.returns-clause-meaning
 returns-clause-meaning g c =
-    let lookup = (goal.GroupLookup-dyn g c.args.groups.now).GroupLookup.matches_group c.args.groups.now.1 in
+    let lookup = (goal.PlacedLookup-dyn g c.args.groups.now).PlacedLookup.matches_group c.args.groups.now.1 in
     let default = default_filter_of c.args.self.now in
     IfOk-weaker c.evaluate.result _ _ (λ column answered packages e is. answered_alike column (names_of c.args.names.now) _ _ (λ name. compiled_means packages (test_of c.args.query.now name) default lookup e (expr_of c.args.self.now) is) answered) c.evaluate.ensures.holds

@@ -1,13 +1,10 @@
 use Rattle.std.proofs.lemmas.Result.{IfOk-weaker}
 use Rattle.filterset_matchers.specs.Matchers.{matcher_of}
+use Rattle.filterset_report.proofs.LookupLemmas.{recorded}
 use Rattle.filterset_report.proofs.lookup.RecordLookupGroupLookup.is_member_test.Goals as goal
 
-pub returns-in-Some : goal.returns-in-Some
-returns-in-Some c =
-    let matches = c.in-Some.ensures (matcher_of c.args.matcher.now) in
-    IfOk-weaker c.is_match.result _ _ (λ answer h. (λ yes. matches.0 (h.0 yes), λ some. h.1 (matches.1 some))) c.is_match.ensures.matches
-
-pub returns-in-None : goal.returns-in-None
-returns-in-None c =
-    let none = c.in-None.ensures (matcher_of c.args.matcher.now) in
-    (λ yes. cc, λ some. absurd (none some))
+pub returns : goal.returns
+returns c =
+    let same = recorded c.args.self.now.binaries.now c.args.test.now (matcher_of c.args.matcher.now) in
+    IfOk-weaker c.is_in_group.result _ _ (λ answer h.
+    let own = rw c.group_of.ensures at h in (λ yes. same.0 (own.0 yes), λ is. own.1 (same.1 is))) c.is_in_group.ensures

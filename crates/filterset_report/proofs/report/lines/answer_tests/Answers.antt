@@ -15,7 +15,7 @@ use Rattle.filterset_report.specs.declared.record.binaries.TestEntry.{TestEntry}
 use Rattle.filterset_report.proofs.ColumnAnswers.{same_at, same_length}
 use Rattle.filterset_report.proofs.ReportLemmas.{both_ok}
 use Rattle.filterset_report.specs.Rows.{binary_row}
-use Rattle.filterset_report.proofs.report.lines.answer_tests.OwnLists.{reads-GroupLookup-matches_group-1-1}
+use Rattle.filterset_report.proofs.report.lines.answer_tests.OwnLists.{reads-PlacedLookup-matches_group-1-1}
 use Rattle.filterset_report.proofs.report.lines.answer_tests.Goals as goal
 
 pub returns-clause-answers : goal.returns-clause-answers
@@ -28,7 +28,7 @@ returns-clause-answers c =
     let answered = c.matches_tests.result in
     let recorded = subst (λ (lookup : Lookup). IfOk answered (λ column. (packages : List PackageMetadata) (e : Tree SourceSpan)
     → IsCompiled packages e (expr_of columns) → Answered column names (λ name. Meaning e packages (test_of asked name) (default_filter_of columns) lookup)))
-    (reads-GroupLookup-matches_group-1-1 _ c.args.lookup) c.matches_tests.ensures.meaning in
+    (reads-PlacedLookup-matches_group-1-1 _ c.args.lookup) c.matches_tests.ensures.meaning in
     let listed : map (λ (name : Bor TestCaseName). name.now) names ≡ map (λ (t : TestEntry). t.name) tests = listed_tests.named in
     let counted : length names ≡ length tests = same_length (λ (name : Bor TestCaseName). name.now) (λ (t : TestEntry). t.name) names tests listed in
     let lens = IfOk-weaker answered _ (λ column. column.len ≡ length tests) (λ column holds. holds.counted ∙ counted) c.matches_tests.ensures.holds in
