@@ -8,6 +8,7 @@ use Rattle.filterset_expression.specs.declared.query.BinaryQuery.{BinaryQuery}
 use Rattle.filterset_expression.specs.declared.query.TestQuery.{TestQuery}
 use Rattle.filterset_matchers.specs.Matcher.{MatchesName}
 use Rattle.filterset_asking.specs.declared.asked.AskedTest.{AskedTest}
+use Rattle.filterset_asking.specs.declared.kept.NamedTest.{NamedTest}
 
 -- a value behind a reference, wherever it lies
 abbrev pub behind : {A : Type 0} → A → Bor A
@@ -26,6 +27,10 @@ binary_query_of test = record {
 -- the query about the test
 abbrev pub query_of : AskedTest → TestQuery
 query_of test = record { binary_query = binary_query_of test; test_name = behind test.name.now }
+
+-- the query about a test of a binary
+abbrev pub named_query : NamedTest → TestQuery
+named_query test = record { binary_query = test.binary; test_name = behind test.name.now }
 
 -- every test is in the group that has this name
 abbrev pub in_group : List ℕ → Lookup

@@ -9,7 +9,7 @@ use filterset_expression::{CompiledExpr, FiltersetLeaf};
 use std::alloc::{AllocError, Global};
 
 /// The most levels of an expression that is evaluated by recursion.
-const MAX_LEVELS: u32 = 64;
+pub(crate) const MAX_LEVELS: u32 = 64;
 
 /// Why there is no answer.
 #[derive(Debug, Drop)]

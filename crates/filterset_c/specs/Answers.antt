@@ -1,6 +1,7 @@
 -- What C is answered.
 use Rattle.std.specs.Prelude.{◌≡◌, ◌↔◌, ℕ, Bool, true, false, List, Option, None, Some, IsTrue}
 use Rattle.filterset_expression.specs.BinaryMeaning.{IsDefiniteTree}
+use Rattle.filterset_expression.specs.Expression.{Holds}
 use Rattle.filterset_expression.specs.FlatExpressions.{IsFlatOfTree}
 use Rattle.filterset_expression.specs.Meaning.{IsCompiled, Meaning}
 use Rattle.filterset_expression.specs.declared.expression.CompiledExpr.{CompiledExpr}
@@ -67,6 +68,20 @@ IsFilterset held = HoldsFilterset (λ _. Unit {0}) held
 -- the text is the filterset's print
 abbrev pub IsPrint : List ℕ → BoundFilterset → Type 0
 IsPrint text bound = text ≡ printed (tree_of bound.filterset.parsed)
+
+-- ---- for all tests of a binary
+
+-- the texts of the test are UTF-8, and the number is its own for each binary that the query is about
+abbrev pub IsBoundNumber : BoundFilterset → BinaryQuery → Test → ℕ → Type 0
+IsBoundNumber bound binary_query test number =
+    IsWellTest test × ((binary : Binary) → IsAbout binary binary_query → IsTestNumber bound binary test number)
+
+-- the same by an expression in which nothing stands for the default filter
+abbrev pub IsAskedNumber : CompiledExpr → BinaryQuery → Test → ℕ → Type 0
+IsAskedNumber expr binary_query test number =
+    IsWellTest test × (answer : Bool) × (number ≡ yes_or_no answer)
+    × (query : TestQuery) × (query.binary_query ≡ binary_query) × (query.test_name.now ≡ test.name.now)
+    × ((default : CompiledExpr) → IsTrue answer ↔ Holds expr query default (matches_named test.group.now))
 
 -- ---- by steps that are laid out once
 

@@ -19,6 +19,7 @@ ghost use Rattle.filterset_c.specs.Queries.{AreAllTexts, AreTexts, HasTexts, IsT
 ghost use Rattle.filterset_c.specs.Statuses.{IsDone, IsJudged};
 ghost use Rattle.filterset_c.specs.Written.{AreWritten, IsTextWritten, IsWritten, IsWrittenText};
 
+mod batch;
 mod copying;
 mod failure;
 mod faults;
@@ -30,11 +31,12 @@ mod queries;
 mod raw_box;
 mod workspaces;
 
+use batch::test_numbers;
 use copying::copy_of;
 use failure::{Failure, status_of};
 use faults::{Span, copy_text, fault_count, span_at, text_at};
 use handle::Handle;
-use matching::{number_of_binary, test_number, test_numbers, yes_or_no};
+use matching::{number_of_binary, test_number, yes_or_no};
 use object::{BoundFilterset, Object, Workspace};
 use parsing::parse_in;
 use queries::{Binary, Test, Text};

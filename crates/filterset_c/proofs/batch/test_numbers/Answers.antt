@@ -1,7 +1,7 @@
 use Rattle.std.proofs.Common.{arith}
 use Rattle.std.proofs.lemmas.Slice.Zip.{AllZip-long}
 use Rattle.filterset_c.specs.Answers.{IsTestNumber}
-use Rattle.filterset_c.proofs.matching.test_numbers.Goals as goal
+use Rattle.filterset_c.proofs.batch.test_numbers.Goals as goal
 
 pub returns-in_ok-numbers-in-Filterset-clause-count : goal.returns-in_ok-numbers-in-Filterset-clause-count
 returns-in_ok-numbers-in-Filterset-clause-count c =

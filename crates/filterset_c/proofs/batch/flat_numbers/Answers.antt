@@ -3,7 +3,7 @@ use Rattle.std.proofs.lemmas.List.{take_more}
 use Rattle.filterset_c.specs.Answers.{IsFlatNumber}
 use Rattle.filterset_c.specs.declared.queries.Test.{Test}
 use Rattle.filterset_c.proofs.Numbers.{AllZip-more}
-use Rattle.filterset_c.proofs.matching.flat_numbers.Goals as goal
+use Rattle.filterset_c.proofs.batch.flat_numbers.Goals as goal
 
 pub loop-asked-preserved : goal.loop-asked-preserved
 loop-asked-preserved c =

@@ -6,8 +6,8 @@ use Rattle.filterset_expression.specs.declared.expression.CompiledExpr.{Compiled
 use Rattle.filterset_faults.specs.declared.span.SourceSpan.{SourceSpan}
 use Rattle.filterset_grammar.specs.Tree.{Tree}
 use Rattle.filterset_graph.specs.declared.package.PackageMetadata.{PackageMetadata}
-use Rattle.filterset_c.proofs.matching.told_named.OwnLists.{reads-GroupLookup-matches_group-1-1}
-use Rattle.filterset_c.proofs.matching.told_named.Goals as goal
+use Rattle.filterset_c.proofs.batch.told_named.OwnLists.{reads-GroupLookup-matches_group-1-1}
+use Rattle.filterset_c.proofs.batch.told_named.Goals as goal
 
 pub returns : goal.returns
 returns c =

@@ -1,5 +1,5 @@
 use Rattle.std.proofs.Common.{rules, arith, ◌≡◌, IsTrue}
-use Rattle.filterset_c.proofs.matching.first_failure.Goals as goal
+use Rattle.filterset_c.proofs.batch.first_failure.Goals as goal
 
 pub returns-in_default-clause-not_utf8 : goal.returns-in_default-clause-not_utf8
 returns-in_default-clause-not_utf8 c memory not =
