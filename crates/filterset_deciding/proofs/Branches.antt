@@ -15,7 +15,7 @@ use Rattle.filterset_deciding.specs.AnyTest.{AnyTest, Says, AreAnswers}
 use Rattle.filterset_deciding.specs.Deciding.{IsAlwaysMet, answer_of}
 use Rattle.filterset_deciding.specs.Known.{IsKnownStep, Agrees, steps_in}
 use Rattle.filterset_deciding.specs.Judging.{met}
-use Rattle.filterset_deciding.specs.Searching.{AgreesWith, NoneAgrees, IsMissed, Rejects, all_steps}
+use Rattle.filterset_deciding.specs.Searching.{AgreesWith, HaveSteps, NoneAgrees, IsMissed, Rejects, all_steps}
 use Rattle.filterset_deciding.specs.declared.question.Question.{Question}
 use Rattle.filterset_deciding.specs.declared.running.ValuedStep.{ValuedStep}
 use Rattle.filterset_deciding.specs.declared.running.StackValue.{StackValue}
@@ -70,6 +70,23 @@ divided_pending test steps branch without within leaf old mid new m n s t by_no 
     let last = each_before P mid within (subst (AllByRecursion P) n none) in
     let first = each_before P old without (subst (AllByRecursion P) m last.0) in
     (first.0, divided_rejects test steps branch without.items within.items leaf s t by_no by_yes first.1 last.1)
+
+-- the two parts have the branch's steps
+pub divided_steps : (steps : List (Step CompiledLeaf)) (without within : Vec ValuedStep Global) (old mid new : List (Vec ValuedStep Global))
+    → mid ≡ old ++ without ∷ [] → new ≡ mid ++ within ∷ [] → steps_in without.items ≡ steps → steps_in within.items ≡ steps
+    → HaveSteps steps old → HaveSteps steps new
+divided_steps steps without within old mid new m n s t have =
+    let P : Vec ValuedStep Global → Type 0 = λ b. steps_in b.items ≡ steps in
+    subst (AllByRecursion P) (sym n) (each_pushed P mid within (subst (AllByRecursion P) (sym m) (each_pushed P old without have s)) t)
+
+-- the branch that is looked at has the steps, and so have those that are pending then
+pub kept_steps : (steps : List (Step CompiledLeaf)) (old mid new : List (Vec ValuedStep Global)) (branch : Vec ValuedStep Global)
+    → old ≡ mid ++ branch ∷ [] → (HaveSteps (steps_in branch.items) mid → HaveSteps (steps_in branch.items) new)
+    → HaveSteps steps old → HaveSteps steps new × (steps_in branch.items ≡ steps)
+kept_steps steps old mid new branch e keeps have =
+    let P : Vec ValuedStep Global → Type 0 = λ b. steps_in b.items ≡ steps in
+    let before = each_before P mid branch (subst (AllByRecursion P) e have) in
+    (subst (λ s. HaveSteps s new) before.1 (keeps (subst (λ s. HaveSteps s mid) (sym before.1) before.0)), before.1)
 
 -- where the values of a branch tell that the answer is yes, no test at which it is no agrees with it
 pub met_rejects : (question : Question) (branch : List ValuedStep) (seen : List StackValue) → kleene_run branch [] ≡ Some (tops seen)

@@ -3,3 +3,9 @@ pub mod Counting
 pub mod Rules
 pub mod Branches
 pub mod Picked
+pub mod Doubts
+pub mod Agreeing
+pub mod Parts
+pub mod Waits
+pub mod Sizes
+pub mod Refusing

@@ -1,7 +1,10 @@
 -- What is decided about filtersets.
-use Rattle.std.specs.Prelude.{◌≡◌, Bool, true, false, List, length, string_bytes}
-use Rattle.std.specs.List.{count_by}
+use Rattle.std.specs.Prelude.{◌≡◌, ◌∷◌, Bool, true, false, List, length, map, string_bytes}
+use Rattle.std.specs.List.{count_by, flat_map}
 use Rattle.std.specs.Borrow.{Bor}
+use Rattle.filterset_expression.specs.Expression.{CompiledLeaf, with_default}
+use Rattle.filterset_expression.specs.FlatSteps.{Step, postfix}
+use Rattle.filterset_expression.specs.Formula.{Formula, leaves}
 use Rattle.filterset_expression.specs.declared.expression.CompiledExpr.{CompiledExpr}
 use Rattle.filterset_expression.specs.declared.query.TestQuery.{TestQuery}
 use Rattle.filterset_deciding.specs.AnyTest.{AnyTest, Picks, AreAnswers}
@@ -41,3 +44,15 @@ pub record IsUnmetAt (question : Question) (given default : CompiledExpr) (exprs
   pub is_given : Picks default test given
   pub are : AreAnswers default test exprs answers
   pub unmet : answer_of question answers ≡ false
+
+-- the filtersets as formulas, first the given one, with the default filter in the place of each `default` leaf
+abbrev pub formulas_asked : CompiledExpr → CompiledExpr → List (Bor CompiledExpr) → List (Formula CompiledLeaf)
+formulas_asked given default exprs = with_default default given ∷ map (λ e. with_default default e.now) exprs
+
+-- their leaves
+abbrev pub leaves_asked : CompiledExpr → CompiledExpr → List (Bor CompiledExpr) → List CompiledLeaf
+leaves_asked given default exprs = flat_map leaves (formulas_asked given default exprs)
+
+-- their steps, the leaves and the operators
+abbrev pub steps_asked : CompiledExpr → CompiledExpr → List (Bor CompiledExpr) → List (Step CompiledLeaf)
+steps_asked given default exprs = flat_map postfix (formulas_asked given default exprs)

@@ -26,3 +26,9 @@ Fits answers values = AllZip FitsOne answers values
 abbrev pub met : Question → List Bool → Bool
 met question [] = true
 met question (given ∷ answers) = not given || is_met question (count_by (λ x. x) answers) (length answers)
+
+-- the given filterset picks the test, and the answer is no, whatever the unknown values are
+abbrev pub IsUnmetFor : Question → List (Option Bool) → Type 0
+IsUnmetFor question [] = ⊥
+IsUnmetFor question (given ∷ values) = (given ≡ Some true)
+    × ((answers : List Bool) → Fits answers values → is_met question (count_by (λ x. x) answers) (length answers) ≡ false)

@@ -2,7 +2,14 @@ pub mod Question
 pub mod AnyTest
 pub mod Running
 pub mod Known
+pub mod Demands
 pub mod Judging
 pub mod Deciding
 pub mod Searching
 pub mod Globs
+pub mod Texts
+pub mod Sought
+pub mod Aspects
+pub mod PackageSets
+pub mod Candidates
+pub mod Waiting

@@ -1,12 +1,17 @@
 -- The search: what it looks for, and its branches.
-use Rattle.std.specs.Prelude.{◌≡◌, ◌↔◌, Bool, false, List, IsTrue}
-use Rattle.std.specs.List.{AllZip, flat_map, AllByRecursion}
+use Rattle.std.specs.Prelude.{◌≡◌, ◌↔◌, Bool, false, List, [], ◌∷◌, IsTrue, length}
+use Rattle.std.specs.Borrow.{Bor}
+use Rattle.std.specs.List.{AllZip, count_by, flat_map, AllByRecursion}
 use Rattle.std.specs.declared.vec.Vec.{Vec}
 use Rattle.std.specs.declared.alloc.Global.{Global}
 use Rattle.filterset_expression.specs.Expression.{CompiledLeaf}
-use Rattle.filterset_expression.specs.FlatSteps.{Step, postfix}
+use Rattle.filterset_expression.specs.FlatSteps.{Step, Push, postfix}
 use Rattle.filterset_expression.specs.Formula.{Formula, TrueWhere}
-use Rattle.filterset_deciding.specs.AnyTest.{AnyTest, Says}
+use Rattle.filterset_expression.specs.declared.expression.CompiledExpr.{CompiledExpr}
+use Rattle.filterset_deciding.specs.AnyTest.{AnyTest, AreAnswers, Says}
+use Rattle.filterset_deciding.specs.Deciding.{IsOf}
+use Rattle.filterset_deciding.specs.Question.{is_met}
+use Rattle.filterset_deciding.specs.declared.witness.PossibleTest.{PossibleTest}
 use Rattle.filterset_deciding.specs.Judging.{met}
 use Rattle.filterset_deciding.specs.Known.{Agrees, steps_in}
 use Rattle.filterset_deciding.specs.declared.question.Question.{Question}
@@ -29,6 +34,10 @@ pub record IsMissed (question : Question) (steps : List (Step CompiledLeaf)) (te
 abbrev pub AgreesWith : AnyTest → List (Step CompiledLeaf) → List ValuedStep → Type 0
 AgreesWith test steps branch = (steps_in branch ≡ steps) × Agrees test branch
 
+-- each branch has these steps
+abbrev pub HaveSteps : List (Step CompiledLeaf) → List (Vec ValuedStep Global) → Type 0
+HaveSteps steps branches = AllByRecursion (λ b. steps_in b.items ≡ steps) branches
+
 -- no branch agrees with the test
 abbrev pub NoneAgrees : AnyTest → List (Step CompiledLeaf) → List (Vec ValuedStep Global) → Type 0
 NoneAgrees test steps branches = AllByRecursion (λ b. ¬ AgreesWith test steps b.items) branches
@@ -37,3 +46,28 @@ NoneAgrees test steps branches = AllByRecursion (λ b. ¬ AgreesWith test steps 
 abbrev pub Rejects : Question → List ValuedStep → Type 0
 Rejects question branch =
     (test : AnyTest) (steps : List (Step CompiledLeaf)) → IsMissed question steps test → ¬ AgreesWith test steps branch
+
+-- the leaves that steps push
+abbrev pub pushed : List (Step CompiledLeaf) → List CompiledLeaf
+pushed [] = []
+pushed (Push leaf ∷ steps) = leaf ∷ pushed steps
+pushed (_ ∷ steps) = pushed steps
+
+-- the first formula is true of the test, and for right answers of the others the answer is no
+abbrev pub IsUnmetBy : Question → AnyTest → List (Formula CompiledLeaf) → Type 0
+IsUnmetBy question test [] = ⊥
+IsUnmetBy question test (given ∷ formulas) = TrueWhere (Says test) given
+    × ((answers : List Bool) → AllZip (λ answer formula. IsTrue answer ↔ TrueWhere (Says test) formula) answers formulas
+    → is_met question (count_by (λ x. x) answers) (length answers) ≡ false)
+
+-- for each test that agrees with the branch the answer is no, if its steps are those of formulas
+abbrev pub Refuses : Question → List ValuedStep → Type 0
+Refuses question branch = (formulas : List (Formula CompiledLeaf)) → steps_in branch ≡ all_steps formulas
+    → (test : AnyTest) → Agrees test branch → IsUnmetBy question test formulas
+
+-- these are the answers of the filtersets about the possible test
+pub record AreAnswersAt (default : CompiledExpr) (exprs : List (Bor CompiledExpr)) (possible : PossibleTest)
+    (answers : List Bool) : Type 0 where
+  pub test : AnyTest
+  pub is_of : IsOf test possible
+  pub are : AreAnswers default test exprs answers

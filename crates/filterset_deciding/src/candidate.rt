@@ -1,197 +1,88 @@
-//! Makes a test that is likely to agree with a branch. Whether it does is found by asking the filtersets.
-use crate::packages::Package;
+//! Makes a test that agrees with a branch, if there is one.
+ghost use Rattle.std.specs.Prelude.{◌≡◌, IfErr, IfOk, string_bytes};
+ghost use Rattle.filterset_deciding.specs.AnyTest.{AnyTest};
+ghost use Rattle.filterset_deciding.specs.Aspects.{AgreesOn, IsOfField, text_of};
+ghost use Rattle.filterset_deciding.specs.Candidates.{IsFaultOf};
+ghost use Rattle.filterset_deciding.specs.Deciding.{IsOf};
+ghost use Rattle.filterset_deciding.specs.Known.{Agrees};
+
+use crate::aspects::{are_constants_right, find_platform};
+use crate::demand::{Doubt, TestField, doubt_of};
+use crate::packages::make_package;
 use crate::running::ValuedStep;
-use crate::sample::{Style, push_sample};
+use crate::texts::{Sought, find_text};
 use crate::witness::PossibleTest;
-use filterset_expression::{FiltersetLeaf, FlatStep};
-use filterset_graph::{BuildPlatform, PackageId, RustBinaryId, RustTestBinaryKind, TestCaseName};
-use filterset_matchers::NameMatcher;
+use filterset_graph::{RustBinaryId, RustTestBinaryKind, TestCaseName};
 use std::alloc::{AllocError, Global};
 
-/// The styles in which samples are tried.
-const STYLES: [Style; 7] = [
-    Style {
-        separator: "",
-        filler: "",
-    },
-    Style {
-        separator: "_",
-        filler: "",
-    },
-    Style {
-        separator: "::",
-        filler: "",
-    },
-    Style {
-        separator: " ",
-        filler: "",
-    },
-    Style {
-        separator: "_",
-        filler: "x",
-    },
-    Style {
-        separator: "::",
-        filler: "::x",
-    },
-    Style {
-        separator: "_",
-        filler: "_0",
-    },
-];
-
-/// The kinds of test binaries.
-const KINDS: [&str; 6] = ["lib", "test", "bin", "example", "bench", "proc-macro"];
-
-/// The groups that are tried if no leaf asks for one.
-const GROUPS: [&str; 2] = ["@global", "other"];
-
-/// The names that are tried if no leaf asks for one.
-const NAMES: [&str; 6] = ["other", "x", "q_1", "-", "0", "~"];
-
-/// A text of a test that matchers are put to.
-#[derive(Clone, Copy, PartialEq, Eq)]
-enum Field {
-    Kind,
-    BinaryName,
-    BinaryId,
-    TestName,
-    Group,
+/// Why no test of a branch was made.
+#[derive(Drop)]
+pub(crate) enum NoCandidate<'x> {
+    /// No test agrees with the branch.
+    Impossible,
+    /// It is not known whether some text meets what the branch demands.
+    Doubtful(Doubt<'x>),
+    OutOfMemory(AllocError),
 }
 
-impl Field {
-    /// Returns the texts that are tried if no leaf asks for one.
-    fn fillers(self) -> &'static [&'static str] {
-        match self {
-            Field::Kind => KINDS.as_slice(),
-            Field::Group => GROUPS.as_slice(),
-            Field::BinaryName | Field::BinaryId | Field::TestName => NAMES.as_slice(),
-        }
+impl From<AllocError> for NoCandidate<'_> {
+    ghost use Rattle.std.specs.Prelude.{◌≡◌};
+    ghost use Rattle.filterset_deciding.specs.declared.candidate.NoCandidate.TheVariants.{OutOfMemory};
+
+    ghost from_gives = { λ refused fault. fault ≡ OutOfMemory refused };
+
+    fn from(refused: AllocError) -> Self {
+        NoCandidate::OutOfMemory(refused)
     }
 }
 
-/// Returns the matcher of a leaf, if it has one, and the text that it is put to.
-fn matcher_of(leaf: &FiltersetLeaf) -> Option<(Field, &NameMatcher)> {
-    match leaf {
-        FiltersetLeaf::Kind(matcher, _) => Some((Field::Kind, matcher)),
-        FiltersetLeaf::Binary(matcher, _) => Some((Field::BinaryName, matcher)),
-        FiltersetLeaf::BinaryId(matcher, _) => Some((Field::BinaryId, matcher)),
-        FiltersetLeaf::Test(matcher, _) => Some((Field::TestName, matcher)),
-        FiltersetLeaf::Group(matcher, _) => Some((Field::Group, matcher)),
-        _ => None,
+/// Makes a text that meets what the branch demands of it.
+fn make_text<'x>(
+    alloc: Global,
+    branch: &[ValuedStep<'x>],
+    field: TestField,
+) -> Result<String, NoCandidate<'x>>
+    ensures text { IfOk result (λ text. (test : AnyTest) → text_of field test ≡ string_bytes text
+        → AgreesOn (IsOfField field) test branch.now) }
+    ensures fault { IfErr result (IsFaultOf branch.now) }
+{
+    let doubt = doubt_of(alloc, branch, field)?;
+    match find_text(alloc, field, doubt.demands.as_slice())? {
+        Sought::Text(text) => Ok(text),
+        Sought::Nothing => Err(NoCandidate::Impossible),
+        Sought::Unknown => Err(NoCandidate::Doubtful(doubt)),
     }
 }
 
-/// Returns the matcher of the step's leaf, if it is put to this text, and whether it is known to match.
-fn known_matcher<'a>(placed: ValuedStep<'a>, field: Field) -> Option<(&'a NameMatcher, bool)> {
-    let (FlatStep::Leaf(leaf), Some(value)) = (placed.step, placed.value) else {
-        return None;
+/// Makes a test that agrees with the branch.
+pub(crate) fn make_candidate<'x>(
+    alloc: Global,
+    branch: &[ValuedStep<'x>],
+) -> Result<PossibleTest, NoCandidate<'x>>
+    ensures test { IfOk result (λ possible. (test : AnyTest) → IsOf test possible → Agrees test branch.now) }
+    ensures fault { IfErr result (IsFaultOf branch.now) }
+{
+    if !are_constants_right(branch) {
+        return Err(NoCandidate::Impossible);
+    }
+    let Some(platform) = find_platform(branch) else {
+        return Err(NoCandidate::Impossible);
     };
-    let (own, matcher) = matcher_of(leaf)?;
-    if own == field {
-        Some((matcher, value))
-    } else {
-        None
-    }
-}
-
-/// Returns whether all known matchers of a text say of this one what is known.
-fn agrees(
-    alloc: Global,
-    branch: &[ValuedStep<'_>],
-    field: Field,
-    text: &str,
-) -> Result<bool, AllocError> {
-    for placed in branch {
-        if let Some((matcher, value)) = known_matcher(*placed, field) {
-            let is_matched = matcher.is_match(alloc, text)?;
-            if is_matched != value {
-                return Ok(false);
-            }
-        }
-    }
-    Ok(true)
-}
-
-/// Joins samples of the matchers that have to match a text.
-fn join_samples(
-    alloc: Global,
-    branch: &[ValuedStep<'_>],
-    field: Field,
-    style: Style,
-) -> Result<String, AllocError> {
-    let mut text = String::new(alloc);
-    for placed in branch {
-        if let Some((matcher, true)) = known_matcher(*placed, field) {
-            if !matcher.is_match(alloc, text.as_str())? {
-                if !text.is_empty() {
-                    text.push_str(style.separator)?;
-                }
-                push_sample(&mut text, matcher, style)?;
-            }
-        }
-    }
-    Ok(text)
-}
-
-/// Makes a text that is likely to agree with the branch.
-fn make_text(alloc: Global, branch: &[ValuedStep<'_>], field: Field) -> Result<String, AllocError> {
-    for filler in field.fillers() {
-        if agrees(alloc, branch, field, filler)? {
-            return String::from_str(alloc, filler);
-        }
-    }
-    for style in STYLES {
-        let text = join_samples(alloc, branch, field, style)?;
-        if agrees(alloc, branch, field, text.as_str())? {
-            return Ok(text);
-        }
-    }
-    Ok(String::new(alloc))
-}
-
-/// Returns the platform that the branch knows, or the target.
-fn find_platform(branch: &[ValuedStep<'_>]) -> BuildPlatform {
-    for placed in branch {
-        if let (FlatStep::Leaf(FiltersetLeaf::Platform(platform, _)), Some(value)) = (
-            placed.step,
-            placed.value,
-        ) {
-            return match (platform, value) {
-                (BuildPlatform::Target, true) | (BuildPlatform::Host, false) => {
-                    BuildPlatform::Target
-                }
-                (BuildPlatform::Host, true) | (BuildPlatform::Target, false) => BuildPlatform::Host,
-            };
-        }
-    }
-    BuildPlatform::Target
-}
-
-/// Copies the package, or makes one that is likely in no set.
-fn make_package(alloc: Global, package: Package<'_>) -> Result<PackageId, AllocError> {
-    match package {
-        Package::Is(id) => id.try_clone(alloc),
-        _ => Ok(PackageId::new(String::from_str(alloc, "other")?)),
-    }
-}
-
-/// Makes a test that is likely to agree with the branch. The only error is out of memory.
-pub(crate) fn make_candidate(
-    alloc: Global,
-    branch: &[ValuedStep<'_>],
-    package: Package<'_>,
-) -> Result<PossibleTest, AllocError> {
-    let kind = make_text(alloc, branch, Field::Kind)?;
-    let binary_id = make_text(alloc, branch, Field::BinaryId)?;
-    let test_name = make_text(alloc, branch, Field::TestName)?;
+    let Some(package_id) = make_package(alloc, branch)? else {
+        return Err(NoCandidate::Impossible);
+    };
+    let kind = make_text(alloc, branch, TestField::Kind)?;
+    let binary_name = make_text(alloc, branch, TestField::BinaryName)?;
+    let binary_id = make_text(alloc, branch, TestField::BinaryId)?;
+    let test_name = make_text(alloc, branch, TestField::TestName)?;
+    let group = make_text(alloc, branch, TestField::Group)?;
     Ok(PossibleTest {
-        package_id: make_package(alloc, package)?,
+        package_id,
         binary_id: RustBinaryId::new(alloc, binary_id.as_str())?,
-        binary_name: make_text(alloc, branch, Field::BinaryName)?,
+        binary_name,
         kind: RustTestBinaryKind::new(kind),
-        platform: find_platform(branch),
+        platform,
         test_name: TestCaseName::new(alloc, test_name.as_str())?,
-        group: make_text(alloc, branch, Field::Group)?,
+        group,
     })
 }

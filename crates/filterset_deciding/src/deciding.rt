@@ -1,10 +1,14 @@
 //! Decides questions about filtersets.
-ghost use Rattle.std.specs.Prelude.{◌≡◌, ◌++◌, IfOk, OnOk};
+ghost use Rattle.std.specs.Prelude.{◌≡◌, ◌<◌, ◌+◌, ◌*◌, ◌^◌, ◌++◌, ℕ, IfOk, OnOk, length};
 ghost use Rattle.filterset_expression.specs.Contexts.{default_of};
 ghost use Rattle.filterset_expression.specs.Expression.{with_default};
 ghost use Rattle.filterset_expression.specs.FlatSteps.{steps_of, postfix};
-ghost use Rattle.filterset_deciding.specs.Deciding.{IsAlwaysMet, IsUnmetAt};
+ghost use Rattle.filterset_deciding.specs.Deciding.{IsAlwaysMet, IsUnmetAt, leaves_asked, steps_asked};
+ghost use Rattle.filterset_deciding.specs.Demands.{IsDoubtAbout};
+ghost use Rattle.filterset_deciding.specs.Texts.{AreComparisons};
+ghost use Rattle.filterset_deciding.specs.declared.demand.Doubt.{Doubt};
 
+use crate::demand::Doubt;
 use crate::question::Question;
 use crate::searching::{Asked, Searched, search};
 use crate::witness::Witness;
@@ -13,13 +17,13 @@ use std::alloc::{AllocError, Global};
 
 /// The answer to a question for every possible test.
 #[derive(Debug, Drop)]
-pub enum Verdict {
+pub enum Verdict<'x> {
     /// The answer is yes for every test.
     Always,
     /// The answer is no for this test.
     Fails(Witness),
-    /// The search found no such test, but could not exclude that there is one.
-    Unknown,
+    /// The search found no such test, but could not exclude that there is one. What it hangs on, in one place at least.
+    Unknown(Doubt<'x>),
     /// The search came to the end of its budget.
     Stopped,
 }
@@ -40,11 +44,11 @@ fn push_steps<'a>(
 }
 
 /// Returns how many branches with this many steps a budget of steps allows.
-fn branches_of(budget: u64, steps: usize) -> u64 {
-    match steps {
-        0 => budget,
-        _ => budget / steps as u64,
-    }
+fn branches_of(budget: u64, steps: usize) -> u64
+    requires { 0 < steps }
+    ensures { (bound : ℕ) → result < bound → budget < bound * steps }
+{
+    budget / steps as u64
 }
 
 /// Decides whether the answer to the question is yes for every test that the given filterset picks, whatever the test's
@@ -59,11 +63,18 @@ pub fn decide<'x>(
     cx: &EvalContext<'x>,
     question: Question,
     budget: u64,
-) -> Result<Verdict, AllocError>
+) -> Result<Verdict<'x>, AllocError>
     ensures always { IfOk result (λ verdict. verdict ≡ Verdict.Always
         → IsAlwaysMet question given.now (default_of cx.now) exprs.now) }
     ensures fails { IfOk result (λ verdict. (witness : Witness) → verdict ≡ Verdict.Fails witness
         → IsUnmetAt question given.now (default_of cx.now) exprs.now witness.test witness.picks.items) }
+    ensures unknown { IfOk result (λ verdict. (doubt : Doubt) → verdict ≡ Verdict.Unknown doubt
+        → IsDoubtAbout (leaves_asked given.now (default_of cx.now) exprs.now) doubt) }
+    ensures decided { IfOk result (λ verdict. (doubt : Doubt) → verdict ≡ Verdict.Unknown doubt
+        → ¬ AreComparisons doubt.demands.items) }
+    ensures stopped { IfOk result (λ verdict. verdict ≡ Verdict.Stopped
+        → budget < 2 ^ (length (leaves_asked given.now (default_of cx.now) exprs.now) + 1)
+        * length (steps_asked given.now (default_of cx.now) exprs.now)) }
 {
     let mut steps = Vec::new(alloc);
     push_steps(alloc, &mut steps, given, cx)?;
@@ -78,7 +89,7 @@ pub fn decide<'x>(
     };
     match search(alloc, &asked, &steps, branches_of(budget, steps.len()))? {
         Searched::Nothing => Ok(Verdict::Always),
-        Searched::Unknown => Ok(Verdict::Unknown),
+        Searched::Unknown(doubt) => Ok(Verdict::Unknown(doubt.without_repeats(alloc)?)),
         Searched::Stopped => Ok(Verdict::Stopped),
         Searched::Found(witness) => Ok(Verdict::Fails(witness)),
     }

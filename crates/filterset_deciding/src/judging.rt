@@ -1,8 +1,9 @@
 //! What the values of filtersets say about a question.
-ghost use Rattle.std.specs.Prelude.{◌≡◌, Bool, List, true, map, length};
-ghost use Rattle.std.specs.List.{count_by};
+ghost use Rattle.std.specs.Prelude.{◌≡◌, ℕ, Bool, List, true, false, map, length};
+ghost use Rattle.std.specs.List.{AllByRecursion, count_by};
 ghost use Rattle.filterset_deciding.specs.Question.{is_met};
-ghost use Rattle.filterset_deciding.specs.Judging.{is_yes, is_maybe, Fits, met};
+ghost use Rattle.filterset_deciding.specs.Judging.{is_yes, is_maybe, Fits, IsUnmetFor, met};
+ghost use Rattle.filterset_deciding.specs.Waiting.{IsSettled, WaitsAt};
 
 use crate::question::Question;
 use crate::running::StackValue;
@@ -39,10 +40,14 @@ fn count_maybe(values: &[StackValue]) -> usize
 }
 
 /// Returns the position of the leaf that the first unknown value depends on.
-fn find_open(values: &[StackValue]) -> usize {
+fn find_open(values: &[StackValue]) -> usize
+    requires { ¬ AllByRecursion IsSettled values.now }
+    ensures { WaitsAt result values.now }
+{
     for one in values {
-        if one.value.is_none() {
-            return one.waits_for;
+        match one.value {
+            None => return one.waits_for,
+            Some(_) => {}
         }
     }
     0
@@ -50,8 +55,11 @@ fn find_open(values: &[StackValue]) -> usize {
 
 /// Judges the question by the values of its filtersets.
 fn judge_given(question: Question, values: &[StackValue]) -> Judgement
-    ensures { result ≡ Judgement.Met → (answers : List Bool) → Fits answers (map (λ s. s.value) values.now)
+    ensures met { result ≡ Judgement.Met → (answers : List Bool) → Fits answers (map (λ s. s.value) values.now)
         → is_met question (count_by (λ x. x) answers) (length answers) ≡ true }
+    ensures unmet { result ≡ Judgement.Unmet → (answers : List Bool) → Fits answers (map (λ s. s.value) values.now)
+        → is_met question (count_by (λ x. x) answers) (length answers) ≡ false }
+    ensures opened { (at : ℕ) → result ≡ Judgement.Open at → WaitsAt at values.now }
 {
     let low = count_yes(values);
     let high = count_maybe(values);
@@ -65,8 +73,10 @@ fn judge_given(question: Question, values: &[StackValue]) -> Judgement
 /// Judges the question by these values: first that of the filterset that a test has to be in, then those of the question's
 /// filtersets.
 pub(crate) fn judge(question: Question, values: &[StackValue]) -> Judgement
-    ensures { result ≡ Judgement.Met → (answers : List Bool) → Fits answers (map (λ s. s.value) values.now)
+    ensures met { result ≡ Judgement.Met → (answers : List Bool) → Fits answers (map (λ s. s.value) values.now)
         → met question answers ≡ true }
+    ensures unmet { result ≡ Judgement.Unmet → IsUnmetFor question (map (λ s. s.value) values.now) }
+    ensures opened { (at : ℕ) → result ≡ Judgement.Open at → WaitsAt at values.now }
 {
     let [given, others @ ..] = values else {
         return Judgement::Met;

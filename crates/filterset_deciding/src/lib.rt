@@ -2,9 +2,11 @@
 //! picked by at least one, by at most one, or by exactly one of them.
 #![tactic(auto)]
 
+mod aspects;
 mod branch;
 mod candidate;
 mod deciding;
+mod demand;
 mod inferring;
 mod judging;
 pub mod laws;
@@ -14,8 +16,10 @@ mod question;
 mod running;
 mod sample;
 mod searching;
+mod texts;
 mod witness;
 
 pub use deciding::{Verdict, decide};
+pub use demand::{Demand, Doubt, TestField};
 pub use question::Question;
 pub use witness::{PossibleTest, Witness};

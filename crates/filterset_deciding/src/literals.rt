@@ -1,11 +1,12 @@
 //! Matchers that match one text alone, and globs that begin with different literals.
-ghost use Rattle.std.specs.Prelude.{◌≡◌, ℕ, Bool, List, IfOk, IfSome, IsTrue};
+ghost use Rattle.std.specs.Prelude.{◌≡◌, ℕ, Bool, List, IfNone, IfOk, IfSome, IsTrue};
 ghost use Rattle.filterset_glob.specs.Matching.{Matches};
 ghost use Rattle.filterset_glob.specs.Tokens.{token_of, tokens_of};
 ghost use Rattle.filterset_matchers.specs.Matchers.{matcher_of};
 ghost use Rattle.filterset_matchers.specs.Matcher as matcher;
 ghost use Rattle.filterset_deciding.specs.Globs.{are_literals, is_literal};
 ghost use Rattle.filterset_deciding.specs.Known.{IsLiteralOf};
+ghost use Rattle.filterset_deciding.specs.Texts.{IsEqual};
 
 use filterset_glob::{GenericGlob, GlobToken};
 use filterset_matchers::NameMatcher;
@@ -52,7 +53,8 @@ pub(crate) fn literal_of<'m>(
     alloc: Global,
     matcher: &'m NameMatcher,
 ) -> Result<Option<&'m str>, AllocError>
-    ensures { IfOk result (λ found. IfSome found (λ text. IsLiteralOf (matcher_of matcher.entry.now) text.now)) }
+    ensures some { IfOk result (λ found. IfSome found (λ text. IsLiteralOf (matcher_of matcher.entry.now) text.now)) }
+    ensures none { IfOk result (λ found. IfNone found (¬ IsEqual (matcher_of matcher.entry.now))) }
 {
     match matcher {
         NameMatcher::Equal { value, .. } => Ok(Some(value.as_str())),

@@ -1,5 +1,5 @@
 //! Questions about filtersets and each possible test.
-ghost use Rattle.std.specs.Prelude.{◌≡◌, ◌≤◌, ◌+◌, ◌<◌, ℕ, IfSome};
+ghost use Rattle.std.specs.Prelude.{◌≡◌, ◌≢◌, ◌≤◌, ◌+◌, ◌<◌, ℕ, IfNone, IfSome};
 ghost use Rattle.filterset_deciding.specs.Question.{is_met};
 
 /// A question about several filtersets and a test.
@@ -31,8 +31,9 @@ impl Question {
     /// Returns the answer if it is the same for each count from `low` to `high`.
     pub(crate) fn settle(self, low: usize, high: usize, total: usize) -> Option<bool>
         requires within { high ≤ total }
-        ensures { IfSome result (λ answer.
+        ensures settled { IfSome result (λ answer.
             (count : ℕ) → low ≤ count → count ≤ high → is_met self count total ≡ answer) }
+        ensures opened { IfNone result (low ≢ high) }
     {
         match self {
             Question::AllAlike => settle_all_alike(low, high, total),
@@ -46,8 +47,9 @@ impl Question {
 /// Returns the answer to `AllAlike` if it is the same for each count from `low` to `high`.
 fn settle_all_alike(low: usize, high: usize, total: usize) -> Option<bool>
     requires within { high ≤ total }
-    ensures { IfSome result (λ answer.
+    ensures settled { IfSome result (λ answer.
         (count : ℕ) → low ≤ count → count ≤ high → is_met Question.AllAlike count total ≡ answer) }
+    ensures opened { IfNone result (low ≢ high) }
 {
     if high == 0 || low == total {
         Some(true)
@@ -60,8 +62,9 @@ fn settle_all_alike(low: usize, high: usize, total: usize) -> Option<bool>
 
 /// Returns the answer to `AtLeastOne` if it is the same for each count from `low` to `high`.
 fn settle_at_least_one(low: usize, high: usize) -> Option<bool>
-    ensures { IfSome result (λ answer.
+    ensures settled { IfSome result (λ answer.
         (count total : ℕ) → low ≤ count → count ≤ high → is_met Question.AtLeastOne count total ≡ answer) }
+    ensures opened { IfNone result (low ≢ high) }
 {
     if low >= 1 {
         Some(true)
@@ -74,8 +77,9 @@ fn settle_at_least_one(low: usize, high: usize) -> Option<bool>
 
 /// Returns the answer to `AtMostOne` if it is the same for each count from `low` to `high`.
 fn settle_at_most_one(low: usize, high: usize) -> Option<bool>
-    ensures { IfSome result (λ answer.
+    ensures settled { IfSome result (λ answer.
         (count total : ℕ) → low ≤ count → count ≤ high → is_met Question.AtMostOne count total ≡ answer) }
+    ensures opened { IfNone result (low ≢ high) }
 {
     if high <= 1 {
         Some(true)
@@ -88,8 +92,9 @@ fn settle_at_most_one(low: usize, high: usize) -> Option<bool>
 
 /// Returns the answer to `ExactlyOne` if it is the same for each count from `low` to `high`.
 fn settle_exactly_one(low: usize, high: usize) -> Option<bool>
-    ensures { IfSome result (λ answer.
+    ensures settled { IfSome result (λ answer.
         (count total : ℕ) → low ≤ count → count ≤ high → is_met Question.ExactlyOne count total ≡ answer) }
+    ensures opened { IfNone result (low ≢ high) }
 {
     if low == 1 && high == 1 {
         Some(true)

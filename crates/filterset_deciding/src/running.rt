@@ -1,8 +1,11 @@
 //! Runs of steps on a stack, where the values of some leaves are known.
-ghost use Rattle.std.specs.Prelude.{◌≡◌, [], Some, None, IfOk, MatchOption, if◌then◌else◌};
+ghost use Rattle.std.specs.Prelude.{◌≡◌, ◌<◌, [], List, Some, None, IfOk, IfSome, MatchOption, get_or, length, true, if◌then◌else◌};
 ghost use Rattle.filterset_expression.specs.Connectives.{kleene, kleene_not};
 ghost use Rattle.filterset_expression.specs.FlatSteps.{step_of, Negate, Combine};
+ghost use Rattle.std.specs.List.{AllByRecursion};
 ghost use Rattle.filterset_deciding.specs.Running.{kleene_step, kleene_run, tops};
+ghost use Rattle.filterset_deciding.specs.Waiting.{WaitsIn};
+ghost use Rattle.filterset_deciding.specs.declared.running.ValuedStep.{ValuedStep};
 
 use filterset_expression::{Connective, FlatStep, Logic};
 use std::alloc::{AllocError, Global};
@@ -23,7 +26,8 @@ pub(crate) struct StackValue {
 
 /// Negates a value.
 fn negate_value(operand: StackValue) -> StackValue
-    ensures { result.value ≡ kleene_not operand.value }
+    ensures value { result.value ≡ kleene_not operand.value }
+    ensures waits { (branch : List ValuedStep) → WaitsIn branch operand → WaitsIn branch result }
 {
     StackValue {
         value: operand.value.logic_not(),
@@ -31,26 +35,40 @@ fn negate_value(operand: StackValue) -> StackValue
     }
 }
 
+/// Applies the connective to two values of three.
+fn connected(connective: Connective, left: Option<bool>, right: Option<bool>) -> Option<bool>
+    ensures { result ≡ kleene connective left right }
+{
+    match connective {
+        Connective::Conjunction => left.logic_and(right),
+        Connective::Disjunction => left.logic_or(right),
+        Connective::ExclusiveDisjunction => left.logic_xor(right),
+    }
+}
+
 /// Applies the connective to two values.
 fn connect_values(connective: Connective, left: StackValue, right: StackValue) -> StackValue
-    ensures { result.value ≡ kleene connective left.value right.value }
+    ensures value { result.value ≡ kleene connective left.value right.value }
+    ensures waits { (branch : List ValuedStep) → WaitsIn branch left → WaitsIn branch right → WaitsIn branch result }
 {
-    let value = match connective {
-        Connective::Conjunction => left.value.logic_and(right.value),
-        Connective::Disjunction => left.value.logic_or(right.value),
-        Connective::ExclusiveDisjunction => left.value.logic_xor(right.value),
-    };
-    let waits_for = if left.value.is_none() {
-        left.waits_for
-    } else {
-        right.waits_for
-    };
-    StackValue { value, waits_for }
+    let value = connected(connective, left.value, right.value);
+    match left.value {
+        None => StackValue {
+            value,
+            waits_for: left.waits_for,
+        },
+        Some(_) => StackValue {
+            value,
+            waits_for: right.waits_for,
+        },
+    }
 }
 
 /// Replaces the top two values by what the connective makes of them. Returns false if there are not two.
 fn combine(stack: &mut Vec<StackValue>, connective: Connective) -> Result<bool, AllocError>
-    ensures { IfOk result (λ ran. kleene_step (Combine connective) None (tops stack.old.items)
+    ensures waits { IfOk result (λ ran. ran ≡ true → (branch : List ValuedStep)
+        → AllByRecursion (WaitsIn branch) stack.old.items → AllByRecursion (WaitsIn branch) stack.new.items) }
+    ensures ran { IfOk result (λ ran. kleene_step (Combine connective) None (tops stack.old.items)
         ≡ (if ran then Some (tops stack.new.items) else None)) }
 {
     let Some(right) = stack.pop() else {
@@ -65,7 +83,9 @@ fn combine(stack: &mut Vec<StackValue>, connective: Connective) -> Result<bool, 
 
 /// Replaces the top value by its negation. Returns false if there is none.
 fn negate(stack: &mut Vec<StackValue>) -> Result<bool, AllocError>
-    ensures { IfOk result (λ ran. kleene_step Negate None (tops stack.old.items)
+    ensures waits { IfOk result (λ ran. ran ≡ true → (branch : List ValuedStep)
+        → AllByRecursion (WaitsIn branch) stack.old.items → AllByRecursion (WaitsIn branch) stack.new.items) }
+    ensures ran { IfOk result (λ ran. kleene_step Negate None (tops stack.old.items)
         ≡ (if ran then Some (tops stack.new.items) else None)) }
 {
     let Some(operand) = stack.pop() else {
@@ -81,11 +101,14 @@ fn run_step(
     placed: ValuedStep<'_>,
     at: usize,
 ) -> Result<bool, AllocError>
-    ensures { IfOk result (λ ran. kleene_step (step_of placed.entry.step) placed.entry.value (tops stack.old.items)
+    ensures waits { IfOk result (λ ran. ran ≡ true → (branch : List ValuedStep)
+        → at < length branch → get_or branch at placed.entry ≡ placed.entry
+        → AllByRecursion (WaitsIn branch) stack.old.items → AllByRecursion (WaitsIn branch) stack.new.items) }
+    ensures ran { IfOk result (λ ran. kleene_step (step_of placed.entry.step) placed.entry.value (tops stack.old.items)
         ≡ (if ran then Some (tops stack.new.items) else None)) }
 {
     match placed.step {
-        FlatStep::Leaf(_) => {
+        FlatStep::Leaf(_leaf) => {
             stack.push(StackValue {
                 value: placed.value,
                 waits_for: at,
@@ -105,7 +128,8 @@ pub(crate) fn run(
     alloc: Global,
     branch: &[ValuedStep<'_>],
 ) -> Result<Option<Vec<StackValue>>, AllocError>
-    ensures { IfOk result (λ left. MatchOption left (kleene_run branch.now [] ≡ None)
+    ensures waits { IfOk result (λ left. IfSome left (λ stack. AllByRecursion (WaitsIn branch.now) stack.items)) }
+    ensures ran { IfOk result (λ left. MatchOption left (kleene_run branch.now [] ≡ None)
         (λ stack. kleene_run branch.now [] ≡ Some (tops stack.items))) }
 {
     let mut stack = Vec::new(alloc);

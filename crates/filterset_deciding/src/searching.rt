@@ -1,19 +1,24 @@
 //! The search for a test for which the answer to a question is no.
-ghost use Rattle.std.specs.Prelude.{◌≡◌, List, IfOk, OnOk, if◌then◌else◌};
+ghost use Rattle.std.specs.Prelude.{◌≡◌, ◌<◌, ◌≤◌, ◌+◌, ◌^◌, ℕ, List, MatchOption, IfNone, IfOk, IfSome, OnOk, get_or, length};
 ghost use Rattle.filterset_expression.specs.Contexts.{default_of};
-ghost use Rattle.filterset_expression.specs.FlatSteps.{Step, steps_of};
-ghost use Rattle.filterset_expression.specs.Expression.{CompiledLeaf};
+ghost use Rattle.filterset_expression.specs.FlatSteps.{Push, Step, step_of, steps_of};
+ghost use Rattle.filterset_expression.specs.Expression.{CompiledLeaf, compiled_leaf};
 ghost use Rattle.filterset_deciding.specs.AnyTest.{AnyTest};
-ghost use Rattle.filterset_deciding.specs.Deciding.{IsUnmetAt};
-ghost use Rattle.filterset_deciding.specs.Searching.{AgreesWith, IsMissed, NoneAgrees, Rejects};
+ghost use Rattle.filterset_deciding.specs.Candidates.{IsOpenDoubt};
+ghost use Rattle.filterset_deciding.specs.Deciding.{IsUnmetAt, formulas_asked};
+ghost use Rattle.filterset_deciding.specs.Known.{steps_in};
+ghost use Rattle.filterset_deciding.specs.Searching.{AgreesWith, HaveSteps, IsMissed, NoneAgrees, Refuses, Rejects, all_steps, pushed};
+ghost use Rattle.filterset_deciding.specs.Waiting.{IsOpenAt, all_nodes, nodes, opens};
+ghost use Rattle.filterset_deciding.specs.declared.demand.Doubt.{Doubt};
+ghost use Rattle.filterset_deciding.specs.declared.running.ValuedStep.{ValuedStep};
 
 use crate::branch::{narrow, start_branch};
-use crate::candidate::make_candidate;
+use crate::candidate::{NoCandidate, make_candidate};
+use crate::demand::Doubt;
 use crate::judging::{Judgement, judge};
-use crate::packages::{Package, find_package};
 use crate::question::Question;
 use crate::running::{ValuedStep, run};
-use crate::witness::{Witness, check_test};
+use crate::witness::{Witness, ask_all};
 use filterset_expression::{CompiledExpr, EvalContext, FiltersetLeaf, FlatStep};
 use std::alloc::{AllocError, Global};
 
@@ -29,21 +34,21 @@ pub(crate) struct Asked<'e, 'x> {
 
 /// What was found in a branch.
 #[derive(Drop)]
-pub(crate) enum Explored {
+pub(crate) enum Explored<'x> {
     /// It has no such test, but for those of the branches that were added.
     Closed,
-    /// It may have such a test.
-    Left,
+    /// It may have such a test. What that hangs on.
+    Left(Doubt<'x>),
     Found(Witness),
 }
 
 /// What the search found.
 #[derive(Drop)]
-pub(crate) enum Searched {
+pub(crate) enum Searched<'x> {
     /// There is no such test.
     Nothing,
-    /// Some branch may have such a test.
-    Unknown,
+    /// Some branch may have such a test. What that hangs on.
+    Unknown(Doubt<'x>),
     /// The search was stopped before its end.
     Stopped,
     Found(Witness),
@@ -55,7 +60,9 @@ fn judge_branch(
     question: Question,
     branch: &[ValuedStep<'_>],
 ) -> Result<Judgement, AllocError>
-    ensures { IfOk result (λ judged. judged ≡ Judgement.Met → Rejects question branch.now) }
+    ensures met { IfOk result (λ judged. judged ≡ Judgement.Met → Rejects question branch.now) }
+    ensures unmet { IfOk result (λ judged. judged ≡ Judgement.Unmet → Refuses question branch.now) }
+    ensures opened { IfOk result (λ judged. (at : ℕ) → judged ≡ Judgement.Open at → IsOpenAt branch.now at) }
 {
     match run(alloc, branch)? {
         Some(values) => Ok(judge(question, &values)),
@@ -63,56 +70,62 @@ fn judge_branch(
     }
 }
 
-/// Looks for a test of a branch in which the answer is no.
-fn try_branch(
+/// Makes a test of a branch in which the answer is no, if there is one.
+fn try_branch<'a>(
     alloc: Global,
     asked: &Asked<'_, '_>,
-    branch: &[ValuedStep<'_>],
-) -> Result<Explored, AllocError>
+    branch: &[ValuedStep<'a>],
+) -> Result<Explored<'a>, AllocError>
+    requires { Refuses asked.now.question branch.now }
     ensures closed { IfOk result (λ explored. explored ≡ Explored.Closed → Rejects asked.now.question branch.now) }
     ensures found { IfOk result (λ explored. (witness : Witness) → explored ≡ Explored.Found witness
+        → steps_in branch.now ≡ all_steps (formulas_asked asked.now.given.now (default_of asked.now.cx) asked.now.exprs.now)
         → IsUnmetAt asked.now.question asked.now.given.now (default_of asked.now.cx) asked.now.exprs.now
         witness.test witness.picks.items) }
+    ensures left { IfOk result (λ explored. (doubt : Doubt) → explored ≡ Explored.Left doubt
+        → IsOpenDoubt (steps_in branch.now) doubt) }
 {
-    let package = find_package(branch);
-    if let Package::Impossible = package {
-        return Ok(Explored::Closed);
-    }
-    let test = make_candidate(alloc, branch, package)?;
-    let Asked {
-        given,
-        exprs,
-        cx,
-        question,
-    } = *asked;
-    match check_test(alloc, given, exprs, &cx, question, &test)? {
-        Some(picks) => Ok(Explored::Found(Witness { test, picks })),
-        None => Ok(Explored::Left),
+    match make_candidate(alloc, branch) {
+        Ok(test) => Ok(Explored::Found(ask_all(alloc, asked.exprs, &asked.cx, test)?)),
+        Err(NoCandidate::Impossible) => Ok(Explored::Closed),
+        Err(NoCandidate::Doubtful(doubt)) => Ok(Explored::Left(doubt)),
+        Err(NoCandidate::OutOfMemory(refused)) => Err(refused),
     }
 }
 
 /// Returns the leaf at this position, if there is one.
-fn leaf_at<'a>(branch: &[ValuedStep<'a>], at: usize) -> Option<&'a FiltersetLeaf> {
+fn leaf_at<'a>(branch: &[ValuedStep<'a>], at: usize) -> Option<&'a FiltersetLeaf>
+    ensures some { IfSome result (λ leaf. (placed : ValuedStep) → get_or branch.now at placed ≡ placed
+        → step_of placed.step ≡ Push (compiled_leaf leaf.now)) }
+    ensures none { IfNone result (¬ IsOpenAt branch.now at) }
+{
     match branch.get(at)?.step {
         FlatStep::Leaf(leaf) => Some(leaf),
         _ => None,
     }
 }
 
-/// Adds two branches in place of one: one in which the leaf is false, and one in which it is true.
+/// Adds two branches in place of one: one in which the leaf at this position is false, and one in which it is true.
 fn divide<'a>(
     alloc: Global,
     branch: &[ValuedStep<'a>],
+    at: usize,
     leaf: &FiltersetLeaf,
     pending: &mut Vec<Vec<ValuedStep<'a>>>,
 ) -> Result<(), AllocError>
-    ensures { OnOk result ((test : AnyTest) → (steps : List (Step CompiledLeaf))
+    requires { (placed : ValuedStep) → get_or branch.now at placed ≡ placed
+        → step_of placed.step ≡ Push (compiled_leaf leaf.now) }
+    ensures steps { OnOk result (HaveSteps (steps_in branch.now) pending.old.items
+        → HaveSteps (steps_in branch.now) pending.new.items) }
+    ensures divided { OnOk result ((test : AnyTest) → (steps : List (Step CompiledLeaf))
         → NoneAgrees test steps pending.new.items
         → NoneAgrees test steps pending.old.items × ¬ AgreesWith test steps branch.now) }
+    ensures fewer { OnOk result (IsOpenAt branch.now at
+        → all_nodes pending.new.items + 1 ≤ all_nodes pending.old.items + nodes (opens branch.now)) }
 {
-    let without = narrow(alloc, branch, leaf, false)?;
+    let without = narrow(alloc, branch, at, leaf, false)?;
     pending.push(without)?;
-    let within = narrow(alloc, branch, leaf, true)?;
+    let within = narrow(alloc, branch, at, leaf, true)?;
     pending.push(within)?;
     Ok(())
 }
@@ -123,63 +136,73 @@ fn explore<'a>(
     asked: &Asked<'_, '_>,
     branch: &[ValuedStep<'a>],
     pending: &mut Vec<Vec<ValuedStep<'a>>>,
-) -> Result<Explored, AllocError>
+) -> Result<Explored<'a>, AllocError>
+    ensures steps { OnOk result (HaveSteps (steps_in branch.now) pending.old.items
+        → HaveSteps (steps_in branch.now) pending.new.items) }
+    ensures fewer { OnOk result (all_nodes pending.new.items + 1 ≤ all_nodes pending.old.items + nodes (opens branch.now)) }
     ensures closed { IfOk result (λ explored. explored ≡ Explored.Closed
         → (test : AnyTest) (steps : List (Step CompiledLeaf)) → IsMissed asked.now.question steps test
         → NoneAgrees test steps pending.new.items
         → NoneAgrees test steps pending.old.items × ¬ AgreesWith test steps branch.now) }
     ensures found { IfOk result (λ explored. (witness : Witness) → explored ≡ Explored.Found witness
+        → steps_in branch.now ≡ all_steps (formulas_asked asked.now.given.now (default_of asked.now.cx) asked.now.exprs.now)
         → IsUnmetAt asked.now.question asked.now.given.now (default_of asked.now.cx) asked.now.exprs.now
         witness.test witness.picks.items) }
+    ensures left { IfOk result (λ explored. (doubt : Doubt) → explored ≡ Explored.Left doubt
+        → IsOpenDoubt (steps_in branch.now) doubt) }
 {
     match judge_branch(alloc, asked.question, branch)? {
         Judgement::Met => Ok(Explored::Closed),
         Judgement::Unmet => try_branch(alloc, asked, branch),
         Judgement::Open(at) => match leaf_at(branch, at) {
             Some(leaf) => {
-                divide(alloc, branch, leaf, pending)?;
+                divide(alloc, branch, at, leaf, pending)?;
                 Ok(Explored::Closed)
             }
-            None => Ok(Explored::Left),
+            None => Ok(Explored::Closed),
         },
     }
 }
 
 /// Returns what a search found that came to its end without a test.
-fn end_search(is_whole: bool) -> Searched
-    ensures { result ≡ (if is_whole then Searched.Nothing else Searched.Unknown) }
+fn end_search(left: Option<Doubt<'_>>) -> Searched<'_>
+    ensures { MatchOption left.entry (result ≡ Searched.Nothing) (λ doubt. result ≡ Searched.Unknown doubt) }
 {
-    if is_whole {
-        Searched::Nothing
-    } else {
-        Searched::Unknown
+    match left {
+        Some(doubt) => Searched::Unknown(doubt),
+        None => Searched::Nothing,
     }
 }
 
 /// Searches at most this many branches. The only error is out of memory.
-pub(crate) fn search(
+pub(crate) fn search<'a>(
     alloc: Global,
     asked: &Asked<'_, '_>,
-    steps: &[FlatStep<'_>],
+    steps: &[FlatStep<'a>],
     branches: u64,
-) -> Result<Searched, AllocError>
+) -> Result<Searched<'a>, AllocError>
     ensures nothing { IfOk result (λ searched. searched ≡ Searched.Nothing
         → (test : AnyTest) → ¬ IsMissed asked.now.question (steps_of steps.now) test) }
     ensures found { IfOk result (λ searched. (witness : Witness) → searched ≡ Searched.Found witness
+        → steps_of steps.now ≡ all_steps (formulas_asked asked.now.given.now (default_of asked.now.cx) asked.now.exprs.now)
         → IsUnmetAt asked.now.question asked.now.given.now (default_of asked.now.cx) asked.now.exprs.now
         witness.test witness.picks.items) }
+    ensures unknown { IfOk result (λ searched. (doubt : Doubt) → searched ≡ Searched.Unknown doubt
+        → IsOpenDoubt (steps_of steps.now) doubt) }
+    ensures stopped { IfOk result (λ searched. searched ≡ Searched.Stopped
+        → branches < 2 ^ (length (pushed (steps_of steps.now)) + 1)) }
 {
     let mut pending = Vec::new(alloc);
     pending.push(start_branch(alloc, steps)?)?;
-    let mut is_whole = true;
-    'branches: for _ in 0..branches {
+    let mut left = None;
+    'branches: for searched in 0..branches {
         let branch = match pending.pop() {
             Some(branch) => branch,
-            None => return Ok(end_search(is_whole)),
+            None => return Ok(end_search(left)),
         };
         match explore(alloc, asked, &branch, &mut pending)? {
             Explored::Closed => {}
-            Explored::Left => is_whole = false,
+            Explored::Left(doubt) => left = Some(doubt),
             Explored::Found(witness) => return Ok(Searched::Found(witness)),
         }
     }

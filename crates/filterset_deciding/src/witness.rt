@@ -1,11 +1,10 @@
 //! Possible tests, and whether the answer to a question is no for one.
-ghost use Rattle.std.specs.Prelude.{◌≡◌, ◌↔◌, IfOk, IfSome, IsTrue, string_bytes};
-ghost use Rattle.std.specs.List.{count_by};
+ghost use Rattle.std.specs.Prelude.{◌≡◌, ◌↔◌, IfOk, IsTrue, string_bytes};
 ghost use Rattle.filterset_expression.specs.Contexts.{default_of};
 ghost use Rattle.filterset_deciding.specs.AnyTest.{in_group, AreAnswersAsked, HasTexts, PicksAsked};
-ghost use Rattle.filterset_deciding.specs.Deciding.{IsAbout, IsUnmetAt};
+ghost use Rattle.filterset_deciding.specs.Deciding.{IsAbout};
+ghost use Rattle.filterset_deciding.specs.Searching.{AreAnswersAt};
 
-use crate::question::Question;
 use filterset_expression::{
     BinaryQuery, CompiledExpr, EvalContext, FlatExpr, GroupLookup, TestQuery,
 };
@@ -133,36 +132,20 @@ fn pick_all(
     Ok(all)
 }
 
-/// Counts the answers that are true.
-fn count_true(answers: &[bool]) -> usize
-    ensures { result ≡ count_by (λ x. x) answers.now }
-{
-    answers.iter().filter(|answer| **answer).count()
-}
-
-/// Returns which filtersets pick the test, if the given one does and the answer to the question is no. The only error is out
-/// of memory.
-pub(crate) fn check_test(
+/// Asks all filtersets about the test. The only error is out of memory.
+pub(crate) fn ask_all(
     alloc: Global,
-    given: &CompiledExpr,
     exprs: &[&CompiledExpr],
     cx: &EvalContext<'_>,
-    question: Question,
-    test: &PossibleTest,
-) -> Result<Option<Vec<bool>>, AllocError>
-    ensures { IfOk result (λ found. IfSome found (λ all.
-        IsUnmetAt question given.now (default_of cx.now) exprs.now test.now all.items)) }
+    test: PossibleTest,
+) -> Result<Witness, AllocError>
+    ensures test { IfOk result (λ witness. witness.test ≡ test) }
+    ensures picks { IfOk result (λ witness. AreAnswersAt (default_of cx.now) exprs.now test witness.picks.items) }
 {
     let query = test.query();
     let lookup = InGroup {
         group: test.group.as_str(),
     };
-    if !picks(alloc, given, cx, &query, &lookup)? {
-        return Ok(None);
-    }
-    let all = pick_all(alloc, exprs, cx, &query, &lookup)?;
-    if question.is_met(count_true(&all), all.len()) {
-        return Ok(None);
-    }
-    Ok(Some(all))
+    let picks = pick_all(alloc, exprs, cx, &query, &lookup)?;
+    Ok(Witness { test, picks })
 }

@@ -1,14 +1,17 @@
 -- What is decided about compiled expressions is so of their trees.
-use Rattle.std.proofs.Common.{◌≡◌, ◌↔◌, ◌<◌, ◌-◌, take, arith, ap, drop, get_or, length, refl, Bool, List, [], ◌∷◌, map}
+use Rattle.std.proofs.Common.{◌≡◌, ◌↔◌, ◌<◌, ◌+◌, ◌-◌, ◌*◌, ◌^◌, ℕ, take, arith, ap, drop, get_or, length, refl, Bool, List, [], ◌∷◌, map}
 use Rattle.std.specs.Borrow.{Bor}
 use Rattle.std.proofs.lemmas.List.{take_all}
 use Rattle.std.specs.List.{AllZip}
 use Rattle.filterset_answers.specs.Checked.{TextRow}
 use Rattle.filterset_answers.specs.Compiled.{IsFiltersetFor}
 use Rattle.filterset_deciding.specs.AnyTest.{AnyTest, AreAnswers, Picks, in_group}
-use Rattle.filterset_deciding.specs.Deciding.{IsAlwaysMet, IsUnmetAt}
+use Rattle.filterset_deciding.specs.Deciding.{IsAlwaysMet, IsUnmetAt, leaves_asked, steps_asked}
 use Rattle.filterset_deciding.specs.declared.deciding.Verdict.{Verdict}
 use Rattle.filterset_deciding.specs.declared.deciding.Verdict.TheVariants as verdicts
+use Rattle.filterset_deciding.specs.Demands.{IsDoubtAbout}
+use Rattle.filterset_deciding.specs.Texts.{AreComparisons}
+use Rattle.filterset_deciding.specs.declared.demand.Doubt.{Doubt}
 use Rattle.filterset_deciding.specs.declared.question.Question.{Question}
 use Rattle.filterset_deciding.specs.declared.witness.PossibleTest.{PossibleTest}
 use Rattle.filterset_deciding.specs.declared.witness.Witness.{Witness}
@@ -71,17 +74,22 @@ module _ (packages : List PackageMetadata) (default : CompiledExpr) where
 
 -- a verdict that is right of expressions is right of their trees
 pub right_of_trees : (packages : List PackageMetadata) (default : CompiledExpr) (question : Question) (within : Tree SourceSpan) (given : CompiledExpr)
-    (trees : List (Tree SourceSpan)) (exprs : List (Bor CompiledExpr)) (verdict : Verdict)
+    (trees : List (Tree SourceSpan)) (exprs : List (Bor CompiledExpr)) (budget : ℕ) (verdict : Verdict)
     → IsCompiled packages within given → AllZip (IsCompiled packages) trees (map (λ (e : Bor CompiledExpr). e.now) exprs)
     → (verdict ≡ verdicts.Always → IsAlwaysMet question given default exprs)
     → ((witness : Witness) → verdict ≡ verdicts.Fails witness → IsUnmetAt question given default exprs witness.test witness.picks.items)
-    → IsRight question packages default within trees verdict
-right_of_trees packages default question within given trees exprs verdicts.Always is are always fails =
+    → ((doubt : Doubt) → verdict ≡ verdicts.Unknown doubt → IsDoubtAbout (leaves_asked given default exprs) doubt)
+    → ((doubt : Doubt) → verdict ≡ verdicts.Unknown doubt → ¬ AreComparisons doubt.demands.items)
+    → (verdict ≡ verdicts.Stopped → budget < 2 ^ (length (leaves_asked given default exprs) + 1) * length (steps_asked given default exprs))
+    → IsRight question packages default within trees budget verdict
+right_of_trees packages default question within given trees exprs budget verdicts.Always is are always fails unknown decided stopped =
     always_of_trees packages default question within given trees exprs is are (always refl)
-right_of_trees packages default question within given trees exprs (verdicts.Fails witness) is are always fails =
+right_of_trees packages default question within given trees exprs budget (verdicts.Fails witness) is are always fails unknown decided stopped =
     fails_of_trees packages default question within given trees exprs witness.test witness.picks.items is are (fails witness refl)
-right_of_trees packages default question within given trees exprs verdicts.Unknown is are always fails = tt
-right_of_trees packages default question within given trees exprs verdicts.Stopped is are always fails = tt
+right_of_trees packages default question within given trees exprs budget (verdicts.Unknown doubt) is are always fails unknown decided stopped =
+    record { given = given; exprs = exprs; is_given = is; are = are; about = unknown doubt refl; not_compared = decided doubt refl }
+right_of_trees packages default question within given trees exprs budget verdicts.Stopped is are always fails unknown decided stopped =
+    record { given = given; exprs = exprs; is_given = is; are = are; below = stopped refl }
 
 -- a list is its first element and the others
 pub first_and_others : {A : Type 0} (xs : List A) (x : A) → 0 < length xs → get_or xs 0 x ≡ x → xs ≡ x ∷ drop 1 xs

@@ -1,16 +1,19 @@
 -- Verdicts as JSON.
-use Rattle.std.specs.Prelude.{◌≡◌, ◌+◌, ◌++◌, ℕ, Bool, true, false, List, [], ◌∷◌, codes, if◌then◌else◌, map, string_bytes}
+use Rattle.std.specs.Prelude.{◌≡◌, ◌+◌, ℕ, Bool, true, false, List, [], ◌∷◌, codes, if◌then◌else◌, map, string_bytes}
 use Rattle.serde_json.specs.Data.{Data, array, boolean, member, no_members, null, number, object, string, unsigned}
 use Rattle.serde_json.specs.View.{items_of}
 use Rattle.filterset_deciding.specs.declared.deciding.Verdict.{Verdict}
 use Rattle.filterset_deciding.specs.declared.deciding.Verdict.TheVariants as verdicts
+use Rattle.filterset_deciding.specs.declared.demand.Demand.{Demand}
+use Rattle.filterset_deciding.specs.declared.demand.Doubt.{Doubt}
+use Rattle.filterset_deciding.specs.declared.demand.TestField.{TestField}
 use Rattle.filterset_deciding.specs.declared.question.Question.{Question}
 use Rattle.filterset_deciding.specs.declared.question.Question.TheVariants.{AllAlike, AtLeastOne, AtMostOne, ExactlyOne}
 use Rattle.filterset_deciding.specs.declared.witness.PossibleTest.{PossibleTest}
 use Rattle.filterset_drawing.specs.Columns.{Text}
 use Rattle.filterset_graph.specs.Platforms.{platform_text}
 use Rattle.filterset_graph.specs.declared.package.PackageMetadata.{PackageMetadata}
-use Rattle.filterset_verdicts.specs.VerdictText.{IsPackageText}
+use Rattle.filterset_verdicts.specs.VerdictText.{IsPackageText, demand_text}
 
 -- what a question is called
 abbrev pub question_word : Question → Text
@@ -37,17 +40,26 @@ test_data name test = object (member (codes "binary") (string (string_bytes test
     (member (codes "kind") (string test.kind) (member (codes "name") (string test.test_name)
     (member (codes "package") (string name) (member (codes "platform") (string (platform_text test.platform)) no_members)))))))
 
--- the answer, whether the budget was spent, which filtersets pick the test, the question, and the test
-abbrev pub verdict_data : Text → Bool → Data → Question → Data → Data
-verdict_data answer is_spent picks question test = object (member (codes "answer") (string answer)
-    (member (codes "budget_spent") (boolean is_spent) (member (codes "picked_by") picks
-    (member (codes "question") (string (question_word question)) (member (codes "test") test no_members)))))
+-- what is demanded of a text of a test, as a predicate
+abbrev pub demand_item : TestField → Demand → Data
+demand_item field demand = string (demand_text field demand)
+
+-- what an unknown answer hangs on
+abbrev pub doubt_data : Doubt → Data
+doubt_data doubt = array (items_of (map (demand_item doubt.field) doubt.demands.items))
+
+-- the answer, whether the budget was spent, what the answer hangs on, which filtersets pick the test, the question, and the
+-- test
+abbrev pub verdict_data : Text → Bool → Data → Data → Question → Data → Data
+verdict_data answer is_spent doubt picks question test = object (member (codes "answer") (string answer)
+    (member (codes "budget_spent") (boolean is_spent) (member (codes "hangs_on") doubt (member (codes "picked_by") picks
+    (member (codes "question") (string (question_word question)) (member (codes "test") test no_members))))))
 
 -- what is written about a verdict
 abbrev pub IsVerdictData : Question → List PackageMetadata → Verdict → Data → Type 0
-IsVerdictData question packages verdicts.Always d = d ≡ verdict_data (codes "yes") false null question null
+IsVerdictData question packages verdicts.Always d = d ≡ verdict_data (codes "yes") false null null question null
 IsVerdictData question packages (verdicts.Fails witness) d =
     (name : Text) × IsPackageText packages witness.test.package_id name
-    × (d ≡ verdict_data (codes "no") false (picks_data witness.picks.items) question (test_data name witness.test))
-IsVerdictData question packages verdicts.Unknown d = d ≡ verdict_data (codes "unknown") false null question null
-IsVerdictData question packages verdicts.Stopped d = d ≡ verdict_data (codes "unknown") true null question null
+    × (d ≡ verdict_data (codes "no") false null (picks_data witness.picks.items) question (test_data name witness.test))
+IsVerdictData question packages (verdicts.Unknown doubt) d = d ≡ verdict_data (codes "unknown") false (doubt_data doubt) null question null
+IsVerdictData question packages verdicts.Stopped d = d ≡ verdict_data (codes "unknown") true null null question null

@@ -1,10 +1,14 @@
 -- Verdicts as text.
 use Rattle.std.specs.Prelude.{◌≡◌, ◌⊎◌, ◌==◌, ◌+◌, ◌++◌, ℕ, Bool, List, [], ◌∷◌, Contains, codes, decimal, if◌then◌else◌, string_bytes}
-use Rattle.std.specs.List.{count_by}
+use Rattle.std.specs.List.{count_by, flat_map}
 use Rattle.filterset_answers.specs.declared.text.Ending.{Ending}
 use Rattle.filterset_answers.specs.declared.text.Ending.TheVariants.{Fine, Differing, Unknown}
 use Rattle.filterset_deciding.specs.declared.deciding.Verdict.{Verdict}
 use Rattle.filterset_deciding.specs.declared.deciding.Verdict.TheVariants as verdicts
+use Rattle.filterset_deciding.specs.declared.demand.Demand.{Demand}
+use Rattle.filterset_deciding.specs.declared.demand.Doubt.{Doubt}
+use Rattle.filterset_deciding.specs.declared.demand.TestField.{TestField}
+use Rattle.filterset_deciding.specs.declared.demand.TestField.TheVariants as fields
 use Rattle.filterset_deciding.specs.declared.question.Question.{Question}
 use Rattle.filterset_deciding.specs.declared.question.Question.TheVariants.{AllAlike, AtLeastOne, AtMostOne, ExactlyOne}
 use Rattle.filterset_deciding.specs.declared.witness.PossibleTest.{PossibleTest}
@@ -13,6 +17,8 @@ use Rattle.filterset_drawing.specs.Columns.{Text}
 use Rattle.filterset_graph.specs.Packages.{ids}
 use Rattle.filterset_graph.specs.Platforms.{platform_text}
 use Rattle.filterset_graph.specs.declared.package.PackageMetadata.{PackageMetadata}
+use Rattle.filterset_matchers.specs.Matchers.{matcher_of}
+use Rattle.filterset_matchers.specs.PrintedMatcher.{printed_matcher}
 
 -- the answer is always yes
 abbrev pub held_text : Question → Text
@@ -71,11 +77,36 @@ abbrev pub IsWitnessText : Question → List PackageMetadata → Witness → Tex
 IsWitnessText question packages witness text = (name : Text) × IsPackageText packages witness.test.package_id name
     × (text ≡ failed_text question ++ (test_text name witness.test ++ picked_text witness.picks.items))
 
+-- the name of the predicate that asks about the text of a test
+abbrev pub field_word : TestField → Text
+field_word fields.Kind = codes "kind"
+field_word fields.BinaryName = codes "binary"
+field_word fields.BinaryId = codes "binary_id"
+field_word fields.TestName = codes "test"
+field_word fields.Group = codes "group"
+
+-- what stands before a predicate that has to be true, or to be false
+abbrev pub sign_of : Bool → Text
+sign_of is_matched = if is_matched then [] else codes "not "
+
+-- what is demanded of a text of a test, as a predicate
+abbrev pub demand_text : TestField → Demand → Text
+demand_text field demand =
+    sign_of demand.is_matched ++ (field_word field ++ (codes "(" ++ (printed_matcher (matcher_of demand.matcher.now) ++ codes ")")))
+
+abbrev pub demand_line : TestField → Demand → Text
+demand_line field demand = codes "  " ++ (demand_text field demand ++ codes "\n")
+
+-- the answer is unknown, and what it hangs on
+abbrev pub doubt_text : Question → Doubt → Text
+doubt_text question doubt =
+    open_text question ++ (codes "it hangs on whether some test is in all of:\n" ++ flat_map (demand_line doubt.field) doubt.demands.items)
+
 -- what is written about a verdict
 abbrev pub IsVerdictText : Question → List PackageMetadata → Verdict → Text → Type 0
 IsVerdictText question packages verdicts.Always text = text ≡ held_text question
 IsVerdictText question packages (verdicts.Fails witness) text = IsWitnessText question packages witness text
-IsVerdictText question packages verdicts.Unknown text = text ≡ open_text question
+IsVerdictText question packages (verdicts.Unknown doubt) text = text ≡ doubt_text question doubt
 IsVerdictText question packages verdicts.Stopped text =
     text ≡ open_text question ++ codes "the search took all steps of --budget\n"
 
@@ -83,5 +114,5 @@ IsVerdictText question packages verdicts.Stopped text =
 abbrev pub ending_of : Verdict → Ending
 ending_of verdicts.Always = Fine
 ending_of (verdicts.Fails witness) = Differing
-ending_of verdicts.Unknown = Unknown
+ending_of (verdicts.Unknown doubt) = Unknown
 ending_of verdicts.Stopped = Unknown

@@ -1,5 +1,6 @@
 -- What questions about filtersets and every possible test are answered.
-use Rattle.std.specs.Prelude.{◌≡◌, ◌↔◌, [], ◌∷◌, Bool, true, false, IsTrue, List, map}
+use Rattle.std.specs.Prelude.{◌≡◌, ◌↔◌, ◌<◌, ◌+◌, ◌*◌, ◌^◌, ℕ, [], ◌∷◌, Bool, true, false, IsTrue, List, length, map}
+use Rattle.std.specs.Borrow.{Bor}
 use Rattle.std.specs.List.{AllZip}
 use Rattle.filterset_answers.specs.Checked.{TextRow, text_row}
 use Rattle.filterset_answers.specs.Compiled.{AnswersTexts, Telling}
@@ -7,13 +8,16 @@ use Rattle.filterset_answers.specs.declared.form.Form.{Form}
 use Rattle.filterset_answers.specs.declared.setting.Setting.{Setting}
 use Rattle.filterset_answers.specs.declared.text.Ending.{Ending}
 use Rattle.filterset_deciding.specs.AnyTest.{AnyTest, in_group}
-use Rattle.filterset_deciding.specs.Deciding.{IsOf, answer_of}
+use Rattle.filterset_deciding.specs.Deciding.{IsOf, answer_of, leaves_asked, steps_asked}
+use Rattle.filterset_deciding.specs.Demands.{IsDoubtAbout}
+use Rattle.filterset_deciding.specs.Texts.{AreComparisons}
 use Rattle.filterset_deciding.specs.declared.deciding.Verdict.{Verdict}
 use Rattle.filterset_deciding.specs.declared.deciding.Verdict.TheVariants as verdicts
+use Rattle.filterset_deciding.specs.declared.demand.Doubt.{Doubt}
 use Rattle.filterset_deciding.specs.declared.question.Question.{Question}
 use Rattle.filterset_deciding.specs.declared.witness.PossibleTest.{PossibleTest}
 use Rattle.filterset_drawing.specs.Columns.{Text}
-use Rattle.filterset_expression.specs.Meaning.{Meaning}
+use Rattle.filterset_expression.specs.Meaning.{IsCompiled, Meaning}
 use Rattle.filterset_expression.specs.declared.expression.CompiledExpr.{CompiledExpr}
 use Rattle.filterset_faults.specs.declared.span.SourceSpan.{SourceSpan}
 use Rattle.filterset_grammar.specs.Tree.{Tree}
@@ -46,20 +50,40 @@ pub record FailsAt (question : Question) (packages : List PackageMetadata) (defa
   pub are : AreTreeAnswers packages default test trees answers
   pub unmet : answer_of question answers ≡ false
 
--- the verdict is right; an unknown one says nothing
-abbrev pub IsRight : Question → List PackageMetadata → CompiledExpr → Tree SourceSpan → List (Tree SourceSpan) → Verdict → Type 0
-IsRight question packages default within trees verdicts.Always = HoldsAlways question packages default within trees
-IsRight question packages default within trees (verdicts.Fails witness) =
+-- What the answer hangs on is demanded by leaves of the expressions that the trees are compiled to, and not all of their
+-- matchers compare texts, unless the texts of those that must not match have together all printable ASCII characters.
+pub record HangsOn (packages : List PackageMetadata) (default : CompiledExpr) (within : Tree SourceSpan)
+    (trees : List (Tree SourceSpan)) (doubt : Doubt) : Type 0 where
+  pub given : CompiledExpr
+  pub exprs : List (Bor CompiledExpr)
+  pub is_given : IsCompiled packages within given
+  pub are : AllZip (IsCompiled packages) trees (map (λ e. e.now) exprs)
+  pub about : IsDoubtAbout (leaves_asked given default exprs) doubt
+  pub not_compared : ¬ AreComparisons doubt.demands.items
+
+-- the budget is small beside the number of leaves and operators of the expressions that the trees are compiled to
+pub record IsSmallFor (packages : List PackageMetadata) (default : CompiledExpr) (within : Tree SourceSpan)
+    (trees : List (Tree SourceSpan)) (budget : ℕ) : Type 0 where
+  pub given : CompiledExpr
+  pub exprs : List (Bor CompiledExpr)
+  pub is_given : IsCompiled packages within given
+  pub are : AllZip (IsCompiled packages) trees (map (λ e. e.now) exprs)
+  pub below : budget < 2 ^ (length (leaves_asked given default exprs) + 1) * length (steps_asked given default exprs)
+
+-- the verdict is right, and unknown only if the answer hangs on what is not decided, or the budget is small
+abbrev pub IsRight : Question → List PackageMetadata → CompiledExpr → Tree SourceSpan → List (Tree SourceSpan) → ℕ → Verdict → Type 0
+IsRight question packages default within trees budget verdicts.Always = HoldsAlways question packages default within trees
+IsRight question packages default within trees budget (verdicts.Fails witness) =
     FailsAt question packages default within trees witness.test witness.picks.items
-IsRight question packages default within trees verdicts.Unknown = Unit {0}
-IsRight question packages default within trees verdicts.Stopped = Unit {0}
+IsRight question packages default within trees budget (verdicts.Unknown doubt) = HangsOn packages default within trees doubt
+IsRight question packages default within trees budget verdicts.Stopped = IsSmallFor packages default within trees budget
 
 -- the answer is a right verdict about the trees behind the first, and the tests that the first one picks
-abbrev pub Decides : Form → Question → (setting : Setting) → Telling setting
-Decides form question setting basis [] ending text = ⊥
-Decides form question setting basis (within ∷ trees) ending text = (verdict : Verdict)
-    × IsRight question setting.graph.now basis.default within trees verdict
-    × IsVerdictIn form question setting.graph.now verdict text × (ending ≡ ending_of verdict)
+abbrev pub Decides : Form → TextQuestion → (setting : Setting) → Telling setting
+Decides form asked setting basis [] ending text = ⊥
+Decides form asked setting basis (within ∷ trees) ending text = (verdict : Verdict)
+    × IsRight asked.question setting.graph.now basis.default within trees asked.budget verdict
+    × IsVerdictIn form asked.question setting.graph.now verdict text × (ending ≡ ending_of verdict)
 
 -- the rows of the question's filtersets, first that of the tests that it is about
 abbrev pub question_rows : TextQuestion → List TextRow
@@ -67,4 +91,4 @@ question_rows asked = map text_row asked.entries.now
 
 -- what a question is answered
 abbrev pub AnswersQuestion : Form → Setting → TextQuestion → Ending → Text → Type 0
-AnswersQuestion form setting asked = AnswersTexts form setting (question_rows asked) (Decides form asked.question setting)
+AnswersQuestion form setting asked = AnswersTexts form setting (question_rows asked) (Decides form asked setting)

@@ -53,7 +53,7 @@ fn decide_filtersets(
     requires { 0 < length filtersets.now }
     ensures { IfOk result (λ answer. (basis : Basis setting.now) → basis.default ≡ default_of context.now
         → AllZip (IsCompiled setting.now.graph.now) (map parsed_of filtersets.now) (map compiled_of filtersets.now)
-        → Decides form asked.now.question setting.now basis (map parsed_of filtersets.now)
+        → Decides form asked.now setting.now basis (map parsed_of filtersets.now)
         answer.ending (string_bytes answer.text)) }
 {
     let within = &filtersets[0].compiled;
@@ -87,7 +87,7 @@ fn answer_compiled(
         (question_rows asked.now) compiled.now }
     ensures { IfOk result (λ answer. (basis : Basis setting.now) × (trees : List (Tree SourceSpan))
         × AllZip (IsTreeOf setting.now) (question_rows asked.now) trees
-        × Decides form asked.now.question setting.now basis trees answer.ending (string_bytes answer.text)) }
+        × Decides form asked.now setting.now basis trees answer.ending (string_bytes answer.text)) }
 {
     let context = EvalContext::new(&compiled.setting.default.compiled);
     decide_filtersets(

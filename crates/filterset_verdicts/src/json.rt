@@ -1,12 +1,12 @@
 //! Verdicts as JSON.
-ghost use Rattle.std.specs.Prelude.{◌≡◌, ◌++◌, IfOk, codes, map, string_bytes};
-ghost use Rattle.serde_json.specs.Data.{Data};
+ghost use Rattle.std.specs.Prelude.{◌≡◌, ◌++◌, IfOk, codes, false, map, string_bytes};
+ghost use Rattle.serde_json.specs.Data.{Data, null};
 ghost use Rattle.serde_json.specs.View.{view};
 ghost use Rattle.serde_json.specs.Written.{compact_text};
-ghost use Rattle.filterset_verdicts.specs.VerdictJson.{IsVerdictData, number_item, picked_numbers, picks_data, question_word, test_data, verdict_data};
+ghost use Rattle.filterset_verdicts.specs.VerdictJson.{IsVerdictData, demand_item, doubt_data, number_item, picked_numbers, picks_data, question_word, test_data, verdict_data};
 
-use crate::text::{package_text, platform_word};
-use filterset_deciding::{PossibleTest, Question, Verdict, Witness};
+use crate::text::{demand_text, package_text, platform_word};
+use filterset_deciding::{Demand, Doubt, PossibleTest, Question, TestField, Verdict, Witness};
 use filterset_graph::PackageGraph;
 use serde_json::{Value, json};
 use std::alloc::{AllocError, Global};
@@ -59,20 +59,48 @@ fn test_value(alloc: Global, name: &str, test: &PossibleTest) -> Result<Value, A
     })
 }
 
-/// Makes the value of a verdict, by its answer, whether the budget was spent, which filtersets pick the test, and the test.
-fn answer_value(
+/// Makes the values of what is demanded of a text.
+fn demand_values(
     alloc: Global,
-    question: Question,
-    answer: &str,
+    field: TestField,
+    demands: &[Demand<'_>],
+) -> Result<Vec<Value>, AllocError>
+    ensures { IfOk result (λ values. map view values.items ≡ map (demand_item field) demands.now) }
+{
+    let mut values = Vec::with_capacity(alloc, demands.len())?;
+    for demand in demands {
+        values.push(Value::String(demand_text(alloc, field, demand)?))?;
+    }
+    Ok(values)
+}
+
+/// What is written about a verdict beside the question.
+struct Parts<'a> {
+    answer: &'a str,
     is_spent: bool,
+    /// What an unknown answer hangs on.
+    doubt: Value,
+    /// The numbers of the filtersets that pick the test.
     picks: Value,
     test: Value,
-) -> Result<Value, AllocError>
-    ensures { IfOk result (λ value. view value ≡ verdict_data answer.now is_spent (view picks) question (view test)) }
+}
+
+/// Makes the value of a verdict of its parts.
+fn answer_value(alloc: Global, question: Question, parts: Parts<'_>) -> Result<Value, AllocError>
+    ensures { IfOk result (λ value. view value ≡ verdict_data parts.entry.answer.now parts.entry.is_spent
+        (view parts.entry.doubt) (view parts.entry.picks) question (view parts.entry.test)) }
 {
     let word = question_word(question);
+    let Parts {
+        answer,
+        is_spent,
+        doubt,
+        picks,
+        test,
+    } = parts;
     json!(in alloc; {
-        "answer": answer, "budget_spent": is_spent, "picked_by": picks, "question": word, "test": test
+        "answer": answer, "budget_spent": is_spent, "hangs_on": doubt, "picked_by": picks,
+        "question": word, "test": test
     })
 }
 
@@ -88,7 +116,48 @@ fn witness_value(
     let name = package_text(graph, &witness.test.package_id);
     let picks = picks_value(alloc, witness.picks.as_slice())?;
     let test = test_value(alloc, name, &witness.test)?;
-    answer_value(alloc, question, "no", false, picks, test)
+    let parts = Parts {
+        answer: "no",
+        is_spent: false,
+        doubt: Value::Null,
+        picks,
+        test,
+    };
+    answer_value(alloc, question, parts)
+}
+
+/// Makes the value of an unknown verdict.
+fn doubt_value(alloc: Global, question: Question, doubt: &Doubt<'_>) -> Result<Value, AllocError>
+    ensures { IfOk result (λ value. view value ≡ verdict_data (codes "unknown") false (doubt_data doubt.now) null question null) }
+{
+    let values = demand_values(alloc, doubt.field, doubt.demands.as_slice())?;
+    let parts = Parts {
+        answer: "unknown",
+        is_spent: false,
+        doubt: Value::Array(values),
+        picks: Value::Null,
+        test: Value::Null,
+    };
+    answer_value(alloc, question, parts)
+}
+
+/// Makes the value of a verdict that has only an answer.
+fn bare_value(
+    alloc: Global,
+    question: Question,
+    answer: &str,
+    is_spent: bool,
+) -> Result<Value, AllocError>
+    ensures { IfOk result (λ value. view value ≡ verdict_data answer.now is_spent null null question null) }
+{
+    let parts = Parts {
+        answer,
+        is_spent,
+        doubt: Value::Null,
+        picks: Value::Null,
+        test: Value::Null,
+    };
+    answer_value(alloc, question, parts)
 }
 
 /// Makes the value of a verdict.
@@ -96,16 +165,15 @@ fn verdict_value(
     alloc: Global,
     question: Question,
     graph: &PackageGraph,
-    verdict: &Verdict,
+    verdict: &Verdict<'_>,
 ) -> Result<Value, AllocError>
     ensures { IfOk result (λ value. IsVerdictData question graph.now verdict.now (view value)) }
 {
-    let (none, nothing) = (Value::Null, Value::Null);
     match verdict {
-        Verdict::Always => answer_value(alloc, question, "yes", false, none, nothing),
+        Verdict::Always => bare_value(alloc, question, "yes", false),
         Verdict::Fails(witness) => witness_value(alloc, question, graph, witness),
-        Verdict::Unknown => answer_value(alloc, question, "unknown", false, none, nothing),
-        Verdict::Stopped => answer_value(alloc, question, "unknown", true, none, nothing),
+        Verdict::Unknown(doubt) => doubt_value(alloc, question, doubt),
+        Verdict::Stopped => bare_value(alloc, question, "unknown", true),
     }
 }
 
@@ -114,7 +182,7 @@ pub(crate) fn verdict_line(
     alloc: Global,
     question: Question,
     graph: &PackageGraph,
-    verdict: &Verdict,
+    verdict: &Verdict<'_>,
 ) -> Result<String, AllocError>
     ensures { IfOk result (λ text. (d : Data) × IsVerdictData question graph.now verdict.now d
         × (string_bytes text ≡ compact_text d ++ codes "\n")) }

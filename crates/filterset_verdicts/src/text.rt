@@ -2,12 +2,12 @@
 ghost use Rattle.std.specs.Prelude.{◌≡◌, ◌++◌, IfOk, OnOk, string_bytes};
 ghost use Rattle.filterset_graph.specs.Platforms.{platform_text};
 ghost use Rattle.filterset_verdicts.specs.VerdictForm.{IsVerdictIn};
-ghost use Rattle.filterset_verdicts.specs.VerdictText.{IsPackageText, IsVerdictText, IsWitnessText, ending_of, failed_text, field_line, held_text, open_text, picked_line, picked_lines, picked_text, test_text};
-ghost use Rattle.std.specs.List.{count_by};
+ghost use Rattle.filterset_verdicts.specs.VerdictText.{IsPackageText, IsVerdictText, IsWitnessText, demand_line, demand_text, doubt_text, ending_of, failed_text, field_word, field_line, held_text, open_text, picked_line, picked_lines, picked_text, sign_of, test_text};
+ghost use Rattle.std.specs.List.{count_by, flat_map};
 
 use crate::json::verdict_line;
 use filterset_answers::{Ending, Form};
-use filterset_deciding::{PossibleTest, Question, Verdict, Witness};
+use filterset_deciding::{Demand, Doubt, PossibleTest, Question, TestField, Verdict, Witness};
 use filterset_graph::{BuildPlatform, PackageGraph, PackageId};
 use std::alloc::{AllocError, Global};
 use std::fmt::Write;
@@ -150,19 +150,92 @@ fn witness_text(
     Ok(text)
 }
 
+/// Returns the name of the predicate that asks about the text.
+fn field_word(field: TestField) -> &'static str
+    ensures { result.now ≡ field_word field }
+{
+    match field {
+        TestField::Kind => "kind",
+        TestField::BinaryName => "binary",
+        TestField::BinaryId => "binary_id",
+        TestField::TestName => "test",
+        TestField::Group => "group",
+    }
+}
+
+/// Returns what stands before a predicate that has to be true, or to be false.
+fn sign_of(is_matched: bool) -> &'static str
+    ensures { result.now ≡ sign_of is_matched }
+{
+    if is_matched { "" } else { "not " }
+}
+
+/// Writes what is demanded of a text as a predicate.
+pub(crate) fn demand_text(
+    alloc: Global,
+    field: TestField,
+    demand: &Demand<'_>,
+) -> Result<String, AllocError>
+    ensures { IfOk result (λ text. string_bytes text ≡ demand_text field demand.now) }
+{
+    let sign = sign_of(demand.is_matched);
+    let word = field_word(field);
+    let matcher = demand.matcher;
+    format!(in alloc; "{sign}{word}({matcher})")
+}
+
+/// Writes a line for what is demanded of a text.
+fn push_demand(
+    alloc: Global,
+    output: &mut String,
+    field: TestField,
+    demand: &Demand<'_>,
+) -> Result<(), AllocError>
+    ensures { OnOk result (string_bytes output.new ≡ string_bytes output.old ++ demand_line field demand.now) }
+{
+    let text = demand_text(alloc, field, demand)?;
+    writeln!(output, "  {text}")?;
+    Ok(())
+}
+
+/// Writes a line for each demand.
+fn push_demands(
+    alloc: Global,
+    output: &mut String,
+    field: TestField,
+    demands: &[Demand<'_>],
+) -> Result<(), AllocError>
+    ensures { OnOk result (string_bytes output.new ≡ string_bytes output.old ++ flat_map (demand_line field) demands.now) }
+{
+    for demand in demands {
+        push_demand(alloc, output, field, demand)?;
+    }
+    Ok(())
+}
+
+/// Writes that the answer is unknown, and what it hangs on.
+fn doubt_text(alloc: Global, question: Question, doubt: &Doubt<'_>) -> Result<String, AllocError>
+    ensures { IfOk result (λ text. string_bytes text ≡ doubt_text question doubt.now) }
+{
+    let mut text = String::from_str(alloc, open_text(question))?;
+    text.push_str("it hangs on whether some test is in all of:\n")?;
+    push_demands(alloc, &mut text, doubt.field, doubt.demands.as_slice())?;
+    Ok(text)
+}
+
 /// Writes a verdict in lines for people. The only error is out of memory.
 fn verdict_text(
     alloc: Global,
     question: Question,
     graph: &PackageGraph,
-    verdict: &Verdict,
+    verdict: &Verdict<'_>,
 ) -> Result<String, AllocError>
     ensures { IfOk result (λ text. IsVerdictText question graph.now verdict.now (string_bytes text)) }
 {
     match verdict {
         Verdict::Always => String::from_str(alloc, held_text(question)),
         Verdict::Fails(witness) => witness_text(alloc, question, graph, witness),
-        Verdict::Unknown => String::from_str(alloc, open_text(question)),
+        Verdict::Unknown(doubt) => doubt_text(alloc, question, doubt),
         Verdict::Stopped => {
             let mut text = String::from_str(alloc, open_text(question))?;
             text.push_str("the search took all steps of --budget\n")?;
@@ -177,7 +250,7 @@ pub(crate) fn answer_text(
     form: Form,
     question: Question,
     graph: &PackageGraph,
-    verdict: &Verdict,
+    verdict: &Verdict<'_>,
 ) -> Result<String, AllocError>
     ensures { IfOk result (λ text. IsVerdictIn form question graph.now verdict.now (string_bytes text)) }
 {
@@ -188,12 +261,12 @@ pub(crate) fn answer_text(
 }
 
 /// Returns how a command ends with this verdict.
-pub(crate) fn ending_of(verdict: &Verdict) -> Ending
+pub(crate) fn ending_of(verdict: &Verdict<'_>) -> Ending
     ensures { result ≡ ending_of verdict.now }
 {
     match verdict {
         Verdict::Always => Ending::Fine,
         Verdict::Fails(_) => Ending::Differing,
-        Verdict::Unknown | Verdict::Stopped => Ending::Unknown,
+        Verdict::Unknown(_) | Verdict::Stopped => Ending::Unknown,
     }
 }

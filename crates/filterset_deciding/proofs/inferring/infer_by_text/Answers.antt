@@ -11,6 +11,6 @@ returns-in-Some-2 c = λ text utf8 says.
     let n = matcher_of c.args.other.now in
     let only = c.in-Some-2.text.now in
     let hit = c.in_ok-hit.hit in
-    let alone = rw c.in-Some-2.is at c.in_ok-text-2.ensures in
+    let alone = rw c.in-Some-2.is at c.in_ok-text-2.ensures.some in
     only_known (not (beq hit c.args.value)) false c.only_if.result (MatchesName n text) c.only_if.ensures
     (λ differ. literal_refuted m n only c.args.value hit alone c.in_ok-hit.ensures.matches differ text utf8 says)

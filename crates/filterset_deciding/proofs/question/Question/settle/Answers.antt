@@ -10,6 +10,6 @@ exactly : (o : Option Bool) (self : Question) (low high total : ℕ) → self �
 exactly None self low high total e h = tt
 exactly (Some b) self low high total e h = λ count l u. rw e (h count total l u)
 
-pub returns-in-ExactlyOne : goal.returns-in-ExactlyOne
-returns-in-ExactlyOne c =
-    exactly c.settle_exactly_one.result c.args.self c.args.low c.args.high c.args.total c.in-ExactlyOne.is c.settle_exactly_one.ensures
+pub returns-in-ExactlyOne-clause-settled : goal.returns-in-ExactlyOne-clause-settled
+returns-in-ExactlyOne-clause-settled c =
+    exactly c.settle_exactly_one.result c.args.self c.args.low c.args.high c.args.total c.in-ExactlyOne.is c.settle_exactly_one.ensures.settled

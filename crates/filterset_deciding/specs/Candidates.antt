@@ -1,0 +1,22 @@
+-- Why no test of a branch was made.
+use Rattle.std.specs.Prelude.{List}
+use Rattle.filterset_expression.specs.Expression.{CompiledLeaf}
+use Rattle.filterset_expression.specs.FlatSteps.{Step}
+use Rattle.filterset_deciding.specs.AnyTest.{AnyTest}
+use Rattle.filterset_deciding.specs.Demands.{IsDoubtIn}
+use Rattle.filterset_deciding.specs.Known.{Agrees, steps_in}
+use Rattle.filterset_deciding.specs.Texts.{AreComparisons}
+use Rattle.filterset_deciding.specs.declared.candidate.NoCandidate.{NoCandidate}
+use Rattle.filterset_deciding.specs.declared.candidate.NoCandidate.TheVariants.{Impossible, Doubtful, OutOfMemory}
+use Rattle.filterset_deciding.specs.declared.demand.Doubt.{Doubt}
+use Rattle.filterset_deciding.specs.declared.running.ValuedStep.{ValuedStep}
+
+-- the doubt is about leaves of these steps, and its matchers do not only compare texts
+pub record IsOpenDoubt (steps : List (Step CompiledLeaf)) (doubt : Doubt) : Type 0 where
+  pub about : IsDoubtIn steps doubt
+  pub not_compared : ¬ AreComparisons doubt.demands.items
+
+abbrev pub IsFaultOf : List ValuedStep → NoCandidate → Type 0
+IsFaultOf branch Impossible = (test : AnyTest) → ¬ Agrees test branch
+IsFaultOf branch (Doubtful doubt) = IsOpenDoubt (steps_in branch) doubt
+IsFaultOf branch (OutOfMemory refused) = Unit {0}
