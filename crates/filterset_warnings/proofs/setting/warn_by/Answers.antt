@@ -1,0 +1,34 @@
+use Rattle.std.proofs.Common.{◌∙◌, List, [], ◌++◌, ap, inl, map, subst, sym}
+use Rattle.filterset_answers.specs.Checked.{text_row}
+use Rattle.filterset_answers.proofs.PickingLemmas.{basis_of}
+use Rattle.filterset_drawing.specs.Columns.{Text}
+use Rattle.filterset_expression.specs.Contexts.{default_of}
+use Rattle.filterset_expression.specs.declared.expression.CompiledExpr.{CompiledExpr}
+use Rattle.filterset_graph.specs.declared.package.PackageMetadata.{PackageMetadata}
+use Rattle.filterset_hints.specs.Listed.{AreSubjects}
+use Rattle.filterset_listing.specs.declared.groups.GroupOverride.{GroupOverride}
+use Rattle.filterset_warnings.specs.Warnings.{Warns}
+use Rattle.filterset_warnings.proofs.setting.warn_by.Goals as goal
+
+pub returns : goal.returns
+returns c =
+    let setting = c.args.setting.now in
+    let made = c.args.filtersets.now in
+    let binaries = c.args.binaries.now in
+    let are = c.requires.filtersets in
+    let overrides = c.in_ok-overrides.overrides.items in
+    let subjects = c.in_ok-subjects.subjects.items in
+    let count = c.in_ok-count.count in
+    let grouped = rw c.as_slice.ensures.value at c.in_ok-overrides.ensures in
+    let basis = basis_of setting [] made overrides are (grouped setting are.overrides) in
+    let Listed : CompiledExpr → List GroupOverride → Type 0 = λ default given. AreSubjects default given binaries subjects in
+    let listed = subst (λ given. Listed basis.default given) c.as_slice-2.ensures.value (subst (λ default. Listed default c.as_slice-2.result.now) c.new-eval_context.ensures c.in_ok-subjects.ensures) in
+    let Written : List PackageMetadata → CompiledExpr → Text → Type 0 =
+    λ packages default text. Warns c.args.form setting.groups.now (record { packages = packages; default = default }) subjects (map text_row c.args.texts.now) count text in
+    let wrote = c.in_ok-count.ensures in
+    let packages = c.in_ok-new.ensures in
+    let is_text = wrote.1 ∙ ap (λ t. t ++ wrote.0) c.new-text.ensures.bytes in
+    let over_packages = subst (λ p. Written p (default_of c.new-eval_context.result) wrote.0) packages wrote.2 in
+    let by_default = subst (λ d. Written setting.graph.now d wrote.0) c.new-eval_context.ensures over_packages in
+    let written = subst (λ t. Written setting.graph.now basis.default t) (sym is_text) by_default in
+    inl (basis, subjects, count, listed, written, c.warned_ending.ensures)

@@ -1,0 +1,4 @@
+pub mod Spans
+pub mod Forms
+pub mod Warnings
+pub mod Contexts
