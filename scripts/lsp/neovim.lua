@@ -1,6 +1,7 @@
 -- Opens nextest's configuration in neovim with the language server FILTERSET, edits it, and writes the diagnostics that
--- neovim shows after each edit: range, code, text in the range, and message. Then writes a hover, and what is offered at a
--- place, and takes the first of that. Lines and columns count from 0, and columns in bytes. client.sh runs it.
+-- neovim shows after each edit: range, code, text in the range, and message. One of the edits is a code action, the first of
+-- those that are offered. Then writes a hover, and what is offered at a place, and takes the first of that. Lines and columns
+-- count from 0, and columns in bytes. client.sh runs it.
 local api = vim.api
 local published, status
 
@@ -30,7 +31,8 @@ end
 local function ask(client, method, line, column)
   api.nvim_win_set_cursor(0, { line + 1, column })
   local encoding = vim.lsp.get_client_by_id(client).offset_encoding
-  local params = vim.lsp.util.make_position_params(0, encoding)
+  local params = vim.lsp.util.make_range_params(0, encoding)
+  params.position, params.context = params.range.start, { diagnostics = {} }
   local answers = vim.lsp.buf_request_sync(0, method, params, 10000)
   return answers and answers[client] and answers[client].result, encoding
 end
@@ -43,13 +45,27 @@ local function hover(client, line, column)
   for _, text in ipairs(lines) do io.write('  ', text, '\n') end
 end
 
+-- Writes the line that the first of what was offered makes.
+local function write_line(line)
+  io.write('with the first of these:\n  ', api.nvim_buf_get_lines(0, line, line + 1, true)[1], '\n')
+end
+
+-- Writes which code actions are offered, takes the first of them, and writes the line that this makes.
+local function act(client, line, column)
+  local actions, encoding = ask(client, 'textDocument/codeAction', line, column)
+  io.write('actions:\n')
+  for _, action in ipairs(actions or {}) do io.write('  ', action.title, '\n') end
+  if actions and actions[1] then vim.lsp.util.apply_workspace_edit(actions[1].edit, encoding) end
+  write_line(line)
+end
+
 -- Writes what is offered, takes the first of it, and writes the line that this makes.
 local function complete(client, line, column)
   local items, encoding = ask(client, 'textDocument/completion', line, column)
   io.write('offered:\n')
   for _, item in ipairs(items or {}) do io.write('  ', item.label, ': ', item.detail, '\n') end
   if items and items[1] then vim.lsp.util.apply_text_edits({ items[1].textEdit }, 0, encoding) end
-  io.write('with the first of these:\n  ', api.nvim_buf_get_lines(0, line, line + 1, true)[1], '\n')
+  write_line(line)
 end
 
 local config = {
@@ -70,7 +86,7 @@ api.nvim_buf_set_lines(0, 0, 1, false, { '# 日本', '# 😀' })
 api.nvim_buf_set_text(0, 8, 12, 9, 2, { ' ' })
 show('with a line more at the front, and a line break less before the second fault', api.nvim_buf_get_changedtick(0))
 
-api.nvim_buf_set_text(0, 4, 35, 4, 37, { 'and' })
+act(client, 4, 35)
 api.nvim_buf_set_text(0, 8, 12, 8, 29, { '' })
 show('without the faults', api.nvim_buf_get_changedtick(0))
 

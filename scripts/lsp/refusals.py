@@ -32,7 +32,8 @@ MESSAGES = [
     (3, "textDocument/completion", {"textDocument": DOCUMENT, "position": {"line": 1, "character": 14}}),
     (4, "textDocument/documentSymbol", {"textDocument": DOCUMENT}),
     (5, "textDocument/formatting", {"textDocument": DOCUMENT, "options": {"tabSize": 4, "insertSpaces": True}}),
-    (6, "shutdown", {}),
+    (6, "textDocument/codeAction", {"textDocument": DOCUMENT, "range": {"start": AT, "end": AT}, "context": {"diagnostics": []}}),
+    (7, "shutdown", {}),
     (None, "exit", {}),
 ]
 

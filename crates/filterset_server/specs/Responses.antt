@@ -1,5 +1,5 @@
 -- What the server answers about documents.
-use Rattle.std.specs.Prelude.{◌≡◌, ◌⊎◌, Bool, List, MatchBool, Option, true, false}
+use Rattle.std.specs.Prelude.{◌≡◌, ◌⊎◌, Bool, List, MatchBool, MatchOption, Option, None, Some, true, false}
 use Rattle.std.specs.Borrow.{Bor}
 use Rattle.serde_json.specs.Data.{Data, null}
 use Rattle.filterset_answers.specs.Checked.{TextRow}
@@ -10,12 +10,14 @@ use Rattle.filterset_editor.specs.Documents.{DocumentRow}
 use Rattle.filterset_editor.specs.Positions.{Text}
 use Rattle.filterset_editor.specs.declared.abilities.Abilities.{Abilities}
 use Rattle.filterset_editor.specs.declared.inquiry.Inquiry.{Inquiry}
-use Rattle.filterset_editor.specs.declared.inquiry.Inquiry.TheVariants.{Completion, FoldingRanges, Formatting, Hover, SemanticTokens, Symbols}
+use Rattle.filterset_editor.specs.declared.inquiry.Inquiry.TheVariants.{CodeActions, Completion, FoldingRanges, Formatting, Hover, SemanticTokens, Symbols}
 use Rattle.filterset_editor.specs.declared.positions.Encoding.{Encoding}
+use Rattle.filterset_editor.specs.declared.positions.Range.{Range}
 use Rattle.filterset_faults.specs.declared.kind.FiltersetKind.TheVariants as kinds
 use Rattle.filterset_sources.specs.Configurations.{IsConfiguration, RefusesConfiguration}
 use Rattle.filterset_sources.specs.declared.configuration.Configuration.{Configuration}
 use Rattle.filterset_sources.specs.declared.refusal.SourceRefusal.{SourceRefusal}
+use Rattle.filterset_actions.specs.Documents.{ActsOnConfiguration, ActsOnList}
 use Rattle.filterset_documents.specs.Filtersets.{AreTextsOf, SaysWhy, is_list}
 use Rattle.filterset_names.specs.Workspaces.{WorkspaceRow}
 use Rattle.filterset_offers.specs.Completion.{CompletesRows}
@@ -30,7 +32,7 @@ abbrev pub abilities : Abilities
 abilities = record {
   hover = true;
   completion = true;
-  code_actions = false;
+  code_actions = true;
   formatting = true;
   folding = true;
   semantic_tokens = true;
@@ -69,19 +71,31 @@ RespondsConfiguration w encoding text inquiry d =
 
 -- ---- requests
 
-abbrev pub is_formatting : Inquiry → Bool
-is_formatting Formatting = true
-is_formatting inquiry = false
-
 -- the edits that format a text in a language, or `null`
 abbrev pub Formats : Encoding → Text → Text → Data → Type 0
 Formats encoding language text d =
     MatchBool (is_list language) (FormatsList encoding text d) (FormatsConfiguration encoding text d) ⊎ (d ≡ null)
 
--- the result of a request about a text in a language
-abbrev pub RespondsTo : Option WorkspaceRow → Encoding → Text → Text → Inquiry → Data → Type 0
-RespondsTo w encoding language text inquiry d = MatchBool (is_formatting inquiry) (Formats encoding language text d)
+-- the actions for a range of a text in a language, which has this address
+abbrev pub ActsTo : Encoding → Text → Text → Text → Range → Data → Type 0
+ActsTo encoding uri language text range d =
+    MatchBool (is_list language) (ActsOnList encoding uri text range d) (ActsOnConfiguration encoding uri text range d)
+
+abbrev pub is_formatting : Inquiry → Bool
+is_formatting Formatting = true
+is_formatting inquiry = false
+
+-- the range that actions are asked for, if they are
+abbrev pub acted_range : Inquiry → Option Range
+acted_range (CodeActions range) = Some range
+acted_range inquiry = None
+
+-- the result of a request about a text in a language, which has this address
+abbrev pub RespondsTo : Option WorkspaceRow → Encoding → Text → Text → Text → Inquiry → Data → Type 0
+RespondsTo w encoding uri language text inquiry d = MatchBool (is_formatting inquiry) (Formats encoding language text d)
+    (MatchOption (acted_range inquiry)
     (MatchBool (is_list language) (RespondsList w encoding text inquiry d) (RespondsConfiguration w encoding text inquiry d))
+    (λ range. ActsTo encoding uri language text range d))
 
 abbrev pub Responds : Option WorkspaceRow → Encoding → DocumentRow → Inquiry → Data → Type 0
-Responds w encoding document = RespondsTo w encoding document.language document.text
+Responds w encoding document = RespondsTo w encoding document.uri document.language document.text

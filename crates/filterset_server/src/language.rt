@@ -4,12 +4,13 @@ ghost use Rattle.serde_json.specs.View.{view};
 ghost use Rattle.filterset_documents.specs.Diagnostics.{DiagnosesText};
 ghost use Rattle.filterset_documents.specs.Filtersets.{is_list};
 ghost use Rattle.filterset_names.specs.Workspaces.{known_of};
-ghost use Rattle.filterset_server.specs.Responses.{Formats, RespondsConfiguration, RespondsList, RespondsTo, is_formatting};
+ghost use Rattle.filterset_server.specs.Responses.{ActsTo, Formats, RespondsConfiguration, RespondsList, RespondsTo, acted_range, is_formatting};
 
 use crate::formatting::{format_configuration, format_list};
 use crate::requests::{respond_configuration, respond_list};
+use filterset_actions::{act_on_configuration, act_on_list};
 use filterset_documents::{Shown, diagnose_configuration, diagnose_list};
-use filterset_editor::{Abilities, Document, Encoding, Inquiry, Language, Lines};
+use filterset_editor::{Abilities, Document, Encoding, Inquiry, Language, Lines, Range};
 use filterset_names::Workspace;
 use serde_json::Value;
 use std::alloc::{AllocError, Global};
@@ -33,6 +34,16 @@ fn is_formatting(inquiry: Inquiry) -> bool
     ensures { result ≡ is_formatting inquiry }
 {
     matches!(inquiry, Inquiry::Formatting)
+}
+
+/// Returns the range that actions are asked for, if they are.
+fn acted_range(inquiry: Inquiry) -> Option<Range>
+    ensures { result ≡ acted_range inquiry }
+{
+    match inquiry {
+        Inquiry::CodeActions(range) => Some(range),
+        _ => None,
+    }
 }
 
 /// Makes the diagnostics of a text.
@@ -59,6 +70,24 @@ fn edits_of(alloc: Global, shown: &Shown<'_>, language: &str) -> Result<Value, A
     }
 }
 
+/// Makes the actions for a range of a text, which has this address.
+fn actions_of(
+    alloc: Global,
+    shown: &Shown<'_>,
+    uri: &str,
+    language: &str,
+    range: Range,
+) -> Result<Value, AllocError>
+    ensures { IfOk result (λ value.
+        ActsTo shown.now.encoding uri.now language.now shown.now.lines.text.now range (view value)) }
+{
+    if is_list(language) {
+        act_on_list(alloc, shown, uri, range)
+    } else {
+        act_on_configuration(alloc, shown, uri, range)
+    }
+}
+
 /// Makes the result of a request about the filtersets of a text.
 fn response_of(
     alloc: Global,
@@ -78,22 +107,25 @@ fn response_of(
     }
 }
 
-/// Makes the result of a request about a text.
+/// Makes the result of a request about a text, which has this address.
 fn respond_to(
     alloc: Global,
     workspace: Option<Workspace<'_>>,
     shown: &Shown<'_>,
+    uri: &str,
     language: &str,
     inquiry: Inquiry,
 ) -> Result<Value, AllocError>
-    ensures { IfOk result (λ value. RespondsTo (known_of workspace.entry) shown.now.encoding language.now
+    ensures { IfOk result (λ value. RespondsTo (known_of workspace.entry) shown.now.encoding uri.now language.now
         shown.now.lines.text.now inquiry
         (view value)) }
 {
     if is_formatting(inquiry) {
-        edits_of(alloc, shown, language)
-    } else {
-        response_of(alloc, workspace, shown, language, inquiry)
+        return edits_of(alloc, shown, language);
+    }
+    match acted_range(inquiry) {
+        Some(range) => actions_of(alloc, shown, uri, language, range),
+        None => response_of(alloc, workspace, shown, language, inquiry),
     }
 }
 
@@ -112,7 +144,7 @@ impl Language for FiltersetLanguage<'_> {
         Abilities {
             hover: true,
             completion: true,
-            code_actions: false,
+            code_actions: true,
             formatting: true,
             folding: true,
             semantic_tokens: true,
@@ -144,6 +176,7 @@ impl Language for FiltersetLanguage<'_> {
             alloc,
             self.workspace,
             &shown,
+            document.uri.as_str(),
             document.language.as_str(),
             inquiry,
         )
