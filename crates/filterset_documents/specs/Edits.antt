@@ -1,10 +1,12 @@
 -- Changes of texts.
-use Rattle.std.specs.Prelude.{◌≡◌, ◌-◌, ◌++◌, ◌==◌, ℕ, All, Bool, Contains, IsSomeAnd, List, [], ◌∷◌, chars, codes, drop, encode_utf8, map, string_bytes, take, if◌then◌else◌}
-use Rattle.std.specs.List.{AllZip, flat_map}
+use Rattle.std.specs.Prelude.{◌≡◌, ◌≤◌, ◌-◌, ◌++◌, ◌==◌, ◌||◌, ℕ, All, Bool, Contains, IsSomeAnd, List, [], ◌∷◌, None, Option, Some, chars, codes, drop, encode_utf8, map, string_bytes, take, if◌then◌else◌}
+use Rattle.std.specs.List.{AllZip, flat_map, list_any}
+use Rattle.std.specs.List.Sorted.{IsNonDecreasingBy, IsPermutation}
+use Rattle.std.specs.Str.{IsCharBoundary, bytes_eq}
 use Rattle.serde_json.specs.Data.{Data, array, string, object, member, no_members}
 use Rattle.serde_json.specs.View.{items_of}
 use Rattle.filterset_answers.specs.Checked.{TextRow}
-use Rattle.filterset_answers.specs.Placements.{TextSpot, line, literal}
+use Rattle.filterset_answers.specs.Placements.{Placement, TextSpot, line, literal}
 use Rattle.filterset_editor.specs.Positions.{Text}
 use Rattle.filterset_editor.specs.declared.positions.Encoding.{Encoding}
 use Rattle.filterset_editor.specs.declared.positions.Range.{Range}
@@ -25,6 +27,19 @@ edit_row edit = record { at = edit.at; text = string_bytes edit.text }
 -- the edits follow each other, from the start of the text on
 abbrev pub AreInOrder : List EditRow → Type 0
 AreInOrder edits = AreApart 0 (map (λ e. e.at) edits)
+
+-- the edit begins and ends between characters of a text
+abbrev pub IsBetween : Text → EditRow → Type 0
+IsBetween text edit = IsCharBoundary text edit.at.from × IsCharBoundary text edit.at.to
+
+-- the edits follow each other, and each begins and ends between characters of the text
+abbrev pub AreEditsOf : Text → List EditRow → Type 0
+AreEditsOf text edits = AreInOrder edits × All (IsBetween text) edits
+
+-- the stretch begins and ends between characters of the rest of a text from the offset `at` on
+abbrev pub IsWithin : ℕ → Text → Stretch → Type 0
+IsWithin at rest s =
+    (at ≤ s.from) × (s.from ≤ s.to) × IsCharBoundary rest (s.from - at) × IsCharBoundary rest (s.to - at)
 
 -- the rest of a text from the offset `at` on, with edits
 abbrev pub edited_from : ℕ → Text → List EditRow → Text
@@ -49,10 +64,39 @@ abbrev pub quoted : Bool → Text → Text
 quoted is_basic text =
     if is_basic then codes "\"" ++ (flat_map basic_char (chars text) ++ codes "\"") else codes "'" ++ (text ++ codes "'")
 
--- what is written where a filterset is that gets a text: a string that may be read so, or a line
-abbrev pub IsWrittenAt : TextSpot → Text → Text → Type 0
-IsWrittenAt (literal place) text made = (is_basic : Bool) × (made ≡ quoted is_basic text)
-IsWrittenAt (line stretch) text made = made ≡ text
+-- a string between apostrophes can't have an apostrophe or a line feed
+abbrev pub needs_escapes : Text → Bool
+needs_escapes text = list_any (λ b. b == 39) text || list_any (λ b. b == 10) text
+
+-- what is written where a filterset is that gets a text: a string, between apostrophes if it can be, or a line
+abbrev pub written_at : TextSpot → Text → Text
+written_at (literal place) text = quoted (needs_escapes text) text
+written_at (line stretch) text = text
+
+-- ---- texts of filtersets
+
+-- the edit by which a filterset at this spot gets a text, if that is another
+abbrev pub spot_edits : Text → TextSpot → Text → List EditRow
+spot_edits text spot new =
+    if bytes_eq text new then [] else record { at = stretch_at spot; text = written_at spot new } ∷ []
+
+-- the same, if the filterset is found
+abbrev pub place_edits : Option Placement → Text → Text → List EditRow
+place_edits None text new = []
+place_edits (Some at) text new = spot_edits text at.spot new
+
+abbrev pub row_edits : TextRow → Text → List EditRow
+row_edits row new = place_edits row.place row.text new
+
+-- the edits by which filtersets get these texts, one after the other
+abbrev pub rewrites : List TextRow → List Text → List EditRow
+rewrites (row ∷ rows) (new ∷ texts) = row_edits row new ++ rewrites rows texts
+rewrites rows texts = []
+
+-- the same in the order of the file
+abbrev pub AreRewrites : List TextRow → List Text → List EditRow → Type 0
+AreRewrites rows texts edits =
+    IsPermutation (rewrites rows texts) edits × IsNonDecreasingBy (λ e. e.at.from) edits
 
 -- ---- edits of documents
 

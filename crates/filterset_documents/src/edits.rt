@@ -1,13 +1,12 @@
 //! Changes of texts.
-ghost use Rattle.std.specs.Prelude.{◌≡◌, All, Contains, IfOk, IfSome, IsSomeAnd, List, OnOk, length, map, string_bytes};
-ghost use Rattle.filterset_answers.specs.Checked.{TextRow};
+ghost use Rattle.std.specs.Prelude.{◌≡◌, ◌++◌, ◌-◌, ◌↔◌, All, IfNone, IfOk, IfSome, IsSome, List, OnOk, drop, length, map, option_map, option_to_list, string_bytes, take};
 ghost use Rattle.std.specs.List.{AllZip};
 ghost use Rattle.std.specs.Str.{bytes_eq};
 ghost use Rattle.serde_json.specs.Data.{Data, array};
 ghost use Rattle.serde_json.specs.View.{items_of, view};
 ghost use Rattle.filterset_answers.specs.Checked.{text_row};
 ghost use Rattle.filterset_answers.specs.Placements.{spot_of};
-ghost use Rattle.filterset_documents.specs.Edits.{AreInOrder, IsEdit, IsWrittenAt, ReplacesOne, edit_data, edit_row, edited};
+ghost use Rattle.filterset_documents.specs.Edits.{AreEditsOf, AreRewrites, IsEdit, IsWithin, ReplacesOne, edit_data, edit_row, edited, rewrites, row_edits, spot_edits, written_at};
 ghost use Rattle.filterset_documents.specs.Filtersets.{stretch_at};
 ghost use Rattle.filterset_documents.specs.Ranges.{range_data};
 
@@ -36,7 +35,7 @@ pub fn is_same(a: &str, b: &str) -> bool
 
 /// Makes what is written where a filterset is that gets this text: a string, or a line.
 fn written_at(alloc: Global, spot: Spot<'_>, text: &str) -> Result<String, AllocError>
-    ensures { IfOk result (λ made. IsWrittenAt (spot_of spot.entry) text.now (string_bytes made)) }
+    ensures { IfOk result (λ made. string_bytes made ≡ written_at (spot_of spot.entry) text.now) }
 {
     match spot {
         Spot::Literal(_) => quote_text(alloc, text),
@@ -46,7 +45,8 @@ fn written_at(alloc: Global, spot: Spot<'_>, text: &str) -> Result<String, Alloc
 
 /// Makes the edit by which a filterset at this place gets a text.
 fn edit_at(alloc: Global, place: FilePlace<'_>, text: &str) -> Result<Edit, AllocError>
-    ensures { IfOk result (λ edit. edit.at ≡ stretch_at (spot_of place.entry.spot)) }
+    ensures at { IfOk result (λ edit. edit.at ≡ stretch_at (spot_of place.entry.spot)) }
+    ensures text { IfOk result (λ edit. string_bytes edit.text ≡ written_at (spot_of place.entry.spot) text.now) }
 {
     Ok(Edit {
         at: stretch_at(place.spot),
@@ -54,13 +54,29 @@ fn edit_at(alloc: Global, place: FilePlace<'_>, text: &str) -> Result<Edit, Allo
     })
 }
 
-/// Makes the edit by which a filterset gets a text, unless it has that.
+/// Makes the edit by which a filterset at this place gets a text, unless it has that.
+fn other_edit(
+    alloc: Global,
+    place: FilePlace<'_>,
+    old: &str,
+    text: &str,
+) -> Result<Option<Edit>, AllocError>
+    ensures { IfOk result (λ o.
+        option_to_list (option_map edit_row o) ≡ spot_edits old.now (spot_of place.entry.spot) text.now) }
+{
+    if is_same(old, text) {
+        return Ok(None);
+    }
+    Ok(Some(edit_at(alloc, place, text)?))
+}
+
+/// Makes the edit by which a filterset gets a text, unless it has that or is not found.
 fn edit_of(alloc: Global, entry: &TextEntry<'_>, text: &str) -> Result<Option<Edit>, AllocError>
-    ensures { IfOk result (λ o. IfSome o (λ edit. IsSomeAnd (text_row entry.now).place (λ at. edit.at ≡ stretch_at at.spot))) }
+    ensures { IfOk result (λ o. option_to_list (option_map edit_row o) ≡ row_edits (text_row entry.now) text.now) }
 {
     match entry.place {
-        Some(place) if !is_same(entry.text, text) => Ok(Some(edit_at(alloc, place, text)?)),
-        _ => Ok(None),
+        Some(place) => other_edit(alloc, place, entry.text, text),
+        None => Ok(None),
     }
 }
 
@@ -71,9 +87,8 @@ fn push_edit(
     entry: &TextEntry<'_>,
     text: &str,
 ) -> Result<(), AllocError>
-    ensures { (rows : List TextRow) → Contains rows (text_row entry.now)
-        → All (ReplacesOne rows) (map edit_row edits.old.items)
-        → OnOk result (All (ReplacesOne rows) (map edit_row edits.new.items)) }
+    ensures { OnOk result (map edit_row edits.new.items
+        ≡ map edit_row edits.old.items ++ row_edits (text_row entry.now) text.now) }
 {
     match edit_of(alloc, entry, text)? {
         Some(edit) => {
@@ -91,7 +106,8 @@ fn edits_of(
     texts: &[String],
 ) -> Result<Vec<Edit>, AllocError>
     requires { length texts.now ≡ length entries.now }
-    ensures { IfOk result (λ edits. All (ReplacesOne (map text_row entries.now)) (map edit_row edits.items)) }
+    ensures { IfOk result (λ edits. map edit_row edits.items
+        ≡ rewrites (map text_row entries.now) (map (λ s. string_bytes s) texts.now)) }
 {
     let mut edits = Vec::new(alloc);
     for (i, entry) in entries.iter().enumerate() {
@@ -107,36 +123,48 @@ pub fn ordered_edits(
     texts: &[String],
 ) -> Result<Vec<Edit>, AllocError>
     requires { length texts.now ≡ length entries.now }
-    ensures { IfOk result (λ edits. All (ReplacesOne (map text_row entries.now)) (map edit_row edits.items)) }
+    ensures replaces { IfOk result (λ edits. All (ReplacesOne (map text_row entries.now)) (map edit_row edits.items)) }
+    ensures rewrites { IfOk result (λ edits.
+        AreRewrites (map text_row entries.now) (map (λ s. string_bytes s) texts.now) (map edit_row edits.items)) }
 {
     let mut edits = edits_of(alloc, entries, texts)?;
     edits.sort_unstable_by_key(|edit| edit.at.from);
     Ok(edits)
 }
 
-/// Makes a text with edits. Returns `None` if they do not follow each other.
+/// Cuts a stretch out of the rest of a text from an offset on, and returns what is before and behind it. Returns `None` if
+/// it does not begin and end between characters of the rest.
+fn cut_out(rest: &str, at: usize, stretch: Stretch) -> Option<(&str, &str)>
+    ensures within { IsSome result ↔ IsWithin at rest.now stretch }
+    ensures gap { IfSome result (λ p. p.0.now ≡ take (stretch.from - at) rest.now) }
+    ensures behind { IfSome result (λ p. p.1.now ≡ drop (stretch.to - at) rest.now) }
+{
+    let Stretch { from, to } = stretch;
+    if from < at || to < from {
+        return None;
+    }
+    let (gap, _) = rest.split_at_checked(from - at)?;
+    let (_, behind) = rest.split_at_checked(to - at)?;
+    Some((gap, behind))
+}
+
+/// Makes a text with edits. Returns `None` if they do not follow each other, or do not begin and end between characters.
 pub fn edit_text(alloc: Global, text: &str, edits: &[Edit]) -> Result<Option<String>, AllocError>
     ensures text { IfOk result (λ o. IfSome o (λ made. string_bytes made ≡ edited text.now (map edit_row edits.now))) }
-    ensures in_order { IfOk result (λ o. IfSome o (λ _. AreInOrder (map edit_row edits.now))) }
+    ensures some { IfOk result (λ o. IfSome o (λ _. AreEditsOf text.now (map edit_row edits.now))) }
+    ensures none { IfOk result (λ o. IfNone o (¬ AreEditsOf text.now (map edit_row edits.now))) }
 {
     let mut output = String::new(alloc);
     let mut rest = text;
     let mut at = 0usize;
     for edit in edits {
-        let Stretch { from, to } = edit.at;
-        if from < at || to < from {
-            return Ok(None);
-        }
-        let Some((gap, replaced)) = rest.split_at_checked(from - at) else {
-            return Ok(None);
-        };
-        let Some((_, after)) = replaced.split_at_checked(to - from) else {
+        let Some((gap, behind)) = cut_out(rest, at, edit.at) else {
             return Ok(None);
         };
         output.push_str(gap)?;
         output.push_str(edit.text.as_str())?;
-        rest = after;
-        at = to;
+        rest = behind;
+        at = edit.at.to;
     }
     output.push_str(rest)?;
     Ok(Some(output))

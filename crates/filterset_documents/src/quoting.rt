@@ -1,7 +1,7 @@
 //! Strings of TOML.
-ghost use Rattle.std.specs.Prelude.{◌≡◌, ◌++◌, Bool, IfOk, OnOk, chars, string_bytes};
+ghost use Rattle.std.specs.Prelude.{◌≡◌, ◌++◌, IfOk, OnOk, chars, string_bytes};
 ghost use Rattle.std.specs.List.{flat_map};
-ghost use Rattle.filterset_documents.specs.Edits.{basic_char, quoted};
+ghost use Rattle.filterset_documents.specs.Edits.{basic_char, needs_escapes, quoted};
 
 use std::alloc::{AllocError, Global};
 
@@ -49,10 +49,16 @@ pub fn quote(alloc: Global, is_basic: bool, text: &str) -> Result<String, AllocE
     Ok(output)
 }
 
+/// Returns whether a string between apostrophes can't have a text.
+fn needs_escapes(text: &str) -> bool
+    ensures { result ≡ needs_escapes text.now }
+{
+    text.contains('\'') || text.contains('\n')
+}
+
 /// Makes a string that TOML reads as a text: between apostrophes if it can be.
 pub(crate) fn quote_text(alloc: Global, text: &str) -> Result<String, AllocError>
-    ensures { IfOk result (λ made. (is_basic : Bool) × (string_bytes made ≡ quoted is_basic text.now)) }
+    ensures { IfOk result (λ made. string_bytes made ≡ quoted (needs_escapes text.now) text.now) }
 {
-    let is_basic = text.contains('\'') || text.contains('\n');
-    quote(alloc, is_basic, text)
+    quote(alloc, needs_escapes(text), text)
 }

@@ -1,50 +1,87 @@
 -- Filtersets that have the texts that they get.
-use Rattle.std.proofs.Common.{◌≡◌, ℕ, Bool, true, false, refl, arith, ◌+◌, ◌<◌, ◌∙◌, Global, List, String, ap, get_or, length, map, string_bytes, subst, sym, take}
-use Rattle.std.proofs.lemmas.List.{get_or-map, length-map}
-use Rattle.std.specs.Bool.{OnTrue}
-use Rattle.std.specs.List.{AllZip}
-use Rattle.filterset_answers.specs.Checked.{TextRow, text_row}
-use Rattle.filterset_answers.specs.declared.text.TextEntry.{TextEntry}
+use Rattle.std.proofs.Common.{◌≡◌, ℕ, Bool, true, false, refl, arith, ◌+◌, ◌<◌, ◌∙◌, ◌∷◌, [], Global, List, String, ap, drop, get_or, length, map, string_bytes, subst, sym}
+use Rattle.std.specs.Prelude.{◌≢◌}
+use Rattle.std.proofs.lemmas.List.{drop_more, get_or-map, get_or_default, length-map}
+use Rattle.std.proofs.lemmas.Slice.Eq.{bytes_eq-Decides}
+use Rattle.std.specs.Bool.{OnFalse, OnTrue}
+use Rattle.std.specs.Str.{bytes_eq}
+use Rattle.filterset_answers.specs.Checked.{TextRow}
 use Rattle.filterset_editor.specs.Positions.{Text}
-use Rattle.filterset_profiles.proofs.Zips.{zip_push}
-use Rattle.filterset_sources.specs.Configurations.{configured_row, configured_rows}
-use Rattle.filterset_sources.specs.declared.configuration.ConfiguredFilterset.{ConfiguredFilterset}
-use Rattle.filterset_server.specs.Formatting.{IsFormatted, IsFormattedRow}
-use Rattle.filterset_documents.proofs.JoinLemmas.{Zips-at, rows_more}
+use Rattle.filterset_sources.specs.Configurations.{ConfiguredRow}
+use Rattle.filterset_server.specs.Formatting.{AreRewritten, IsRewritten}
 
 abbrev pub bytes_of : String Global → Text
 bytes_of s = string_bytes s
 
--- the text that the filterset at a position gets
-pub formatted_at : (entries : List TextEntry) (texts : List (String Global)) (i : ℕ) (entry : TextEntry) (text : String Global)
-    → i < length entries → i < length texts → get_or entries i entry ≡ entry → get_or texts i text ≡ text
-    → AllZip IsFormatted (map text_row entries) (map (λ s. string_bytes s) texts) → IsFormatted (text_row entry) (string_bytes text)
-formatted_at entries texts i entry text lt within at is all =
-    let rows : List TextRow = map text_row entries in
-    let news : List Text = map bytes_of texts in
-    let inside : i < length rows = omega (arith, length-map entries text_row) in
-    let here : get_or rows i (text_row entry) ≡ text_row entry = get_or-map text_row entries i entry (text_row entry) lt ∙ ap text_row at in
-    let new : get_or news i (string_bytes text) ≡ string_bytes text = get_or-map bytes_of texts i text (string_bytes text) within ∙ ap bytes_of is in
-    let Here : TextRow → Type 0 = λ row. IsFormatted row (get_or news i (string_bytes text)) in
-    let New : Text → Type 0 = λ t. IsFormatted (text_row entry) t in
-    subst New new (subst Here here (Zips-at IsFormatted rows news i (text_row entry) (string_bytes text) inside all))
+-- what elements are seen as, from a position on
+pub rows_next : {A B : Type 0} (f : A → B) (xs : List A) (i : ℕ) (x : A) → i < length xs → get_or xs i x ≡ x
+    → map f (drop i xs) ≡ f x ∷ map f (drop (i + 1) xs)
+rows_next f xs i x lt at = ap (map f) (drop_more xs i x lt ∙ ap (λ y. y ∷ drop (i + 1) xs) at)
 
--- one more filterset has the text that it gets
-pub formatted_more : (entries : List TextEntry) (texts : List (String Global)) (others : List ConfiguredFilterset) (i : ℕ)
-    (entry : TextEntry) (text : String Global) (other : ConfiguredFilterset) → i < length entries → i < length texts → i < length others
-    → get_or entries i entry ≡ entry → get_or texts i text ≡ text → get_or others i other ≡ other
-    → AllZip IsFormatted (map text_row entries) (map (λ s. string_bytes s) texts)
-    → AllZip IsFormattedRow (map text_row (take i entries)) (configured_rows (take i others))
-    → (string_bytes other.path ≡ string_bytes entry.origin) × (other.kind ≡ entry.kind) × (string_bytes other.text ≡ string_bytes text)
-    → AllZip IsFormattedRow (map text_row (take (i + 1) entries)) (configured_rows (take (i + 1) others))
-formatted_more entries texts others i entry text other lt within inside at is has all before (path, kind, same) =
-    let New : Text → Type 0 = λ t. IsFormatted (text_row entry) t in
-    let row : IsFormattedRow (text_row entry) (configured_row other) =
-    (path, kind, subst New (sym same) (formatted_at entries texts i entry text lt within at is all)) in
-    rw (rows_more text_row entries i entry lt at, rows_more configured_row others i other inside has)
-    (zip_push IsFormattedRow (map text_row (take i entries)) (configured_rows (take i others)) (text_row entry) (configured_row other) before row)
+-- filtersets and others with the same texts are as many
+pub rewritten_long : (rows : List TextRow) (texts : List Text) (others : List ConfiguredRow) → AreRewritten rows texts others
+    → length rows ≡ length others
+rewritten_long [] [] [] are = refl
+rewritten_long [] [] (o ∷ others) are = absurd are
+rewritten_long [] (t ∷ texts) others are = absurd are
+rewritten_long (r ∷ rows) [] others are = absurd are
+rewritten_long (r ∷ rows) (t ∷ texts) [] are = absurd are
+rewritten_long (r ∷ rows) (t ∷ texts) (o ∷ others) are = omega (arith, rewritten_long rows texts others are.1)
 
--- a fact that holds if a test is true
+-- the first filterset is the other one with its text, and so on
+pub rewritten_first : (rows more : List TextRow) (texts news : List Text) (others rest : List ConfiguredRow) (row : TextRow) (new : Text) (other : ConfiguredRow)
+    → rows ≡ row ∷ more → texts ≡ new ∷ news → others ≡ other ∷ rest → AreRewritten rows texts others
+    → IsRewritten row new other × AreRewritten more news rest
+rewritten_first rows more texts news others rest row new other row_is new_is other_is are =
+    let P : List TextRow → Type 0 = λ rs. AreRewritten rs texts others in
+    let Q : List Text → Type 0 = λ ts. AreRewritten (row ∷ more) ts others in
+    let R : List ConfiguredRow → Type 0 = λ os. AreRewritten (row ∷ more) (new ∷ news) os in
+    subst R other_is (subst Q new_is (subst P row_is are))
+
+pub rewritten_more : (rows more : List TextRow) (texts news : List Text) (others rest : List ConfiguredRow) (row : TextRow) (new : Text) (other : ConfiguredRow)
+    → rows ≡ row ∷ more → texts ≡ new ∷ news → others ≡ other ∷ rest → IsRewritten row new other → AreRewritten more news rest
+    → AreRewritten rows texts others
+rewritten_more rows more texts news others rest row new other row_is new_is other_is same are =
+    let P : List TextRow → Type 0 = λ rs. AreRewritten rs texts others in
+    let Q : List Text → Type 0 = λ ts. AreRewritten (row ∷ more) ts others in
+    let R : List ConfiguredRow → Type 0 = λ os. AreRewritten (row ∷ more) (new ∷ news) os in
+    subst P (sym row_is) (subst Q (sym new_is) (subst R (sym other_is) (same, are)))
+
+-- none are left
+pub rewritten_none : (rows : List TextRow) (texts : List Text) (others : List ConfiguredRow) → rows ≡ [] → texts ≡ [] → others ≡ []
+    → AreRewritten rows texts others
+rewritten_none rows texts others no_rows no_texts no_others =
+    let P : List TextRow → Type 0 = λ rs. AreRewritten rs texts others in
+    let Q : List Text → Type 0 = λ ts. AreRewritten [] ts others in
+    let R : List ConfiguredRow → Type 0 = λ os. AreRewritten [] [] os in
+    subst P (sym no_rows) (subst Q (sym no_texts) (subst R (sym no_others) tt))
+
+-- texts differ where one of them does
+pub texts_differ : (xs ys : List Text) (i : ℕ) (x y : Text) → i < length ys → get_or xs i x ≡ x → get_or ys i y ≡ y → x ≢ y → xs ≢ ys
+texts_differ xs ys i x y lt at is differ = λ same. differ (sym at ∙ ap (λ ts. get_or ts i x) same ∙ get_or_default ys i x y lt ∙ is)
+
+-- the text at a position
+pub bytes_at : (texts : List (String Global)) (i : ℕ) (text : String Global) → i < length texts → get_or texts i text ≡ text
+    → get_or (map bytes_of texts) i (string_bytes text) ≡ string_bytes text
+bytes_at texts i text lt at = get_or-map bytes_of texts i text (string_bytes text) lt ∙ ap bytes_of at
+
+-- texts of two lists, of which one is another
+pub differ_at : (texts others : List (String Global)) (i : ℕ) (text other : String Global) → i < length texts → i < length others
+    → get_or texts i text ≡ text → get_or others i other ≡ other → string_bytes text ≢ string_bytes other
+    → map bytes_of texts ≢ map bytes_of others
+differ_at texts others i text other lt within at is differ =
+    texts_differ (map bytes_of texts) (map bytes_of others) i (string_bytes text) (string_bytes other)
+    (omega (arith, within, length-map others bytes_of)) (bytes_at texts i text lt at) (bytes_at others i other within is) differ
+
+-- texts whose comparison fails are not the same
+pub not_same : (xs ys : Text) → bytes_eq xs ys ≡ false → xs ≢ ys
+not_same xs ys unequal = λ same. let yes = (bytes_eq-Decides xs ys).1 same in cc
+
+-- a fact that holds if a test is true, or false
 pub on_true : (b : Bool) (P : Type 0) → (b ≡ true → P) → OnTrue b P
 on_true true P holds = holds refl
 on_true false P holds = tt
+
+pub on_false : (b : Bool) (P : Type 0) → (b ≡ false → P) → OnFalse b P
+on_false true P holds = tt
+on_false false P holds = holds refl

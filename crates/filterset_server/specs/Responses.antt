@@ -71,10 +71,10 @@ RespondsConfiguration w encoding text inquiry d =
 
 -- ---- requests
 
--- the edits that format a text in a language, or `null`
+-- the edits that format a text in a language
 abbrev pub Formats : Encoding → Text → Text → Data → Type 0
 Formats encoding language text d =
-    MatchBool (is_list language) (FormatsList encoding text d) (FormatsConfiguration encoding text d) ⊎ (d ≡ null)
+    MatchBool (is_list language) (FormatsList encoding text d) (FormatsConfiguration encoding text d)
 
 -- the actions for a range of a text in a language, which has this address
 abbrev pub ActsTo : Encoding → Text → Text → Text → Range → Data → Type 0

@@ -1,23 +1,23 @@
 //! How filtersets are formatted.
-ghost use Rattle.std.specs.Prelude.{◌≡◌, ◌⊎◌, IfOk, IfSome, map, string_bytes};
-ghost use Rattle.std.specs.Bool.{OnTrue};
+ghost use Rattle.std.specs.Prelude.{◌≡◌, ◌≢◌, IfOk, MatchOption, length, map, string_bytes};
+ghost use Rattle.std.specs.Bool.{OnFalse, OnTrue};
 ghost use Rattle.std.specs.Borrow.{Bor};
 ghost use Rattle.std.specs.List.{AllZip};
 ghost use Rattle.std.specs.Str.Lines.{lines};
-ghost use Rattle.serde_json.specs.Data.{null};
 ghost use Rattle.serde_json.specs.View.{view};
 ghost use Rattle.filterset_answers.specs.Checked.{text_row};
 ghost use Rattle.filterset_answers.specs.Entries.{line_rows, rows_in};
 ghost use Rattle.filterset_answers.specs.declared.entries.ConfiguredTexts.{ConfiguredTexts};
 ghost use Rattle.filterset_drawing.specs.declared.source.Source.{Source};
-ghost use Rattle.filterset_sources.specs.Configurations.{IsConfiguration, configured_rows};
-ghost use Rattle.filterset_documents.specs.Edits.{AreInOrder, edit_row, edited};
-ghost use Rattle.filterset_documents.specs.Filtersets.{AreTexts, AreTextsOf};
-ghost use Rattle.filterset_server.specs.Formatting.{ConfiguredEdits, FormatsConfiguration, FormatsList, IsFormatted, IsFormattedRow, IsPrinted, LineEdits};
+ghost use Rattle.filterset_sources.specs.Configurations.{IsConfiguration, RefusesConfiguration, configured_row, configured_rows};
+ghost use Rattle.filterset_sources.specs.declared.configuration.Configuration.{Configuration};
+ghost use Rattle.filterset_sources.specs.declared.refusal.SourceRefusal.{SourceRefusal};
+ghost use Rattle.filterset_documents.specs.Filtersets.{AreTexts, AreTextsOf, SaysWhy};
+ghost use Rattle.filterset_server.specs.Formatting.{AreRewritten, ConfiguredEdits, FormatsConfiguration, FormatsList, IsFormatted, IsOther, IsPrinted, IsReformatted, IsRewritten, LineEdits};
 
 use filterset_answers::{TextEntry, configured_entries, line_entries};
 use filterset_documents::{
-    Edit, Shown, configured_texts, edit_text, edits_value, is_same, ordered_edits, parse_text,
+    Shown, configured_texts, edit_text, edits_value, is_same, ordered_edits, parse_text,
 };
 use filterset_drawing::Source;
 use filterset_places::Places;
@@ -58,30 +58,33 @@ fn format_entries(alloc: Global, entries: &[TextEntry<'_>]) -> Result<Vec<String
     Ok(texts)
 }
 
-/// Returns whether a filterset has the name and the kind of another, and this text.
-fn is_formatted(entry: &TextEntry<'_>, text: &str, other: &ConfiguredFilterset) -> bool
-    ensures { OnTrue result ((string_bytes other.now.path ≡ string_bytes entry.now.origin)
-        × (other.now.kind ≡ entry.now.kind) × (string_bytes other.now.text ≡ text.now)) }
+/// Returns whether a filterset has the path and the kind of another, and this text.
+fn is_rewritten(entry: &TextEntry<'_>, text: &str, other: &ConfiguredFilterset) -> bool
+    ensures is { OnTrue result (IsRewritten (text_row entry.now) text.now (configured_row other.now)) }
+    ensures other { OnFalse result (¬ IsRewritten (text_row entry.now) text.now (configured_row other.now)) }
 {
     is_same(other.path.as_str(), entry.origin.as_str())
         && other.kind == entry.kind
         && is_same(other.text.as_str(), text)
 }
 
-/// Returns whether filtersets have the names and kinds of others, and the texts that these get.
-fn are_formatted(
+/// Returns whether filtersets have the paths and kinds of others, and these texts.
+fn are_rewritten(
     entries: &[TextEntry<'_>],
     texts: &[String],
     others: &[ConfiguredFilterset],
 ) -> bool
-    requires { AllZip IsFormatted (map text_row entries.now) (map (λ s. string_bytes s) texts.now) }
-    ensures { OnTrue result (AllZip IsFormattedRow (map text_row entries.now) (configured_rows others.now)) }
+    requires { length texts.now ≡ length entries.now }
+    ensures are { OnTrue result (AreRewritten (map text_row entries.now) (map (λ s. string_bytes s) texts.now)
+        (configured_rows others.now)) }
+    ensures others { OnFalse result (¬ AreRewritten (map text_row entries.now) (map (λ s. string_bytes s) texts.now)
+        (configured_rows others.now)) }
 {
-    if entries.len() != others.len() || texts.len() != others.len() {
+    if entries.len() != others.len() {
         return false;
     }
     for (i, other) in others.iter().enumerate() {
-        if !is_formatted(&entries[i], texts[i].as_str(), other) {
+        if !is_rewritten(&entries[i], texts[i].as_str(), other) {
             return false;
         }
     }
@@ -90,7 +93,8 @@ fn are_formatted(
 
 /// Returns whether texts are the same as others.
 fn are_same(texts: &[String], others: &[String]) -> bool
-    ensures { OnTrue result (map (λ s. string_bytes s) texts.now ≡ map (λ s. string_bytes s) others.now) }
+    ensures same { OnTrue result (map (λ s. string_bytes s) texts.now ≡ map (λ s. string_bytes s) others.now) }
+    ensures others { OnFalse result (map (λ s. string_bytes s) texts.now ≢ map (λ s. string_bytes s) others.now) }
 {
     if texts.len() != others.len() {
         return false;
@@ -105,7 +109,8 @@ fn are_same(texts: &[String], others: &[String]) -> bool
 
 /// Returns whether these are the lines of a text.
 fn are_lines(text: &str, expected: &[String]) -> bool
-    ensures { OnTrue result (lines text.now ≡ map (λ s. string_bytes s) expected.now) }
+    ensures are { OnTrue result (lines text.now ≡ map (λ s. string_bytes s) expected.now) }
+    ensures others { OnFalse result (lines text.now ≢ map (λ s. string_bytes s) expected.now) }
 {
     let mut count = 0;
     for line in text.lines() {
@@ -127,7 +132,7 @@ fn line_edits(
     entries: &[TextEntry<'_>],
 ) -> Result<Value, AllocError>
     ensures { IfOk result (λ value. LineEdits shown.now.encoding shown.now.lines.text.now (map text_row entries.now)
-        (view value) ⊎ (view value ≡ null)) }
+        (view value)) }
 {
     let texts = format_entries(alloc, entries)?;
     let edits = ordered_edits(alloc, entries, texts.as_slice())?;
@@ -144,56 +149,69 @@ fn line_edits(
 /// Makes the edits that format the lines of a file, each a filterset.
 fn file_edits(alloc: Global, shown: &Shown<'_>, file: &Source<'_>) -> Result<Value, AllocError>
     ensures { IfOk result (λ value. (listed : Bor Source) × (listed.now ≡ file.now)
-        × (LineEdits shown.now.encoding shown.now.lines.text.now (line_rows listed FiltersetKind.Test) (view value)
-        ⊎ (view value ≡ null))) }
+        × LineEdits shown.now.encoding shown.now.lines.text.now (line_rows listed FiltersetKind.Test) (view value)) }
 {
     let entries = line_entries(alloc, FiltersetKind::Test, file)?;
     line_edits(alloc, shown, entries.as_slice())
 }
 
-/// Makes the edits that format a text of which each line is a filterset, or `null`.
+/// Makes the edits that format a text with a filterset on each line. Returns `null` if it would not have these lines.
 pub(crate) fn format_list(alloc: Global, shown: &Shown<'_>) -> Result<Value, AllocError>
-    ensures { IfOk result (λ value.
-        FormatsList shown.now.encoding shown.now.lines.text.now (view value) ⊎ (view value ≡ null)) }
+    ensures { IfOk result (λ value. FormatsList shown.now.encoding shown.now.lines.text.now (view value)) }
 {
     let file = Source::new(alloc, "", shown.lines.text)?;
     file_edits(alloc, shown, &file)
 }
 
-/// Reads the configuration that a text is with edits, if it is one.
-fn edited_configuration(
-    alloc: Global,
-    text: &str,
-    edits: &[Edit],
-) -> Result<Option<Configuration>, AllocError>
-    ensures in_order { IfOk result (λ o. IfSome o (λ _. AreInOrder (map edit_row edits.now))) }
-    ensures configuration { IfOk result (λ o. IfSome o (IsConfiguration (edited text.now (map edit_row edits.now)))) }
+/// Reads the configuration that a text is, if it is one.
+fn read_edited(alloc: Global, text: &str) -> Result<Option<Configuration>, AllocError>
+    ensures { IfOk result (λ o. MatchOption o
+        ((refusal : SourceRefusal) × RefusesConfiguration text.now refusal × SaysWhy refusal)
+        (λ configuration. IsConfiguration text.now configuration)) }
 {
-    let Some(edited) = edit_text(alloc, text, edits)? else {
-        return Ok(None);
-    };
-    match read_configuration(alloc, edited.as_str()) {
+    match read_configuration(alloc, text) {
         Ok(configuration) => Ok(Some(configuration)),
         Err(SourceRefusal::OutOfMemory(refused)) => Err(refused),
         Err(_) => Ok(None),
     }
 }
 
-/// Returns whether a configuration has these groups, and the filtersets with the texts that they get.
-fn is_formatted_as(
+/// Returns whether a configuration has these groups, and the filtersets with these texts.
+fn is_reformatted(
     other: &Configuration,
     groups: &[String],
     entries: &[TextEntry<'_>],
     texts: &[String],
 ) -> bool
-    requires { AllZip IsFormatted (map text_row entries.now) (map (λ s. string_bytes s) texts.now) }
-    ensures groups { OnTrue result (map (λ s. string_bytes s) other.now.groups.items
-        ≡ map (λ s. string_bytes s) groups.now) }
-    ensures filtersets { OnTrue result (AllZip IsFormattedRow (map text_row entries.now)
-        (configured_rows other.now.filtersets.items)) }
+    requires { length texts.now ≡ length entries.now }
+    ensures is { OnTrue result (IsReformatted (map (λ s. string_bytes s) groups.now) (map text_row entries.now)
+        (map (λ s. string_bytes s) texts.now) other.now) }
+    ensures other { OnFalse result (¬ IsReformatted (map (λ s. string_bytes s) groups.now) (map text_row entries.now)
+        (map (λ s. string_bytes s) texts.now) other.now) }
 {
     are_same(other.groups.as_slice(), groups)
-        && are_formatted(entries, texts, other.filtersets.as_slice())
+        && are_rewritten(entries, texts, other.filtersets.as_slice())
+}
+
+/// Returns whether a text is a configuration with these groups, and the filtersets with these texts.
+fn reads_reformatted(
+    alloc: Global,
+    text: &str,
+    groups: &[String],
+    entries: &[TextEntry<'_>],
+    texts: &[String],
+) -> Result<bool, AllocError>
+    requires { length texts.now ≡ length entries.now }
+    ensures is { IfOk result (λ is. OnTrue is ((other : Configuration) × IsConfiguration text.now other
+        × IsReformatted (map (λ s. string_bytes s) groups.now) (map text_row entries.now)
+        (map (λ s. string_bytes s) texts.now) other)) }
+    ensures other { IfOk result (λ is. OnFalse is (IsOther (map (λ s. string_bytes s) groups.now) (map text_row entries.now)
+        (map (λ s. string_bytes s) texts.now) text.now)) }
+{
+    match read_edited(alloc, text)? {
+        Some(other) => Ok(is_reformatted(&other, groups, entries, texts)),
+        None => Ok(false),
+    }
 }
 
 /// Makes the edits that format filtersets of a configuration with these groups. Returns `null` if the text would not be a
@@ -205,14 +223,16 @@ fn configured_edits(
     entries: &[TextEntry<'_>],
 ) -> Result<Value, AllocError>
     ensures { IfOk result (λ value. ConfiguredEdits shown.now.encoding shown.now.lines.text.now
-        (map (λ s. string_bytes s) groups.now) (map text_row entries.now) (view value) ⊎ (view value ≡ null)) }
+        (map (λ s. string_bytes s) groups.now) (map text_row entries.now) (view value)) }
 {
     let texts = format_entries(alloc, entries)?;
     let edits = ordered_edits(alloc, entries, texts.as_slice())?;
-    let Some(other) = edited_configuration(alloc, shown.lines.text, edits.as_slice())? else {
+    let Some(edited) = edit_text(alloc, shown.lines.text, edits.as_slice())? else {
         return Ok(Value::Null);
     };
-    if is_formatted_as(&other, groups, entries, texts.as_slice()) {
+    let edited = edited.as_str();
+    let is_kept = reads_reformatted(alloc, edited, groups, entries, texts.as_slice())?;
+    if is_kept {
         edits_value(alloc, shown, edits.as_slice())
     } else {
         Ok(Value::Null)
@@ -229,8 +249,8 @@ fn placed_edits(
 ) -> Result<Value, AllocError>
     ensures { IfOk result (λ value. (texts : ConfiguredTexts)
         × AreTexts file.now configuration.now.filtersets.items places.now texts
-        × (ConfiguredEdits shown.now.encoding shown.now.lines.text.now
-        (map (λ s. string_bytes s) configuration.now.groups.items) (rows_in texts) (view value) ⊎ (view value ≡ null))) }
+        × ConfiguredEdits shown.now.encoding shown.now.lines.text.now
+        (map (λ s. string_bytes s) configuration.now.groups.items) (rows_in texts) (view value)) }
 {
     let filtersets = configuration.filtersets.as_slice();
     let configured = configured_texts(file, filtersets, places);
@@ -250,8 +270,8 @@ fn filterset_edits(
     configuration: &Configuration,
 ) -> Result<Value, AllocError>
     ensures { let text = shown.now.lines.text.now in IfOk result (λ value. (texts : ConfiguredTexts)
-        × AreTextsOf text configuration.now texts × (ConfiguredEdits shown.now.encoding text
-        (map (λ s. string_bytes s) configuration.now.groups.items) (rows_in texts) (view value) ⊎ (view value ≡ null))) }
+        × AreTextsOf text configuration.now texts × ConfiguredEdits shown.now.encoding text
+        (map (λ s. string_bytes s) configuration.now.groups.items) (rows_in texts) (view value)) }
 {
     let places = Places::of(alloc, shown.lines.text, configuration)?;
     let file = Source::new(alloc, "", shown.lines.text)?;
@@ -260,8 +280,7 @@ fn filterset_edits(
 
 /// Makes the edits that format nextest's configuration, or `null` for a text that is none.
 pub(crate) fn format_configuration(alloc: Global, shown: &Shown<'_>) -> Result<Value, AllocError>
-    ensures { IfOk result (λ value.
-        FormatsConfiguration shown.now.encoding shown.now.lines.text.now (view value) ⊎ (view value ≡ null)) }
+    ensures { IfOk result (λ value. FormatsConfiguration shown.now.encoding shown.now.lines.text.now (view value)) }
 {
     match read_configuration(alloc, shown.lines.text) {
         Ok(configuration) => filterset_edits(alloc, shown, &configuration),

@@ -1,10 +1,11 @@
-use Rattle.std.proofs.Common.{arith, ◌≡◌, List, ap, inl, length, map, subst}
+use Rattle.std.proofs.Common.{rules, arith, ◌≡◌, ◌∙◌, List, ap, inl, inr, length, map, subst}
 use Rattle.std.proofs.lemmas.List.{length-map}
 use Rattle.std.proofs.lemmas.Result.{IfOk-weaker}
 use Rattle.std.proofs.lemmas.Slice.Zip.{AllZip-long}
 use Rattle.std.specs.List.{AllZip}
 use Rattle.serde_json.specs.Data.{Data, array}
 use Rattle.serde_json.specs.View.{items_of, view}
+use Rattle.serde_json.specs.declared.value.Value.{the_lemmas}
 use Rattle.filterset_answers.specs.Checked.{text_row}
 use Rattle.filterset_documents.specs.Edits.{edit_row}
 use Rattle.filterset_server.specs.Formatting.{IsFormatted}
@@ -18,18 +19,43 @@ ordered_edits-requires c =
     let long = AllZip-long IsFormatted (map text_row c.args.entries.now) (map bytes_of c.in_ok-texts.texts.items) c.in_ok-texts.ensures in
     omega (arith, long, length-map c.args.entries.now text_row, length-map c.in_ok-texts.texts.items bytes_of, ap length c.as_slice.ensures.value)
 
-pub returns-then-is_formatted_as : goal.returns-then-is_formatted_as
-returns-then-is_formatted_as c =
+pub reads_reformatted-requires : goal.reads_reformatted-requires
+reads_reformatted-requires c =
+    let long = AllZip-long IsFormatted (map text_row c.args.entries.now) (map bytes_of c.in_ok-texts.texts.items) c.in_ok-texts.ensures in
+    omega (arith, long, length-map c.args.entries.now text_row, length-map c.in_ok-texts.texts.items bytes_of, ap length c.as_slice-3.ensures.value)
+
+pub returns-in_default : goal.returns-in_default
+returns-in_default c =
+    let texts = map bytes_of c.in_ok-texts.texts.items in
+    let edits = map edit_row c.in_ok-edits.edits.items in
+    let rewrites = rw c.as_slice.ensures.value at c.in_ok-edits.ensures.rewrites in
+    let none = rw (c.in_default.is, c.as_slice-2.ensures.value) at c.in_ok-edited.ensures.none in
+    (texts, edits, (c.in_ok-texts.ensures, rewrites), inr (inl none, search (rules, the_lemmas)))
+
+pub returns-then-is_kept : goal.returns-then-is_kept
+returns-then-is_kept c =
     let shown = c.args.shown.now in
     let text = shown.lines.text.now in
     let rows = map text_row c.args.entries.now in
+    let texts = map bytes_of c.in_ok-texts.texts.items in
     let edits = map edit_row c.in_ok-edits.edits.items in
-    let order = rw (c.in-Some.is, c.as_slice-2.ensures.value) at c.in_ok-other.ensures.in_order in
-    let read = rw (c.in-Some.is, c.as_slice-2.ensures.value) at c.in_ok-other.ensures.configuration in
+    let rewrites = rw c.as_slice.ensures.value at c.in_ok-edits.ensures.rewrites in
+    let some = rw (c.in-Some.is, c.as_slice-2.ensures.value) at c.in_ok-edited.ensures.some in
+    let made = rw (c.in-Some.is, c.as_slice-2.ensures.value) at c.in_ok-edited.ensures.text in
+    let kept = rw (c.if-is_kept.true, c.as_str-edited.ensures.value ∙ made, c.as_slice-3.ensures.value) at c.in_ok-is_kept.ensures.is in
     IfOk-weaker c.edits_value.result _ _
     (λ value is.
     let Are : List Edit → Type 0 = λ es. (values : List Data) × AllZip (IsEdit shown.encoding text) (map edit_row es) values × (view value ≡ array (items_of values)) in
-    let (values, zipped, same) = subst Are c.as_slice-then-is_formatted_as.ensures.value is in
-    let are : AreEdits shown.encoding text rows edits (view value) = (values, order, c.in_ok-edits.ensures, zipped, same) in
-    inl (edits, c.in-Some.other, are, read, c.if-is_formatted_as.ensures.groups, c.if-is_formatted_as.ensures.filtersets))
+    let (values, zipped, whole) = subst Are c.as_slice-then-is_kept.ensures.value is in
+    let are : AreEdits shown.encoding text rows edits (view value) = (values, some.0, c.in_ok-edits.ensures.replaces, zipped, whole) in
+    (texts, edits, (c.in_ok-texts.ensures, rewrites), inl (are, kept)))
     c.edits_value.ensures
+
+pub returns : goal.returns
+returns c =
+    let texts = map bytes_of c.in_ok-texts.texts.items in
+    let edits = map edit_row c.in_ok-edits.edits.items in
+    let rewrites = rw c.as_slice.ensures.value at c.in_ok-edits.ensures.rewrites in
+    let made = rw (c.in-Some.is, c.as_slice-2.ensures.value) at c.in_ok-edited.ensures.text in
+    let other = rw (c.if-is_kept.false, c.as_str-edited.ensures.value ∙ made, c.as_slice-3.ensures.value) at c.in_ok-is_kept.ensures.other in
+    (texts, edits, (c.in_ok-texts.ensures, rewrites), inr (inr other, search (rules, the_lemmas)))

@@ -1,6 +1,5 @@
-use Rattle.std.proofs.Common.{◌≡◌, ◌∙◌, ◌⊎◌, List, ap, map, refl, subst}
+use Rattle.std.proofs.Common.{◌∙◌, List, ap, map, refl, subst}
 use Rattle.std.proofs.lemmas.Result.{IfOk-weaker}
-use Rattle.serde_json.specs.Data.{null}
 use Rattle.serde_json.specs.View.{view}
 use Rattle.filterset_answers.specs.Checked.{TextRow, text_row}
 use Rattle.filterset_server.specs.Formatting.{LineEdits}
@@ -12,6 +11,6 @@ returns c =
     let rows = ap (map text_row) c.as_slice.ensures.value ∙ c.in_ok-entries.ensures in
     IfOk-weaker c.line_edits.result _ _
     (λ value are.
-    let Are : List TextRow → Type 0 = λ rs. LineEdits shown.encoding shown.lines.text.now rs (view value) ⊎ (view value ≡ null) in
+    let Are : List TextRow → Type 0 = λ rs. LineEdits shown.encoding shown.lines.text.now rs (view value) in
     (c.args.file, refl, subst Are rows are))
     c.line_edits.ensures

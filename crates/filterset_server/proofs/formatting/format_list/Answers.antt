@@ -1,4 +1,4 @@
-use Rattle.std.proofs.Common.{◌∙◌, ap, inl, inr}
+use Rattle.std.proofs.Common.{◌∙◌, ap}
 use Rattle.std.proofs.lemmas.Result.{IfOk-weaker}
 use Rattle.filterset_drawing.specs.declared.source.Source.{Source}
 use Rattle.filterset_editor.specs.Positions.{Text}
@@ -9,6 +9,6 @@ returns c =
     let text_of : Source → Text = λ s. s.text.now in
     IfOk-weaker c.file_edits.result _ _
     (λ value are.
-    let (file, same, either) = are in
-    elim either [ inl edits ↦ inl (file, ap text_of same ∙ c.in_ok-file.ensures.text, edits) | inr none ↦ inr none ])
+    let (file, same, edits) = are in
+    (file, ap text_of same ∙ c.in_ok-file.ensures.text, edits))
     c.file_edits.ensures

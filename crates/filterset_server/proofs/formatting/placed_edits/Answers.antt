@@ -1,6 +1,5 @@
-use Rattle.std.proofs.Common.{◌≡◌, ◌∙◌, ◌⊎◌, List, ap, map, subst}
+use Rattle.std.proofs.Common.{◌∙◌, List, ap, map, subst}
 use Rattle.std.proofs.lemmas.Result.{IfOk-weaker}
-use Rattle.serde_json.specs.Data.{null}
 use Rattle.serde_json.specs.View.{view}
 use Rattle.filterset_answers.specs.Checked.{TextRow, text_row}
 use Rattle.filterset_editor.specs.Positions.{Text}
@@ -22,7 +21,7 @@ returns c =
     let rows = ap (map text_row) c.as_slice-2.ensures.value ∙ c.in_ok-entries.ensures in
     IfOk-weaker c.configured_edits.result _ _
     (λ value are.
-    let Grouped : List Text → Type 0 = λ gs. ConfiguredEdits shown.encoding text gs (map text_row c.as_slice-2.result.now) (view value) ⊎ (view value ≡ null) in
-    let Are : List TextRow → Type 0 = λ rs. ConfiguredEdits shown.encoding text (map bytes_of configuration.groups.items) rs (view value) ⊎ (view value ≡ null) in
+    let Grouped : List Text → Type 0 = λ gs. ConfiguredEdits shown.encoding text gs (map text_row c.as_slice-2.result.now) (view value) in
+    let Are : List TextRow → Type 0 = λ rs. ConfiguredEdits shown.encoding text (map bytes_of configuration.groups.items) rs (view value) in
     (texts, are_texts, subst Are rows (subst Grouped groups are)))
     c.configured_edits.ensures

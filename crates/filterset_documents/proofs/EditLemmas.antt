@@ -1,0 +1,157 @@
+-- Edits of texts.
+use Rattle.std.proofs.Common.{◌≡◌, ℕ, zero, suc, Bool, true, false, refl, arith, ◌+◌, ◌-◌, ◌<◌, ◌≤◌, ◌∙◌, All, Contains, List, [], ◌∷◌, ◌++◌, append_assoc, ap, drop, get_or, length, map, subst, sym, take}
+use Rattle.std.specs.Prelude.{IsSomeAnd, None, Option, Some, if◌then◌else◌}
+use Rattle.std.proofs.lemmas.List.{append-nil, drop-drop, get_or-drop, get_or-map, length-drop, length-map}
+use Rattle.std.proofs.lemmas.List.Elements.{All-append}
+use Rattle.std.proofs.lemmas.Str.{IsCharBoundary-from_rest}
+use Rattle.std.specs.List.Sorted.{IsNonDecreasingBy}
+use Rattle.std.specs.Str.{IsCharBoundary, bytes_eq}
+use Rattle.filterset_answers.specs.Checked.{TextRow}
+use Rattle.filterset_answers.specs.Placements.{Placement}
+use Rattle.filterset_editor.specs.Positions.{Text}
+use Rattle.filterset_places.specs.Numbers.{AreApart}
+use Rattle.filterset_places.specs.declared.stretch.Stretch.{Stretch}
+use Rattle.filterset_documents.specs.Edits.{EditRow, IsBetween, IsWithin, ReplacesOne, edited_from, place_edits, rewrites, row_edits, written_at}
+use Rattle.filterset_documents.specs.Filtersets.{stretch_at}
+
+-- ---- each element of a list
+
+all_none : {A : Type 0} (P : A → Type 0) → All P []
+all_none P = λ k d lt. absurd (omega (arith, lt))
+
+pub all_first : {A : Type 0} (P : A → Type 0) (x : A) (xs : List A) → P x → All P xs → All P (x ∷ xs)
+all_first P x xs is all = λ k. elim k as (λ n. (d : _) → n < length (x ∷ xs) → P (get_or (x ∷ xs) n d)) [
+  | zero ↦ λ d lt. is
+  | suc n ↦ λ d lt. all n d (omega (arith, lt))
+]
+
+pub all_head : {A : Type 0} (P : A → Type 0) (x : A) (xs : List A) → All P (x ∷ xs) → P x
+all_head P x xs all = all 0 x (omega arith)
+
+pub all_tail : {A : Type 0} (P : A → Type 0) (x : A) (xs : List A) → All P (x ∷ xs) → All P xs
+all_tail P x xs all = λ k d lt. all (suc k) d (omega (arith, lt))
+
+all_weaker : {A : Type 0} (P Q : A → Type 0) (xs : List A) → ((x : A) → P x → Q x) → All P xs → All Q xs
+all_weaker P Q xs weaker all = λ k d lt. weaker (get_or xs k d) (all k d lt)
+
+-- ---- edits of a text from an offset on
+
+-- they follow each other from there on, and each is between characters of the text
+abbrev pub AreLeft : Text → ℕ → List EditRow → Type 0
+AreLeft text at edits = AreApart at (map (λ e. e.at) edits) × All (IsBetween text) edits
+
+-- a place of the text is one of its rest
+boundary_back : (bs : Text) (i j : ℕ) → IsCharBoundary bs (i + j) → IsCharBoundary (drop i bs) j
+boundary_back bs i j is =
+    let at : get_or (drop i bs) j 0 ≡ get_or bs (i + j) 0 = get_or-drop i bs j 0 in (
+      omega (arith, is.0, length-drop i bs),
+      λ lt high. omega (arith, at, is.1 (omega (arith, lt, length-drop i bs)) (omega (arith, at, high))),
+    )
+
+-- a stretch within the rest is one of the text
+pub in_text : (text : Text) (at : ℕ) (s : Stretch) → at ≤ length text → IsWithin at (drop at text) s
+    → (at ≤ s.from) × (s.from ≤ s.to) × IsCharBoundary text s.from × IsCharBoundary text s.to
+in_text text at s within (from, to, front, back) =
+    let P : ℕ → Type 0 = λ n. IsCharBoundary text n in
+    let first : at + (s.from - at) ≡ s.from = omega (arith, from) in
+    let last : at + (s.to - at) ≡ s.to = omega (arith, from, to) in (
+      from,
+      to,
+      subst P first (IsCharBoundary-from_rest text at (s.from - at) within front),
+      subst P last (IsCharBoundary-from_rest text at (s.to - at) within back),
+    )
+
+-- and the other way round
+pub in_rest : (text : Text) (at : ℕ) (s : Stretch) → at ≤ s.from → s.from ≤ s.to → IsCharBoundary text s.from → IsCharBoundary text s.to
+    → IsWithin at (drop at text) s
+in_rest text at s from to front back =
+    let P : ℕ → Type 0 = λ n. IsCharBoundary text n in
+    let first : s.from ≡ at + (s.from - at) = omega (arith, from) in
+    let last : s.to ≡ at + (s.to - at) = omega (arith, from, to) in (
+      from,
+      to,
+      boundary_back text at (s.from - at) (subst P first front),
+      boundary_back text at (s.to - at) (subst P last back),
+    )
+
+-- one edit more that follows, or one less
+pub left_more : (text : Text) (at : ℕ) (e : EditRow) (es : List EditRow) → at ≤ e.at.from → e.at.from ≤ e.at.to
+    → IsCharBoundary text e.at.from → IsCharBoundary text e.at.to → AreLeft text e.at.to es → AreLeft text at (e ∷ es)
+left_more text at e es from to front back (apart, all) =
+    ((from, to, apart), all_first (IsBetween text) e es (front, back) all)
+
+pub left_next : (text : Text) (at : ℕ) (e : EditRow) (es : List EditRow) → AreLeft text at (e ∷ es) → AreLeft text e.at.to es
+left_next text at e es (apart, all) = (apart.2, all_tail (IsBetween text) e es all)
+
+pub left_within : (text : Text) (at : ℕ) (e : EditRow) (es : List EditRow) → at ≤ length text → AreLeft text at (e ∷ es)
+    → IsWithin at (drop at text) e.at
+left_within text at e es within (apart, all) =
+    let (front, back) = all_head (IsBetween text) e es all in
+    in_rest text at e.at apart.0 apart.1 front back
+
+-- what is written with one edit more
+pub made_more : (out gapped new gap rest behind whole : Text) (at : ℕ) (e : EditRow) (es : List EditRow) → at ≤ e.at.from → e.at.from ≤ e.at.to
+    → out ++ edited_from at rest (e ∷ es) ≡ whole → gap ≡ take (e.at.from - at) rest → behind ≡ drop (e.at.to - at) rest
+    → gapped ≡ out ++ gap → new ≡ gapped ++ e.text → new ++ edited_from e.at.to behind es ≡ whole
+made_more out gapped new gap rest behind whole at e es from to is gap_is behind_is first second =
+    let far : e.at.from - at + (e.at.to - e.at.from) ≡ e.at.to - at = omega (arith, from, to) in
+    let cut : drop (e.at.to - e.at.from) (drop (e.at.from - at) rest) ≡ behind =
+    drop-drop (e.at.to - e.at.from) (e.at.from - at) rest ∙ ap (λ n. drop n rest) far ∙ sym behind_is in
+    let left : Text = edited_from e.at.to behind es in
+    ap (λ o. o ++ left) (second ∙ ap (λ o. o ++ e.text) first)
+    ∙ append_assoc (out ++ gap) e.text left
+    ∙ append_assoc out gap (e.text ++ left)
+    ∙ ap (λ g. out ++ (g ++ (e.text ++ left))) gap_is
+    ∙ ap (λ b. out ++ (take (e.at.from - at) rest ++ (e.text ++ edited_from e.at.to b es))) (sym cut)
+    ∙ is
+
+-- ---- edits of filtersets
+
+-- the edits of one filterset more
+pub rewrites-push : (rows : List TextRow) (texts : List Text) (row : TextRow) (new : Text) → length rows ≡ length texts
+    → rewrites (rows ++ row ∷ []) (texts ++ new ∷ []) ≡ rewrites rows texts ++ row_edits row new
+rewrites-push [] [] row new same = append-nil (row_edits row new)
+rewrites-push [] (t ∷ texts) row new same = absurd (omega (arith, same))
+rewrites-push (r ∷ rows) [] row new same = absurd (omega (arith, same))
+rewrites-push (r ∷ rows) (t ∷ texts) row new same =
+    ap (λ es. row_edits r t ++ es) (rewrites-push rows texts row new (omega (arith, same)))
+    ∙ sym (append_assoc (row_edits r t) (rewrites rows texts) (row_edits row new))
+
+-- the edit of a filterset replaces it
+one_edit : (b : Bool) (at : Placement) (made : Text)
+    → All (λ (edit : EditRow). edit.at ≡ stretch_at at.spot) (if b then [] else record { at = stretch_at at.spot; text = made } ∷ [])
+one_edit true at made = all_none (λ (edit : EditRow). edit.at ≡ stretch_at at.spot)
+one_edit false at made =
+    let P : EditRow → Type 0 = λ edit. edit.at ≡ stretch_at at.spot in
+    all_first P _ [] refl (all_none P)
+
+replaces_place : (place : Option Placement) (text new : Text)
+    → All (λ (edit : EditRow). IsSomeAnd place (λ at. edit.at ≡ stretch_at at.spot)) (place_edits place text new)
+replaces_place None text new = all_none (λ (edit : EditRow). ⊥)
+replaces_place (Some at) text new = one_edit (bytes_eq text new) at (written_at at.spot new)
+
+-- the edits of filtersets, of which each is one of these, replace these
+replaces_all : (all rows : List TextRow) (texts : List Text) → ((row : TextRow) → Contains rows row → Contains all row)
+    → All (ReplacesOne all) (rewrites rows texts)
+replaces_all all [] texts among = all_none (ReplacesOne all)
+replaces_all all (row ∷ rows) [] among = all_none (ReplacesOne all)
+replaces_all all (row ∷ rows) (new ∷ texts) among =
+    let Is = ReplacesOne all in
+    let here : Contains all row = among row (0, omega arith, refl) in
+    let front = row_edits row new in
+    let one = all_weaker (λ edit. IsSomeAnd row.place (λ at. edit.at ≡ stretch_at at.spot)) Is front (λ edit at. (row, here, at)) (replaces_place row.place row.text new) in
+    let others = replaces_all all rows texts (λ r (k, lt, at). among r (suc k, omega (arith, lt), at)) in
+    All-append Is front (rewrites rows texts) one others
+
+pub rewrites-replace : (rows : List TextRow) (texts : List Text) → All (ReplacesOne rows) (rewrites rows texts)
+rewrites-replace rows texts = replaces_all rows rows texts (λ row is. is)
+
+-- ---- order
+
+-- elements are in the order of what they are seen as
+pub seen_in_order : {A B : Type 0} (f : A → B) (n : B → ℕ) (xs : List A) → IsNonDecreasingBy (λ x. n (f x)) xs → IsNonDecreasingBy n (map f xs)
+seen_in_order f n [] sorted = λ i j d le lt. absurd (omega (arith, lt))
+seen_in_order f n (x ∷ xs) sorted = λ i j d le lt.
+    let within : j < length (x ∷ xs) = omega (arith, lt, length-map (x ∷ xs) f) in
+    let inside : i < length (x ∷ xs) = omega (arith, le, within) in
+    rw (get_or-map f (x ∷ xs) i x d inside, get_or-map f (x ∷ xs) j x d within) (sorted i j x le within)
