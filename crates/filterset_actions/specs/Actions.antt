@@ -1,5 +1,5 @@
 -- Actions that are offered.
-use Rattle.std.specs.Prelude.{◌≡◌, ◌⊎◌, ℕ, List, [], ◌∷◌, MatchBool, MatchOption, Option, None, Some, codes, length, slice_get, string_bytes}
+use Rattle.std.specs.Prelude.{◌≡◌, ◌⊎◌, ◌++◌, ℕ, List, [], ◌∷◌, MatchBool, MatchOption, Option, None, Some, codes, length, slice_get, string_bytes}
 use Rattle.std.specs.List.{range_with_len}
 use Rattle.std.specs.Str.{bytes_eq}
 use Rattle.serde_json.specs.Data.{Data, array, string, object, member, no_members}
@@ -19,9 +19,10 @@ use Rattle.filterset_faults.specs.declared.span.SourceSpan.{SourceSpan}
 use Rattle.filterset_grammar.specs.Printing.{printed}
 use Rattle.filterset_grammar.specs.Tree.{Tree}
 use Rattle.filterset_language.specs.Parsed.{IsUnreadWith, Reads}
+use Rattle.filterset_rewriting.specs.Showing.{shown}
 use Rattle.filterset_actions.specs.Changes.{IsChosen}
 use Rattle.filterset_actions.specs.Mending.{IsMending}
-use Rattle.filterset_actions.specs.Proposals.{IsRepairIn, ProposalRow, format_row, repair_proposal}
+use Rattle.filterset_actions.specs.Proposals.{IsRepairIn, ProposalRow, repair_proposal, rewrite_row}
 use Rattle.filterset_actions.specs.Repairs.{RepairRow}
 use Rattle.filterset_actions.specs.Subjects.{SubjectRow, meets}
 
@@ -87,16 +88,23 @@ FaultActions subject at place text fault ds =
     (o : Option RepairRow) × IsRepairIn subject place text fault o
     × MatchOption o (ds ≡ []) (λ repair. ProposalActions subject at place text (repair_proposal fault repair) ds)
 
--- the action that writes a text as it prints, unless it is so already
-abbrev pub FormatActions : SubjectRow → ℕ → Placement → Text → Text → List Data → Type 0
-FormatActions subject at place text new ds =
-    MatchBool (bytes_eq text new) (ds ≡ []) (ProposalActions subject at place text (format_row text new) ds)
+-- the action that writes a text anew, unless it is the same as another
+abbrev pub RewriteActions : SubjectRow → ℕ → Placement → Text → Text → Text → Text → List Data → Type 0
+RewriteActions subject at place text title other new ds =
+    MatchBool (bytes_eq other new) (ds ≡ []) (ProposalActions subject at place text (rewrite_row title text new) ds)
 
--- The actions for the text of the filterset at a position: if it reads as a tree, that which formats it; else those that mend its
--- faults, in their order.
+-- The actions for a text that reads as a tree: that which writes it as it prints, unless it is so already, and that which adds
+-- parentheses that show how it is read, unless it prints with them.
+abbrev pub TreeActions : SubjectRow → ℕ → Placement → Text → Tree SourceSpan → List Data → Type 0
+TreeActions subject at place text e ds = (formats shows : List Data)
+    × RewriteActions subject at place text (codes "Format this filterset") text (printed e) formats
+    × RewriteActions subject at place text (codes "Add parentheses") (printed e) (printed (shown e)) shows
+    × (ds ≡ formats ++ shows)
+
+-- The actions for the text of the filterset at a position: those for its tree, or those that mend its faults, in their order.
 abbrev pub TextActions : SubjectRow → ℕ → Placement → Text → List Data → Type 0
 TextActions subject at place text ds =
-    ((e : Tree SourceSpan) × Reads text e × FormatActions subject at place text (printed e) ds)
+    ((e : Tree SourceSpan) × Reads text e × TreeActions subject at place text e ds)
     ⊎ ((faults : List ParseSingleError) × IsUnreadWith text faults × Joins (FaultActions subject at place text) faults ds)
 
 -- the same if the filterset is in what is asked about

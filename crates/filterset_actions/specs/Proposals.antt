@@ -16,14 +16,11 @@ pub record ProposalRow : Type 0 where
 abbrev pub proposal_row : Proposal → ProposalRow
 proposal_row p = record { fault = p.fault; repair = repair_row p.repair }
 
--- a text is written as it prints
-abbrev pub format_row : Text → Text → ProposalRow
-format_row text printed = record {
+-- a text is written anew
+abbrev pub rewrite_row : Text → Text → Text → ProposalRow
+rewrite_row title text new = record {
   fault = None;
-  repair = record {
-    title = codes "Format this filterset";
-    edit = record { at = record { from = 0; to = length text }; text = printed };
-  };
+  repair = record { title = title; edit = record { at = record { from = 0; to = length text }; text = new } };
 }
 
 -- a fault is mended by its repair

@@ -1,18 +1,19 @@
 //! The actions for the filtersets of a document.
-ghost use Rattle.std.specs.Prelude.{◌<◌, IfOk, length, map, string_bytes};
+ghost use Rattle.std.specs.Prelude.{◌≡◌, ◌<◌, IfOk, length, map, string_bytes};
 ghost use Rattle.serde_json.specs.View.{view};
 ghost use Rattle.filterset_answers.specs.Checked.{text_row};
 ghost use Rattle.filterset_answers.specs.Placements.{placement_of};
 ghost use Rattle.filterset_documents.specs.Joins.{Joins};
 ghost use Rattle.filterset_grammar.specs.Printing.{printed};
 ghost use Rattle.filterset_language.specs.Views.{tree_of};
-ghost use Rattle.filterset_actions.specs.Actions.{ActionsAt, AreActions, FaultActions, FormatActions, NewActions, PlaceActions, ProposalActions, RangeActions, RowActions, TextActions};
+ghost use Rattle.filterset_rewriting.specs.Showing.{shown};
+ghost use Rattle.filterset_actions.specs.Actions.{ActionsAt, AreActions, FaultActions, NewActions, PlaceActions, ProposalActions, RangeActions, RewriteActions, RowActions, TextActions, TreeActions};
 ghost use Rattle.filterset_actions.specs.Proposals.{proposal_row};
 ghost use Rattle.filterset_actions.specs.Subjects.{subject_row};
 
 use crate::changes::choose_change;
 use crate::mending::mend;
-use crate::proposals::{Proposal, propose_format, repair_in};
+use crate::proposals::{Proposal, propose_text, repair_in};
 use crate::reading::{Reading, read_text};
 use crate::subject::{Subject, meets};
 use crate::values::range_actions;
@@ -21,8 +22,15 @@ use filterset_documents::{is_same, stretch_at, stretch_span};
 use filterset_editor::Change;
 use filterset_faults::ParseSingleError;
 use filterset_language::ParsedExpr;
+use filterset_rewriting::show_reading;
 use serde_json::Value;
 use std::alloc::{AllocError, Global};
+
+/// The title of the action that writes a filterset as it prints.
+const FORMAT: &str = "Format this filterset";
+
+/// The title of the action that adds parentheses which show how a filterset is read.
+const ENCLOSE: &str = "Add parentheses";
 
 /// Makes the action that makes a change.
 fn change_actions(
@@ -126,8 +134,38 @@ fn mending_actions(
     Ok(values)
 }
 
-/// Makes the action that writes a text as its tree prints, unless it is so already.
-fn format_actions(
+/// Makes the action that writes a text anew, unless it is the same as another.
+fn rewrite_actions(
+    alloc: Global,
+    subject: &Subject<'_>,
+    at: usize,
+    place: FilePlace<'_>,
+    text: &str,
+    title: &'static str,
+    other: &str,
+    new: &str,
+) -> Result<Vec<Value>, AllocError>
+    requires { at < length subject.now.entries.now }
+    ensures { IfOk result (λ values. RewriteActions (subject_row subject.now) at (placement_of place.entry) text.now
+        title.now other.now new.now (map view values.items)) }
+{
+    if is_same(other, new) {
+        return Ok(Vec::new(alloc));
+    }
+    let proposal = propose_text(alloc, title, text, new)?;
+    proposal_actions(alloc, subject, at, place, text, &proposal)
+}
+
+/// Makes the text of a tree with parentheses that show how it is read.
+fn shown_text(alloc: Global, tree: &ParsedExpr) -> Result<String, AllocError>
+    ensures { IfOk result (λ made. string_bytes made ≡ printed (shown (tree_of tree.now))) }
+{
+    let shown = show_reading(alloc, tree)?;
+    format!(in alloc; "{shown}")
+}
+
+/// Makes the actions for a text that reads as a tree.
+fn tree_actions(
     alloc: Global,
     subject: &Subject<'_>,
     at: usize,
@@ -136,15 +174,17 @@ fn format_actions(
     tree: &ParsedExpr,
 ) -> Result<Vec<Value>, AllocError>
     requires { at < length subject.now.entries.now }
-    ensures { IfOk result (λ values. FormatActions (subject_row subject.now) at (placement_of place.entry) text.now
-        (printed (tree_of tree.now)) (map view values.items)) }
+    ensures { IfOk result (λ values. TreeActions (subject_row subject.now) at (placement_of place.entry) text.now
+        (tree_of tree.now) (map view values.items)) }
 {
     let printed = format!(in alloc; "{tree}")?;
-    if is_same(text, printed.as_str()) {
-        return Ok(Vec::new(alloc));
-    }
-    let proposal = propose_format(alloc, text, printed.as_str())?;
-    proposal_actions(alloc, subject, at, place, text, &proposal)
+    let printed = printed.as_str();
+    let shown = shown_text(alloc, tree)?;
+    let shown = shown.as_str();
+    let mut values = rewrite_actions(alloc, subject, at, place, text, FORMAT, text, printed)?;
+    let mut more = rewrite_actions(alloc, subject, at, place, text, ENCLOSE, printed, shown)?;
+    values.append(&mut more)?;
+    Ok(values)
 }
 
 /// Makes the actions for the text of the filterset at a position.
@@ -160,7 +200,7 @@ fn text_actions(
         (map view values.items)) }
 {
     match read_text(alloc, text)? {
-        Reading::Tree(tree) => format_actions(alloc, subject, at, place, text, &tree),
+        Reading::Tree(tree) => tree_actions(alloc, subject, at, place, text, &tree),
         Reading::Faults(faults) => {
             mending_actions(alloc, subject, at, place, text, faults.as_slice())
         }

@@ -3,6 +3,7 @@
 #![tactic(auto)]
 
 mod actions;
+mod calls;
 mod changes;
 mod documents;
 mod edits;

@@ -1,7 +1,7 @@
 //! What may be done with a filterset.
 ghost use Rattle.std.specs.Prelude.{◌≡◌, IfOk, option_map};
 ghost use Rattle.filterset_answers.specs.Placements.{placement_of};
-ghost use Rattle.filterset_actions.specs.Proposals.{IsRepairIn, format_row, proposal_row};
+ghost use Rattle.filterset_actions.specs.Proposals.{IsRepairIn, proposal_row, rewrite_row};
 ghost use Rattle.filterset_actions.specs.Repairs.{repair_row};
 ghost use Rattle.filterset_actions.specs.Subjects.{subject_row};
 
@@ -20,9 +20,14 @@ pub struct Proposal {
     pub repair: Repair,
 }
 
-/// Makes the proposal to write a text as it prints.
-pub fn propose_format(alloc: Global, text: &str, printed: &str) -> Result<Proposal, AllocError>
-    ensures { IfOk result (λ p. proposal_row p ≡ format_row text.now printed.now) }
+/// Makes the proposal to write a text anew.
+pub fn propose_text(
+    alloc: Global,
+    title: &'static str,
+    text: &str,
+    new: &str,
+) -> Result<Proposal, AllocError>
+    ensures { IfOk result (λ p. proposal_row p ≡ rewrite_row title.now text.now new.now) }
 {
     let at = Stretch {
         from: 0,
@@ -30,9 +35,8 @@ pub fn propose_format(alloc: Global, text: &str, printed: &str) -> Result<Propos
     };
     let edit = Edit {
         at,
-        text: String::from_str(alloc, printed)?,
+        text: String::from_str(alloc, new)?,
     };
-    let title = "Format this filterset";
     Ok(Proposal {
         fault: None,
         repair: Repair { title, edit },

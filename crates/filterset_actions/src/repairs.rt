@@ -3,6 +3,7 @@ ghost use Rattle.std.specs.Prelude.{◌≡◌, IfOk, option_map, slice_index, st
 ghost use Rattle.filterset_actions.specs.Repairs as spec;
 ghost use Rattle.filterset_actions.specs.Repairs.{IsRepairOf, gap_beside, may_touch, repair_row, spaced, stretch_in};
 
+use crate::calls::repair_call;
 use filterset_documents::Edit;
 use filterset_faults::{ParseSingleError, SourceSpan};
 use filterset_places::Stretch;
@@ -106,6 +107,7 @@ pub fn repair_of(
         ParseSingleError::ExprFoundUnaryOp { span, .. } => {
             reword(alloc, "Write `not`", text, *span, "not")
         }
+        ParseSingleError::ExprFoundBinaryOp { span, .. } => repair_call(alloc, text, *span),
         ParseSingleError::InvalidEscapeCharacter(span) => {
             let backslash = SourceSpan::new(span.offset(), 1);
             reword(alloc, "Escape the backslash", text, backslash, "\\\\")

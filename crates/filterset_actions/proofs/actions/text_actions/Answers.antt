@@ -1,0 +1,9 @@
+use Rattle.std.proofs.Common.{inl}
+use Rattle.std.proofs.lemmas.Result.{IfOk-weaker}
+use Rattle.filterset_language.specs.Views.{tree_of}
+use Rattle.filterset_actions.proofs.actions.text_actions.Goals as goal
+
+pub returns-in-Tree : goal.returns-in-Tree
+returns-in-Tree c =
+    let reads = rw c.in-Tree.is at c.in_ok-tree.ensures in
+    IfOk-weaker c.tree_actions.result _ _ (λ values are. inl (tree_of c.in-Tree.tree, reads, are)) c.tree_actions.ensures
