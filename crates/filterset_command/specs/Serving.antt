@@ -1,7 +1,6 @@
 -- Sessions of editors, with a workspace or without.
 use Rattle.std.specs.Prelude.{◌≡◌, ◌⊎◌, Option, None, Some}
 use Rattle.std.specs.declared.io.Error.{Error}
-use Rattle.filterset_documents.specs.Diagnostics.{Diagnoses}
 use Rattle.filterset_drawing.specs.Columns.{Text}
 use Rattle.filterset_editor.specs.Frames.{Bytes}
 use Rattle.filterset_editor.specs.Machine.{says}
@@ -9,6 +8,7 @@ use Rattle.filterset_editor.specs.Sessions.{Served}
 use Rattle.filterset_editor.specs.declared.ending.Ending.{Ending}
 use Rattle.filterset_names.specs.Workspaces.{WorkspaceRow}
 use Rattle.filterset_server.specs.Responses.{Responds, abilities}
+use Rattle.filterset_server.specs.Unmatched.{DiagnosesIn}
 use Rattle.filterset_command.specs.Workspaces.{IsWorkspaceFault, IsWorkspaceIn}
 use Rattle.filterset_command.specs.declared.fault.CommandFault.{CommandFault}
 use Rattle.filterset_command.specs.declared.fault.CommandFault.TheVariants.{Run}
@@ -29,7 +29,7 @@ IsKnownIn content (Some paths) known =
 abbrev pub Serves : (Text → Option Text) → Option WorkspacePaths → Option Bytes → Option Bytes → Option Bytes → Option Bytes
     → Ending → Type 0
 Serves content paths left_old left_new taken_old taken_new ending = (known : Option WorkspaceRow) × IsKnownIn content paths known
-    × Served (says Diagnoses (Responds known) abilities) left_old left_new taken_old taken_new ending
+    × Served (says (DiagnosesIn known) (Responds known) abilities) left_old left_new taken_old taken_new ending
 
 -- a fault of the session's streams, or out of memory
 abbrev pub IsRunFault : CommandFault → Type 0

@@ -2,9 +2,9 @@
 ghost use Rattle.std.specs.Prelude.{◌≡◌, IfErr, IfOk, Some};
 ghost use Rattle.filterset_editor.specs.Machine.{says};
 ghost use Rattle.filterset_editor.specs.Sessions.{Served};
-ghost use Rattle.filterset_documents.specs.Diagnostics.{Diagnoses};
 ghost use Rattle.filterset_names.specs.Workspaces.{known_of, workspace_row};
 ghost use Rattle.filterset_server.specs.Responses.{Responds, abilities};
+ghost use Rattle.filterset_server.specs.Unmatched.{DiagnosesIn};
 ghost use Rattle.filterset_command.specs.Serving.{IsServiceFault, Serves, row_of};
 ghost use Rattle.filterset_command.specs.Files.{OrMemory};
 
@@ -34,7 +34,7 @@ fn serve_with<R: Source, W: Sink>(
     input: &mut R,
     output: &mut W,
 ) -> Result<Ending, RunFault>
-    ensures { IfOk result (Served (says Diagnoses (Responds (known_of workspace.entry)) abilities)
+    ensures { IfOk result (Served (says (DiagnosesIn (known_of workspace.entry)) (Responds (known_of workspace.entry)) abilities)
         (R.left input.old) (R.left input.new) (W.taken output.old) (W.taken output.new)) }
 {
     serve(&FiltersetLanguage { workspace }, alloc, input, output)

@@ -10,7 +10,7 @@ use std::alloc::{AllocError, Global};
 
 /// How bad it is what a diagnostic says.
 #[derive(Clone, Copy, Debug, PartialEq, Eq)]
-pub(crate) enum Severity {
+pub enum Severity {
     Error,
     Warning,
 }
@@ -48,7 +48,7 @@ fn diagnostic_value(
 }
 
 /// Makes the diagnostic with this code and message, at a span.
-pub(crate) fn diagnostic_at(
+pub fn diagnostic_at(
     alloc: Global,
     shown: &Shown<'_>,
     severity: Severity,

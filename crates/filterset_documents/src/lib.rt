@@ -16,6 +16,7 @@ mod trees;
 mod values;
 
 pub use configuration::diagnose_configuration;
+pub use diagnostics::{Severity, diagnostic_at};
 pub use edits::{Edit, edit_text, edits_value, is_same, ordered_edits};
 pub use list::diagnose_list;
 pub use offsets::{entry_at, is_in, leaf_span};

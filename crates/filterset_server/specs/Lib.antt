@@ -5,4 +5,5 @@ pub mod Hover
 pub mod Matches
 pub mod Responses
 pub mod Symbols
+pub mod Unmatched
 pub mod Words

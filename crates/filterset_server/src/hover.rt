@@ -31,7 +31,7 @@ fn is_in_part(part: Option<FileSpan<'_>>, offset: usize) -> bool
 }
 
 /// Returns the span of the file that a predicate's span in a text at this place was read from.
-fn leaf_part<'t>(place: Option<FilePlace<'t>>, leaf: &ParsedLeaf) -> Option<FileSpan<'t>>
+pub(crate) fn leaf_part<'t>(place: Option<FilePlace<'t>>, leaf: &ParsedLeaf) -> Option<FileSpan<'t>>
     ensures { result ≡ leaf_part (option_map placement_of place.entry) (leaf_of leaf.now) }
 {
     file_part(place, leaf_span(leaf))

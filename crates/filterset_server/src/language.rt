@@ -3,11 +3,13 @@ ghost use Rattle.std.specs.Prelude.{◌≡◌, IfOk, MatchBool, map};
 ghost use Rattle.serde_json.specs.View.{view};
 ghost use Rattle.filterset_documents.specs.Diagnostics.{DiagnosesText};
 ghost use Rattle.filterset_documents.specs.Filtersets.{is_list};
-ghost use Rattle.filterset_names.specs.Workspaces.{known_of};
+ghost use Rattle.filterset_names.specs.Workspaces.{known_of, workspace_row};
 ghost use Rattle.filterset_server.specs.Responses.{ActsTo, Formats, RespondsConfiguration, RespondsList, RespondsTo, acted_range, is_formatting};
+ghost use Rattle.filterset_server.specs.Unmatched.{DiagnosesTextIn, TextWarnings};
 
 use crate::formatting::{format_configuration, format_list};
 use crate::requests::{respond_configuration, respond_list};
+use crate::warnings::{warn_configuration, warn_list};
 use filterset_actions::{act_on_configuration, act_on_list};
 use filterset_documents::{Shown, diagnose_configuration, diagnose_list};
 use filterset_editor::{Abilities, Document, Encoding, Inquiry, Language, Lines, Range};
@@ -55,6 +57,44 @@ fn diagnose_text(alloc: Global, shown: &Shown<'_>, language: &str) -> Result<Vec
         diagnose_list(alloc, shown)
     } else {
         diagnose_configuration(alloc, shown)
+    }
+}
+
+/// Makes the warnings of a text.
+fn warnings_of(
+    alloc: Global,
+    workspace: &Workspace<'_>,
+    shown: &Shown<'_>,
+    language: &str,
+) -> Result<Vec<Value>, AllocError>
+    ensures { IfOk result (λ values. TextWarnings (workspace_row workspace.now) shown.now.encoding language.now
+        shown.now.lines.text.now (map view values.items)) }
+{
+    if is_list(language) {
+        warn_list(alloc, workspace, shown)
+    } else {
+        warn_configuration(alloc, workspace, shown)
+    }
+}
+
+/// Makes the diagnostics of a text, and behind them its warnings, if a workspace is known.
+fn diagnose_in(
+    alloc: Global,
+    workspace: Option<Workspace<'_>>,
+    shown: &Shown<'_>,
+    language: &str,
+) -> Result<Vec<Value>, AllocError>
+    ensures { IfOk result (λ values. DiagnosesTextIn (known_of workspace.entry) shown.now.encoding language.now
+        shown.now.lines.text.now (map view values.items)) }
+{
+    let mut values = diagnose_text(alloc, shown, language)?;
+    match workspace {
+        Some(workspace) => {
+            let mut warnings = warnings_of(alloc, &workspace, shown, language)?;
+            values.append(&mut warnings)?;
+            Ok(values)
+        }
+        None => Ok(values),
     }
 }
 
@@ -130,11 +170,11 @@ fn respond_to(
 }
 
 impl Language for FiltersetLanguage<'_> {
-    ghost use Rattle.filterset_documents.specs.Diagnostics.{Diagnoses};
     ghost use Rattle.filterset_names.specs.Workspaces.{known_of};
     ghost use Rattle.filterset_server.specs.Responses.{Responds, abilities};
+    ghost use Rattle.filterset_server.specs.Unmatched.{DiagnosesIn};
 
-    ghost has = { λ _. Diagnoses };
+    ghost has = { λ language. DiagnosesIn (known_of language.workspace) };
 
     ghost gives = { λ language. Responds (known_of language.workspace) };
 
@@ -160,7 +200,7 @@ impl Language for FiltersetLanguage<'_> {
     ) -> Result<Vec<Value>, AllocError> {
         let lines = Lines::of(alloc, document.text.as_str())?;
         let shown = Shown { encoding, lines };
-        diagnose_text(alloc, &shown, document.language.as_str())
+        diagnose_in(alloc, self.workspace, &shown, document.language.as_str())
     }
 
     fn respond(

@@ -10,6 +10,8 @@ mod language;
 mod matches;
 mod requests;
 mod symbols;
+mod unmatched;
+mod warnings;
 mod words;
 
 pub use language::FiltersetLanguage;

@@ -1,0 +1,22 @@
+use Rattle.std.proofs.Common.{◌∙◌, List, ap, map, option_map, subst}
+use Rattle.std.proofs.lemmas.Result.{IfOk-weaker}
+use Rattle.serde_json.specs.View.{view}
+use Rattle.filterset_answers.specs.Placements.{placement_of}
+use Rattle.filterset_documents.specs.Joins.{Joins}
+use Rattle.filterset_faults.specs.declared.span.SourceSpan.{SourceSpan}
+use Rattle.filterset_grammar.specs.Tree.{Leaf}
+use Rattle.filterset_language.specs.Views.{leaf_of}
+use Rattle.filterset_names.specs.Workspaces.{workspace_row}
+use Rattle.filterset_server.specs.Unmatched.{LeafWarnings}
+use Rattle.filterset_server.proofs.unmatched.tree_warnings.Goals as goal
+
+pub returns : goal.returns
+returns c =
+    let shown = c.args.shown.now in
+    let Is = LeafWarnings (workspace_row c.args.workspace.now) shown.encoding shown.lines.text.now (option_map placement_of c.args.place) in
+    let leaves = ap (map (λ leaf. leaf_of leaf.now)) c.as_slice.ensures.value ∙ c.in_ok-leaves.ensures in
+    IfOk-weaker c.warn_leaves.result _ _
+    (λ values are.
+    let Joined : List (Leaf SourceSpan) → Type 0 = λ ls. Joins Is ls (map view values.items) in
+    subst Joined leaves are)
+    c.warn_leaves.ensures

@@ -1,0 +1,37 @@
+use Rattle.std.proofs.Common.{rules, arith, ◌≡◌, ◌<◌, length, get_or, option_map}
+use Rattle.std.proofs.lemmas.List.{take_all}
+use Rattle.std.specs.Borrow.{Bor}
+use Rattle.serde_json.specs.View.{view}
+use Rattle.filterset_answers.specs.Placements.{placement_of}
+use Rattle.filterset_documents.specs.Joins.{no_parts}
+use Rattle.filterset_documents.proofs.JoinLemmas.{Joins-more}
+use Rattle.filterset_faults.specs.declared.span.SourceSpan.{SourceSpan}
+use Rattle.filterset_grammar.specs.Tree.{Leaf}
+use Rattle.filterset_language.specs.Views.{leaf_of}
+use Rattle.filterset_language.specs.declared.tree.ParsedLeaf.{ParsedLeaf}
+use Rattle.filterset_names.specs.Workspaces.{workspace_row}
+use Rattle.filterset_server.specs.Unmatched.{LeafWarnings}
+use Rattle.filterset_server.proofs.unmatched.warn_leaves.Goals as goal
+
+abbrev seen : Bor (ParsedLeaf SourceSpan) → Leaf SourceSpan
+seen leaf = leaf_of leaf.now
+
+pub returns : goal.returns
+returns c =
+    let are = c.loop-leaf.invariant in
+    rw (take_all c.loop-leaf.leaf-index c.args.leaves.now c.loop-leaf-test.false) at are
+
+pub loop-leaf-init : goal.loop-leaf-init
+loop-leaf-init c = rw c.new-values.ensures.items no_parts
+
+pub loop-leaf-preserved : goal.loop-leaf-preserved
+loop-leaf-preserved c =
+    let shown = c.args.shown.now in
+    let leaves = c.args.leaves.now in
+    let i = c.loop-leaf.leaf-index in
+    let leaf = c.leaf-item.result in
+    let lt : i < length leaves = omega (arith, c.loop-leaf-test.true) in
+    let at : get_or leaves i leaf ≡ leaf = search (rules, c.leaf-item.is) in
+    rw c.in_ok-append.ensures.items
+    (Joins-more (LeafWarnings (workspace_row c.args.workspace.now) shown.encoding shown.lines.text.now (option_map placement_of c.args.place)) seen view leaves i leaf
+    c.loop-leaf.values.items c.in_ok-more.more.items lt at c.loop-leaf.invariant c.in_ok-more.ensures)

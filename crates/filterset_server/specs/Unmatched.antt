@@ -1,0 +1,114 @@
+-- Warnings of predicates that match nothing in a workspace.
+use Rattle.std.specs.Prelude.{◌≡◌, ◌⊎◌, ◌++◌, ◌==◌, ◌&&◌, Bool, true, false, not, List, [], ◌∷◌, MatchBool, MatchOption, Option, Some, None, codes, filter, is_some}
+use Rattle.std.specs.Borrow.{Bor}
+use Rattle.std.specs.List.{list_any}
+use Rattle.serde_json.specs.Data.{Data}
+use Rattle.filterset_answers.specs.Checked.{TextRow}
+use Rattle.filterset_answers.specs.Entries.{line_rows, rows_in}
+use Rattle.filterset_answers.specs.Placements.{Placement}
+use Rattle.filterset_answers.specs.declared.entries.ConfiguredTexts.{ConfiguredTexts}
+use Rattle.filterset_documents.specs.Diagnostics.{DiagnosesText, IsDiagnostic}
+use Rattle.filterset_documents.specs.Filtersets.{AreTextsOf, SaysWhy, is_list}
+use Rattle.filterset_documents.specs.Joins.{Joins}
+use Rattle.filterset_documents.specs.declared.diagnostics.Severity.TheVariants.{Warning}
+use Rattle.filterset_drawing.specs.declared.source.Source.{Source}
+use Rattle.filterset_editor.specs.Documents.{DocumentRow}
+use Rattle.filterset_editor.specs.Positions.{Text}
+use Rattle.filterset_editor.specs.declared.positions.Encoding.{Encoding}
+use Rattle.filterset_faults.specs.declared.error.ParseSingleError.{ParseSingleError}
+use Rattle.filterset_faults.specs.declared.kind.FiltersetKind.TheVariants as kinds
+use Rattle.filterset_faults.specs.declared.span.SourceSpan.{SourceSpan}
+use Rattle.filterset_grammar.specs.Tree.{Leaf, Tree, tree_leaves}
+use Rattle.filterset_language.specs.Parsed.{IsUnreadWith, Reads}
+use Rattle.filterset_names.specs.Matched.{MatchesLeaf}
+use Rattle.filterset_names.specs.Workspaces.{WorkspaceRow}
+use Rattle.filterset_names.specs.declared.matched.Matched.{Matched}
+use Rattle.filterset_names.specs.declared.matched.Matched.TheVariants.{Binaries, Packages, Tests}
+use Rattle.filterset_sources.specs.Configurations.{IsConfiguration, RefusesConfiguration}
+use Rattle.filterset_sources.specs.declared.configuration.Configuration.{Configuration}
+use Rattle.filterset_sources.specs.declared.list.Suite.{Suite}
+use Rattle.filterset_sources.specs.declared.list.SuiteStatus.{SuiteStatus}
+use Rattle.filterset_sources.specs.declared.list.SuiteStatus.TheVariants.{Listed, Skipped}
+use Rattle.filterset_sources.specs.declared.refusal.SourceRefusal.{SourceRefusal}
+use Rattle.filterset_server.specs.Hover.{leaf_part}
+
+-- ---- predicates
+
+abbrev pub is_skipped_status : SuiteStatus → Bool
+is_skipped_status Listed = false
+is_skipped_status Skipped = true
+
+-- nextest did not list the tests of the binary
+abbrev pub is_skipped : Suite → Bool
+is_skipped suite = is_skipped_status suite.status
+
+-- it was counted, and there is none; tests count if nextest listed those of each binary
+abbrev pub is_none_found : Bool → Option Matched → Bool
+is_none_found skips (Some (Packages short)) = short.count == 0
+is_none_found skips (Some (Binaries short)) = short.count == 0
+is_none_found skips (Some (Tests short)) = not skips && short.count == 0
+is_none_found skips None = false
+
+-- whether the predicate surely matches nothing in the workspace
+abbrev pub IsUnmatched : WorkspaceRow → Leaf SourceSpan → Bool → Type 0
+IsUnmatched w leaf unmatched = (found : Option Matched) × MatchesLeaf w leaf found
+    × (unmatched ≡ is_none_found (list_any is_skipped w.suites) found)
+
+-- the warning of a predicate that matches nothing, at its span in the file
+abbrev pub WarnsOfLeaf : Encoding → Text → Option Placement → Leaf SourceSpan → List Data → Type 0
+WarnsOfLeaf encoding text place leaf ds = MatchOption (leaf_part place leaf) (ds ≡ []) (λ part. (d : Data)
+    × IsDiagnostic encoding text Warning part.span (codes "NoTestMatch") (codes "matches no test of the workspace") d × (ds ≡ d ∷ []))
+
+abbrev pub LeafWarnings : WorkspaceRow → Encoding → Text → Option Placement → Leaf SourceSpan → List Data → Type 0
+LeafWarnings w encoding text place leaf ds = (unmatched : Bool) × IsUnmatched w leaf unmatched
+    × MatchBool unmatched (WarnsOfLeaf encoding text place leaf ds) (ds ≡ [])
+
+-- the predicate has a span in the file
+abbrev pub has_part : Option Placement → Leaf SourceSpan → Bool
+has_part place leaf = is_some (leaf_part place leaf)
+
+-- ---- filtersets
+
+-- the warnings of the predicates of a tree, one after the other
+abbrev pub TreeWarnings : WorkspaceRow → Encoding → Text → Option Placement → Tree SourceSpan → List Data → Type 0
+TreeWarnings w encoding text place e ds = Joins (LeafWarnings w encoding text place) (filter (has_part place) (tree_leaves e)) ds
+
+-- those of the tree that a filterset reads as; none if it reads as none
+abbrev pub RowWarnings : WorkspaceRow → Encoding → Text → TextRow → List Data → Type 0
+RowWarnings w encoding text row ds =
+    ((e : Tree SourceSpan) × Reads row.text e × TreeWarnings w encoding text row.place e ds)
+    ⊎ ((faults : List ParseSingleError) × IsUnreadWith row.text faults × (ds ≡ []))
+
+abbrev pub RowsWarnings : WorkspaceRow → Encoding → Text → List TextRow → List Data → Type 0
+RowsWarnings w encoding text rows ds = Joins (RowWarnings w encoding text) rows ds
+
+-- ---- documents
+
+-- the warnings of a text of which each line is a filterset
+abbrev pub ListWarnings : WorkspaceRow → Encoding → Text → List Data → Type 0
+ListWarnings w encoding text ds =
+    (file : Bor Source) × (file.now.text.now ≡ text) × RowsWarnings w encoding text (line_rows file kinds.Test) ds
+
+-- the warnings of the filtersets of a configuration that was read from the text
+abbrev pub FiltersetWarnings : WorkspaceRow → Encoding → Text → Configuration → List Data → Type 0
+FiltersetWarnings w encoding text configuration ds =
+    (texts : ConfiguredTexts) × AreTextsOf text configuration texts × RowsWarnings w encoding text (rows_in texts) ds
+
+-- those of a text that is a configuration; none of another
+abbrev pub ConfigurationWarnings : WorkspaceRow → Encoding → Text → List Data → Type 0
+ConfigurationWarnings w encoding text ds =
+    ((configuration : Configuration) × IsConfiguration text configuration × FiltersetWarnings w encoding text configuration ds)
+    ⊎ ((refusal : SourceRefusal) × RefusesConfiguration text refusal × SaysWhy refusal × (ds ≡ []))
+
+abbrev pub TextWarnings : WorkspaceRow → Encoding → Text → Text → List Data → Type 0
+TextWarnings w encoding language text ds =
+    MatchBool (is_list language) (ListWarnings w encoding text ds) (ConfigurationWarnings w encoding text ds)
+
+-- the diagnostics of a text in a language, and behind them the warnings, where a workspace is known
+abbrev pub DiagnosesTextIn : Option WorkspaceRow → Encoding → Text → Text → List Data → Type 0
+DiagnosesTextIn w encoding language text ds = (own warnings : List Data) × DiagnosesText encoding language text own
+    × MatchOption w (warnings ≡ []) (λ known. TextWarnings known encoding language text warnings) × (ds ≡ own ++ warnings)
+
+-- the diagnostics of a document
+abbrev pub DiagnosesIn : Option WorkspaceRow → Encoding → DocumentRow → List Data → Type 0
+DiagnosesIn w encoding document = DiagnosesTextIn w encoding document.language document.text

@@ -1,0 +1,190 @@
+//! Warnings of predicates that match nothing in a workspace.
+ghost use Rattle.std.specs.Prelude.{◌≡◌, IfOk, filter, map, option_map};
+ghost use Rattle.std.specs.List.{list_any};
+ghost use Rattle.serde_json.specs.View.{view};
+ghost use Rattle.filterset_answers.specs.Checked.{text_row};
+ghost use Rattle.filterset_answers.specs.Placements.{placement_of};
+ghost use Rattle.filterset_documents.specs.Joins.{Joins};
+ghost use Rattle.filterset_grammar.specs.Tree.{tree_leaves};
+ghost use Rattle.filterset_language.specs.Views.{leaf_of, tree_of};
+ghost use Rattle.filterset_names.specs.Workspaces.{workspace_row};
+ghost use Rattle.filterset_server.specs.Unmatched.{IsUnmatched, LeafWarnings, RowWarnings, RowsWarnings, TreeWarnings, WarnsOfLeaf, has_part, is_none_found, is_skipped};
+
+use crate::hover::leaf_part;
+use filterset_answers::{FilePlace, TextEntry};
+use filterset_documents::{Severity, Shown, diagnostic_at, parse_text};
+use filterset_language::{ParsedExpr, ParsedLeaf};
+use filterset_names::{Matched, Workspace, match_leaf};
+use filterset_sources::{Suite, SuiteStatus};
+use serde_json::Value;
+use std::alloc::{AllocError, Global};
+
+/// The code of a predicate that matches no test.
+const CODE: &str = "NoTestMatch";
+
+/// What is said of it.
+const MESSAGE: &str = "matches no test of the workspace";
+
+/// Returns whether nextest did not list the tests of a binary.
+fn is_skipped(suite: &Suite) -> bool
+    ensures { result ≡ is_skipped suite.now }
+{
+    match suite.status {
+        SuiteStatus::Listed => false,
+        SuiteStatus::Skipped => true,
+    }
+}
+
+/// Returns whether nextest did not list the tests of some binary.
+fn any_skipped(suites: &[Suite]) -> bool
+    ensures { result ≡ list_any is_skipped suites.now }
+{
+    suites.iter().any(|suite| is_skipped(suite))
+}
+
+/// Returns whether it was counted what matches, and there is nothing. Tests count if no binary was skipped.
+fn is_none_found(skips: bool, found: &Option<Matched<'_>>) -> bool
+    ensures { result ≡ is_none_found skips found.now }
+{
+    match found {
+        Some(Matched::Packages(short)) | Some(Matched::Binaries(short)) => short.count == 0,
+        Some(Matched::Tests(short)) => !skips && short.count == 0,
+        None => false,
+    }
+}
+
+/// Returns whether a predicate surely matches nothing.
+fn is_unmatched(
+    alloc: Global,
+    workspace: &Workspace<'_>,
+    leaf: &ParsedLeaf,
+) -> Result<bool, AllocError>
+    ensures { IfOk result (IsUnmatched (workspace_row workspace.now) (leaf_of leaf.now)) }
+{
+    let found = match_leaf(alloc, workspace, leaf)?;
+    Ok(is_none_found(any_skipped(workspace.suites), &found))
+}
+
+/// Makes the warning of a predicate of a text at this place, if it has a span.
+fn warn_leaf(
+    alloc: Global,
+    shown: &Shown<'_>,
+    place: Option<FilePlace<'_>>,
+    leaf: &ParsedLeaf,
+) -> Result<Vec<Value>, AllocError>
+    ensures { IfOk result (λ values. WarnsOfLeaf shown.now.encoding shown.now.lines.text.now
+        (option_map placement_of place.entry) (leaf_of leaf.now) (map view values.items)) }
+{
+    let mut values = Vec::new(alloc);
+    if let Some(part) = leaf_part(place, leaf) {
+        let warning = diagnostic_at(alloc, shown, Severity::Warning, part.span, CODE, MESSAGE)?;
+        values.push(warning)?;
+    }
+    Ok(values)
+}
+
+/// Makes the warning of a predicate, if it matches nothing.
+fn leaf_warnings(
+    alloc: Global,
+    workspace: &Workspace<'_>,
+    shown: &Shown<'_>,
+    place: Option<FilePlace<'_>>,
+    leaf: &ParsedLeaf,
+) -> Result<Vec<Value>, AllocError>
+    ensures { IfOk result (λ values. LeafWarnings (workspace_row workspace.now) shown.now.encoding shown.now.lines.text.now
+        (option_map placement_of place.entry) (leaf_of leaf.now) (map view values.items)) }
+{
+    if is_unmatched(alloc, workspace, leaf)? {
+        warn_leaf(alloc, shown, place, leaf)
+    } else {
+        Ok(Vec::new(alloc))
+    }
+}
+
+/// Returns whether a predicate of a text at this place has a span in the file.
+fn has_part(place: Option<FilePlace<'_>>, leaf: &ParsedLeaf) -> bool
+    ensures { result ≡ has_part (option_map placement_of place.entry) (leaf_of leaf.now) }
+{
+    leaf_part(place, leaf).is_some()
+}
+
+/// Returns the predicates of a tree of a text at this place that have a span in the file.
+fn leaves_in<'e>(
+    alloc: Global,
+    place: Option<FilePlace<'_>>,
+    tree: &'e ParsedExpr,
+) -> Result<Vec<&'e ParsedLeaf>, AllocError>
+    ensures { IfOk result (λ found. map (λ leaf. leaf_of leaf.now) found.items
+        ≡ filter (has_part (option_map placement_of place.entry)) (tree_leaves (tree_of tree.entry.now))) }
+{
+    tree.leaves_where(alloc, |leaf| has_part(place, leaf))
+}
+
+/// Makes the warnings of predicates of a text at this place, one after the other.
+fn warn_leaves(
+    alloc: Global,
+    workspace: &Workspace<'_>,
+    shown: &Shown<'_>,
+    place: Option<FilePlace<'_>>,
+    leaves: &[&ParsedLeaf],
+) -> Result<Vec<Value>, AllocError>
+    ensures { IfOk result (λ values. Joins (LeafWarnings (workspace_row workspace.now) shown.now.encoding
+        shown.now.lines.text.now (option_map placement_of place.entry)) (map (λ leaf. leaf_of leaf.now) leaves.now)
+        (map view values.items)) }
+{
+    let mut values = Vec::new(alloc);
+    for leaf in leaves {
+        let mut more = leaf_warnings(alloc, workspace, shown, place, leaf)?;
+        values.append(&mut more)?;
+    }
+    Ok(values)
+}
+
+/// Makes the warnings of the predicates of a tree of a text at this place.
+fn tree_warnings(
+    alloc: Global,
+    workspace: &Workspace<'_>,
+    shown: &Shown<'_>,
+    place: Option<FilePlace<'_>>,
+    tree: &ParsedExpr,
+) -> Result<Vec<Value>, AllocError>
+    ensures { IfOk result (λ values. TreeWarnings (workspace_row workspace.now) shown.now.encoding shown.now.lines.text.now
+        (option_map placement_of place.entry) (tree_of tree.now) (map view values.items)) }
+{
+    let leaves = leaves_in(alloc, place, tree)?;
+    warn_leaves(alloc, workspace, shown, place, leaves.as_slice())
+}
+
+/// Makes the warnings of a filterset.
+fn entry_warnings(
+    alloc: Global,
+    workspace: &Workspace<'_>,
+    shown: &Shown<'_>,
+    entry: &TextEntry<'_>,
+) -> Result<Vec<Value>, AllocError>
+    ensures { IfOk result (λ values. RowWarnings (workspace_row workspace.now) shown.now.encoding shown.now.lines.text.now
+        (text_row entry.now) (map view values.items)) }
+{
+    match parse_text(alloc, entry.text)? {
+        Some(tree) => tree_warnings(alloc, workspace, shown, entry.place, &tree),
+        None => Ok(Vec::new(alloc)),
+    }
+}
+
+/// Makes the warnings of filtersets, one after the other.
+pub(crate) fn warn_entries(
+    alloc: Global,
+    workspace: &Workspace<'_>,
+    shown: &Shown<'_>,
+    entries: &[TextEntry<'_>],
+) -> Result<Vec<Value>, AllocError>
+    ensures { IfOk result (λ values. RowsWarnings (workspace_row workspace.now) shown.now.encoding shown.now.lines.text.now
+        (map text_row entries.now) (map view values.items)) }
+{
+    let mut values = Vec::new(alloc);
+    for entry in entries {
+        let mut more = entry_warnings(alloc, workspace, shown, entry)?;
+        values.append(&mut more)?;
+    }
+    Ok(values)
+}
