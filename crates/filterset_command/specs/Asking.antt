@@ -1,5 +1,5 @@
 -- What `list`, `compare`, `explain` and `overrides` answer about the workspace that files describe.
-use Rattle.std.specs.Prelude.{◌≡◌, ◌⊎◌, List, [], Option, Some, None, Result, Ok, Err, MatchOption, MatchResult, IsSomeAnd, codes, flat_map, option_map, string_bytes, unwrap_or}
+use Rattle.std.specs.Prelude.{◌≡◌, ◌⊎◌, List, [], Option, Some, None, Result, Ok, Err, MatchOption, MatchResult, IsSomeAnd, codes, flat_map, map, option_map, string_bytes, unwrap_or}
 use Rattle.std.specs.Borrow.{Bor}
 use Rattle.std.specs.List.{AllZip}
 use Rattle.std.specs.declared.io.Error.{Error}
@@ -35,6 +35,7 @@ use Rattle.filterset_profiles.specs.declared.ranking.RankedOverride.{RankedOverr
 use Rattle.filterset_sources.specs.Platforms.{ArePlatforms}
 use Rattle.filterset_sources.specs.declared.list.Suite.{Suite}
 use Rattle.filterset_sources.specs.declared.platforms.BuildPlatforms.{BuildPlatforms}
+use Rattle.filterset_warnings.specs.Warnings.{AnswersWarnings}
 use Rattle.nextest_filtering.specs.Groups.{IsGlobalOnly}
 use Rattle.nextest_filtering.specs.declared.compile.context.KnownGroups.{KnownGroups}
 use Rattle.filterset_command.specs.Configurations.{AreKnown, AreProfilesIn, AreTextsOf, IsProfileFault}
@@ -43,7 +44,7 @@ use Rattle.filterset_command.specs.Files.{content_of, name_of}
 use Rattle.filterset_command.specs.Overriding.{AnswersOverridesOf, LacksTests}
 use Rattle.filterset_command.specs.Workspaces.{IsPlatformsFault, IsWorkspaceFault, IsWorkspaceIn}
 use Rattle.filterset_command.specs.declared.asking.Asked.{Asked}
-use Rattle.filterset_command.specs.declared.asking.Asked.TheVariants.{Explanation, Overrides, Question}
+use Rattle.filterset_command.specs.declared.asking.Asked.TheVariants.{Explanation, Overrides, Question, Warnings}
 use Rattle.filterset_command.specs.declared.asking.AskedWorkspace.{AskedWorkspace}
 use Rattle.filterset_command.specs.declared.asking.WorkspaceRequest.{WorkspaceRequest}
 use Rattle.filterset_command.specs.declared.fault.CommandFault.{CommandFault}
@@ -61,7 +62,7 @@ kept_of Json list = Some list
 kept_of form list = None
 
 -- the answer under a setting: to a question, or why the filterset picks the binary with the id, or its test with the name;
--- or how overrides apply to tests
+-- or how overrides apply to tests; or what the tests say of texts
 abbrev pub AnswersOf : Form → Asked → Setting → List AskedBinary → Option Data → Ending → Text → Type 0
 AnswersOf form (Question question) setting binaries kept = AnswersQuestion form setting question kept binaries
 AnswersOf form (Explanation filter id test) setting binaries kept = λ ending text.
@@ -69,6 +70,8 @@ AnswersOf form (Explanation filter id test) setting binaries kept = λ ending te
     × AnswersExplanation form setting filter.now candidate ending text
 AnswersOf form (Overrides filters binary test) setting binaries kept =
     AnswersOverridesOf form setting binaries filters binary test
+AnswersOf form (Warnings texts) setting binaries kept =
+    AnswersWarnings form texts.denies setting (map text_row texts.entries.now) binaries
 
 abbrev pub AnswersUnder : WorkspaceRequest → List Suite → Option Data → Setting → Ending → Text → Type 0
 AnswersUnder request suites kept setting ending text = (binaries : List AskedBinary) × AllZip IsAsked suites binaries
@@ -139,6 +142,7 @@ abbrev pub LacksOf : Text → Asked → List AskedBinary → CommandFault → Ty
 LacksOf list (Question question) binaries fault = ⊥
 LacksOf list (Explanation filter id test) binaries fault = IsMissing list binaries id.now test fault
 LacksOf list (Overrides filters binary test) binaries fault = LacksTests list binaries binary test fault
+LacksOf list (Warnings texts) binaries fault = ⊥
 
 -- so do the binaries of the suites
 abbrev pub LacksIn : Text → Asked → List Suite → CommandFault → Type 0

@@ -26,6 +26,7 @@ use Rattle.filterset_sources.specs.declared.configuration.Configuration.{Configu
 use Rattle.filterset_command.specs.Configurations.{AreTextsOf, IsConfigurationIn}
 use Rattle.filterset_command.specs.Files.{BySource, IsFileFault, content_of, name_of}
 use Rattle.filterset_values.specs.Values.{IsValuePiece}
+use Rattle.filterset_command.specs.Warned.{AnswersWarned, IsWarnedFault, either_ending, request_after}
 use Rattle.filterset_command.specs.Workspaces.{ArePackagesIn, RefusesValue}
 use Rattle.filterset_command.specs.declared.checking.CheckPaths.{CheckPaths}
 use Rattle.filterset_command.specs.declared.fault.CommandFault.{CommandFault}
@@ -45,26 +46,45 @@ KnownConfiguration content (Some path) bytes c places = IsConfigurationIn (conte
 abbrev pub file_name : Option (Bor Text) → Text
 file_name path = option_map_or (λ p. name_of roles.Configuration p.now) path []
 
--- What checking answers: the wrong values of the configuration, then the faults of its filtersets and of the texts that are
--- given, as far as there are files that say which names there are. Standard input has this text, if that is the configuration.
+-- the wrong values of the configuration in this file, and then the faults of texts
+abbrev pub ChecksKnown : Names → Form → Bor Source → List TextRow → List WrongValue → Ending → Text → Type 0
+ChecksKnown names form file rows values ending text = (faulty : ℕ) × (front rest : Text)
+    × Pieces (IsValuePiece form file) values front × ChecksTexts names form rows faulty rest
+    × (text ≡ front ++ rest) × (ending ≡ ending_of (length values + faulty))
+
+-- the wrong values of a configuration, then the faults of its filtersets and of other texts; and if there are no wrong values,
+-- what the list of tests says of these, if one is requested
+abbrev pub ChecksAll : (Text → Option Text) → Form → List PackageMetadata → Names → CheckPaths → ConfiguredTexts → List TextRow
+    → Ending → Text → Type 0
+ChecksAll content form packages names paths texts given ending text =
+    (values : List WrongValue) × (checked warned : Ending) × (front rest : Text)
+    × AreWrongValues texts.file.now.text.now values
+    × ChecksKnown names form texts.file (rows_in texts ++ given) values checked front
+    × AnswersWarned content form packages names.known_groups paths.configuration texts (rows_in texts ++ given)
+    (request_after values paths.warnings) warned rest
+    × (text ≡ front ++ rest) × (ending ≡ either_ending checked warned)
+
+-- What checking answers, as far as there are files that say which names there are. Standard input has this text, if that is
+-- the configuration.
 abbrev pub AnswersCheck : (Text → Option Text) → Text → Form → CheckPaths → List TextRow → Ending → Text → Type 0
 AnswersCheck content input form paths given ending text =
     (packages : List PackageMetadata) × (bytes : Text) × (configuration : Configuration) × (places : Places)
-    × (texts : ConfiguredTexts) × (names : Names) × (faulty : ℕ) × (values : List WrongValue) × (front rest : Text)
+    × (texts : ConfiguredTexts) × (names : Names)
     × KnownPackages content paths.metadata packages
     × KnownConfiguration (content_of content input) paths.configuration bytes configuration places.places.items
     × AreTextsOf (file_name paths.configuration) bytes configuration.filtersets.items places texts
     × KnowsNames (is_some paths.metadata) packages (is_some paths.configuration)
     (map (λ s. string_bytes s) configuration.groups.items) names
-    × AreWrongValues bytes values × (file : Bor Source) × (file.now.origin.now ≡ file_name paths.configuration)
-    × (file.now.text.now ≡ bytes) × Pieces (IsValuePiece form file) values front
-    × ChecksTexts names form (rows_in texts ++ given) faulty rest
-    × (text ≡ front ++ rest) × (ending ≡ ending_of (length values + faulty))
+    × ChecksAll content form packages names paths texts given ending text
 
--- one of the files that are given is not used: the configuration, or the one of the packages
+-- one of the files that are given is not used: the configuration, or the one of the packages, or one for the warnings
 abbrev pub IsCheckFault : (Text → Option Text) → (Text → Error → Type 0) → Text → CheckPaths → CommandFault → Type 0
 IsCheckFault content fails input paths fault =
     IsSomeAnd paths.configuration (λ path. IsFileFault (content_of content input) fails roles.Configuration
     (BySource RefusesConfiguration) path.now fault)
     ⊎ IsSomeAnd paths.metadata
     (λ path. IsFileFault content fails roles.Metadata (RefusesValue RefusesMetadata) path.now fault)
+    ⊎ ((packages : List PackageMetadata) × (bytes : Text) × (configuration : Configuration) × (places : Places)
+    × KnownPackages content paths.metadata packages
+    × KnownConfiguration (content_of content input) paths.configuration bytes configuration places.places.items
+    × IsWarnedFault content fails packages paths.configuration bytes paths.warnings fault)

@@ -5,6 +5,7 @@ pub mod Workspaces
 pub mod Explaining
 pub mod Overriding
 pub mod Asking
+pub mod Warned
 pub mod Checking
 pub mod Deciding
 pub mod Requests

@@ -21,7 +21,7 @@ use Rattle.filterset_faults.specs.declared.kind.FiltersetKind.{FiltersetKind}
 use Rattle.filterset_faults.specs.declared.kind.FiltersetKind.TheVariants as kinds
 use Rattle.filterset_command.specs.declared.fault.CommandFault.{CommandFault}
 use Rattle.filterset_command.specs.declared.asking.Asked.{Asked}
-use Rattle.filterset_command.specs.declared.asking.Asked.TheVariants.{Explanation, Overrides, Question as Asking}
+use Rattle.filterset_command.specs.declared.asking.Asked.TheVariants.{Explanation, Overrides, Question as Asking, Warnings}
 use Rattle.filterset_command.specs.declared.fault.CommandFault.TheVariants.{Missing, TwoInputs, WrongBudget}
 use Rattle.filterset_command.specs.declared.profile.ProfileRequest.{ProfileRequest}
 use Rattle.filterset_command.specs.declared.request.Request.{Request}
@@ -30,6 +30,7 @@ use Rattle.filterset_command.specs.declared.request.Task.{Task}
 use Rattle.filterset_command.specs.declared.request.Task.TheVariants.{Answer, Complete, Serve}
 use Rattle.filterset_command.specs.declared.request.Texts.{Texts}
 use Rattle.filterset_command.specs.declared.request.Texts.TheVariants.{Given, StandardInput}
+use Rattle.filterset_command.specs.declared.warning.WarningRequest.{WarningRequest}
 use Rattle.filterset_command.specs.declared.workspace.WorkspacePaths.{WorkspacePaths}
 
 -- the words give the argument no value
@@ -123,6 +124,7 @@ IsQuestionAsked name found form (Overrides filters binary test) =
     (name ≡ codes "overrides") × IsDrawnAsked found form
     × (map (λ t. t.now) filters.now ≡ values_of found (codes "filterset"))
     × IsOptionAsked found (codes "binary") binary × IsOptionAsked found (codes "test") test
+IsQuestionAsked name found form (Warnings texts) = ⊥
 
 -- the command that asks this question about filtersets
 abbrev pub decision_name : Question → Text
@@ -140,11 +142,20 @@ abbrev pub IsBudgetAsked : Found → ℕ → Type 0
 IsBudgetAsked found budget = (text : Text) × IsTextAsked found (codes "budget") text × IsNumber text
     × (budget ≡ digits_value 10 (without_leading_plus text))
 
+-- the list of tests by which `check` is to warn, and under which profile, if there is one
+abbrev pub AreWarningsAsked : Found → Option WarningRequest → Type 0
+AreWarningsAsked found None = first_value found (codes "list") ≡ None
+AreWarningsAsked found (Some request) =
+    ArePathsAsked found request.paths × IsTextAsked found (codes "profile") request.profile.now
+    × IsOptionAsked found (codes "target-cfg") request.target_cfg × IsOptionAsked found (codes "host-cfg") request.host_cfg
+    × IsFlagAsked found (codes "deny") request.denies
+
 -- the command with this name and these arguments asks for this
 abbrev pub IsAskedBy : Text → Found → Request → Type 0
 IsAskedBy name found (Check kind form texts paths) =
     (name ≡ codes "check") × IsKindAsked found kind × IsFormAsked found form × AreTextsAsked found texts
     × IsOptionAsked found (codes "metadata") paths.metadata × IsOptionAsked found (codes "config") paths.configuration
+    × AreWarningsAsked found paths.warnings
 IsAskedBy name found (Format form texts) =
     (name ≡ codes "format") × IsDrawnAsked found form × AreTextsAsked found texts
 IsAskedBy name found (Simplify form texts) =
@@ -192,6 +203,12 @@ IsTask matches (Serve paths) = IsServiceAsked matches paths
 -- standard input is to be the filtersets, and the configuration too
 abbrev pub TakesTwo : Found → Type 0
 TakesTwo found = (values_of found (codes "text") ≡ codes "-" ∷ []) × (first_value found (codes "config") ≡ Some (codes "-"))
+
+-- standard input is to be both, or an argument is missing
+abbrev pub IsCheckRefusal : Found → CommandFault → Type 0
+IsCheckRefusal found (Missing id) = first_value found id.now ≡ None
+IsCheckRefusal found TwoInputs = TakesTwo found
+IsCheckRefusal found _ = ⊥
 
 -- there is no budget, or it is no number
 abbrev pub IsBudgetFault : Found → CommandFault → Type 0

@@ -76,6 +76,14 @@ fn config<'a>(alloc: Global) -> Arg<'a> {
     Arg::new(alloc, "config").long("config").value_name("FILE")
 }
 
+/// Makes the option by which warnings count as faults.
+fn deny_warnings<'a>(alloc: Global) -> Arg<'a> {
+    Arg::new(alloc, "deny")
+        .long("deny-warnings")
+        .action(ArgAction::SetTrue)
+        .help("exits with status 1 if the list gives warnings")
+}
+
 /// Makes the command `check`.
 fn check<'a>(alloc: Global) -> Result<Command<'a>, AllocError> {
     let command = Command::new(alloc, "check")
@@ -90,6 +98,9 @@ fn check<'a>(alloc: Global) -> Result<Command<'a>, AllocError> {
             "how the faults are written; `github` is for a workflow, which shows them in the diff",
         ))?
         .arg(color(alloc))?;
+    let command = with_argument(command, nextest_list(alloc).requires_arg("metadata"))?;
+    let command = with_profile(alloc, command)?;
+    let command = with_argument(command, deny_warnings(alloc).requires_arg("list"))?;
     with_argument(command, texts(alloc).required_unless_present("config"))
 }
 

@@ -24,6 +24,7 @@ use filterset_graph::PackageGraph;
 use filterset_listing::AskedBinary;
 use filterset_overrides::AskedProfile;
 use filterset_sources::Suite;
+use filterset_warnings::warn_setting;
 use nextest_filtering::KnownGroups;
 use serde_json::Value;
 use std::alloc::{AllocError, Global};
@@ -49,6 +50,16 @@ pub enum Asked<'w> {
         /// The name of a test of the binary, if the overrides are explained for that.
         test: Option<&'w str>,
     },
+    /// What the tests say of texts that are checked.
+    Warnings(WarnedTexts<'w>),
+}
+
+/// The texts that `check` warns of.
+#[derive(Clone, Copy)]
+pub struct WarnedTexts<'w> {
+    pub entries: &'w [TextEntry<'w>],
+    /// Whether the command fails if there are warnings.
+    pub denies: bool,
 }
 
 /// What is asked of the workspace that files describe.
@@ -82,7 +93,7 @@ pub struct AskedWorkspace<'a, 'w> {
 
 impl<'a, 'w> AskedWorkspace<'a, 'w> {
     /// Puts a request and the parts of a workspace together.
-    fn new(
+    pub fn new(
         request: &'a WorkspaceRequest<'w>,
         graph: &'a PackageGraph,
         suites: &'a [Suite],
@@ -135,6 +146,14 @@ fn answer_asked(
         } => ask_overrides(
             alloc, form, list, setting, *filters, *binary, *test, binaries,
         ),
+        Asked::Warnings(texts) => Ok(warn_setting(
+            alloc,
+            form,
+            texts.denies,
+            setting,
+            texts.entries,
+            binaries,
+        )?),
     }
 }
 
@@ -190,7 +209,7 @@ fn given_default<'w>(
 }
 
 /// Answers without a profile: under the default filter that is given, or else all tests.
-fn ask_plainly(
+pub fn ask_plainly(
     alloc: Global,
     asked: &AskedWorkspace<'_, '_>,
     given: Option<TextEntry<'_>>,

@@ -1,31 +1,40 @@
 //! The command `check`: the faults of texts and of a configuration's filtersets, by the names that files give.
-ghost use Rattle.std.specs.Prelude.{◌≡◌, IfErr, IfOk, IsSomeAnd, map, string_bytes};
+ghost use Rattle.std.specs.Prelude.{◌≡◌, ◌++◌, IfErr, IfOk, IfSome, IsSomeAnd, map, string_bytes};
 ghost use Rattle.filterset_answers.specs.Checked.{text_row};
-ghost use Rattle.filterset_sources.specs.Configurations.{RefusesConfiguration};
+ghost use Rattle.filterset_answers.specs.Entries.{rows_in};
+ghost use Rattle.nextest_filtering.specs.Groups.{IsKnown};
+ghost use Rattle.filterset_sources.specs.Configurations.{IsConfiguration, RefusesConfiguration};
 ghost use Rattle.filterset_sources.specs.Metadata.{RefusesMetadata};
-ghost use Rattle.filterset_command.specs.Checking.{AnswersCheck, IsCheckFault, KnownConfiguration, KnownPackages, file_name};
+ghost use Rattle.filterset_sources.specs.declared.configuration.Configuration as configurations;
+ghost use Rattle.filterset_command.specs.Checking.{AnswersCheck, ChecksAll, ChecksKnown, IsCheckFault, KnownConfiguration, KnownPackages, file_name};
 ghost use Rattle.filterset_command.specs.Files.{BySource, IsFileFault, OrMemory, content_of};
+ghost use Rattle.filterset_command.specs.Warned.{IsWarnedFault, request_after};
 ghost use Rattle.filterset_command.specs.Workspaces.{RefusesValue};
 
 use crate::configuration::{ConfigurationFile, configured_texts, read_configuration_file};
 use crate::fault::{CommandFault, FileRole};
 use crate::files::FileSource;
+use crate::warning::{CheckedTexts, WarningRequest, join_answers, warn_checked};
 use crate::workspace::read_graph;
-use filterset_answers::{Answer, Form, Names, TextEntry, check_configured};
+use filterset_answers::{
+    Answer, ConfiguredTexts, Form, Names, TextEntry, check, configured_entries,
+};
 use filterset_drawing::Source;
 use filterset_graph::PackageGraph;
-use filterset_profiles::find_wrong_values;
+use filterset_profiles::{WrongValue, find_wrong_values};
 use filterset_sources::Configuration;
 use filterset_values::add_values;
-use std::alloc::Global;
+use std::alloc::{AllocError, Global};
 
-/// The paths of the files that give the names that filtersets may use.
+/// The paths of the files that give the names that filtersets may use, and of the list by which there are warnings.
 #[derive(Clone, Copy)]
 pub struct CheckPaths<'w> {
     /// What `cargo metadata` wrote.
     pub metadata: Option<&'w str>,
     /// Nextest's configuration, whose filtersets are checked too; `-` is standard input.
     pub configuration: Option<&'w str>,
+    /// The list of tests by which there are warnings.
+    pub warnings: Option<WarningRequest<'w>>,
 }
 
 /// Reads the packages. Without a file there are none.
@@ -73,8 +82,86 @@ fn file_name(path: Option<&str>) -> &str
     }
 }
 
-/// Checks the values of the configuration, then its filtersets, and after them the texts that are given. Standard input has
-/// the text `input`, if that is the configuration.
+/// Makes the entries of a configuration's filtersets, and after them those of other texts.
+fn all_entries<'t>(
+    alloc: Global,
+    configured: ConfiguredTexts<'t>,
+    given: Vec<TextEntry<'t>>,
+) -> Result<Vec<TextEntry<'t>>, AllocError>
+    ensures { IfOk result (λ all.
+        map text_row all.items ≡ rows_in configured.entry ++ map text_row given.entry.items) }
+{
+    let mut given = given;
+    let mut all = configured_entries(alloc, configured)?;
+    all.append(&mut given)?;
+    Ok(all)
+}
+
+/// Answers the wrong values of the configuration, and the faults of texts.
+fn check_known(
+    alloc: Global,
+    names: &Names<'_>,
+    texts: &CheckedTexts<'_>,
+    values: &[WrongValue],
+) -> Result<Answer, AllocError>
+    requires { IsKnown names.now.known_groups }
+    ensures { IfOk result (λ answer. ChecksKnown names.now texts.now.form texts.now.configured.file
+        (map text_row texts.now.entries.now) values.now answer.ending (string_bytes answer.text)) }
+{
+    let answer = check(alloc, names, texts.form, texts.entries)?;
+    add_values(alloc, texts.form, texts.configured.file, values, answer)
+}
+
+/// Returns the request for warnings, if the configuration has no wrong values.
+fn request_after<'w>(
+    values: &[WrongValue],
+    request: Option<WarningRequest<'w>>,
+) -> Option<WarningRequest<'w>>
+    ensures { result ≡ request_after values.now request.entry }
+{
+    match values {
+        [] => request,
+        [..] => None,
+    }
+}
+
+/// Checks the values of a configuration, then its filtersets, and after them other texts; then warns of all these texts.
+fn check_all<'c, F: FileSource>(
+    alloc: Global,
+    files: &F,
+    form: Form,
+    paths: CheckPaths<'c>,
+    graph: &'c PackageGraph,
+    names: &'c Names<'_>,
+    configured: ConfiguredTexts<'c>,
+    given: Vec<TextEntry<'c>>,
+) -> Result<Answer, CommandFault>
+    requires groups { IsKnown names.now.known_groups }
+    requires configuration { IfSome paths.configuration (λ path. (c : configurations.Configuration)
+        × IsConfiguration configured.file.now.text.now c) }
+    ensures answered { IfOk result (λ answer. ChecksAll (F.content files.now) form graph.now names.now paths.entry
+        configured.entry (map text_row given.entry.items) answer.ending (string_bytes answer.text)) }
+    ensures refused { IfErr result (OrMemory (IsWarnedFault (F.content files.now) (F.fails files.now) graph.now
+        paths.entry.configuration configured.entry.file.now.text.now paths.entry.warnings)) }
+{
+    let entries = all_entries(alloc, configured, given)?;
+    let texts = CheckedTexts {
+        form,
+        graph,
+        groups: &names.known_groups,
+        path: paths.configuration,
+        configured,
+        entries: entries.as_slice(),
+    };
+    let values = find_wrong_values(alloc, configured.file.text)?;
+    let answer = check_known(alloc, names, &texts, values.as_slice())?;
+    let request = request_after(values.as_slice(), paths.warnings);
+    let warnings = warn_checked(alloc, files, request, &texts)?;
+    Ok(join_answers(alloc, answer, warnings)?)
+}
+
+/// Checks the values of the configuration, then its filtersets, and after them the texts that are given; then warns of these
+/// by the list of tests, if one is given. Standard input has the text `input`, if that is the configuration.
 pub fn check_texts<F: FileSource>(
     alloc: Global,
     files: &F,
@@ -98,7 +185,7 @@ pub fn check_texts<F: FileSource>(
     let names = Names::new(alloc, &graph, has_packages, groups, has_groups)?;
     let file = Source::new(alloc, file_name(paths.configuration), text.as_str())?;
     let configured = configured_texts(&file, filtersets.as_slice(), &places);
-    let answer = check_configured(alloc, &names, form, configured, given)?;
-    let values = find_wrong_values(alloc, text.as_str())?;
-    Ok(add_values(alloc, form, configured.file, values.as_slice(), answer)?)
+    check_all(
+        alloc, files, form, *paths, &graph, &names, configured, given,
+    )
 }

@@ -22,6 +22,7 @@ mod request;
 mod run;
 mod serving;
 mod texts;
+mod warning;
 mod workspace;
 
 use arguments::completions_for;

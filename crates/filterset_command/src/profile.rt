@@ -50,7 +50,7 @@ pub struct KnownPlatforms {
 }
 
 /// Reads the profiles of the configuration at a path, which is TOML.
-fn profiles_in(alloc: Global, path: &str, text: &str) -> Result<Vec<Profile>, CommandFault>
+pub fn profiles_in(alloc: Global, path: &str, text: &str) -> Result<Vec<Profile>, CommandFault>
     requires { (c : configurations.Configuration) × IsConfiguration text.now c }
     ensures read { IfOk result (λ profiles. HasProfiles text.now profiles.items) }
     ensures refused { IfErr result (OrMemory (IsRefusedProfile text.now path.now)) }

@@ -118,7 +118,7 @@ fn ask_ranked<'p>(
 }
 
 /// Answers under the profile that is asked for.
-fn ask_profile<'p>(
+pub fn ask_profile<'p>(
     alloc: Global,
     asked: &AskedWorkspace<'_, '_>,
     profile: &ProfileRequest<'_>,

@@ -5,7 +5,7 @@ ghost use Rattle.filterset_drawing.specs.Columns.{Text};
 ghost use Rattle.std.specs.Option.{option_map_or};
 ghost use Rattle.filterset_command.specs.Files.{is_input};
 ghost use Rattle.filterset_command.specs.Requests.{are_lines, takes_input};
-ghost use Rattle.filterset_command.specs.Words.{ArePathsAsked, AreTextsAsked, IsAsked, IsAskedBy, IsBudgetAsked, IsBudgetFault, IsColorAsked, IsFormAsked, IsKindAsked, IsProfileAsked, IsQuestionAsked, IsTask, IsTextAsked, IsWordsFault, IsWorkspaceAsked, LacksArgument, NamesNoShell, TakesTwo, decision_name};
+ghost use Rattle.filterset_command.specs.Words.{ArePathsAsked, AreTextsAsked, AreWarningsAsked, IsAsked, IsAskedBy, IsBudgetAsked, IsBudgetFault, IsCheckRefusal, IsColorAsked, IsFormAsked, IsKindAsked, IsProfileAsked, IsQuestionAsked, IsTask, IsTextAsked, IsWordsFault, IsWorkspaceAsked, LacksArgument, NamesNoShell, decision_name};
 ghost use Rattle.filterset_completions.specs.Scripts.{name_of};
 
 use crate::asking::{Asked, WorkspaceRequest};
@@ -14,6 +14,7 @@ use crate::deciding::DecisionRequest;
 use crate::fault::CommandFault;
 use crate::input::is_input;
 use crate::profile::ProfileRequest;
+use crate::warning::WarningRequest;
 use crate::workspace::WorkspacePaths;
 use clap::ArgMatches;
 use filterset_answers::{Form, Question};
@@ -157,7 +158,7 @@ fn request_of<'m>(matches: &'m ArgMatches<'_>) -> Result<Request<'m>, CommandFau
 /// Returns what `check` asks for.
 fn check_of<'m>(matches: &'m ArgMatches<'_>) -> Result<Request<'m>, CommandFault>
     ensures asked { IfOk result (IsAskedBy (codes "check") (found_of matches.now)) }
-    ensures refused { IfErr result (λ fault. (fault ≡ CommandFault.TwoInputs) × TakesTwo (found_of matches.now)) }
+    ensures refused { IfErr result (IsCheckRefusal (found_of matches.now)) }
 {
     let (texts, configuration) = (texts_of(matches), matches.get_str("config"));
     if texts.is_input() && is_some_input(configuration) {
@@ -170,8 +171,29 @@ fn check_of<'m>(matches: &'m ArgMatches<'_>) -> Result<Request<'m>, CommandFault
         paths: CheckPaths {
             metadata: matches.get_str("metadata"),
             configuration,
+            warnings: warnings_of(matches)?,
         },
     })
+}
+
+/// Returns the list of tests by which `check` warns, if there is one.
+fn warnings_of<'m>(matches: &'m ArgMatches<'_>) -> Result<Option<WarningRequest<'m>>, CommandFault>
+    ensures asked { IfOk result (AreWarningsAsked (found_of matches.now)) }
+    ensures missing { IfErr result (LacksArgument (found_of matches.now)) }
+{
+    let Some(list) = matches.get_str("list") else {
+        return Ok(None);
+    };
+    Ok(Some(WarningRequest {
+        paths: WorkspacePaths {
+            metadata: text_of(matches, "metadata")?,
+            list,
+        },
+        profile: text_of(matches, "profile")?,
+        target_cfg: matches.get_str("target-cfg"),
+        host_cfg: matches.get_str("host-cfg"),
+        denies: matches.get_flag("deny"),
+    }))
 }
 
 /// Returns what `format` asks for.

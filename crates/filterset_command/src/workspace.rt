@@ -85,7 +85,7 @@ fn list_of(alloc: Global, value: &Value, graph: &PackageGraph) -> Result<TestLis
 }
 
 /// Reads nextest's list of a workspace of these packages, and returns its JSON value too.
-fn read_list<F: FileSource>(
+pub fn read_list<F: FileSource>(
     alloc: Global,
     files: &F,
     path: &str,

@@ -1,6 +1,7 @@
 use Rattle.std.proofs.Common.{◌≡◌, ℕ, Option, string_bytes, subst, sym}
-use Rattle.std.proofs.lemmas.Result.{IfOk-weaker}
+use Rattle.std.proofs.lemmas.Result.{IfErr-weaker, IfOk-weaker}
 use Rattle.std.specs.Borrow.{Bor}
+use Rattle.std.specs.declared.io.Error.{Error}
 use Rattle.filterset_answers.specs.Answers.{FormatsTexts, SimplifiesTexts}
 use Rattle.filterset_answers.specs.Endings.{ending_of}
 use Rattle.filterset_answers.specs.declared.form.Form.{Form}
@@ -9,12 +10,14 @@ use Rattle.filterset_drawing.specs.Columns.{Text}
 use Rattle.filterset_drawing.specs.declared.source.Source.{Source}
 use Rattle.filterset_faults.specs.declared.kind.FiltersetKind.{FiltersetKind}
 use Rattle.filterset_faults.specs.declared.kind.FiltersetKind.TheVariants as kinds
-use Rattle.filterset_command.specs.Checking.{AnswersCheck}
-use Rattle.filterset_command.specs.Requests.{Answers, IsInputFile, rows_of}
+use Rattle.filterset_command.specs.Checking.{AnswersCheck, IsCheckFault}
+use Rattle.filterset_command.specs.Requests.{Answers, Faults, IsInputFile, rows_of}
 use Rattle.filterset_command.specs.declared.checking.CheckPaths.{CheckPaths}
+use Rattle.filterset_command.specs.declared.fault.CommandFault.{CommandFault}
 use Rattle.filterset_command.specs.declared.request.Request.{Request}
 use Rattle.filterset_command.specs.declared.request.Request.TheVariants.{Check, Format, Simplify}
 use Rattle.filterset_command.specs.declared.request.Texts.{Texts}
+use Rattle.filterset_command.proofs.FaultLemmas.{OrMemory-weaker}
 use Rattle.filterset_command.proofs.answering.answer_with.Goals as goal
 
 -- the answer to a check is about standard input as this file
@@ -31,6 +34,20 @@ returns-in_ok-file-in-Check-clause-answered g c =
     checked content c.args.input.now c.in-Check.kind c.in-Check.form c.in-Check.texts c.in-Check.paths _ answer.ending (string_bytes answer.text) c.args.request.now
     c.in-Check.is c.in_ok-file-in-Check.ensures)
     c.check_given.ensures.answered
+
+-- and its fault is one of the files
+check_faults : (content : Text → Option Text) (fails : Text → Error → Type 0) (input : Text) (kind : FiltersetKind) (form : Form) (texts : Texts) (paths : CheckPaths) (request : Request) →
+    request ≡ Check kind form texts paths → (fault : CommandFault) → IsCheckFault content fails input paths fault → Faults content fails input request fault
+check_faults content fails input kind form texts paths request is fault wrong = subst (λ r. Faults content fails input r fault) (sym is) wrong
+
+pub returns-in_ok-file-in-Check-clause-refused : goal.returns-in_ok-file-in-Check-clause-refused
+returns-in_ok-file-in-Check-clause-refused g c =
+    let content = g.F.FileSource.content c.args.files.now in
+    let fails = g.F.FileSource.fails c.args.files.now in
+    let input = c.args.input.now in
+    let request = c.args.request.now in
+    IfErr-weaker c.check_given.result _ _ (OrMemory-weaker (IsCheckFault content fails input c.in-Check.paths) (Faults content fails input request)
+    (check_faults content fails input c.in-Check.kind c.in-Check.form c.in-Check.texts c.in-Check.paths request c.in-Check.is)) c.check_given.ensures.refused
 
 -- the answer to a request to format is about standard input as this file
 formatted : (content : Text → Option Text) (input : Text) (form : Form) (texts : Texts) (file : Bor Source)

@@ -1,13 +1,13 @@
-use Rattle.std.proofs.Common.{◌≡◌, ◌∙◌, Some, ap, codes, option_map, subst, sym}
+use Rattle.std.proofs.Common.{◌≡◌, ◌∙◌, Some, ap, codes, option_map, sym}
 use Rattle.std.proofs.lemmas.Result.{IfErr-weaker, IfOk-weaker}
 use Rattle.clap.specs.Simple.{subcommand_rows_of}
 use Rattle.clap.specs.Walk.{rows_of}
 use Rattle.clap.specs.Words.{found_of, subcommand_name_of}
 use Rattle.clap.specs.declared.parser.matches.ArgMatches.{ArgMatches}
 use Rattle.filterset_drawing.specs.Columns.{Text}
-use Rattle.filterset_command.specs.Words.{IsAsked, IsAskedBy, IsBudgetFault, IsWordsFault}
+use Rattle.filterset_command.specs.Words.{IsAsked, IsAskedBy, IsBudgetFault, IsCheckRefusal, IsWordsFault}
 use Rattle.filterset_command.specs.declared.fault.CommandFault.{CommandFault}
-use Rattle.filterset_command.specs.declared.fault.CommandFault.TheVariants.{Missing, WrongBudget}
+use Rattle.filterset_command.specs.declared.fault.CommandFault.TheVariants.{Missing, TwoInputs, WrongBudget}
 use Rattle.filterset_command.specs.declared.request.Request.{Request}
 use Rattle.filterset_command.proofs.request.request_of.Goals as goal
 
@@ -21,11 +21,17 @@ returns-in-Some-check-default-clause-asked c =
     IfOk-weaker c.check_of.result _ _ (λ request asked.
     asked_by c.args.matches.now c.in-Some-check-default.field-0-0.now c.in-Some-check-default.own.now (codes "check") request c.in-Some-check-default.ensures.name c.in-Some-check-default.ensures.rows c.in-Some-check-default.is-check asked) c.check_of.ensures.asked
 
--- standard input is to be two things
+-- a fault of `check` is one of the words
+check_fault : (matches : ArgMatches) (own : ArgMatches) (fault : CommandFault) → Some (rows_of (found_of own)) ≡ option_map (λ p. p.1) (subcommand_rows_of matches)
+    → IsCheckRefusal (found_of own) fault → IsWordsFault matches fault
+check_fault matches own (Missing id) rows is = tt
+check_fault matches own TwoInputs rows is = (found_of own, sym rows, is)
+check_fault matches own _ rows is = absurd is
+
 pub returns-in-Some-check-default-clause-refused : goal.returns-in-Some-check-default-clause-refused
 returns-in-Some-check-default-clause-refused c =
-    IfErr-weaker c.check_of.result _ _ (λ fault twice.
-    subst (IsWordsFault c.args.matches.now) (sym twice.0) (found_of c.in-Some-check-default.own.now, sym c.in-Some-check-default.ensures.rows, twice.1)) c.check_of.ensures.refused
+    IfErr-weaker c.check_of.result _ _ (λ fault is.
+    check_fault c.args.matches.now c.in-Some-check-default.own.now fault c.in-Some-check-default.ensures.rows is) c.check_of.ensures.refused
 
 pub returns-in-Some-format-default-clause-asked : goal.returns-in-Some-format-default-clause-asked
 returns-in-Some-format-default-clause-asked c =
