@@ -40,7 +40,7 @@ takes_input (Check kind form texts paths) = are_lines texts || option_map_or (λ
 takes_input (Format form texts) = are_lines texts
 takes_input (Simplify form texts) = are_lines texts
 takes_input (Ask asked) = option_map_or (λ p. is_input p.configuration.now) asked.profile false
-takes_input (Decide asked) = false
+takes_input (Decide asked) = option_map_or (λ p. is_input p.configuration.now) asked.profile false
 takes_input (Show text) = false
 
 -- the text is what standard input had left, as far as that is known, if the request is about that
@@ -69,7 +69,7 @@ Answers content input (Format form texts) = λ ending text. (file : Bor Source) 
 Answers content input (Simplify form texts) = λ ending text. (file : Bor Source) × (faulty : ℕ) × IsInputFile input file.now
     × SimplifiesTexts form (rows_of kinds.Test texts file) faulty text × (ending ≡ ending_of faulty)
 Answers content input (Ask asked) = AnswersAsked content input asked
-Answers content input (Decide asked) = AnswersDecision content asked
+Answers content input (Decide asked) = AnswersDecision content input asked
 Answers content input (Show shown) = λ ending text. (ending ≡ Fine) × (text ≡ shown.now)
 
 -- the same, where this is left of standard input; if the bytes of that or of files are not known, it is the answer for some
@@ -87,7 +87,7 @@ IsInputFault left failed _ = ⊥
 abbrev pub Faults : (Text → Option Text) → (Text → Error → Type 0) → Text → Request → CommandFault → Type 0
 Faults content fails input (Check kind form texts paths) fault = IsCheckFault content fails input paths fault
 Faults content fails input (Ask asked) fault = IsAskedFault content fails input asked fault
-Faults content fails input (Decide asked) fault = IsDecisionFault content fails asked fault
+Faults content fails input (Decide asked) fault = IsDecisionFault content fails input asked fault
 Faults content fails input _ fault = ⊥
 
 -- the fault of a request that is not answered, where this is left of standard input, and its reader has failed or not

@@ -78,7 +78,7 @@ fn answer_with<F: FileSource>(
             let file = input_file(alloc, input)?;
             Ok(simplify_given(alloc, *form, texts, &file)?)
         }
-        Request::Decide(asked) => decide_given(alloc, files, asked),
+        Request::Decide(asked) => decide_given(alloc, files, input, asked),
         Request::Ask(asked) => ask(alloc, files, input, asked),
         Request::Show(text) => Ok(Answer {
             text: String::from_str(alloc, text)?,

@@ -318,7 +318,7 @@ fn filtersets<'a>(alloc: Global) -> Arg<'a> {
         .num_args(1..)
         .required(true)
         .action(ArgAction::Append)
-        .help("filtersets")
+        .help("the filtersets, or names of profiles such as `@ci`")
 }
 
 /// Makes the option of the tests that a question is about.
@@ -334,7 +334,7 @@ fn budget<'a>(alloc: Global) -> Arg<'a> {
     Arg::new(alloc, "budget")
         .long("budget")
         .value_name("STEPS")
-        .default_value("5000000")
+        .default_value("50000000")
         .help("how many steps the search may take before the answer is `unknown`")
 }
 
@@ -345,10 +345,14 @@ fn question<'a>(
     about: &'a str,
     example: &'a str,
 ) -> Result<Command<'a>, AllocError> {
-    Command::new(alloc, name)
+    let command = Command::new(alloc, name)
         .about(about)
         .after_help(example)
         .arg(metadata(alloc))?
+        .arg(config(alloc).help(
+            "nextest's configuration, or `-` for standard input: `@ci` is the default filter of its profile `ci`",
+        ))?;
+    with_profile(alloc, command)?
         .arg(default_filter(alloc))?
         .arg(within(alloc))?
         .arg(budget(alloc))?

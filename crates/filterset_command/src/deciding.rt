@@ -6,15 +6,27 @@ ghost use Rattle.filterset_faults.specs.declared.kind.FiltersetKind.TheVariants 
 ghost use Rattle.nextest_filtering.specs.Groups.{IsGlobalOnly, IsKnown};
 ghost use Rattle.nextest_filtering.specs.declared.compile.context.KnownGroups as contexts;
 ghost use Rattle.filterset_command.specs.Asking.{given_row};
-ghost use Rattle.filterset_command.specs.Deciding.{AnswersDecision, AnswersRows, IsDecisionFault, request_rows, within_text};
+ghost use Rattle.filterset_command.specs.Deciding.{AnswersProfiles, AnswersDecision, AnswersNamed, AnswersRows, IsDecisionFault, IsDefaultKind, IsDefaultRow, IsNamedFault, LacksNamed, naming_of, nowhere, outcome_of, request_rows, within_text};
 ghost use Rattle.filterset_command.specs.Files.{OrMemory};
 
 use crate::checking::known_packages;
-use crate::fault::CommandFault;
+use crate::configuration::configured_texts;
+use crate::fault::{CommandFault, FileRole};
 use crate::files::FileSource;
-use filterset_answers::{Answer, Form, Setting, TextEntry, default_entry, entry_of, given_entries};
+use crate::naming::{ResolvedEntries, filter_of, resolve, resolve_entries};
+use crate::profile::{
+    KnownPlatforms, ProfileRequest, ProfilesFile, read_facts, read_profiles_file,
+};
+use crate::profiled::ChosenFilter;
+use filterset_answers::{
+    Answer, ConfiguredTexts, Form, Setting, TextEntry, answer_unknown, default_entry, entry_of,
+    given_entries,
+};
 use filterset_deciding::Question;
+use filterset_drawing::Source;
 use filterset_graph::PackageGraph;
+use filterset_profiles::Profile;
+use filterset_sources::BuildPlatforms;
 use filterset_verdicts::{TextQuestion, answer_texts};
 use nextest_filtering::{FiltersetKind, KnownGroups};
 use std::alloc::{AllocError, Global};
@@ -30,8 +42,10 @@ pub struct DecisionRequest<'w> {
     pub within: Option<&'w str>,
     /// What `cargo metadata` wrote.
     pub metadata: Option<&'w str>,
-    /// The filterset that is the value of `default()`.
+    /// The filterset that is the value of `default()`, in place of that of the profile.
     pub default_filter: Option<&'w str>,
+    /// The configuration whose profiles texts such as `@ci` name, and the profile for `default()`.
+    pub profile: Option<ProfileRequest<'w>>,
     /// How many steps the search may take.
     pub budget: u64,
 }
@@ -106,7 +120,7 @@ fn decide_entries(
     answer_texts(alloc, request.form, &setting, &asked)
 }
 
-/// Returns the text of the default filter: the given one, or else that of all tests.
+/// Returns the text of the default filter without a profile: the given one, or else that of all tests.
 fn default_text<'w>(request: &DecisionRequest<'w>) -> &'w str
     ensures { default_row result.now ≡ unwrap_or (given_row request.now.default_filter) (default_row (codes "all()")) }
 {
@@ -116,8 +130,7 @@ fn default_text<'w>(request: &DecisionRequest<'w>) -> &'w str
     }
 }
 
-/// Answers the question of a request about these entries, over these packages, under the default filter that is given, or
-/// else all tests.
+/// Answers without a profile: under the default filter that is given, or else all tests.
 fn decide_plainly(
     alloc: Global,
     request: &DecisionRequest<'_>,
@@ -134,17 +147,124 @@ fn decide_plainly(
     decide_entries(alloc, request, graph, &groups, &default, entries)
 }
 
-/// Answers a question about filtersets and every possible test.
+/// Returns the default filter under profiles: the given one, or else that of the profile.
+fn default_of<'p>(
+    alloc: Global,
+    request: &DecisionRequest<'p>,
+    profile: &ProfileRequest<'_>,
+    profiles: &'p [Profile],
+    known: &KnownPlatforms,
+    texts: ConfiguredTexts<'p>,
+) -> Result<ChosenFilter<'p>, CommandFault>
+    ensures found { IfOk result (λ filter. IsDefaultRow (naming_of profiles.entry.now known.now texts.entry)
+        profile.now.name.now (given_row request.now.default_filter) (outcome_of filter)) }
+    ensures kind { IfOk result IsDefaultKind }
+    ensures missing { IfErr result (OrMemory (LacksNamed request.now profile.now profiles.entry.now)) }
+{
+    let path = profile.configuration;
+    match request.default_filter {
+        Some(text) => {
+            let entry = default_entry(alloc, text)?;
+            resolve(alloc, path, profiles, known, texts, entry)
+        }
+        None => filter_of(alloc, path, profiles, known, texts, profile.name),
+    }
+}
+
+/// Answers under the default filters of profiles.
+fn decide_named<'p>(
+    alloc: Global,
+    request: DecisionRequest<'p>,
+    graph: &PackageGraph,
+    groups: &KnownGroups,
+    profile: &ProfileRequest<'_>,
+    profiles: &'p [Profile],
+    known: &KnownPlatforms,
+    texts: ConfiguredTexts<'p>,
+    entries: Vec<TextEntry<'p>>,
+) -> Result<Answer, CommandFault>
+    requires groups { IsKnown groups.now }
+    requires rows { map text_row entries.items ≡ request_rows request }
+    ensures answered { IfOk result (λ answer. AnswersNamed request.entry graph.now groups.now
+        (naming_of profiles.entry.now known.now texts.entry) profile.now.name.now answer.ending (string_bytes answer.text)) }
+    ensures missing { IfErr result (OrMemory (LacksNamed request.entry profile.now profiles.entry.now)) }
+{
+    let default = match default_of(alloc, &request, profile, profiles, known, texts)? {
+        ChosenFilter::Entry(default) => default,
+        ChosenFilter::Unknown(path) => return Ok(answer_unknown(alloc, path.as_str())?),
+    };
+    let path = profile.configuration;
+    match resolve_entries(alloc, path, profiles, known, texts, entries)? {
+        ResolvedEntries::Entries(entries) => {
+            let entries = entries.as_slice();
+            Ok(decide_entries(alloc, &request, graph, groups, &default, entries)?)
+        }
+        ResolvedEntries::Unknown(path) => Ok(answer_unknown(alloc, path.as_str())?),
+    }
+}
+
+/// The platforms of a build of which nothing is known.
+fn nowhere() -> BuildPlatforms
+    ensures { result ≡ nowhere }
+{
+    BuildPlatforms {
+        host: None,
+        target: None,
+    }
+}
+
+/// Answers under the profiles of a configuration. Standard input has the text `input`, if that is the configuration.
+fn decide_configured<F: FileSource>(
+    alloc: Global,
+    files: &F,
+    input: &str,
+    request: &DecisionRequest<'_>,
+    graph: &PackageGraph,
+    profile: &ProfileRequest<'_>,
+    entries: Vec<TextEntry<'_>>,
+) -> Result<Answer, CommandFault>
+    requires { map text_row entries.items ≡ request_rows request.now }
+    ensures answered { IfOk result (λ answer. AnswersProfiles (F.content files.now) input.now request.now graph.now profile.now
+        answer.ending (string_bytes answer.text)) }
+    ensures refused { IfErr result (OrMemory
+        (IsNamedFault (F.content files.now) (F.fails files.now) input.now request.now profile.now)) }
+{
+    let ProfilesFile {
+        text,
+        filtersets,
+        places,
+        groups,
+        profiles,
+    } = read_profiles_file(alloc, files, input, profile.configuration)?;
+    let known = read_facts(alloc, files, profile, nowhere())?;
+    let name = FileRole::Configuration.name_of(profile.configuration);
+    let source = Source::new(alloc, name, text.as_str())?;
+    let texts = configured_texts(&source, filtersets.as_slice(), &places);
+    let profiles = profiles.as_slice();
+    decide_named(
+        alloc, *request, graph, &groups, profile, profiles, &known, texts, entries,
+    )
+}
+
+/// Answers a question about filtersets and every possible test. Standard input has the text `input`, if that is the
+/// configuration.
 pub fn decide_given<F: FileSource>(
     alloc: Global,
     files: &F,
+    input: &str,
     request: &DecisionRequest<'_>,
 ) -> Result<Answer, CommandFault>
-    ensures answered { IfOk result (λ answer. AnswersDecision (F.content files.now) request.now
+    ensures answered { IfOk result (λ answer. AnswersDecision (F.content files.now) input.now request.now
         answer.ending (string_bytes answer.text)) }
-    ensures refused { IfErr result (OrMemory (IsDecisionFault (F.content files.now) (F.fails files.now) request.now)) }
+    ensures refused { IfErr result (OrMemory
+        (IsDecisionFault (F.content files.now) (F.fails files.now) input.now request.now)) }
 {
     let graph = known_packages(alloc, files, request.metadata)?;
     let entries = request_entries(alloc, request)?;
-    Ok(decide_plainly(alloc, request, &graph, entries.as_slice())?)
+    match &request.profile {
+        None => Ok(decide_plainly(alloc, request, &graph, entries.as_slice())?),
+        Some(profile) => {
+            decide_configured(alloc, files, input, request, &graph, profile, entries)
+        }
+    }
 }

@@ -230,7 +230,7 @@ impl fmt::Display for CommandFault {
                 "error: `-` stands for the filtersets and for the configuration\nhelp: give one of them as an argument or a file",
             ),
             CommandFault::WrongBudget => f.write_str(
-                "error: the value of `--budget` is no number of steps\nhelp: give a number such as 5000000",
+                "error: the value of `--budget` is no number of steps\nhelp: give a number such as 50000000",
             ),
             CommandFault::Missing(argument) => write!(
                 f,

@@ -15,6 +15,7 @@ mod explaining;
 mod fault;
 mod files;
 mod input;
+mod naming;
 mod overriding;
 mod profile;
 mod profiled;

@@ -29,14 +29,14 @@ use std::alloc::{AllocError, Global};
 
 /// What is known of a default filter.
 #[derive(Drop)]
-enum ChosenFilter<'t> {
+pub enum ChosenFilter<'t> {
     Entry(TextEntry<'t>),
     /// It hangs on the platform of the override at this path.
     Unknown(String),
 }
 
 /// Makes the entry of the default filter that is given, or else of the profile's.
-fn choose<'t>(
+pub fn choose<'t>(
     alloc: Global,
     texts: ConfiguredTexts<'t>,
     given: Option<TextEntry<'t>>,

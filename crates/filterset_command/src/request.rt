@@ -94,7 +94,11 @@ impl Request<'_> {
                 Some(profile) => is_input(profile.configuration),
                 None => false,
             },
-            Request::Decide(_) | Request::Show(_) => false,
+            Request::Decide(asked) => match &asked.profile {
+                Some(profile) => is_input(profile.configuration),
+                None => false,
+            },
+            Request::Show(_) => false,
         }
     }
 }
@@ -302,6 +306,7 @@ fn decision_of<'m>(
         within: matches.get_str("within"),
         metadata: matches.get_str("metadata"),
         default_filter: matches.get_str("default"),
+        profile: profile_of(matches)?,
         budget: budget_of(matches)?,
     }))
 }
