@@ -1,5 +1,5 @@
 -- What `same`, `cover`, `disjoint` and `partition` answer.
-use Rattle.std.specs.Prelude.{◌≡◌, ◌≢◌, ◌⊎◌, ◌++◌, List, [], ◌∷◌, Option, Some, None, Result, Ok, Err, Contains, IsSomeAnd, MatchOption, codes, flat_map, map, option_map, string_bytes, unwrap_or}
+use Rattle.std.specs.Prelude.{◌≡◌, ◌≢◌, ◌⊎◌, ◌++◌, List, [], ◌∷◌, Option, Some, None, Result, Ok, Err, Contains, IsSomeAnd, MatchOption, codes, flat_map, map, string_bytes, unwrap_or}
 use Rattle.std.specs.Borrow.{Bor}
 use Rattle.std.specs.List.{AllZip}
 use Rattle.std.specs.declared.io.Error.{Error}
@@ -9,7 +9,6 @@ use Rattle.filterset_answers.specs.Entries.{default_row, numbered_rows, test_row
 use Rattle.filterset_answers.specs.declared.entries.ConfiguredTexts.{ConfiguredTexts}
 use Rattle.filterset_answers.specs.declared.setting.Setting.{Setting}
 use Rattle.filterset_answers.specs.declared.text.Ending.{Ending}
-use Rattle.filterset_answers.specs.declared.text.TextEntry.{TextEntry}
 use Rattle.filterset_drawing.specs.Columns.{Text}
 use Rattle.filterset_faults.specs.declared.kind.FiltersetKind.TheVariants as kinds
 use Rattle.filterset_graph.specs.declared.package.PackageMetadata.{PackageMetadata}
