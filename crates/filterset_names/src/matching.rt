@@ -62,7 +62,7 @@ pub(crate) enum Compared {
 }
 
 /// Returns what is compared of a test binary.
-fn compared_text(compared: Compared, suite: &Suite) -> &str
+pub(crate) fn compared_text(compared: Compared, suite: &Suite) -> &str
     ensures { result.now ≡ spec.compared_text compared suite.now }
 {
     match compared {
@@ -113,7 +113,7 @@ pub(crate) fn matching_suites<'w>(
 }
 
 /// Returns whether a test binary is built for a platform.
-fn is_built_for(platform: BuildPlatform, suite: &Suite) -> bool
+pub(crate) fn is_built_for(platform: BuildPlatform, suite: &Suite) -> bool
     ensures { IsTrue result ↔ IsBuiltFor platform suite.now }
 {
     suite.platform == platform
