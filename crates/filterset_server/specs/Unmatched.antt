@@ -1,5 +1,5 @@
 -- Warnings of predicates that match nothing in a workspace.
-use Rattle.std.specs.Prelude.{◌≡◌, ◌⊎◌, ◌++◌, ◌==◌, ◌&&◌, Bool, true, false, not, List, [], ◌∷◌, MatchBool, MatchOption, Option, Some, None, codes, filter, is_some}
+use Rattle.std.specs.Prelude.{◌≡◌, ◌↔◌, ◌⊎◌, ◌++◌, Bool, true, false, not, IsTrue, List, [], ◌∷◌, MatchBool, MatchOption, Option, Some, None, codes, filter, is_some}
 use Rattle.std.specs.Borrow.{Bor}
 use Rattle.std.specs.List.{list_any}
 use Rattle.serde_json.specs.Data.{Data}
@@ -18,12 +18,11 @@ use Rattle.filterset_editor.specs.declared.positions.Encoding.{Encoding}
 use Rattle.filterset_faults.specs.declared.error.ParseSingleError.{ParseSingleError}
 use Rattle.filterset_faults.specs.declared.kind.FiltersetKind.TheVariants as kinds
 use Rattle.filterset_faults.specs.declared.span.SourceSpan.{SourceSpan}
-use Rattle.filterset_grammar.specs.Tree.{Leaf, Tree, tree_leaves}
+use Rattle.filterset_grammar.specs.Tree.{Leaf, Matching, Tree, tree_leaves}
+use Rattle.filterset_grammar.specs.declared.predicate.Predicate.TheVariants.{Test}
 use Rattle.filterset_language.specs.Parsed.{IsUnreadWith, Reads}
-use Rattle.filterset_names.specs.Matched.{MatchesLeaf}
+use Rattle.filterset_names.specs.Something.{MatchesSomething}
 use Rattle.filterset_names.specs.Workspaces.{WorkspaceRow}
-use Rattle.filterset_names.specs.declared.matched.Matched.{Matched}
-use Rattle.filterset_names.specs.declared.matched.Matched.TheVariants.{Binaries, Packages, Tests}
 use Rattle.filterset_sources.specs.Configurations.{IsConfiguration, RefusesConfiguration}
 use Rattle.filterset_sources.specs.declared.configuration.Configuration.{Configuration}
 use Rattle.filterset_sources.specs.declared.list.Suite.{Suite}
@@ -42,17 +41,14 @@ is_skipped_status Skipped = true
 abbrev pub is_skipped : Suite → Bool
 is_skipped suite = is_skipped_status suite.status
 
--- it was counted, and there is none; tests count if nextest listed those of each binary
-abbrev pub is_none_found : Bool → Option Matched → Bool
-is_none_found skips (Some (Packages short)) = short.count == 0
-is_none_found skips (Some (Binaries short)) = short.count == 0
-is_none_found skips (Some (Tests short)) = not skips && short.count == 0
-is_none_found skips None = false
+-- it is sure what the predicate matches: names of tests count if nextest listed those of each binary
+abbrev pub is_sure : {S : Type 0} → Bool → Leaf S → Bool
+is_sure skips (Matching Test matcher span) = not skips
+is_sure skips leaf = true
 
--- whether the predicate surely matches nothing in the workspace
-abbrev pub IsUnmatched : WorkspaceRow → Leaf SourceSpan → Bool → Type 0
-IsUnmatched w leaf unmatched = (found : Option Matched) × MatchesLeaf w leaf found
-    × (unmatched ≡ is_none_found (list_any is_skipped w.suites) found)
+-- the predicate surely matches nothing in the workspace
+abbrev pub IsUnmatched : {S : Type 0} → WorkspaceRow → Leaf S → Type 0
+IsUnmatched w leaf = IsTrue (is_sure (list_any is_skipped w.suites) leaf) × ¬ MatchesSomething w leaf
 
 -- the warning of a predicate that matches nothing, at its span in the file
 abbrev pub WarnsOfLeaf : Encoding → Text → Option Placement → Leaf SourceSpan → List Data → Type 0
@@ -60,7 +56,7 @@ WarnsOfLeaf encoding text place leaf ds = MatchOption (leaf_part place leaf) (ds
     × IsDiagnostic encoding text Warning part.span (codes "NoTestMatch") (codes "matches no test of the workspace") d × (ds ≡ d ∷ []))
 
 abbrev pub LeafWarnings : WorkspaceRow → Encoding → Text → Option Placement → Leaf SourceSpan → List Data → Type 0
-LeafWarnings w encoding text place leaf ds = (unmatched : Bool) × IsUnmatched w leaf unmatched
+LeafWarnings w encoding text place leaf ds = (unmatched : Bool) × (IsTrue unmatched ↔ IsUnmatched w leaf)
     × MatchBool unmatched (WarnsOfLeaf encoding text place leaf ds) (ds ≡ [])
 
 -- the predicate has a span in the file

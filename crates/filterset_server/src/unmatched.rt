@@ -1,5 +1,5 @@
 //! Warnings of predicates that match nothing in a workspace.
-ghost use Rattle.std.specs.Prelude.{◌≡◌, IfOk, filter, map, option_map};
+ghost use Rattle.std.specs.Prelude.{◌≡◌, ◌↔◌, IfOk, IsTrue, filter, map, option_map};
 ghost use Rattle.std.specs.List.{list_any};
 ghost use Rattle.serde_json.specs.View.{view};
 ghost use Rattle.filterset_answers.specs.Checked.{text_row};
@@ -8,13 +8,13 @@ ghost use Rattle.filterset_documents.specs.Joins.{Joins};
 ghost use Rattle.filterset_grammar.specs.Tree.{tree_leaves};
 ghost use Rattle.filterset_language.specs.Views.{leaf_of, tree_of};
 ghost use Rattle.filterset_names.specs.Workspaces.{workspace_row};
-ghost use Rattle.filterset_server.specs.Unmatched.{IsUnmatched, LeafWarnings, RowWarnings, RowsWarnings, TreeWarnings, WarnsOfLeaf, has_part, is_none_found, is_skipped};
+ghost use Rattle.filterset_server.specs.Unmatched.{IsUnmatched, LeafWarnings, RowWarnings, RowsWarnings, TreeWarnings, WarnsOfLeaf, has_part, is_skipped, is_sure};
 
 use crate::hover::leaf_part;
 use filterset_answers::{FilePlace, TextEntry};
 use filterset_documents::{Severity, Shown, diagnostic_at, parse_text};
 use filterset_language::{ParsedExpr, ParsedLeaf};
-use filterset_names::{Matched, Workspace, match_leaf};
+use filterset_names::{Workspace, WorkspaceIndex};
 use filterset_sources::{Suite, SuiteStatus};
 use serde_json::Value;
 use std::alloc::{AllocError, Global};
@@ -42,27 +42,46 @@ fn any_skipped(suites: &[Suite]) -> bool
     suites.iter().any(|suite| is_skipped(suite))
 }
 
-/// Returns whether it was counted what matches, and there is nothing. Tests count if no binary was skipped.
-fn is_none_found(skips: bool, found: &Option<Matched<'_>>) -> bool
-    ensures { result ≡ is_none_found skips found.now }
+/// A workspace whose predicates are asked about, and whether nextest did not list the tests of some binary.
+#[derive(Debug, Drop)]
+struct Asked<'w> {
+    index: WorkspaceIndex<'w>,
+    skips: bool,
+    ghost skipped: { skips ≡ list_any is_skipped index.workspace.suites.now },
+}
+
+impl<'w> Asked<'w> {
+    /// Prepares a workspace. The only error is out of memory.
+    fn new(alloc: Global, workspace: Workspace<'w>) -> Result<Asked<'w>, AllocError>
+        ensures { IfOk result (λ asked. asked.index.workspace ≡ workspace.entry) }
+    {
+        let index = WorkspaceIndex::new(alloc, workspace)?;
+        let skips = any_skipped(index.workspace.suites);
+        Ok(Asked { index, skips })
+    }
+}
+
+/// Returns whether it is sure what a predicate matches. The tests of binaries that were skipped are not known.
+fn is_sure(skips: bool, leaf: &ParsedLeaf) -> bool
+    ensures { result ≡ is_sure skips (leaf_of leaf.now) }
 {
-    match found {
-        Some(Matched::Packages(short)) | Some(Matched::Binaries(short)) => short.count == 0,
-        Some(Matched::Tests(short)) => !skips && short.count == 0,
-        None => false,
+    match leaf {
+        ParsedLeaf::Test(..) => !skips,
+        _ => true,
     }
 }
 
 /// Returns whether a predicate surely matches nothing.
-fn is_unmatched(
-    alloc: Global,
-    workspace: &Workspace<'_>,
-    leaf: &ParsedLeaf,
-) -> Result<bool, AllocError>
-    ensures { IfOk result (IsUnmatched (workspace_row workspace.now) (leaf_of leaf.now)) }
+fn is_unmatched(alloc: Global, asked: &Asked<'_>, leaf: &ParsedLeaf) -> Result<bool, AllocError>
+    ensures { IfOk result (λ unmatched. IsTrue unmatched
+        ↔ IsUnmatched (workspace_row asked.now.index.workspace) (leaf_of leaf.now)) }
 {
-    let found = match_leaf(alloc, workspace, leaf)?;
-    Ok(is_none_found(any_skipped(workspace.suites), &found))
+    if is_sure(asked.skips, leaf) {
+        let matched = asked.index.matches_something(alloc, leaf)?;
+        Ok(!matched)
+    } else {
+        Ok(false)
+    }
 }
 
 /// Makes the warning of a predicate of a text at this place, if it has a span.
@@ -86,15 +105,15 @@ fn warn_leaf(
 /// Makes the warning of a predicate, if it matches nothing.
 fn leaf_warnings(
     alloc: Global,
-    workspace: &Workspace<'_>,
+    asked: &Asked<'_>,
     shown: &Shown<'_>,
     place: Option<FilePlace<'_>>,
     leaf: &ParsedLeaf,
 ) -> Result<Vec<Value>, AllocError>
-    ensures { IfOk result (λ values. LeafWarnings (workspace_row workspace.now) shown.now.encoding shown.now.lines.text.now
+    ensures { IfOk result (λ values. LeafWarnings (workspace_row asked.now.index.workspace) shown.now.encoding shown.now.lines.text.now
         (option_map placement_of place.entry) (leaf_of leaf.now) (map view values.items)) }
 {
-    if is_unmatched(alloc, workspace, leaf)? {
+    if is_unmatched(alloc, asked, leaf)? {
         warn_leaf(alloc, shown, place, leaf)
     } else {
         Ok(Vec::new(alloc))
@@ -123,18 +142,18 @@ fn leaves_in<'e>(
 /// Makes the warnings of predicates of a text at this place, one after the other.
 fn warn_leaves(
     alloc: Global,
-    workspace: &Workspace<'_>,
+    asked: &Asked<'_>,
     shown: &Shown<'_>,
     place: Option<FilePlace<'_>>,
     leaves: &[&ParsedLeaf],
 ) -> Result<Vec<Value>, AllocError>
-    ensures { IfOk result (λ values. Joins (LeafWarnings (workspace_row workspace.now) shown.now.encoding
+    ensures { IfOk result (λ values. Joins (LeafWarnings (workspace_row asked.now.index.workspace) shown.now.encoding
         shown.now.lines.text.now (option_map placement_of place.entry)) (map (λ leaf. leaf_of leaf.now) leaves.now)
         (map view values.items)) }
 {
     let mut values = Vec::new(alloc);
     for leaf in leaves {
-        let mut more = leaf_warnings(alloc, workspace, shown, place, leaf)?;
+        let mut more = leaf_warnings(alloc, asked, shown, place, leaf)?;
         values.append(&mut more)?;
     }
     Ok(values)
@@ -143,32 +162,50 @@ fn warn_leaves(
 /// Makes the warnings of the predicates of a tree of a text at this place.
 fn tree_warnings(
     alloc: Global,
-    workspace: &Workspace<'_>,
+    asked: &Asked<'_>,
     shown: &Shown<'_>,
     place: Option<FilePlace<'_>>,
     tree: &ParsedExpr,
 ) -> Result<Vec<Value>, AllocError>
-    ensures { IfOk result (λ values. TreeWarnings (workspace_row workspace.now) shown.now.encoding shown.now.lines.text.now
+    ensures { IfOk result (λ values. TreeWarnings (workspace_row asked.now.index.workspace) shown.now.encoding shown.now.lines.text.now
         (option_map placement_of place.entry) (tree_of tree.now) (map view values.items)) }
 {
     let leaves = leaves_in(alloc, place, tree)?;
-    warn_leaves(alloc, workspace, shown, place, leaves.as_slice())
+    warn_leaves(alloc, asked, shown, place, leaves.as_slice())
 }
 
 /// Makes the warnings of a filterset.
 fn entry_warnings(
     alloc: Global,
-    workspace: &Workspace<'_>,
+    asked: &Asked<'_>,
     shown: &Shown<'_>,
     entry: &TextEntry<'_>,
 ) -> Result<Vec<Value>, AllocError>
-    ensures { IfOk result (λ values. RowWarnings (workspace_row workspace.now) shown.now.encoding shown.now.lines.text.now
+    ensures { IfOk result (λ values. RowWarnings (workspace_row asked.now.index.workspace) shown.now.encoding shown.now.lines.text.now
         (text_row entry.now) (map view values.items)) }
 {
     match parse_text(alloc, entry.text)? {
-        Some(tree) => tree_warnings(alloc, workspace, shown, entry.place, &tree),
+        Some(tree) => tree_warnings(alloc, asked, shown, entry.place, &tree),
         None => Ok(Vec::new(alloc)),
     }
+}
+
+/// Makes the warnings of filtersets in a workspace that is prepared, one after the other.
+fn warn_each(
+    alloc: Global,
+    asked: &Asked<'_>,
+    shown: &Shown<'_>,
+    entries: &[TextEntry<'_>],
+) -> Result<Vec<Value>, AllocError>
+    ensures { IfOk result (λ values. RowsWarnings (workspace_row asked.now.index.workspace) shown.now.encoding shown.now.lines.text.now
+        (map text_row entries.now) (map view values.items)) }
+{
+    let mut values = Vec::new(alloc);
+    for entry in entries {
+        let mut more = entry_warnings(alloc, asked, shown, entry)?;
+        values.append(&mut more)?;
+    }
+    Ok(values)
 }
 
 /// Makes the warnings of filtersets, one after the other.
@@ -181,10 +218,6 @@ pub(crate) fn warn_entries(
     ensures { IfOk result (λ values. RowsWarnings (workspace_row workspace.now) shown.now.encoding shown.now.lines.text.now
         (map text_row entries.now) (map view values.items)) }
 {
-    let mut values = Vec::new(alloc);
-    for entry in entries {
-        let mut more = entry_warnings(alloc, workspace, shown, entry)?;
-        values.append(&mut more)?;
-    }
-    Ok(values)
+    let asked = Asked::new(alloc, *workspace)?;
+    warn_each(alloc, &asked, shown, entries)
 }

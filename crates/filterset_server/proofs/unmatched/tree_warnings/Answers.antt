@@ -13,7 +13,7 @@ use Rattle.filterset_server.proofs.unmatched.tree_warnings.Goals as goal
 pub returns : goal.returns
 returns c =
     let shown = c.args.shown.now in
-    let Is = LeafWarnings (workspace_row c.args.workspace.now) shown.encoding shown.lines.text.now (option_map placement_of c.args.place) in
+    let Is = LeafWarnings (workspace_row c.args.asked.now.index.workspace) shown.encoding shown.lines.text.now (option_map placement_of c.args.place) in
     let leaves = ap (map (λ leaf. leaf_of leaf.now)) c.as_slice.ensures.value ∙ c.in_ok-leaves.ensures in
     IfOk-weaker c.warn_leaves.result _ _
     (λ values are.

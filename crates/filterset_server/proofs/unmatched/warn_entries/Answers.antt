@@ -1,29 +1,17 @@
-use Rattle.std.proofs.Common.{rules, arith, ◌≡◌, ◌<◌, length, get_or}
-use Rattle.std.proofs.lemmas.List.{take_all}
+use Rattle.std.proofs.Common.{map, subst}
+use Rattle.std.proofs.lemmas.Result.{IfOk-weaker}
 use Rattle.serde_json.specs.View.{view}
 use Rattle.filterset_answers.specs.Checked.{text_row}
-use Rattle.filterset_documents.specs.Joins.{no_parts}
-use Rattle.filterset_documents.proofs.JoinLemmas.{Joins-more}
 use Rattle.filterset_names.specs.Workspaces.{workspace_row}
-use Rattle.filterset_server.specs.Unmatched.{RowWarnings}
+use Rattle.filterset_names.specs.declared.workspace.Workspace.{Workspace}
+use Rattle.filterset_server.specs.Unmatched.{RowsWarnings}
 use Rattle.filterset_server.proofs.unmatched.warn_entries.Goals as goal
 
 pub returns : goal.returns
 returns c =
-    let are = c.loop-entry.invariant in
-    rw (take_all c.loop-entry.entry-index c.args.entries.now c.loop-entry-test.false) at are
-
-pub loop-entry-init : goal.loop-entry-init
-loop-entry-init c = rw c.new-values.ensures.items no_parts
-
-pub loop-entry-preserved : goal.loop-entry-preserved
-loop-entry-preserved c =
     let shown = c.args.shown.now in
-    let entries = c.args.entries.now in
-    let i = c.loop-entry.entry-index in
-    let entry = c.entry-item.result in
-    let lt : i < length entries = omega (arith, c.loop-entry-test.true) in
-    let at : get_or entries i entry ≡ entry = search (rules, c.entry-item.is) in
-    rw c.in_ok-append.ensures.items
-    (Joins-more (RowWarnings (workspace_row c.args.workspace.now) shown.encoding shown.lines.text.now) text_row view entries i entry
-    c.loop-entry.values.items c.in_ok-more.more.items lt at c.loop-entry.invariant c.in_ok-more.ensures)
+    IfOk-weaker c.warn_each.result _ _
+    (λ values are.
+    let Are : Workspace → Type 0 = λ w. RowsWarnings (workspace_row w) shown.encoding shown.lines.text.now (map text_row c.args.entries.now) (map view values.items) in
+    subst Are c.in_ok-asked.ensures are)
+    c.warn_each.ensures

@@ -33,5 +33,5 @@ loop-leaf-preserved c =
     let lt : i < length leaves = omega (arith, c.loop-leaf-test.true) in
     let at : get_or leaves i leaf ≡ leaf = search (rules, c.leaf-item.is) in
     rw c.in_ok-append.ensures.items
-    (Joins-more (LeafWarnings (workspace_row c.args.workspace.now) shown.encoding shown.lines.text.now (option_map placement_of c.args.place)) seen view leaves i leaf
+    (Joins-more (LeafWarnings (workspace_row c.args.asked.now.index.workspace) shown.encoding shown.lines.text.now (option_map placement_of c.args.place)) seen view leaves i leaf
     c.loop-leaf.values.items c.in_ok-more.more.items lt at c.loop-leaf.invariant c.in_ok-more.ensures)

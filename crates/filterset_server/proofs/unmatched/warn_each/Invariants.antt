@@ -4,9 +4,9 @@ use Rattle.filterset_answers.specs.Checked.{text_row}
 use Rattle.filterset_documents.specs.Joins.{Joins}
 use Rattle.filterset_names.specs.Workspaces.{workspace_row}
 use Rattle.filterset_server.specs.Unmatched.{RowWarnings}
-use Rattle.filterset_server.proofs.unmatched.warn_entries.Given as goal
+use Rattle.filterset_server.proofs.unmatched.warn_each.Given as goal
 
 -- the filtersets so far have their warnings
 abbrev pub invariant-loop-entry : goal.invariant-loop-entry
 invariant-loop-entry l =
-    Joins (RowWarnings (workspace_row l.workspace) l.shown.encoding l.shown.lines.text.now) (map text_row (take l.entry-index l.entries)) (map view l.values.items)
+    Joins (RowWarnings (workspace_row l.asked.index.workspace) l.shown.encoding l.shown.lines.text.now) (map text_row (take l.entry-index l.entries)) (map view l.values.items)
