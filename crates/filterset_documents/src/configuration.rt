@@ -82,7 +82,7 @@ fn refusal_value(
 }
 
 /// Makes the diagnostics of a text that is no configuration: one.
-fn refusal_values(
+pub fn diagnose_refusal(
     alloc: Global,
     shown: &Shown<'_>,
     refusal: &SourceRefusal,
@@ -155,6 +155,6 @@ pub fn diagnose_configuration(alloc: Global, shown: &Shown<'_>) -> Result<Vec<Va
 {
     match read_configuration(alloc, shown.lines.text) {
         Ok(configuration) => configuration_values(alloc, shown, configuration),
-        Err(refusal) => refusal_values(alloc, shown, &refusal),
+        Err(refusal) => diagnose_refusal(alloc, shown, &refusal),
     }
 }

@@ -15,7 +15,7 @@ mod rows;
 mod trees;
 mod values;
 
-pub use configuration::diagnose_configuration;
+pub use configuration::{diagnose_configuration, diagnose_refusal};
 pub use diagnostics::{Severity, diagnostic_at};
 pub use edits::{Edit, edit_text, edits_value, is_same, ordered_edits};
 pub use list::diagnose_list;
@@ -23,5 +23,6 @@ pub use offsets::{entry_at, is_in, leaf_span};
 pub use places::{configured_texts, place_span, span_in, stretch_at, stretch_span};
 pub use quoting::{escape, quote};
 pub use ranges::{Shown, range_of, range_value, span_value};
-pub use rows::{fault_span, fault_value};
+pub use rows::{diagnose_entries, fault_span, fault_value};
 pub use trees::parse_text;
+pub use values::diagnose_values;

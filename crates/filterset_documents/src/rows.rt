@@ -87,7 +87,7 @@ fn entry_values(
 }
 
 /// Makes the diagnostics of filtersets, one after the other.
-pub(crate) fn diagnose_entries(
+pub fn diagnose_entries(
     alloc: Global,
     shown: &Shown<'_>,
     names: &Names<'_>,

@@ -56,7 +56,7 @@ fn value_warnings(
 }
 
 /// Makes the warnings of the wrong values of a configuration, other than its filtersets.
-pub(crate) fn diagnose_values(alloc: Global, shown: &Shown<'_>) -> Result<Vec<Value>, AllocError>
+pub fn diagnose_values(alloc: Global, shown: &Shown<'_>) -> Result<Vec<Value>, AllocError>
     ensures { IfOk result (λ values.
         AreValueWarnings shown.now.encoding shown.now.lines.text.now (map view values.items)) }
 {

@@ -1,5 +1,5 @@
 -- Warnings of predicates that match nothing in a workspace.
-use Rattle.std.specs.Prelude.{◌≡◌, ◌↔◌, ◌⊎◌, ◌++◌, Bool, true, false, not, IsTrue, List, [], ◌∷◌, MatchBool, MatchOption, Option, Some, None, codes, filter, is_some}
+use Rattle.std.specs.Prelude.{◌≡◌, ◌↔◌, ◌⊎◌, ◌++◌, Bool, true, false, not, IsTrue, List, [], ◌∷◌, MatchBool, MatchOption, Option, codes, filter, is_some}
 use Rattle.std.specs.Borrow.{Bor}
 use Rattle.std.specs.List.{list_any}
 use Rattle.serde_json.specs.Data.{Data}
@@ -7,7 +7,8 @@ use Rattle.filterset_answers.specs.Checked.{TextRow}
 use Rattle.filterset_answers.specs.Entries.{line_rows, rows_in}
 use Rattle.filterset_answers.specs.Placements.{Placement}
 use Rattle.filterset_answers.specs.declared.entries.ConfiguredTexts.{ConfiguredTexts}
-use Rattle.filterset_documents.specs.Diagnostics.{DiagnosesText, IsDiagnostic}
+use Rattle.filterset_answers.specs.declared.names.Names.{Names}
+use Rattle.filterset_documents.specs.Diagnostics.{AreValueWarnings, DiagnosesText, IsDiagnostic, RowDiagnostics}
 use Rattle.filterset_documents.specs.Filtersets.{AreTextsOf, SaysWhy, is_list}
 use Rattle.filterset_documents.specs.Joins.{Joins}
 use Rattle.filterset_documents.specs.declared.diagnostics.Severity.TheVariants.{Warning}
@@ -99,6 +100,16 @@ ConfigurationWarnings w encoding text ds =
 abbrev pub TextWarnings : WorkspaceRow → Encoding → Text → Text → List Data → Type 0
 TextWarnings w encoding language text ds =
     MatchBool (is_list language) (ListWarnings w encoding text ds) (ConfigurationWarnings w encoding text ds)
+
+-- what is first, and behind it what is second
+abbrev pub Behind : (List Data → Type 0) → (List Data → Type 0) → List Data → Type 0
+Behind First Second ds = (own more : List Data) × First own × Second more × (ds ≡ own ++ more)
+
+-- the diagnostics of the rows of a configuration, the warnings of its other values, and behind them those of predicates
+abbrev pub RowsDiagnostics : WorkspaceRow → Encoding → Text → Names → List TextRow → List Data → Type 0
+RowsDiagnostics w encoding text names rows ds = (faults values warnings : List Data)
+    × Joins (RowDiagnostics encoding text names) rows faults × AreValueWarnings encoding text values
+    × RowsWarnings w encoding text rows warnings × (ds ≡ (faults ++ values) ++ warnings)
 
 -- the diagnostics of a text in a language, and behind them the warnings, where a workspace is known
 abbrev pub DiagnosesTextIn : Option WorkspaceRow → Encoding → Text → Text → List Data → Type 0

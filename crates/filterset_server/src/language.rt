@@ -1,15 +1,15 @@
 //! What the server says of documents.
-ghost use Rattle.std.specs.Prelude.{◌≡◌, IfOk, MatchBool, map};
+ghost use Rattle.std.specs.Prelude.{◌≡◌, IfOk, MatchBool, Some, map};
 ghost use Rattle.serde_json.specs.View.{view};
 ghost use Rattle.filterset_documents.specs.Diagnostics.{DiagnosesText};
 ghost use Rattle.filterset_documents.specs.Filtersets.{is_list};
 ghost use Rattle.filterset_names.specs.Workspaces.{known_of, workspace_row};
 ghost use Rattle.filterset_server.specs.Responses.{ActsTo, Formats, RespondsConfiguration, RespondsList, RespondsTo, acted_range, is_formatting};
-ghost use Rattle.filterset_server.specs.Unmatched.{DiagnosesTextIn, TextWarnings};
+ghost use Rattle.filterset_server.specs.Unmatched.{DiagnosesTextIn};
 
 use crate::formatting::{format_configuration, format_list};
 use crate::requests::{respond_configuration, respond_list};
-use crate::warnings::{warn_configuration, warn_list};
+use crate::warnings::{diagnose_configuration_in, diagnose_list_in};
 use filterset_actions::{act_on_configuration, act_on_list};
 use filterset_documents::{Shown, diagnose_configuration, diagnose_list};
 use filterset_editor::{Abilities, Document, Encoding, Inquiry, Language, Lines, Range};
@@ -60,20 +60,20 @@ fn diagnose_text(alloc: Global, shown: &Shown<'_>, language: &str) -> Result<Vec
     }
 }
 
-/// Makes the warnings of a text.
-fn warnings_of(
+/// Makes the diagnostics of a text, and behind them its warnings.
+fn diagnose_with(
     alloc: Global,
     workspace: &Workspace<'_>,
     shown: &Shown<'_>,
     language: &str,
 ) -> Result<Vec<Value>, AllocError>
-    ensures { IfOk result (λ values. TextWarnings (workspace_row workspace.now) shown.now.encoding language.now
+    ensures { IfOk result (λ values. DiagnosesTextIn (Some (workspace_row workspace.now)) shown.now.encoding language.now
         shown.now.lines.text.now (map view values.items)) }
 {
     if is_list(language) {
-        warn_list(alloc, workspace, shown)
+        diagnose_list_in(alloc, workspace, shown)
     } else {
-        warn_configuration(alloc, workspace, shown)
+        diagnose_configuration_in(alloc, workspace, shown)
     }
 }
 
@@ -87,14 +87,9 @@ fn diagnose_in(
     ensures { IfOk result (λ values. DiagnosesTextIn (known_of workspace.entry) shown.now.encoding language.now
         shown.now.lines.text.now (map view values.items)) }
 {
-    let mut values = diagnose_text(alloc, shown, language)?;
     match workspace {
-        Some(workspace) => {
-            let mut warnings = warnings_of(alloc, &workspace, shown, language)?;
-            values.append(&mut warnings)?;
-            Ok(values)
-        }
-        None => Ok(values),
+        Some(workspace) => diagnose_with(alloc, &workspace, shown, language),
+        None => diagnose_text(alloc, shown, language),
     }
 }
 

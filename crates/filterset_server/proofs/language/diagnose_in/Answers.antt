@@ -1,21 +1,26 @@
-use Rattle.std.proofs.Common.{◌∙◌, [], ap, map, refl, sym}
-use Rattle.std.proofs.lemmas.List.{append-nil, map-append}
+use Rattle.std.proofs.Common.{[], map, refl, subst, sym}
+use Rattle.std.specs.Prelude.{IfOk, None, Option}
+use Rattle.std.proofs.lemmas.List.{append-nil}
+use Rattle.std.proofs.lemmas.Result.{IfOk-weaker}
 use Rattle.serde_json.specs.View.{view}
+use Rattle.filterset_names.specs.Workspaces.{known_of}
+use Rattle.filterset_names.specs.declared.workspace.Workspace.{Workspace}
+use Rattle.filterset_server.specs.Unmatched.{DiagnosesTextIn}
 use Rattle.filterset_server.proofs.language.diagnose_in.Goals as goal
 
-pub returns-in_ok-append-in-Some : goal.returns-in_ok-append-in-Some
-returns-in_ok-append-in-Some c =
-    let own = c.in_ok-values.values.items in
-    let warnings = c.in_ok-warnings-in-Some.warnings.items in
-    rw c.in-Some.is (
-      map view own,
-      map view warnings,
-      c.in_ok-values.ensures,
-      c.in_ok-warnings-in-Some.ensures,
-      ap (map view) c.in_ok-append-in-Some.ensures.items ∙ map-append view own warnings,
-    )
+pub returns-in-Some : goal.returns-in-Some
+returns-in-Some c =
+    let shown = c.args.shown.now in
+    let Are : Option Workspace → Type 0 = λ w. IfOk c.diagnose_with.result (λ values. DiagnosesTextIn (known_of w) shown.encoding c.args.language.now shown.lines.text.now (map view values.items)) in
+    subst Are (sym c.in-Some.is) c.diagnose_with.ensures
 
 pub returns-in-None : goal.returns-in-None
 returns-in-None c =
-    let own = c.in_ok-values.values.items in
-    rw c.in-None.is (map view own, [], c.in_ok-values.ensures, refl, sym (append-nil (map view own)))
+    let shown = c.args.shown.now in
+    let language = c.args.language.now in
+    let text = shown.lines.text.now in
+    let Are : Option Workspace → Type 0 = λ w. IfOk c.diagnose_text.result (λ values. DiagnosesTextIn (known_of w) shown.encoding language text (map view values.items)) in
+    subst Are (sym c.in-None.is)
+    (IfOk-weaker c.diagnose_text.result _ (λ values. DiagnosesTextIn None shown.encoding language text (map view values.items))
+    (λ values are. (map view values.items, [], are, refl, sym (append-nil (map view values.items))))
+    c.diagnose_text.ensures)
