@@ -1,0 +1,16 @@
+pub mod Alike
+pub mod Capped
+pub mod Cuts
+pub mod Ends
+pub mod Exhaustion
+pub mod Expansions
+pub mod Fitting
+pub mod Growth
+pub mod Lists
+pub mod Marking
+pub mod Remembering
+pub mod Rows
+pub mod Sequences
+pub mod Sets
+pub mod Spelling
+pub mod TokenTexts

@@ -1,0 +1,163 @@
+use Rattle.std.proofs.Common.{◌≡◌, ℕ, ◌^◌, ◌<◌, ◌≤◌, ◌≢◌, sym, ◌∙◌, ap, subst, List, length, get_or, take, arith, Option}
+use Rattle.std.specs.Borrow.{Bor}
+use Rattle.std.specs.List.{All, Any}
+use Rattle.std.specs.Prelude.{IfNone}
+use Rattle.std.specs.Str.{chars}
+use Rattle.filterset_texts.specs.declared.searching.Found.TheVariants.{Nothing, Stopped}
+use Rattle.std.proofs.lemmas.List.{take_all}
+use Rattle.std.specs.declared.alloc.Global.{Global}
+use Rattle.std.specs.declared.string.String.{String}
+use Rattle.filterset_texts.specs.declared.letters.Letter.{Letter}
+use Rattle.filterset_texts.specs.declared.part.Part.{Part}
+use Rattle.filterset_texts.specs.declared.states.State.{State}
+use Rattle.filterset_texts.specs.Letters.{AreLetters}
+use Rattle.filterset_texts.specs.Parts.{Meets, all_place_count}
+use Rattle.filterset_texts.specs.Places.{BeginsAnew, LeadsTo, places_of, row_of}
+use Rattle.filterset_texts.specs.Searching.{AreStates, ExceedsLimit, HasNext, IsRight}
+use Rattle.filterset_texts.proofs.Ends.{begins_places, length-places_of}
+use Rattle.filterset_texts.proofs.Exhaustion.{IsExplored, IsSearched, all_reached, explored_more, none_meets}
+use Rattle.filterset_texts.proofs.Sets.{all_sets, apart_states, few_states}
+use Rattle.filterset_texts.proofs.searching.find_text.Goals as goal
+use Rattle.filterset_texts.proofs.searching.find_text.Goals.{then-len-limit, else-len-limit}
+
+pub returns-then-index-len-clause-found : goal.returns-then-index-len-clause-found
+returns-then-index-len-clause-found c =
+    let row = row_of c.in_ok-places.places.items in
+    let letters = c.in_ok-letters.letters.items in
+    let states = c.loop-count.states.list.items in
+    let searched = c.loop-count.invariant.searched in
+    let are : AreLetters row letters = subst (λ (p : List (Option (Bor Part))). AreLetters (row_of p) letters) c.deref.ensures.value c.in_ok-letters.ensures in
+    let count : c.loop-count.count ≡ length states = c.if-index-len.true ∙ c.len.ensures ∙ c.loop-count.states.list.ok.0 in
+    let whole : take c.loop-count.count states ≡ states = take_all c.loop-count.count states (omega (arith, count)) in
+    none_meets row c.args.conditions.now letters states are
+    (subst (All (IsExplored row c.args.conditions.now letters states)) whole searched.explored) searched.are.start
+
+pub returns-then-index-len-clause-within_sets : goal.returns-then-index-len-clause-within_sets
+returns-then-index-len-clause-within_sets c =
+    let row = row_of c.in_ok-places.places.items in
+    let bound = few_states row c.loop-count.states.list.items c.loop-count.invariant.searched.are in
+    let size : length row ≡ all_place_count c.args.conditions.now = ap length c.in_ok-places.ensures ∙ length-places_of c.args.conditions.now in
+    let most : length c.loop-count.states.list.items ≤ 2 ^ all_place_count c.args.conditions.now = subst (λ n. length c.loop-count.states.list.items ≤ 2 ^ n) size bound in
+    omega (arith, most, c.loop-count.invariant.searched.within)
+
+pub returns-in-Some-clause-within_sets : goal.returns-in-Some-clause-within_sets
+returns-in-Some-clause-within_sets c =
+    let row = row_of c.in_ok-places.places.items in
+    let bound = few_states row c.loop-count.states.list.items c.loop-count.invariant.searched.are in
+    let size : length row ≡ all_place_count c.args.conditions.now = ap length c.in_ok-places.ensures ∙ length-places_of c.args.conditions.now in
+    let most : length c.loop-count.states.list.items ≤ 2 ^ all_place_count c.args.conditions.now = subst (λ n. length c.loop-count.states.list.items ≤ 2 ^ n) size bound in
+    let len : c.len.result ≡ length c.loop-count.states.list.items = c.len.ensures ∙ c.loop-count.states.list.ok.0 in
+    let other : c.loop-count.count ≢ length c.loop-count.states.list.items = λ same. c.if-index-len.false (same ∙ sym len) in
+    omega (arith, most, c.loop-count.invariant.searched.within, other)
+
+pub add_following-requires-clause-begins : goal.add_following-requires-clause-begins
+add_following-requires-clause-begins c =
+    subst BeginsAnew (sym (ap row_of c.deref-in-loop-count-2.ensures.value ∙ c.in_ok-places.ensures)) (begins_places c.args.conditions.now)
+
+pub loop-count-preserved : goal.loop-count-preserved
+loop-count-preserved c =
+    let row = row_of c.in_ok-places.places.items in
+    let conditions = c.args.conditions.now in
+    let letters : List Letter = c.in_ok-letters.letters.items in
+    let states : List State = c.loop-count.states.list.items in
+    let new : List State = c.add_following.new.states.list.items in
+    let count = c.loop-count.count in
+    let len : c.len.result ≡ length states = c.len.ensures ∙ c.loop-count.states.list.ok.0 in
+    let other : count ≢ length states = λ same. c.if-index-len.false (same ∙ sym len) in
+    let searched : IsSearched row conditions letters states count = c.loop-count.invariant.searched in
+    let short : count < length states = omega (arith, other, searched.within) in
+    let rows : row_of c.deref-in-loop-count-2.result.now ≡ row = ap row_of c.deref-in-loop-count-2.ensures.value in
+    let are : AreStates row new = subst (λ (r : List (Option Part)). AreStates r new) rows c.in_ok-add_following.ensures.states in
+    let (more, grown) = c.in_ok-add_following.ensures.kept in
+    let unmet : (state : State) (text : List ℕ) → LeadsTo (places_of conditions) text (get_or c.deref-in-loop-count.result.now count state).marks.items → Meets text conditions → ⊥ =
+    subst (λ (o : Option (String Global)). IfNone o ((state : State) (text : List ℕ)
+    → LeadsTo (places_of conditions) text (get_or c.deref-in-loop-count.result.now count state).marks.items → Meets text conditions → ⊥)) c.in_default.is c.in_ok-meeting.ensures.unmet in
+    let next : (state : State) → All (HasNext (row_of c.deref-in-loop-count-2.result.now) new (get_or states count state).marks.items) c.deref-in-loop-count-3.result.now = c.in_ok-add_following.ensures.next in
+    record {
+      searched = explored_more row conditions letters states new more count short grown are
+          (λ state text leads.
+          let there = subst (λ (r : List (Option Part)). LeadsTo r text (get_or states count state).marks.items) c.in_ok-places.ensures leads in
+          unmet state text (subst (λ (l : List State). LeadsTo (places_of conditions) text (get_or l count state).marks.items) (sym c.deref-in-loop-count.ensures.value) there))
+          (λ state. subst (λ (r : List (Option Part)). All (HasNext r new (get_or states count state).marks.items) letters) rows
+          (subst (All (HasNext (row_of c.deref-in-loop-count-2.result.now) new (get_or states count state).marks.items)) c.deref-in-loop-count-3.ensures.value (next state)))
+          searched;
+      seen = c.in_ok-add_following.ensures.seen;
+    }
+
+pub returns-clause-within_sets : goal.returns-clause-within_sets
+returns-clause-within_sets c =
+    let row = row_of c.in_ok-places.places.items in
+    let bound = few_states row c.loop-count.states.list.items c.loop-count.invariant.searched.are in
+    let size : length row ≡ all_place_count c.args.conditions.now = ap length c.in_ok-places.ensures ∙ length-places_of c.args.conditions.now in
+    let most : length c.loop-count.states.list.items ≤ 2 ^ all_place_count c.args.conditions.now = subst (λ n. length c.loop-count.states.list.items ≤ 2 ^ n) size bound in
+    omega (arith, most, c.loop-count.invariant.searched.within, c.loop-count-test.false)
+
+pub returns-clause-found : goal.returns-clause-found
+returns-clause-found c =
+    let row = row_of c.in_ok-places.places.items in
+    let conditions = c.args.conditions.now in
+    let letters : List Letter = c.in_ok-letters.letters.items in
+    let states : List State = c.loop-count.states.list.items in
+    let count = c.loop-count.count in
+    let searched : IsSearched row conditions letters states count = c.loop-count.invariant.searched in
+    let bound = few_states row states searched.are in
+    let size : length row ≡ all_place_count conditions = ap length c.in_ok-places.ensures ∙ length-places_of conditions in
+    let most : length states ≤ 2 ^ all_place_count conditions = subst (λ n. length states ≤ 2 ^ n) size bound in
+    let are : AreLetters row letters = subst (λ (p : List (Option (Bor Part))). AreLetters (row_of p) letters) c.deref.ensures.value c.in_ok-letters.ensures in
+    let len : c.len-2.result ≡ length states = c.len-2.ensures ∙ c.loop-count.states.list.ok.0 in
+    elim c.if-len-limit.branch [
+      | then-len-limit w ↦
+          let all : length states ≤ count = omega (arith, len, w.if-len-limit.true, c.loop-count-test.false) in
+          let whole : take count states ≡ states = take_all count states all in
+          subst (IsRight conditions c.args.limit) (sym w.found-is)
+          (none_meets row conditions letters states are (subst (All (IsExplored row conditions letters states)) whole searched.explored) searched.are.start)
+      | else-len-limit w ↦
+          let other : length states ≢ c.args.limit = λ same. w.if-len-limit.false (len ∙ same) in
+          let apart : ExceedsLimit conditions c.args.limit =
+          apart_states conditions states c.args.limit (subst (λ (r : List (Option Part)). AreStates r states) c.in_ok-places.ensures searched.are)
+          (omega (arith, searched.within, c.loop-count-test.false, other)) in
+          let less : c.args.limit < 2 ^ all_place_count conditions = omega (arith, most, searched.within, c.loop-count-test.false, other) in
+          subst (IsRight conditions c.args.limit) (sym w.found-is) (less, apart)
+    ]
+
+pub returns-then-index-len-clause-some : goal.returns-then-index-len-clause-some
+returns-then-index-len-clause-some c = λ positive.
+    let (k, state, short, is, leads) = c.loop-count.invariant.searched.are.start in
+    let len : c.len.result ≡ length c.loop-count.states.list.items = c.len.ensures ∙ c.loop-count.states.list.ok.0 in
+    omega (arith, short, len, c.if-index-len.true)
+
+pub returns-then-index-len-clause-all : goal.returns-then-index-len-clause-all
+returns-then-index-len-clause-all c = λ nothing.
+    let row = row_of c.in_ok-places.places.items in
+    let conditions = c.args.conditions.now in
+    let letters : List Letter = c.in_ok-letters.letters.items in
+    let states : List State = c.loop-count.states.list.items in
+    let count = c.loop-count.count in
+    let searched : IsSearched row conditions letters states count = c.loop-count.invariant.searched in
+    let are : AreLetters row letters = subst (λ (p : List (Option (Bor Part))). AreLetters (row_of p) letters) c.deref.ensures.value c.in_ok-letters.ensures in
+    let len : count ≡ length states = c.if-index-len.true ∙ c.len.ensures ∙ c.loop-count.states.list.ok.0 in
+    let whole : take count states ≡ states = take_all count states (omega (arith, len)) in
+    let explored = subst (All (IsExplored row conditions letters states)) whole searched.explored in
+    all_sets conditions states count (subst (λ (r : List (Option Part)). AreStates r states) c.in_ok-places.ensures searched.are) (sym len)
+    (λ text utf8. subst (λ (r : List (Option Part)). Any (λ (s : State). LeadsTo r (chars text) s.marks.items) states) c.in_ok-places.ensures
+    (all_reached row conditions letters states are explored searched.are.start text utf8))
+
+pub returns-clause-all : goal.returns-clause-all
+returns-clause-all c = λ nothing.
+    let row = row_of c.in_ok-places.places.items in
+    let conditions = c.args.conditions.now in
+    let letters : List Letter = c.in_ok-letters.letters.items in
+    let states : List State = c.loop-count.states.list.items in
+    let count = c.loop-count.count in
+    let searched : IsSearched row conditions letters states count = c.loop-count.invariant.searched in
+    let are : AreLetters row letters = subst (λ (p : List (Option (Bor Part))). AreLetters (row_of p) letters) c.deref.ensures.value c.in_ok-letters.ensures in
+    let len : c.len-2.result ≡ length states = c.len-2.ensures ∙ c.loop-count.states.list.ok.0 in
+    let at_limit : length states ≡ c.args.limit = elim c.if-len-limit.branch [
+      | then-len-limit w ↦ sym len ∙ w.if-len-limit.true
+      | else-len-limit w ↦ absurd (let clash : Stopped ≡ Nothing = sym w.found-is ∙ nothing in cc)
+    ] in
+    let whole : take count states ≡ states = take_all count states (omega (arith, at_limit, c.loop-count-test.false)) in
+    let explored = subst (All (IsExplored row conditions letters states)) whole searched.explored in
+    all_sets conditions states c.args.limit (subst (λ (r : List (Option Part)). AreStates r states) c.in_ok-places.ensures searched.are) at_limit
+    (λ text utf8. subst (λ (r : List (Option Part)). Any (λ (s : State). LeadsTo r (chars text) s.marks.items) states) c.in_ok-places.ensures
+    (all_reached row conditions letters states are explored searched.are.start text utf8))

@@ -1,0 +1,11 @@
+use Rattle.std.proofs.Common.{sym, subst, ◌∙◌, List}
+use Rattle.filterset_texts.specs.declared.states.State.{State}
+use Rattle.filterset_texts.specs.Searching.{AreSeen}
+use Rattle.filterset_texts.proofs.Remembering.{seen_more}
+use Rattle.filterset_texts.proofs.states.add_state.Goals as goal
+
+pub returns-clause-seen : goal.returns-clause-seen
+returns-clause-seen c =
+    let state : State = c.args.state in
+    subst (λ (list : List State). AreSeen list c.insert.new.self) (sym c.in_ok-push.ensures.items)
+    (seen_more c.args.states.now.list.items state c.args.states.now.seen c.insert.new.self c.in_ok-copy.field-0 (c.in_ok-copy.ensures ∙ c.deref.ensures.value) c.requires c.in_ok-insert.ensures.updates)

@@ -1,0 +1,3 @@
+//! Tables of matchers and of conditions, worked by hand.
+mod expanding;
+mod searching;
