@@ -1,6 +1,6 @@
 -- What is chosen for a name, as an outcome; and which of the texts an iteration has.
 use Rattle.std.proofs.Common.{◌≡◌, ◌∙◌, ◌<◌, ℕ, List, None, Option, Some, ap, get_or, length, map, subst, sym}
-use Rattle.std.specs.Prelude.{MatchOption}
+use Rattle.std.specs.Prelude.{IsSomeAnd, MatchOption}
 use Rattle.std.specs.List.{Contains}
 use Rattle.std.proofs.lemmas.List.{get_or-map, length-map}
 use Rattle.filterset_answers.specs.Checked.{TextRow}
@@ -30,3 +30,8 @@ at_some o a P Q is q = subst (λ v. MatchOption v P Q) (sym is) q
 
 pub at_none : {A : Type 0} (o : Option A) (P : Type 0) (Q : A → Type 0) → o ≡ None → P → MatchOption o P Q
 at_none o P Q is p = subst (λ v. MatchOption v P Q) (sym is) p
+
+-- what is so of a value is what follows
+pub some_and_weaker : {A : Type 0} (o : Option A) (P Q : A → Type 0) → ((a : A) → P a → Q a) → IsSomeAnd o P → IsSomeAnd o Q
+some_and_weaker (Some a) P Q f p = f a p
+some_and_weaker None P Q f p = absurd p

@@ -1,8 +1,9 @@
 -- What `same`, `cover`, `disjoint` and `partition` answer.
-use Rattle.std.specs.Prelude.{◌≡◌, ◌≢◌, ◌⊎◌, ◌++◌, List, [], ◌∷◌, Option, Some, None, Result, Ok, Err, Contains, IsSomeAnd, MatchOption, codes, flat_map, map, string_bytes, unwrap_or}
+use Rattle.std.specs.Prelude.{◌≡◌, ◌≢◌, ◌⊎◌, ◌++◌, List, [], ◌∷◌, Option, Some, None, Result, Ok, Err, Contains, IfSome, IsSomeAnd, MatchOption, codes, flat_map, map, string_bytes, unwrap_or}
 use Rattle.std.specs.Borrow.{Bor}
 use Rattle.std.specs.List.{AllZip}
 use Rattle.std.specs.declared.io.Error.{Error}
+use Rattle.serde_json.specs.Data.{Data}
 use Rattle.filterset_answers.specs.Checked.{TextRow, text_row}
 use Rattle.filterset_answers.specs.Endings.{AnswersUnknown}
 use Rattle.filterset_answers.specs.Entries.{default_row, numbered_rows, test_row}
@@ -19,6 +20,8 @@ use Rattle.filterset_profiles.specs.declared.defaults.DefaultFilter.{DefaultFilt
 use Rattle.filterset_profiles.specs.declared.profiles.Profile.{Profile}
 use Rattle.filterset_profiles.specs.declared.ranking.RankedOverride.{RankedOverride}
 use Rattle.filterset_sources.specs.Metadata.{RefusesMetadata}
+use Rattle.filterset_sources.specs.Platforms.{ArePlatforms}
+use Rattle.filterset_sources.specs.declared.list.Suite.{Suite}
 use Rattle.filterset_sources.specs.declared.platforms.BuildPlatforms.{BuildPlatforms}
 use Rattle.nextest_filtering.specs.Groups.{IsGlobalOnly}
 use Rattle.nextest_filtering.specs.declared.compile.context.KnownGroups.{KnownGroups}
@@ -28,7 +31,7 @@ use Rattle.filterset_command.specs.Asking.{chosen, given_row}
 use Rattle.filterset_command.specs.Checking.{KnownPackages}
 use Rattle.filterset_command.specs.Configurations.{AreKnown, AreProfilesIn, AreTextsOf, IsSettingsFault, LacksProfile, RefusesFile}
 use Rattle.filterset_command.specs.Files.{IsFileFault, content_of, name_of}
-use Rattle.filterset_command.specs.Workspaces.{RefusesValue}
+use Rattle.filterset_command.specs.Workspaces.{IsListIn, IsPlatformsFault, RefusesList, RefusesValue}
 use Rattle.filterset_command.specs.declared.deciding.DecisionRequest.{DecisionRequest}
 use Rattle.filterset_command.specs.declared.fault.CommandFault.{CommandFault}
 use Rattle.filterset_command.specs.declared.fault.FileRole.TheVariants as roles
@@ -57,16 +60,18 @@ abbrev pub request_rows : DecisionRequest → List TextRow
 request_rows request = test_row (codes "--within") (within_text request)
     ∷ numbered_rows (codes "argument") kinds.Test (map (λ t. t.now) request.texts.now)
 
--- the question of the request about these rows
-abbrev pub IsQuestionOf : DecisionRequest → List TextRow → TextQuestion → Type 0
-IsQuestionOf request rows asked =
-    (asked.question ≡ request.question) × (question_rows asked ≡ rows) × (asked.budget ≡ request.budget)
+-- the question of the request about these rows, and the test binaries of nextest's list
+abbrev pub IsQuestionOf : DecisionRequest → List Suite → List TextRow → TextQuestion → Type 0
+IsQuestionOf request suites rows asked = (asked.question ≡ request.question) × (question_rows asked ≡ rows)
+    × (asked.suites.now ≡ suites) × (asked.budget ≡ request.budget)
 
--- the answer to the question of the request about these rows, over these packages and groups, under this default filter
-abbrev pub AnswersRows : DecisionRequest → List PackageMetadata → KnownGroups → TextRow → List TextRow → Ending → Text → Type 0
-AnswersRows request packages groups default rows ending text = (setting : Setting) × (asked : TextQuestion)
+-- the answer to the question of the request about these rows, over these packages, test binaries and groups, under this
+-- default filter
+abbrev pub AnswersRows : DecisionRequest → List PackageMetadata → List Suite → KnownGroups → TextRow → List TextRow → Ending
+    → Text → Type 0
+AnswersRows request packages suites groups default rows ending text = (setting : Setting) × (asked : TextQuestion)
     × (setting.graph.now ≡ packages) × (setting.groups.now ≡ groups) × (text_row setting.default.now ≡ default)
-    × (setting.overrides.now ≡ []) × (setting.profiles.now ≡ []) × IsQuestionOf request rows asked
+    × (setting.overrides.now ≡ []) × (setting.profiles.now ≡ []) × IsQuestionOf request suites rows asked
     × AnswersQuestion request.form setting asked ending text
 
 -- ---- profiles by name
@@ -99,11 +104,12 @@ IsDefaultRow named profile None outcome = IsFilterOf named profile outcome
 IsDefaultRow named profile (Some row) outcome = ResolvesTo named row outcome
 
 -- under the default filters of profiles; or one that the question hangs on is not known, by the platform of this path
-abbrev pub AnswersNamed : DecisionRequest → List PackageMetadata → KnownGroups → Naming → Text → Ending → Text → Type 0
-AnswersNamed request packages groups named profile ending text =
+abbrev pub AnswersNamed : DecisionRequest → List PackageMetadata → List Suite → KnownGroups → Naming → Text → Ending → Text
+    → Type 0
+AnswersNamed request packages suites groups named profile ending text =
     ((default : TextRow) × (rows : List TextRow) × IsDefaultRow named profile (given_row request.default_filter) (Ok default)
     × AllZip (λ row own. ResolvesTo named row (Ok own)) (request_rows request) rows
-    × AnswersRows request packages groups default rows ending text)
+    × AnswersRows request packages suites groups default rows ending text)
     ⊎ ((path : Text) × (IsDefaultRow named profile (given_row request.default_filter) (Err path)
     ⊎ ((row : TextRow) × Contains (request_rows request) row × ResolvesTo named row (Err path)))
     × AnswersUnknown path ending text)
@@ -112,28 +118,42 @@ AnswersNamed request packages groups named profile ending text =
 abbrev pub nowhere : BuildPlatforms
 nowhere = record { host = None; target = None }
 
--- the profiles of the configuration, by the platforms that the files describe
-abbrev pub AnswersProfiles : (Text → Option Text) → Text → DecisionRequest → List PackageMetadata → ProfileRequest → Ending
-    → Text → Type 0
-AnswersProfiles content input request packages profile ending text =
+-- the profiles of the configuration, on platforms of which the list says so much, and the files the rest
+abbrev pub AnswersProfiles : (Text → Option Text) → Text → DecisionRequest → List PackageMetadata → List Suite
+    → ProfileRequest → BuildPlatforms → Ending → Text → Type 0
+AnswersProfiles content input request packages suites profile built ending text =
     (file : ProfilesFile) × (named : Naming)
     × AreProfilesIn (content_of content input profile.configuration.now) file
     × (named.profiles ≡ file.profiles.items)
-    × AreKnown content profile nowhere named.known
+    × AreKnown content profile built named.known
     × AreTextsOf (name_of roles.Configuration profile.configuration.now) (string_bytes file.text) file.filtersets.items file.places
     named.texts
-    × AnswersNamed request packages file.groups named profile.name.now ending text
+    × AnswersNamed request packages suites file.groups named profile.name.now ending text
 
 -- ---- what is answered
 
--- the answer to the question of the request: about the packages of the file, or none if there is no file; and under the
--- default filter that is given, or all tests, or under the profiles of a configuration
+-- the answer to the question of the request, about these packages and test binaries: under the default filter that is given,
+-- or all tests, or under the profiles of a configuration
+abbrev pub AnswersKnown : (Text → Option Text) → Text → DecisionRequest → List PackageMetadata → List Suite → BuildPlatforms
+    → Ending → Text → Type 0
+AnswersKnown content input request packages suites built ending text = MatchOption request.profile
+    ((groups : KnownGroups) × IsGlobalOnly groups × AnswersRows request packages suites groups
+    (unwrap_or (given_row request.default_filter) (default_row (codes "all()"))) (request_rows request) ending text)
+    (λ profile. AnswersProfiles content input request packages suites profile built ending text)
+
+-- about the test binaries of the list at this path, and if there is a profile, on the platforms of the list
+abbrev pub AnswersListed : (Text → Option Text) → Text → DecisionRequest → List PackageMetadata → Text → Ending → Text → Type 0
+AnswersListed content input request packages path ending text =
+    (list : Data) × (suites : List Suite) × (built : BuildPlatforms) × IsListIn (content path) packages list suites
+    × IfSome request.profile (λ _. ArePlatforms list built)
+    × AnswersKnown content input request packages suites built ending text
+
+-- about the packages of the file, or none if there is no file; and without a list about no test binaries
 abbrev pub AnswersDecision : (Text → Option Text) → Text → DecisionRequest → Ending → Text → Type 0
 AnswersDecision content input request ending text = (packages : List PackageMetadata)
-    × KnownPackages content request.metadata packages × MatchOption request.profile
-    ((groups : KnownGroups) × IsGlobalOnly groups × AnswersRows request packages groups
-    (unwrap_or (given_row request.default_filter) (default_row (codes "all()"))) (request_rows request) ending text)
-    (λ profile. AnswersProfiles content input request packages profile ending text)
+    × KnownPackages content request.metadata packages × MatchOption request.list
+    (AnswersKnown content input request packages [] nowhere ending text)
+    (λ path. AnswersListed content input request packages path.now ending text)
 
 -- the request names the profile
 abbrev pub NamesProfile : DecisionRequest → ProfileRequest → Text → Type 0
@@ -156,11 +176,22 @@ IsNamedFault content fails input request profile fault =
     ⊎ ((file : ProfilesFile) × AreProfilesIn (content_of content input profile.configuration.now) file
     × LacksNamed request profile file.profiles.items fault)
 
--- the file of the packages is not used, or the profiles are not
+-- the list at this path is not used; or its platforms are wrong, and there is a profile; or the profiles are not used
+abbrev pub IsListedFault : (Text → Option Text) → (Text → Error → Type 0) → Text → DecisionRequest → List PackageMetadata
+    → Text → CommandFault → Type 0
+IsListedFault content fails input request packages path fault =
+    IsFileFault content fails roles.List (RefusesValue (RefusesList packages)) path fault
+    ⊎ ((list : Data) × (suites : List Suite) × IsListIn (content path) packages list suites
+    × IsSomeAnd request.profile (λ profile. IsPlatformsFault path list fault
+    ⊎ IsNamedFault content fails input request profile fault))
+
+-- the file of the packages is not used, or the list is not, or the profiles are not
 abbrev pub IsDecisionFault : (Text → Option Text) → (Text → Error → Type 0) → Text → DecisionRequest → CommandFault → Type 0
 IsDecisionFault content fails input request fault = IsSomeAnd request.metadata
     (λ path. IsFileFault content fails roles.Metadata (RefusesValue RefusesMetadata) path.now fault)
-    ⊎ IsSomeAnd request.profile (λ profile. IsNamedFault content fails input request profile fault)
+    ⊎ ((packages : List PackageMetadata) × KnownPackages content request.metadata packages × MatchOption request.list
+    (IsSomeAnd request.profile (λ profile. IsNamedFault content fails input request profile fault))
+    (λ path. IsListedFault content fails input request packages path.now fault))
 
 -- ---- what only contracts of private functions cite
 

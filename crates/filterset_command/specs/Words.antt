@@ -167,7 +167,7 @@ IsAskedBy name found (Decide asked) =
     (name ≡ decision_name asked.question) × IsFormAsked found asked.form
     × (map (λ t. t.now) asked.texts.now ≡ values_of found (codes "filterset"))
     × IsOptionAsked found (codes "within") asked.within × IsOptionAsked found (codes "metadata") asked.metadata
-    × IsOptionAsked found (codes "default") asked.default_filter × IsProfileAsked found asked.profile
+    × IsOptionAsked found (codes "list") asked.list × IsOptionAsked found (codes "default") asked.default_filter × IsProfileAsked found asked.profile
     × IsBudgetAsked found asked.budget
 IsAskedBy name found (Show text) = ⊥
 

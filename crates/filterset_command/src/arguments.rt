@@ -352,6 +352,7 @@ fn question<'a>(
         .arg(config(alloc).help(
             "nextest's configuration, or `-` for standard input: `@ci` is the default filter of its profile `ci`",
         ))?;
+    let command = with_argument(command, nextest_list(alloc).requires_arg("metadata"))?;
     with_profile(alloc, command)?
         .arg(default_filter(alloc))?
         .arg(within(alloc))?

@@ -1,13 +1,16 @@
 //! The commands `same`, `cover`, `disjoint` and `partition`: questions about filtersets and every possible test.
-ghost use Rattle.std.specs.Prelude.{◌≡◌, ◌<◌, ◌∷◌, [], IfErr, IfOk, codes, length, map, string_bytes, unwrap_or};
+ghost use Rattle.std.specs.Prelude.{◌≡◌, ◌<◌, ◌∷◌, [], IfErr, IfOk, IfSome, IsSomeAnd, codes, length, map, string_bytes, unwrap_or};
+ghost use Rattle.serde_json.specs.View.{view};
 ghost use Rattle.filterset_answers.specs.Checked.{text_row};
 ghost use Rattle.filterset_answers.specs.Entries.{default_row};
 ghost use Rattle.filterset_faults.specs.declared.kind.FiltersetKind.TheVariants as kinds;
+ghost use Rattle.filterset_sources.specs.Platforms.{ArePlatforms};
 ghost use Rattle.nextest_filtering.specs.Groups.{IsGlobalOnly, IsKnown};
 ghost use Rattle.nextest_filtering.specs.declared.compile.context.KnownGroups as contexts;
 ghost use Rattle.filterset_command.specs.Asking.{given_row};
-ghost use Rattle.filterset_command.specs.Deciding.{AnswersProfiles, AnswersDecision, AnswersNamed, AnswersRows, IsDecisionFault, IsDefaultKind, IsDefaultRow, IsNamedFault, LacksNamed, naming_of, nowhere, outcome_of, request_rows, within_text};
+ghost use Rattle.filterset_command.specs.Deciding.{AnswersDecision, AnswersKnown, AnswersListed, AnswersNamed, AnswersProfiles, AnswersRows, IsDecisionFault, IsDefaultKind, IsDefaultRow, IsListedFault, IsNamedFault, LacksNamed, naming_of, nowhere, outcome_of, request_rows, within_text};
 ghost use Rattle.filterset_command.specs.Files.{OrMemory};
+ghost use Rattle.filterset_command.specs.Workspaces.{IsPlatformsFault};
 
 use crate::checking::known_packages;
 use crate::configuration::configured_texts;
@@ -18,6 +21,7 @@ use crate::profile::{
     KnownPlatforms, ProfileRequest, ProfilesFile, read_facts, read_profiles_file,
 };
 use crate::profiled::ChosenFilter;
+use crate::workspace::{platforms_of, read_list};
 use filterset_answers::{
     Answer, ConfiguredTexts, Form, Setting, TextEntry, answer_unknown, default_entry, entry_of,
     given_entries,
@@ -26,9 +30,10 @@ use filterset_deciding::Question;
 use filterset_drawing::Source;
 use filterset_graph::PackageGraph;
 use filterset_profiles::Profile;
-use filterset_sources::BuildPlatforms;
+use filterset_sources::{BuildPlatforms, Suite};
 use filterset_verdicts::{TextQuestion, answer_texts};
 use nextest_filtering::{FiltersetKind, KnownGroups};
+use serde_json::Value;
 use std::alloc::{AllocError, Global};
 
 /// A question about filtersets and every possible test.
@@ -42,12 +47,21 @@ pub struct DecisionRequest<'w> {
     pub within: Option<&'w str>,
     /// What `cargo metadata` wrote.
     pub metadata: Option<&'w str>,
+    /// What `cargo nextest list` wrote. If the answer is no for one of its tests, that is shown.
+    pub list: Option<&'w str>,
     /// The filterset that is the value of `default()`, in place of that of the profile.
     pub default_filter: Option<&'w str>,
     /// The configuration whose profiles texts such as `@ci` name, and the profile for `default()`.
     pub profile: Option<ProfileRequest<'w>>,
     /// How many steps the search may take.
     pub budget: u64,
+}
+
+/// What is known of a workspace: its packages, and the test binaries of nextest's list.
+#[derive(Clone, Copy)]
+struct KnownWorkspace<'k> {
+    graph: &'k PackageGraph,
+    suites: &'k [Suite],
 }
 
 /// Returns the filterset of the tests that the question is about: the given one, or else that of all tests of the workspace,
@@ -96,11 +110,11 @@ fn plain_setting<'s>(
     }
 }
 
-/// Answers the question of a request about these entries, over these packages and groups and under this default filter.
+/// Answers the question of a request about these entries, for this workspace and these groups and under this default filter.
 fn decide_entries(
     alloc: Global,
     request: &DecisionRequest<'_>,
-    graph: &PackageGraph,
+    workspace: KnownWorkspace<'_>,
     groups: &KnownGroups,
     default: &TextEntry<'_>,
     entries: &[TextEntry<'_>],
@@ -108,13 +122,14 @@ fn decide_entries(
     requires some { 0 < length entries.now }
     requires kind { default.now.kind ≡ kinds.DefaultFilter }
     requires groups { IsKnown groups.now }
-    ensures { IfOk result (λ answer. AnswersRows request.now graph.now groups.now (text_row default.now)
+    ensures { IfOk result (λ answer. AnswersRows request.now workspace.entry.graph.now workspace.entry.suites.now groups.now (text_row default.now)
         (map text_row entries.now) answer.ending (string_bytes answer.text)) }
 {
-    let setting = plain_setting(graph, groups, default);
+    let setting = plain_setting(workspace.graph, groups, default);
     let asked = TextQuestion {
         question: request.question,
         entries,
+        suites: workspace.suites,
         budget: request.budget,
     };
     answer_texts(alloc, request.form, &setting, &asked)
@@ -134,17 +149,17 @@ fn default_text<'w>(request: &DecisionRequest<'w>) -> &'w str
 fn decide_plainly(
     alloc: Global,
     request: &DecisionRequest<'_>,
-    graph: &PackageGraph,
+    workspace: KnownWorkspace<'_>,
     entries: &[TextEntry<'_>],
 ) -> Result<Answer, AllocError>
     requires some { 0 < length entries.now }
     ensures { IfOk result (λ answer. (groups : contexts.KnownGroups) × IsGlobalOnly groups
-        × AnswersRows request.now graph.now groups (unwrap_or (given_row request.now.default_filter) (default_row (codes "all()")))
+        × AnswersRows request.now workspace.entry.graph.now workspace.entry.suites.now groups (unwrap_or (given_row request.now.default_filter) (default_row (codes "all()")))
         (map text_row entries.now) answer.ending (string_bytes answer.text)) }
 {
     let groups = KnownGroups::global_only(alloc);
     let default = default_entry(alloc, default_text(request))?;
-    decide_entries(alloc, request, graph, &groups, &default, entries)
+    decide_entries(alloc, request, workspace, &groups, &default, entries)
 }
 
 /// Returns the default filter under profiles: the given one, or else that of the profile.
@@ -175,7 +190,7 @@ fn default_of<'p>(
 fn decide_named<'p>(
     alloc: Global,
     request: DecisionRequest<'p>,
-    graph: &PackageGraph,
+    workspace: KnownWorkspace<'_>,
     groups: &KnownGroups,
     profile: &ProfileRequest<'_>,
     profiles: &'p [Profile],
@@ -185,7 +200,7 @@ fn decide_named<'p>(
 ) -> Result<Answer, CommandFault>
     requires groups { IsKnown groups.now }
     requires rows { map text_row entries.items ≡ request_rows request }
-    ensures answered { IfOk result (λ answer. AnswersNamed request.entry graph.now groups.now
+    ensures answered { IfOk result (λ answer. AnswersNamed request.entry workspace.entry.graph.now workspace.entry.suites.now groups.now
         (naming_of profiles.entry.now known.now texts.entry) profile.now.name.now answer.ending (string_bytes answer.text)) }
     ensures missing { IfErr result (OrMemory (LacksNamed request.entry profile.now profiles.entry.now)) }
 {
@@ -197,7 +212,7 @@ fn decide_named<'p>(
     match resolve_entries(alloc, path, profiles, known, texts, entries)? {
         ResolvedEntries::Entries(entries) => {
             let entries = entries.as_slice();
-            Ok(decide_entries(alloc, &request, graph, groups, &default, entries)?)
+            Ok(decide_entries(alloc, &request, workspace, groups, &default, entries)?)
         }
         ResolvedEntries::Unknown(path) => Ok(answer_unknown(alloc, path.as_str())?),
     }
@@ -213,19 +228,21 @@ fn nowhere() -> BuildPlatforms
     }
 }
 
-/// Answers under the profiles of a configuration. Standard input has the text `input`, if that is the configuration.
+/// Answers under the profiles of a configuration, on these platforms. Standard input has the text `input`, if that is the
+/// configuration.
 fn decide_configured<F: FileSource>(
     alloc: Global,
     files: &F,
     input: &str,
     request: &DecisionRequest<'_>,
-    graph: &PackageGraph,
+    workspace: KnownWorkspace<'_>,
     profile: &ProfileRequest<'_>,
+    built: BuildPlatforms,
     entries: Vec<TextEntry<'_>>,
 ) -> Result<Answer, CommandFault>
     requires { map text_row entries.items ≡ request_rows request.now }
-    ensures answered { IfOk result (λ answer. AnswersProfiles (F.content files.now) input.now request.now graph.now profile.now
-        answer.ending (string_bytes answer.text)) }
+    ensures answered { IfOk result (λ answer. AnswersProfiles (F.content files.now) input.now request.now
+        workspace.entry.graph.now workspace.entry.suites.now profile.now built answer.ending (string_bytes answer.text)) }
     ensures refused { IfErr result (OrMemory
         (IsNamedFault (F.content files.now) (F.fails files.now) input.now request.now profile.now)) }
 {
@@ -236,14 +253,78 @@ fn decide_configured<F: FileSource>(
         groups,
         profiles,
     } = read_profiles_file(alloc, files, input, profile.configuration)?;
-    let known = read_facts(alloc, files, profile, nowhere())?;
+    let known = read_facts(alloc, files, profile, built)?;
     let name = FileRole::Configuration.name_of(profile.configuration);
     let source = Source::new(alloc, name, text.as_str())?;
     let texts = configured_texts(&source, filtersets.as_slice(), &places);
     let profiles = profiles.as_slice();
     decide_named(
-        alloc, *request, graph, &groups, profile, profiles, &known, texts, entries,
+        alloc, *request, workspace, &groups, profile, profiles, &known, texts, entries,
     )
+}
+
+/// Answers for a workspace, under profiles on these platforms or without one. Standard input has the text `input`, if that is
+/// the configuration.
+fn decide_known<F: FileSource>(
+    alloc: Global,
+    files: &F,
+    input: &str,
+    request: &DecisionRequest<'_>,
+    workspace: KnownWorkspace<'_>,
+    built: BuildPlatforms,
+) -> Result<Answer, CommandFault>
+    ensures answered { IfOk result (λ answer. AnswersKnown (F.content files.now) input.now request.now
+        workspace.entry.graph.now workspace.entry.suites.now built answer.ending (string_bytes answer.text)) }
+    ensures refused { IfErr result (OrMemory (λ fault. IsSomeAnd request.now.profile
+        (λ profile. IsNamedFault (F.content files.now) (F.fails files.now) input.now request.now profile fault))) }
+{
+    let entries = request_entries(alloc, request)?;
+    match &request.profile {
+        None => Ok(decide_plainly(alloc, request, workspace, entries.as_slice())?),
+        Some(profile) => decide_configured(
+            alloc, files, input, request, workspace, profile, built, entries,
+        ),
+    }
+}
+
+/// Reads the platforms of the build in nextest's list, the file at this path with this JSON value, if there is a profile.
+fn platforms_for(
+    alloc: Global,
+    request: &DecisionRequest<'_>,
+    path: &str,
+    list: &Value,
+) -> Result<BuildPlatforms, CommandFault>
+    ensures read { IfOk result (λ built. IfSome request.now.profile (λ _. ArePlatforms (view list.now) built)) }
+    ensures refused { IfErr result (OrMemory (λ fault. IsSomeAnd request.now.profile
+        (λ _. IsPlatformsFault path.now (view list.now) fault))) }
+{
+    match request.profile {
+        Some(_) => platforms_of(alloc, path, list),
+        None => Ok(nowhere()),
+    }
+}
+
+/// Answers for the packages of a workspace, and nextest's list at this path.
+fn decide_listed<F: FileSource>(
+    alloc: Global,
+    files: &F,
+    input: &str,
+    request: &DecisionRequest<'_>,
+    graph: &PackageGraph,
+    path: &str,
+) -> Result<Answer, CommandFault>
+    ensures answered { IfOk result (λ answer. AnswersListed (F.content files.now) input.now request.now graph.now path.now
+        answer.ending (string_bytes answer.text)) }
+    ensures refused { IfErr result (OrMemory
+        (IsListedFault (F.content files.now) (F.fails files.now) input.now request.now graph.now path.now)) }
+{
+    let (list, value) = read_list(alloc, files, path, graph)?;
+    let built = platforms_for(alloc, request, path, &value)?;
+    let workspace = KnownWorkspace {
+        graph,
+        suites: list.suites.as_slice(),
+    };
+    decide_known(alloc, files, input, request, workspace, built)
 }
 
 /// Answers a question about filtersets and every possible test. Standard input has the text `input`, if that is the
@@ -260,11 +341,14 @@ pub fn decide_given<F: FileSource>(
         (IsDecisionFault (F.content files.now) (F.fails files.now) input.now request.now)) }
 {
     let graph = known_packages(alloc, files, request.metadata)?;
-    let entries = request_entries(alloc, request)?;
-    match &request.profile {
-        None => Ok(decide_plainly(alloc, request, &graph, entries.as_slice())?),
-        Some(profile) => {
-            decide_configured(alloc, files, input, request, &graph, profile, entries)
+    match request.list {
+        Some(path) => decide_listed(alloc, files, input, request, &graph, path),
+        None => {
+            let workspace = KnownWorkspace {
+                graph: &graph,
+                suites: &[],
+            };
+            decide_known(alloc, files, input, request, workspace, nowhere())
         }
     }
 }

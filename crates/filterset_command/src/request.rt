@@ -305,6 +305,7 @@ fn decision_of<'m>(
         texts: matches.get_strs("filterset").unwrap_or(&[]),
         within: matches.get_str("within"),
         metadata: matches.get_str("metadata"),
+        list: matches.get_str("list"),
         default_filter: matches.get_str("default"),
         profile: profile_of(matches)?,
         budget: budget_of(matches)?,

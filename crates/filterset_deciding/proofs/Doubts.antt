@@ -7,7 +7,8 @@ use Rattle.std.proofs.lemmas.List.Concat.{flat_map-cons}
 use Rattle.filterset_expression.specs.Expression.{CompiledLeaf}
 use Rattle.filterset_expression.specs.FlatSteps.{Step, Push, Negate, Combine, postfix, step_of}
 use Rattle.filterset_expression.specs.Formula.{Formula, Leaf, Negation, Compound, leaves}
-use Rattle.filterset_deciding.specs.Demands.{IsDemandedBy, IsDoubtAbout, IsDoubtIn, IsOfLeaf}
+use Rattle.filterset_deciding.specs.Candidates.{HasOpen}
+use Rattle.filterset_deciding.specs.Demands.{HasUncompared, IsDemandedBy, IsDoubtAbout, IsDoubtIn, IsOfLeaf}
 use Rattle.filterset_deciding.specs.Known.{steps_in}
 use Rattle.filterset_deciding.specs.Searching.{all_steps, pushed}
 use Rattle.filterset_deciding.specs.declared.demand.Demand.{Demand}
@@ -100,3 +101,16 @@ kept_doubt formulas steps doubt kept made same some is =
     let one = of_each (In doubt.field) doubt.demands.items demand is has in
     (one.0, contains_leaf formulas steps one.0 made one.1, subst (λ f. IsOfLeaf f demand one.0) (sym same) one.2))
     some
+
+each_own : {A : Type 0} (xs : List A) → AllByRecursion (Contains xs) xs
+each_own [] = tt
+each_own (x ∷ xs) = (contains_first x xs, each_weaker (Contains xs) (Contains (x ∷ xs)) xs (λ y h. contains_later y x xs h) (each_own xs))
+
+-- an open doubt about the steps of filtersets is one about their leaves
+pub open_leaves : (formulas : List (Formula CompiledLeaf)) (steps : List (Step CompiledLeaf)) → steps ≡ all_steps formulas
+    → HasOpen steps → HasUncompared (flat_map leaves formulas)
+open_leaves formulas steps made (doubt, is) = (
+  doubt,
+  kept_doubt formulas steps doubt doubt made refl (each_own doubt.demands.items) is.about,
+  is.not_compared,
+)

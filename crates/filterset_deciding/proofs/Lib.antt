@@ -9,3 +9,4 @@ pub mod Parts
 pub mod Waits
 pub mod Sizes
 pub mod Refusing
+pub mod Asking

@@ -12,7 +12,7 @@ use Rattle.std.proofs.lemmas.Grind.{flat_map-append}
 use Rattle.filterset_matchers.specs.Equality.{Compared, Equal, Contains as Contains', Glob, Regex, compared}
 use Rattle.filterset_matchers.specs.Matcher as matcher
 use Rattle.filterset_matchers.specs.Matcher.{ByComparing, Matcher, MatchesName}
-use Rattle.filterset_deciding.specs.Texts.{AreComparisons, AreSimple, IsAmong, IsEqual, IsFreeOf, IsMetBy, IsSimple, Meets, NoneEqual, joined, matcher_in, part, part_of}
+use Rattle.filterset_deciding.specs.Texts.{AreComparisons, AreSimple, HasUnsearched, IsAmong, IsEqual, IsFreeOf, IsMetBy, IsSimple, IsUnsearched, Meets, NoneEqual, joined, matcher_in, part, part_of}
 use Rattle.filterset_deciding.specs.declared.demand.Demand.{Demand}
 use Rattle.filterset_deciding.proofs.Agreeing.{take_one}
 use Rattle.filterset_deciding.proofs.Doubts.{contains_first, contains_later, each_weaker, of_each}
@@ -226,6 +226,26 @@ among_comparisons kept all among are = record {
     each_weaker (IsAmong kept) (λ d. d.is_matched ≡ false → IsFreeOf are.free.0 (matcher_in d)) all (λ d is. among_free are.free.0 kept d are.free.3 is) among,
   );
 }
+
+-- whether a matcher is searched depends on what is compared of it
+abbrev IsUnsearchedIn : Compared → Type 0
+IsUnsearchedIn (Equal value implicit) = IsUnsearched (matcher.Equal value implicit)
+IsUnsearchedIn (Contains' value implicit) = IsUnsearched (matcher.Contains value implicit)
+IsUnsearchedIn (Glob tokens) = IsUnsearched (matcher.Glob [] tokens false)
+IsUnsearchedIn (Regex pattern) = IsUnsearched (matcher.Regex pattern)
+
+unsearched_same : (m : Matcher) → IsUnsearched m ≡ IsUnsearchedIn (compared m)
+unsearched_same (matcher.Equal value implicit) = refl
+unsearched_same (matcher.Contains value implicit) = refl
+unsearched_same (matcher.Glob own tokens implicit) = refl
+unsearched_same (matcher.Regex pattern) = refl
+
+-- if one of all demands is not searched, then so is one of those that they are among
+pub among_unsearched : (kept all : List Demand) → AllByRecursion (IsAmong kept) all → HasUnsearched all → HasUnsearched kept
+among_unsearched kept all among (d, has, is) =
+    let own = of_each (IsAmong kept) all d among has in
+    let same = subst IsUnsearchedIn (sym own.3) (along (unsearched_same (matcher_in d)) is) in
+    (own.0, own.1, along (sym (unsearched_same (matcher_in own.0))) same)
 
 pub among_left : (kept more : List Demand) (d : Demand) → IsAmong kept d → IsAmong (kept ++ more) d
 among_left kept more d among = (among.0, Contains-append_left kept more among.0 among.1, among.2, among.3)

@@ -3,7 +3,9 @@ use Rattle.std.specs.Prelude.{ℕ, ◌↔◌, Bool, List, IsTrue, IsUtf8}
 use Rattle.std.specs.List.{AllZip}
 use Rattle.std.specs.Borrow.{Bor}
 use Rattle.filterset_expression.specs.Expression.{CompiledLeaf, Lookup, Holds, HoldsOfTest}
+use Rattle.filterset_expression.specs.FlatExpressions.{IsFlat}
 use Rattle.filterset_expression.specs.declared.expression.CompiledExpr.{CompiledExpr}
+use Rattle.filterset_expression.specs.declared.flat.FlatExpr.{FlatExpr}
 use Rattle.filterset_expression.specs.declared.query.TestQuery.{TestQuery}
 use Rattle.filterset_matchers.specs.Matcher.{MatchesName}
 
@@ -49,3 +51,12 @@ PicksAsked default query group expr = Holds expr query default (in_group group)
 -- each answer is whether the filterset at its position picks the test of the query
 abbrev pub AreAnswersAsked : CompiledExpr → TestQuery → List ℕ → List (Bor CompiledExpr) → List Bool → Type 0
 AreAnswersAsked default query group exprs answers = AllZip (λ expr answer. IsTrue answer ↔ PicksAsked default query group expr.now) exprs answers
+
+-- the filtersets are laid out as steps
+abbrev pub AreLaid : CompiledExpr → List (Bor CompiledExpr) → List FlatExpr → Type 0
+AreLaid default exprs flats = AllZip (λ expr flat. IsFlat flat expr.now default) exprs flats
+
+-- the answer is whether the filterset with these steps picks the test of the query, if that is in this group
+abbrev pub IsPickOf : TestQuery → List ℕ → FlatExpr → Bool → Type 0
+IsPickOf query group flat answer =
+    (expr default : CompiledExpr) → IsFlat flat expr default → IsTrue answer ↔ PicksAsked default query group expr

@@ -5,9 +5,9 @@ use Rattle.filterset_expression.specs.FlatSteps.{Step}
 use Rattle.filterset_deciding.specs.AnyTest.{AnyTest}
 use Rattle.filterset_deciding.specs.Demands.{IsDoubtIn}
 use Rattle.filterset_deciding.specs.Known.{Agrees, steps_in}
-use Rattle.filterset_deciding.specs.Texts.{AreComparisons}
+use Rattle.filterset_deciding.specs.Texts.{AreComparisons, HasUnsearched}
 use Rattle.filterset_deciding.specs.declared.candidate.NoCandidate.{NoCandidate}
-use Rattle.filterset_deciding.specs.declared.candidate.NoCandidate.TheVariants.{Impossible, Doubtful, OutOfMemory}
+use Rattle.filterset_deciding.specs.declared.candidate.NoCandidate.TheVariants.{Impossible, Doubtful, Stopped, OutOfMemory}
 use Rattle.filterset_deciding.specs.declared.demand.Doubt.{Doubt}
 use Rattle.filterset_deciding.specs.declared.running.ValuedStep.{ValuedStep}
 
@@ -16,7 +16,17 @@ pub record IsOpenDoubt (steps : List (Step CompiledLeaf)) (doubt : Doubt) : Type
   pub about : IsDoubtIn steps doubt
   pub not_compared : ¬ AreComparisons doubt.demands.items
 
+-- some doubt is
+abbrev pub HasOpen : List (Step CompiledLeaf) → Type 0
+HasOpen steps = (doubt : Doubt) × IsOpenDoubt steps doubt
+
+-- the doubt is, and one of its matchers is not searched
+pub record IsLeftDoubt (steps : List (Step CompiledLeaf)) (doubt : Doubt) : Type 0 where
+  pub is_open : IsOpenDoubt steps doubt
+  pub unsearched : HasUnsearched doubt.demands.items
+
 abbrev pub IsFaultOf : List ValuedStep → NoCandidate → Type 0
 IsFaultOf branch Impossible = (test : AnyTest) → ¬ Agrees test branch
-IsFaultOf branch (Doubtful doubt) = IsOpenDoubt (steps_in branch) doubt
+IsFaultOf branch (Doubtful doubt) = IsLeftDoubt (steps_in branch) doubt
+IsFaultOf branch Stopped = HasOpen (steps_in branch)
 IsFaultOf branch (OutOfMemory refused) = Unit {0}

@@ -5,6 +5,7 @@ use Rattle.filterset_expression.specs.Expression as leaf
 use Rattle.filterset_expression.specs.Expression.{CompiledLeaf, leaf_matcher}
 use Rattle.filterset_expression.specs.FlatSteps.{Step, Push, step_of}
 use Rattle.filterset_matchers.specs.Matchers.{matcher_of}
+use Rattle.filterset_deciding.specs.Texts.{AreComparisons}
 use Rattle.filterset_deciding.specs.declared.demand.Demand.{Demand}
 use Rattle.filterset_deciding.specs.declared.demand.Doubt.{Doubt}
 use Rattle.filterset_deciding.specs.declared.demand.TestField.{TestField}
@@ -29,6 +30,10 @@ pub record IsOfLeaf (asked : TestField) (demand : Demand) (leaf : CompiledLeaf) 
 abbrev pub IsDoubtAbout : List CompiledLeaf → Doubt → Type 0
 IsDoubtAbout leaves doubt =
     AllByRecursion (λ demand. (leaf : CompiledLeaf) × Contains leaves leaf × IsOfLeaf doubt.field demand leaf) doubt.demands.items
+
+-- some demands of leaves that these are all of do not only compare texts
+abbrev pub HasUncompared : List CompiledLeaf → Type 0
+HasUncompared leaves = (doubt : Doubt) × IsDoubtAbout leaves doubt × (¬ AreComparisons doubt.demands.items)
 
 -- ---- what only contracts of private functions cite
 

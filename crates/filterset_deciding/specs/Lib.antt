@@ -13,3 +13,4 @@ pub mod Aspects
 pub mod PackageSets
 pub mod Candidates
 pub mod Waiting
+pub mod Listed

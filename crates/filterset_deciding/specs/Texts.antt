@@ -1,11 +1,16 @@
 -- Texts that meet demands.
-use Rattle.std.specs.Prelude.{◌≡◌, ◌↔◌, ◌<◌, ◌++◌, ℕ, Bool, true, false, List, [], ◌∷◌, Contains, IsTrue}
+use Rattle.std.specs.Prelude.{◌≡◌, ◌↔◌, ◌<◌, ◌⊎◌, ◌++◌, ℕ, Bool, true, false, List, [], ◌∷◌, Contains, IsTrue}
 use Rattle.std.specs.List.{AllByRecursion, flat_map}
 use Rattle.filterset_matchers.specs.Equality.{compared}
 use Rattle.filterset_matchers.specs.Matcher as matcher
 use Rattle.filterset_matchers.specs.Matcher.{ByComparing, Matcher, MatchesName}
 use Rattle.filterset_matchers.specs.Matchers.{matcher_of}
+use Rattle.filterset_texts.specs.Expanding.{IsPattern, matcher_sequence_count}
 use Rattle.filterset_deciding.specs.declared.demand.Demand.{Demand}
+
+-- how many sequences of parts a glob is read as at most
+abbrev pub most_sequences : ℕ
+most_sequences = 256
 
 -- the demand's matcher, without where it lies
 abbrev pub matcher_in : Demand → Matcher
@@ -23,6 +28,14 @@ IsFreeOf c (matcher.Regex pattern) = Unit {0}
 pub record AreComparisons (demands : List Demand) : Type 0 where
   pub compare : AllByRecursion (λ demand. ByComparing (matcher_in demand)) demands
   pub free : (c : ℕ) × (32 < c) × (c < 127) × AllByRecursion (λ demand. demand.is_matched ≡ false → IsFreeOf c (matcher_in demand)) demands
+
+-- the matcher is a pattern, or a glob that is read as more sequences than are searched
+abbrev pub IsUnsearched : Matcher → Type 0
+IsUnsearched own = IsPattern own ⊎ (most_sequences < matcher_sequence_count own)
+
+-- so is the matcher of one of the demands
+abbrev pub HasUnsearched : List Demand → Type 0
+HasUnsearched demands = (demand : Demand) × Contains demands demand × IsUnsearched (matcher_in demand)
 
 -- ---- what only contracts of private functions cite
 

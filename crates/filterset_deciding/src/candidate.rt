@@ -10,6 +10,7 @@ use crate::aspects::{are_constants_right, find_platform};
 use crate::demand::{Doubt, TestField, doubt_of};
 use crate::packages::make_package;
 use crate::running::ValuedStep;
+use crate::seeking::Effort;
 use crate::texts::{Sought, find_text};
 use crate::witness::PossibleTest;
 use filterset_graph::{RustBinaryId, RustTestBinaryKind, TestCaseName};
@@ -22,6 +23,8 @@ pub(crate) enum NoCandidate<'x> {
     Impossible,
     /// It is not known whether some text meets what the branch demands.
     Doubtful(Doubt<'x>),
+    /// The search for such a text was stopped.
+    Stopped,
     OutOfMemory(AllocError),
 }
 
@@ -41,16 +44,18 @@ fn make_text<'x>(
     alloc: Global,
     branch: &[ValuedStep<'x>],
     field: TestField,
+    effort: &mut Effort,
 ) -> Result<String, NoCandidate<'x>>
     ensures text { IfOk result (λ text. (test : AnyTest) → text_of field test ≡ string_bytes text
         → AgreesOn (IsOfField field) test branch.now) }
     ensures fault { IfErr result (IsFaultOf branch.now) }
 {
     let doubt = doubt_of(alloc, branch, field)?;
-    match find_text(alloc, field, doubt.demands.as_slice())? {
+    match find_text(alloc, field, doubt.demands.as_slice(), effort)? {
         Sought::Text(text) => Ok(text),
         Sought::Nothing => Err(NoCandidate::Impossible),
         Sought::Unknown => Err(NoCandidate::Doubtful(doubt)),
+        Sought::Stopped => Err(NoCandidate::Stopped),
     }
 }
 
@@ -58,6 +63,7 @@ fn make_text<'x>(
 pub(crate) fn make_candidate<'x>(
     alloc: Global,
     branch: &[ValuedStep<'x>],
+    effort: &mut Effort,
 ) -> Result<PossibleTest, NoCandidate<'x>>
     ensures test { IfOk result (λ possible. (test : AnyTest) → IsOf test possible → Agrees test branch.now) }
     ensures fault { IfErr result (IsFaultOf branch.now) }
@@ -71,11 +77,11 @@ pub(crate) fn make_candidate<'x>(
     let Some(package_id) = make_package(alloc, branch)? else {
         return Err(NoCandidate::Impossible);
     };
-    let kind = make_text(alloc, branch, TestField::Kind)?;
-    let binary_name = make_text(alloc, branch, TestField::BinaryName)?;
-    let binary_id = make_text(alloc, branch, TestField::BinaryId)?;
-    let test_name = make_text(alloc, branch, TestField::TestName)?;
-    let group = make_text(alloc, branch, TestField::Group)?;
+    let kind = make_text(alloc, branch, TestField::Kind, effort)?;
+    let binary_name = make_text(alloc, branch, TestField::BinaryName, effort)?;
+    let binary_id = make_text(alloc, branch, TestField::BinaryId, effort)?;
+    let test_name = make_text(alloc, branch, TestField::TestName, effort)?;
+    let group = make_text(alloc, branch, TestField::Group, effort)?;
     Ok(PossibleTest {
         package_id,
         binary_id: RustBinaryId::new(alloc, binary_id.as_str())?,

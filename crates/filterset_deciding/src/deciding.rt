@@ -1,16 +1,17 @@
 //! Decides questions about filtersets.
-ghost use Rattle.std.specs.Prelude.{◌≡◌, ◌<◌, ◌+◌, ◌*◌, ◌^◌, ◌++◌, ℕ, IfOk, OnOk, length};
+ghost use Rattle.std.specs.Prelude.{◌≡◌, ◌⊎◌, ◌<◌, ◌+◌, ◌*◌, ◌^◌, ◌++◌, ℕ, IfOk, OnOk, length};
 ghost use Rattle.filterset_expression.specs.Contexts.{default_of};
 ghost use Rattle.filterset_expression.specs.Expression.{with_default};
 ghost use Rattle.filterset_expression.specs.FlatSteps.{steps_of, postfix};
 ghost use Rattle.filterset_deciding.specs.Deciding.{IsAlwaysMet, IsUnmetAt, leaves_asked, steps_asked};
-ghost use Rattle.filterset_deciding.specs.Demands.{IsDoubtAbout};
-ghost use Rattle.filterset_deciding.specs.Texts.{AreComparisons};
+ghost use Rattle.filterset_deciding.specs.Demands.{HasUncompared, IsDoubtAbout};
+ghost use Rattle.filterset_deciding.specs.Texts.{AreComparisons, HasUnsearched};
 ghost use Rattle.filterset_deciding.specs.declared.demand.Doubt.{Doubt};
 
 use crate::demand::Doubt;
 use crate::question::Question;
 use crate::searching::{Asked, Searched, search};
+use crate::seeking::Effort;
 use crate::witness::Witness;
 use filterset_expression::{CompiledExpr, EvalContext, FlatExpr, FlatStep};
 use std::alloc::{AllocError, Global};
@@ -54,8 +55,9 @@ fn branches_of(budget: u64, steps: usize) -> u64
 /// Decides whether the answer to the question is yes for every test that the given filterset picks, whatever the test's
 /// name, binary and group are.
 ///
-/// The search tries the values of leaves, in branches that each have all steps of the filtersets. `budget` limits how many
-/// steps it looks at, and so its time; its memory is at most proportional to that. The only error is out of memory.
+/// The search tries the values of leaves, in branches that each have all steps of the filtersets. Where texts are matched by
+/// globs, it searches for one a character at a time. `budget` limits how many steps either looks at, and so its time; its
+/// memory is at most proportional to that. The only error is out of memory.
 pub fn decide<'x>(
     alloc: Global,
     given: &'x CompiledExpr,
@@ -71,10 +73,11 @@ pub fn decide<'x>(
     ensures unknown { IfOk result (λ verdict. (doubt : Doubt) → verdict ≡ Verdict.Unknown doubt
         → IsDoubtAbout (leaves_asked given.now (default_of cx.now) exprs.now) doubt) }
     ensures decided { IfOk result (λ verdict. (doubt : Doubt) → verdict ≡ Verdict.Unknown doubt
-        → ¬ AreComparisons doubt.demands.items) }
+        → (¬ AreComparisons doubt.demands.items) × HasUnsearched doubt.demands.items) }
     ensures stopped { IfOk result (λ verdict. verdict ≡ Verdict.Stopped
-        → budget < 2 ^ (length (leaves_asked given.now (default_of cx.now) exprs.now) + 1)
-        * length (steps_asked given.now (default_of cx.now) exprs.now)) }
+        → (budget < 2 ^ (length (leaves_asked given.now (default_of cx.now) exprs.now) + 1)
+        * length (steps_asked given.now (default_of cx.now) exprs.now))
+        ⊎ HasUncompared (leaves_asked given.now (default_of cx.now) exprs.now)) }
 {
     let mut steps = Vec::new(alloc);
     push_steps(alloc, &mut steps, given, cx)?;
@@ -87,7 +90,8 @@ pub fn decide<'x>(
         cx: *cx,
         question,
     };
-    match search(alloc, &asked, &steps, branches_of(budget, steps.len()))? {
+    let branches = branches_of(budget, steps.len());
+    match search(alloc, &asked, &steps, branches, Effort { left: budget })? {
         Searched::Nothing => Ok(Verdict::Always),
         Searched::Unknown(doubt) => Ok(Verdict::Unknown(doubt.without_repeats(alloc)?)),
         Searched::Stopped => Ok(Verdict::Stopped),

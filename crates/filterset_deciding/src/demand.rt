@@ -6,7 +6,7 @@ ghost use Rattle.filterset_expression.specs.FlatSteps.{step_of};
 ghost use Rattle.filterset_deciding.specs.AnyTest.{AnyTest};
 ghost use Rattle.filterset_deciding.specs.Aspects.{AgreesOn, IsKnownOn, IsOfField, text_of};
 ghost use Rattle.filterset_deciding.specs.Demands.{IsDemandedBy, IsDoubtIn, field_of};
-ghost use Rattle.filterset_deciding.specs.Texts.{AreComparisons, IsAmong, Meets, matcher_in};
+ghost use Rattle.filterset_deciding.specs.Texts.{AreComparisons, HasUnsearched, IsAmong, Meets, matcher_in};
 ghost use Rattle.filterset_matchers.specs.Equality.{compared};
 ghost use Rattle.filterset_deciding.specs.declared.demand.Demand.{Demand};
 ghost use Rattle.filterset_deciding.specs.Known.{steps_in};
@@ -91,6 +91,7 @@ impl<'x> Doubt<'x> {
         ensures field { IfOk result (λ kept. kept.field ≡ self.now.field) }
         ensures demands { IfOk result (λ kept. AllByRecursion (Contains self.now.demands.items) kept.demands.items) }
         ensures comparisons { IfOk result (λ kept. AreComparisons kept.demands.items → AreComparisons self.now.demands.items) }
+        ensures unsearched { IfOk result (λ kept. HasUnsearched self.now.demands.items → HasUnsearched kept.demands.items) }
     {
         let mut demands = Vec::new(alloc);
         for demand in &self.demands {

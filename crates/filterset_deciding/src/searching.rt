@@ -1,10 +1,10 @@
 //! The search for a test for which the answer to a question is no.
-ghost use Rattle.std.specs.Prelude.{◌≡◌, ◌<◌, ◌≤◌, ◌+◌, ◌^◌, ℕ, List, MatchOption, IfNone, IfOk, IfSome, OnOk, get_or, length};
+ghost use Rattle.std.specs.Prelude.{◌≡◌, ◌⊎◌, ◌<◌, ◌≤◌, ◌+◌, ◌^◌, ℕ, List, MatchOption, IfNone, IfOk, IfSome, OnOk, get_or, length};
 ghost use Rattle.filterset_expression.specs.Contexts.{default_of};
 ghost use Rattle.filterset_expression.specs.FlatSteps.{Push, Step, step_of, steps_of};
 ghost use Rattle.filterset_expression.specs.Expression.{CompiledLeaf, compiled_leaf};
 ghost use Rattle.filterset_deciding.specs.AnyTest.{AnyTest};
-ghost use Rattle.filterset_deciding.specs.Candidates.{IsOpenDoubt};
+ghost use Rattle.filterset_deciding.specs.Candidates.{HasOpen, IsLeftDoubt};
 ghost use Rattle.filterset_deciding.specs.Deciding.{IsUnmetAt, formulas_asked};
 ghost use Rattle.filterset_deciding.specs.Known.{steps_in};
 ghost use Rattle.filterset_deciding.specs.Searching.{AgreesWith, HaveSteps, IsMissed, NoneAgrees, Refuses, Rejects, all_steps, pushed};
@@ -18,6 +18,7 @@ use crate::demand::Doubt;
 use crate::judging::{Judgement, judge};
 use crate::question::Question;
 use crate::running::{ValuedStep, run};
+use crate::seeking::Effort;
 use crate::witness::{Witness, ask_all};
 use filterset_expression::{CompiledExpr, EvalContext, FiltersetLeaf, FlatStep};
 use std::alloc::{AllocError, Global};
@@ -39,6 +40,8 @@ pub(crate) enum Explored<'x> {
     Closed,
     /// It may have such a test. What that hangs on.
     Left(Doubt<'x>),
+    /// The search for a text was stopped.
+    Stopped,
     Found(Witness),
 }
 
@@ -75,6 +78,7 @@ fn try_branch<'a>(
     alloc: Global,
     asked: &Asked<'_, '_>,
     branch: &[ValuedStep<'a>],
+    effort: &mut Effort,
 ) -> Result<Explored<'a>, AllocError>
     requires { Refuses asked.now.question branch.now }
     ensures closed { IfOk result (λ explored. explored ≡ Explored.Closed → Rejects asked.now.question branch.now) }
@@ -83,12 +87,14 @@ fn try_branch<'a>(
         → IsUnmetAt asked.now.question asked.now.given.now (default_of asked.now.cx) asked.now.exprs.now
         witness.test witness.picks.items) }
     ensures left { IfOk result (λ explored. (doubt : Doubt) → explored ≡ Explored.Left doubt
-        → IsOpenDoubt (steps_in branch.now) doubt) }
+        → IsLeftDoubt (steps_in branch.now) doubt) }
+    ensures stopped { IfOk result (λ explored. explored ≡ Explored.Stopped → HasOpen (steps_in branch.now)) }
 {
-    match make_candidate(alloc, branch) {
+    match make_candidate(alloc, branch, effort) {
         Ok(test) => Ok(Explored::Found(ask_all(alloc, asked.exprs, &asked.cx, test)?)),
         Err(NoCandidate::Impossible) => Ok(Explored::Closed),
         Err(NoCandidate::Doubtful(doubt)) => Ok(Explored::Left(doubt)),
+        Err(NoCandidate::Stopped) => Ok(Explored::Stopped),
         Err(NoCandidate::OutOfMemory(refused)) => Err(refused),
     }
 }
@@ -136,6 +142,7 @@ fn explore<'a>(
     asked: &Asked<'_, '_>,
     branch: &[ValuedStep<'a>],
     pending: &mut Vec<Vec<ValuedStep<'a>>>,
+    effort: &mut Effort,
 ) -> Result<Explored<'a>, AllocError>
     ensures steps { OnOk result (HaveSteps (steps_in branch.now) pending.old.items
         → HaveSteps (steps_in branch.now) pending.new.items) }
@@ -149,11 +156,12 @@ fn explore<'a>(
         → IsUnmetAt asked.now.question asked.now.given.now (default_of asked.now.cx) asked.now.exprs.now
         witness.test witness.picks.items) }
     ensures left { IfOk result (λ explored. (doubt : Doubt) → explored ≡ Explored.Left doubt
-        → IsOpenDoubt (steps_in branch.now) doubt) }
+        → IsLeftDoubt (steps_in branch.now) doubt) }
+    ensures stopped { IfOk result (λ explored. explored ≡ Explored.Stopped → HasOpen (steps_in branch.now)) }
 {
     match judge_branch(alloc, asked.question, branch)? {
         Judgement::Met => Ok(Explored::Closed),
-        Judgement::Unmet => try_branch(alloc, asked, branch),
+        Judgement::Unmet => try_branch(alloc, asked, branch, effort),
         Judgement::Open(at) => match leaf_at(branch, at) {
             Some(leaf) => {
                 divide(alloc, branch, at, leaf, pending)?;
@@ -174,12 +182,13 @@ fn end_search(left: Option<Doubt<'_>>) -> Searched<'_>
     }
 }
 
-/// Searches at most this many branches. The only error is out of memory.
+/// Searches at most this many branches, and texts with at most this effort. The only error is out of memory.
 pub(crate) fn search<'a>(
     alloc: Global,
     asked: &Asked<'_, '_>,
     steps: &[FlatStep<'a>],
     branches: u64,
+    mut effort: Effort,
 ) -> Result<Searched<'a>, AllocError>
     ensures nothing { IfOk result (λ searched. searched ≡ Searched.Nothing
         → (test : AnyTest) → ¬ IsMissed asked.now.question (steps_of steps.now) test) }
@@ -188,9 +197,9 @@ pub(crate) fn search<'a>(
         → IsUnmetAt asked.now.question asked.now.given.now (default_of asked.now.cx) asked.now.exprs.now
         witness.test witness.picks.items) }
     ensures unknown { IfOk result (λ searched. (doubt : Doubt) → searched ≡ Searched.Unknown doubt
-        → IsOpenDoubt (steps_of steps.now) doubt) }
+        → IsLeftDoubt (steps_of steps.now) doubt) }
     ensures stopped { IfOk result (λ searched. searched ≡ Searched.Stopped
-        → branches < 2 ^ (length (pushed (steps_of steps.now)) + 1)) }
+        → (branches < 2 ^ (length (pushed (steps_of steps.now)) + 1)) ⊎ HasOpen (steps_of steps.now)) }
 {
     let mut pending = Vec::new(alloc);
     pending.push(start_branch(alloc, steps)?)?;
@@ -200,9 +209,10 @@ pub(crate) fn search<'a>(
             Some(branch) => branch,
             None => return Ok(end_search(left)),
         };
-        match explore(alloc, asked, &branch, &mut pending)? {
+        match explore(alloc, asked, &branch, &mut pending, &mut effort)? {
             Explored::Closed => {}
             Explored::Left(doubt) => left = Some(doubt),
+            Explored::Stopped => return Ok(Searched::Stopped),
             Explored::Found(witness) => return Ok(Searched::Found(witness)),
         }
     }

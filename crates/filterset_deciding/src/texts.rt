@@ -1,4 +1,4 @@
-//! Texts that meet demands: whether there is one, if all matchers compare texts.
+//! Texts that meet demands: whether there is one.
 ghost use Rattle.std.specs.Prelude.{◌≡◌, ◌↔◌, ◌<◌, ◌++◌, ℕ, List, Contains, IfNone, IfOk, IfSome, IsTrue, IsUtf8, OnOk, string_bytes, false, true};
 ghost use Rattle.filterset_deciding.specs.Texts.{AreComparisons, AreSimple, IsEqual, IsMetBy, IsSimple, Meets, matcher_in, NoneEqual, joined, part_of};
 ghost use Rattle.filterset_deciding.specs.Sought.{IsSoughtOf};
@@ -6,6 +6,7 @@ ghost use Rattle.filterset_deciding.specs.Sought.{IsSoughtOf};
 use crate::demand::{Demand, TestField};
 use crate::literals::literal_of;
 use crate::sample::{Style, push_sample};
+use crate::seeking::{Effort, seek_text};
 use filterset_matchers::NameMatcher;
 use std::alloc::{AllocError, Global};
 
@@ -57,8 +58,10 @@ pub(crate) enum Sought {
     Text(String),
     /// None does.
     Nothing,
-    /// None was found, but there may be one.
+    /// It is not known whether one does: some matcher is not searched.
     Unknown,
+    /// The search was stopped before its end.
+    Stopped,
 }
 
 /// Returns the texts that are tried first.
@@ -253,8 +256,12 @@ fn take_if_met(alloc: Global, text: String, demands: &[Demand<'_>]) -> Result<So
     Ok(Sought::Text(text))
 }
 
-/// Makes a text that meets the demands, if all matchers compare texts, and none that has to match is for equality.
-fn make_text(alloc: Global, demands: &[Demand<'_>]) -> Result<Sought, AllocError>
+/// Makes a text that meets the demands, if none that has to match is for equality.
+fn make_text(
+    alloc: Global,
+    demands: &[Demand<'_>],
+    effort: &mut Effort,
+) -> Result<Sought, AllocError>
     requires { NoneEqual demands.now }
     ensures { IfOk result (IsSoughtOf demands.now) }
 {
@@ -263,13 +270,18 @@ fn make_text(alloc: Global, demands: &[Demand<'_>]) -> Result<Sought, AllocError
             let text = join_parts(alloc, demands, c)?;
             take_if_met(alloc, text, demands)
         }
-        None => Ok(Sought::Unknown),
+        None => seek_text(alloc, demands, effort),
     }
 }
 
 /// Looks for a text that meets the demands, first among those that are easy to read, if none that has to match is for
 /// equality.
-fn guess_text(alloc: Global, field: TestField, demands: &[Demand<'_>]) -> Result<Sought, AllocError>
+fn guess_text(
+    alloc: Global,
+    field: TestField,
+    demands: &[Demand<'_>],
+    effort: &mut Effort,
+) -> Result<Sought, AllocError>
     requires { NoneEqual demands.now }
     ensures { IfOk result (IsSoughtOf demands.now) }
 {
@@ -278,7 +290,7 @@ fn guess_text(alloc: Global, field: TestField, demands: &[Demand<'_>]) -> Result
     }
     match try_samples(alloc, demands)? {
         Some(text) => Ok(Sought::Text(text)),
-        None => make_text(alloc, demands),
+        None => make_text(alloc, demands, effort),
     }
 }
 
@@ -287,6 +299,7 @@ pub(crate) fn find_text(
     alloc: Global,
     field: TestField,
     demands: &[Demand<'_>],
+    effort: &mut Effort,
 ) -> Result<Sought, AllocError>
     ensures { IfOk result (IsSoughtOf demands.now) }
 {
@@ -295,6 +308,6 @@ pub(crate) fn find_text(
             let only = String::from_str(alloc, text)?;
             take_if_met(alloc, only, demands)
         }
-        None => guess_text(alloc, field, demands),
+        None => guess_text(alloc, field, demands, effort),
     }
 }

@@ -1,7 +1,8 @@
 //! Possible tests, and whether the answer to a question is no for one.
-ghost use Rattle.std.specs.Prelude.{◌≡◌, ◌↔◌, IfOk, IsTrue, string_bytes};
+ghost use Rattle.std.specs.Prelude.{◌≡◌, IfOk, string_bytes};
 ghost use Rattle.filterset_expression.specs.Contexts.{default_of};
-ghost use Rattle.filterset_deciding.specs.AnyTest.{in_group, AreAnswersAsked, HasTexts, PicksAsked};
+ghost use Rattle.std.specs.List.{AllZip};
+ghost use Rattle.filterset_deciding.specs.AnyTest.{in_group, AreLaid, HasTexts, IsPickOf};
 ghost use Rattle.filterset_deciding.specs.Deciding.{IsAbout};
 ghost use Rattle.filterset_deciding.specs.Searching.{AreAnswersAt};
 
@@ -61,7 +62,7 @@ impl Drop for Witness {
 /// A lookup by which the test is in this group.
 #[derive(Clone, Copy, Debug)]
 pub(crate) struct InGroup<'a> {
-    group: &'a str,
+    pub group: &'a str,
 }
 
 impl GroupLookup for InGroup<'_> {
@@ -99,44 +100,54 @@ impl PossibleTest {
     }
 }
 
-/// Returns whether the filterset picks the test in this group.
-fn picks(
+/// Lays out filtersets, so that each can be asked about many tests.
+pub(crate) fn lay_out<'x>(
     alloc: Global,
-    expr: &CompiledExpr,
-    cx: &EvalContext<'_>,
+    exprs: &[&'x CompiledExpr],
+    cx: &EvalContext<'x>,
+) -> Result<Vec<FlatExpr<'x>>, AllocError>
+    ensures { IfOk result (λ flats. AreLaid (default_of cx.now) exprs.now flats.items) }
+{
+    let mut flats = Vec::with_capacity(alloc, exprs.len())?;
+    for expr in exprs {
+        flats.push(FlatExpr::new(alloc, *expr, cx)?)?;
+    }
+    Ok(flats)
+}
+
+/// Returns whether the filterset picks the test in this group.
+pub(crate) fn picks(
+    alloc: Global,
+    flat: &FlatExpr<'_>,
     query: &TestQuery<'_>,
     lookup: &InGroup<'_>,
 ) -> Result<bool, AllocError>
-    ensures { IfOk result (λ answer. IsTrue answer
-        ↔ PicksAsked (default_of cx.now) query.now lookup.now.group.now expr.now) }
+    ensures { IfOk result (IsPickOf query.now lookup.now.group.now flat.now) }
 {
-    let flat = FlatExpr::new(alloc, expr, cx)?;
     flat.matches_test_with_groups(alloc, query, lookup)
 }
 
 /// Returns whether each of the filtersets picks the test in this group.
-fn pick_all(
+pub(crate) fn pick_all(
     alloc: Global,
-    exprs: &[&CompiledExpr],
-    cx: &EvalContext<'_>,
+    flats: &[FlatExpr<'_>],
     query: &TestQuery<'_>,
     lookup: &InGroup<'_>,
 ) -> Result<Vec<bool>, AllocError>
-    ensures { IfOk result (λ all.
-        AreAnswersAsked (default_of cx.now) query.now lookup.now.group.now exprs.now all.items) }
+    ensures { IfOk result (λ all. AllZip (IsPickOf query.now lookup.now.group.now) flats.now all.items) }
 {
-    let mut all = Vec::with_capacity(alloc, exprs.len())?;
-    for expr in exprs {
-        all.push(picks(alloc, expr, cx, query, lookup)?)?;
+    let mut all = Vec::with_capacity(alloc, flats.len())?;
+    for flat in flats {
+        all.push(picks(alloc, flat, query, lookup)?)?;
     }
     Ok(all)
 }
 
 /// Asks all filtersets about the test. The only error is out of memory.
-pub(crate) fn ask_all(
+pub(crate) fn ask_all<'x>(
     alloc: Global,
-    exprs: &[&CompiledExpr],
-    cx: &EvalContext<'_>,
+    exprs: &[&'x CompiledExpr],
+    cx: &EvalContext<'x>,
     test: PossibleTest,
 ) -> Result<Witness, AllocError>
     ensures test { IfOk result (λ witness. witness.test ≡ test) }
@@ -146,6 +157,7 @@ pub(crate) fn ask_all(
     let lookup = InGroup {
         group: test.group.as_str(),
     };
-    let picks = pick_all(alloc, exprs, cx, &query, &lookup)?;
+    let flats = lay_out(alloc, exprs, cx)?;
+    let picks = pick_all(alloc, flats.as_slice(), &query, &lookup)?;
     Ok(Witness { test, picks })
 }

@@ -1,5 +1,5 @@
 -- The values of verdicts have no floats, so they are written compactly.
-use Rattle.std.proofs.Common.{◌≡◌, ◌∙◌, ℕ, false, List, [], ◌∷◌, ap, map, refl}
+use Rattle.std.proofs.Common.{◌≡◌, ◌∙◌, ℕ, Bool, false, List, [], ◌∷◌, ap, map, refl}
 use Rattle.serde_json.specs.Data.{Data}
 use Rattle.serde_json.specs.View.{items_of}
 use Rattle.serde_json.specs.Written.{has_float, items_have_float}
@@ -21,11 +21,11 @@ demands_have_no_float : (field : TestField) (demands : List Demand) → items_ha
 demands_have_no_float field [] = refl
 demands_have_no_float field (d ∷ demands) = demands_have_no_float field demands
 
-pub verdict_has_no_float : (question : Question) (packages : List PackageMetadata) (verdict : Verdict) (d : Data)
-    → IsVerdictData question packages verdict d → has_float d ≡ false
-verdict_has_no_float question packages verdicts.Always d is = ap has_float is
-verdict_has_no_float question packages (verdicts.Fails witness) d is =
+pub verdict_has_no_float : (question : Question) (is_listed : Bool) (packages : List PackageMetadata) (verdict : Verdict) (d : Data)
+    → IsVerdictData question is_listed packages verdict d → has_float d ≡ false
+verdict_has_no_float question is_listed packages verdicts.Always d is = ap has_float is
+verdict_has_no_float question is_listed packages (verdicts.Fails witness) d is =
     ap has_float is.2 ∙ rw (numbers_have_no_float (picked_numbers 1 witness.picks.items)) refl
-verdict_has_no_float question packages (verdicts.Unknown doubt) d is =
+verdict_has_no_float question is_listed packages (verdicts.Unknown doubt) d is =
     ap has_float is ∙ rw (demands_have_no_float doubt.field doubt.demands.items) refl
-verdict_has_no_float question packages verdicts.Stopped d is = ap has_float is
+verdict_has_no_float question is_listed packages verdicts.Stopped d is = ap has_float is

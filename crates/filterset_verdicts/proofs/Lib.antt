@@ -1,3 +1,5 @@
 pub mod TreeLemmas
 pub mod TextLemmas
 pub mod JsonLemmas
+pub mod GroupLemmas
+pub mod AnswerLemmas

@@ -1,3 +1,4 @@
+pub mod ListedTests
 pub mod VerdictText
 pub mod VerdictJson
 pub mod VerdictForm

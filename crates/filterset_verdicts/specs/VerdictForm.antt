@@ -1,5 +1,5 @@
 -- Verdicts in the form that is asked for.
-use Rattle.std.specs.Prelude.{◌≡◌, ◌++◌, List, codes}
+use Rattle.std.specs.Prelude.{◌≡◌, ◌++◌, Bool, List, codes}
 use Rattle.serde_json.specs.Data.{Data}
 use Rattle.serde_json.specs.Written.{compact_text}
 use Rattle.filterset_answers.specs.declared.form.Form.{Form}
@@ -12,7 +12,7 @@ use Rattle.filterset_verdicts.specs.VerdictJson.{IsVerdictData}
 use Rattle.filterset_verdicts.specs.VerdictText.{IsVerdictText}
 
 -- a JSON object in a line, or lines for people
-abbrev pub IsVerdictIn : Form → Question → List PackageMetadata → Verdict → Text → Type 0
-IsVerdictIn Json question packages verdict text =
-    (d : Data) × IsVerdictData question packages verdict d × (text ≡ compact_text d ++ codes "\n")
-IsVerdictIn form question packages verdict text = IsVerdictText question packages verdict text
+abbrev pub IsVerdictIn : Form → Question → Bool → List PackageMetadata → Verdict → Text → Type 0
+IsVerdictIn Json question is_listed packages verdict text =
+    (d : Data) × IsVerdictData question is_listed packages verdict d × (text ≡ compact_text d ++ codes "\n")
+IsVerdictIn form question is_listed packages verdict text = IsVerdictText question is_listed packages verdict text

@@ -48,18 +48,22 @@ demand_item field demand = string (demand_text field demand)
 abbrev pub doubt_data : Doubt → Data
 doubt_data doubt = array (items_of (map (demand_item doubt.field) doubt.demands.items))
 
--- the answer, whether the budget was spent, what the answer hangs on, which filtersets pick the test, the question, and the
--- test
-abbrev pub verdict_data : Text → Bool → Data → Data → Question → Data → Data
-verdict_data answer is_spent doubt picks question test = object (member (codes "answer") (string answer)
-    (member (codes "budget_spent") (boolean is_spent) (member (codes "hangs_on") doubt (member (codes "picked_by") picks
-    (member (codes "question") (string (question_word question)) (member (codes "test") test no_members))))))
+-- the answer, whether the budget was spent, what the answer hangs on, whether the test is one of the list, which filtersets
+-- pick it, the question, and the test
+abbrev pub verdict_data : Text → Bool → Data → Data → Data → Question → Data → Data
+verdict_data answer is_spent doubt listed picks question test = object (member (codes "answer") (string answer)
+    (member (codes "budget_spent") (boolean is_spent) (member (codes "hangs_on") doubt (member (codes "listed") listed
+    (member (codes "picked_by") picks (member (codes "question") (string (question_word question))
+    (member (codes "test") test no_members)))))))
 
--- what is written about a verdict
-abbrev pub IsVerdictData : Question → List PackageMetadata → Verdict → Data → Type 0
-IsVerdictData question packages verdicts.Always d = d ≡ verdict_data (codes "yes") false null null question null
-IsVerdictData question packages (verdicts.Fails witness) d =
+-- what is written about a verdict, whose test is one of the list or not
+abbrev pub IsVerdictData : Question → Bool → List PackageMetadata → Verdict → Data → Type 0
+IsVerdictData question is_listed packages verdicts.Always d = d ≡ verdict_data (codes "yes") false null null null question null
+IsVerdictData question is_listed packages (verdicts.Fails witness) d =
     (name : Text) × IsPackageText packages witness.test.package_id name
-    × (d ≡ verdict_data (codes "no") false null (picks_data witness.picks.items) question (test_data name witness.test))
-IsVerdictData question packages (verdicts.Unknown doubt) d = d ≡ verdict_data (codes "unknown") false (doubt_data doubt) null question null
-IsVerdictData question packages verdicts.Stopped d = d ≡ verdict_data (codes "unknown") true null null question null
+    × (d ≡ verdict_data (codes "no") false null (boolean is_listed) (picks_data witness.picks.items) question
+    (test_data name witness.test))
+IsVerdictData question is_listed packages (verdicts.Unknown doubt) d =
+    d ≡ verdict_data (codes "unknown") false (doubt_data doubt) null null question null
+IsVerdictData question is_listed packages verdicts.Stopped d =
+    d ≡ verdict_data (codes "unknown") true null null null question null

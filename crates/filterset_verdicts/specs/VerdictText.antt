@@ -51,10 +51,14 @@ IsPackageText packages id text =
 abbrev pub field_line : Text → Text → Text
 field_line name value = codes "  " ++ (name ++ (codes ": " ++ (value ++ codes "\n")))
 
--- a possible test, of the package with this name
-abbrev pub test_text : Text → PossibleTest → Text
-test_text name test =
-    codes "a possible test, which need not be in any list:\n" ++ (field_line (codes "package") name
+-- where the test comes from
+abbrev pub origin_line : Bool → Text
+origin_line is_listed = if is_listed then codes "a test of the list:\n" else codes "a possible test, which need not be in any list:\n"
+
+-- a test, of the list or a possible one, of the package with this name
+abbrev pub test_text : Bool → Text → PossibleTest → Text
+test_text is_listed name test =
+    origin_line is_listed ++ (field_line (codes "package") name
     ++ (field_line (codes "binary id") test.binary_id ++ (field_line (codes "binary") (string_bytes test.binary_name)
     ++ (field_line (codes "kind") test.kind ++ (field_line (codes "platform") (platform_text test.platform)
     ++ (field_line (codes "test") test.test_name ++ field_line (codes "group") (string_bytes test.group)))))))
@@ -73,9 +77,9 @@ abbrev pub picked_text : List Bool → Text
 picked_text picks = if count_by (λ x. x) picks == 0 then codes "picked by none\n" else picked_lines 1 picks
 
 -- the test for which the answer to the question is no, and which filtersets pick it
-abbrev pub IsWitnessText : Question → List PackageMetadata → Witness → Text → Type 0
-IsWitnessText question packages witness text = (name : Text) × IsPackageText packages witness.test.package_id name
-    × (text ≡ failed_text question ++ (test_text name witness.test ++ picked_text witness.picks.items))
+abbrev pub IsWitnessText : Question → Bool → List PackageMetadata → Witness → Text → Type 0
+IsWitnessText question is_listed packages witness text = (name : Text) × IsPackageText packages witness.test.package_id name
+    × (text ≡ failed_text question ++ (test_text is_listed name witness.test ++ picked_text witness.picks.items))
 
 -- the name of the predicate that asks about the text of a test
 abbrev pub field_word : TestField → Text
@@ -102,12 +106,12 @@ abbrev pub doubt_text : Question → Doubt → Text
 doubt_text question doubt =
     open_text question ++ (codes "it hangs on whether some test is in all of:\n" ++ flat_map (demand_line doubt.field) doubt.demands.items)
 
--- what is written about a verdict
-abbrev pub IsVerdictText : Question → List PackageMetadata → Verdict → Text → Type 0
-IsVerdictText question packages verdicts.Always text = text ≡ held_text question
-IsVerdictText question packages (verdicts.Fails witness) text = IsWitnessText question packages witness text
-IsVerdictText question packages (verdicts.Unknown doubt) text = text ≡ doubt_text question doubt
-IsVerdictText question packages verdicts.Stopped text =
+-- what is written about a verdict, whose test is one of the list or not
+abbrev pub IsVerdictText : Question → Bool → List PackageMetadata → Verdict → Text → Type 0
+IsVerdictText question is_listed packages verdicts.Always text = text ≡ held_text question
+IsVerdictText question is_listed packages (verdicts.Fails witness) text = IsWitnessText question is_listed packages witness text
+IsVerdictText question is_listed packages (verdicts.Unknown doubt) text = text ≡ doubt_text question doubt
+IsVerdictText question is_listed packages verdicts.Stopped text =
     text ≡ open_text question ++ codes "the search took all steps of --budget\n"
 
 -- how a command ends with this verdict

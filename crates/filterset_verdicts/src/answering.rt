@@ -6,18 +6,24 @@ ghost use Rattle.filterset_answers.specs.Picking.{compiled_of, parsed_of};
 ghost use Rattle.filterset_answers.specs.declared.setting.Setting as settings;
 ghost use Rattle.filterset_expression.specs.Contexts.{default_of};
 ghost use Rattle.filterset_expression.specs.Meaning.{IsCompiled};
+ghost use Rattle.filterset_expression.specs.declared.query.TestQuery.{TestQuery};
 ghost use Rattle.filterset_faults.specs.declared.kind.FiltersetKind.TheVariants as kinds;
 ghost use Rattle.filterset_faults.specs.declared.span.SourceSpan.{SourceSpan};
 ghost use Rattle.filterset_grammar.specs.Tree.{Tree};
 ghost use Rattle.nextest_filtering.specs.Groups.{IsKnown};
-ghost use Rattle.filterset_verdicts.specs.Verdicts.{AnswersQuestion, Decides, question_rows};
+ghost use Rattle.filterset_verdicts.specs.ListedTests.{AreTestsOf};
+ghost use Rattle.filterset_verdicts.specs.VerdictForm.{IsVerdictIn};
+ghost use Rattle.filterset_verdicts.specs.VerdictText.{ending_of};
+ghost use Rattle.filterset_verdicts.specs.Verdicts.{AnswersQuestion, Decides, IsShown, question_rows};
 
+use crate::listed::{group_names, listed_tests};
 use crate::text::{answer_text, ending_of};
 use filterset_answers::{
     Answer, CompiledTexts, Ending, Form, QuestionFiltersets, Setting, TextEntry, compile_texts,
 };
-use filterset_deciding::{Question, decide};
-use nextest_filtering::{CompiledExpr, EvalContext, Filterset};
+use filterset_deciding::{Question, Verdict, Witness, decide, find_listed};
+use filterset_sources::Suite;
+use nextest_filtering::{CompiledExpr, EvalContext, Filterset, KnownGroups, PackageGraph};
 use std::alloc::{AllocError, Global};
 
 /// A question about filtersets and every possible test.
@@ -26,6 +32,8 @@ pub struct TextQuestion<'t> {
     pub question: Question,
     /// The filterset of the tests that the question is about, and then the filtersets.
     pub entries: &'t [TextEntry<'t>],
+    /// The test binaries of nextest's list; empty without a list. If the answer is no for a test of them, that is shown.
+    pub suites: &'t [Suite],
     /// How many steps the search may take.
     pub budget: u64,
 }
@@ -41,7 +49,52 @@ fn expressions_of(alloc: Global, filtersets: &[Filterset]) -> Result<Vec<&Compil
     Ok(exprs)
 }
 
-/// Decides a question about filtersets, and writes the verdict. The first is the one of the tests that the question is about.
+/// Finds the first test of the list for which the answer is no in a known group, if there is one.
+fn find_shown<'x>(
+    alloc: Global,
+    groups: &KnownGroups,
+    asked: &TextQuestion<'_>,
+    context: &EvalContext<'x>,
+    within: &'x CompiledExpr,
+    exprs: &[&'x CompiledExpr],
+) -> Result<Option<Witness>, AllocError>
+    ensures { IfOk result (λ found. (tests : List TestQuery) × AreTestsOf asked.now.suites.now tests
+        × IsShown asked.now.question within.now (default_of context.now) exprs.now groups.now tests found) }
+{
+    let tests = listed_tests(alloc, asked.suites)?;
+    let names = group_names(alloc, groups)?;
+    find_listed(
+        alloc,
+        within,
+        exprs,
+        context,
+        asked.question,
+        tests.as_slice(),
+        names.as_slice(),
+    )
+}
+
+/// Makes the answer of a verdict. `is_listed` says whether its test, if it has one, is one of the list.
+fn answer_verdict(
+    alloc: Global,
+    form: Form,
+    question: Question,
+    is_listed: bool,
+    graph: &PackageGraph,
+    verdict: &Verdict<'_>,
+) -> Result<Answer, AllocError>
+    ensures text { IfOk result (λ answer.
+        IsVerdictIn form question is_listed graph.now verdict.now (string_bytes answer.text)) }
+    ensures ending { IfOk result (λ answer. answer.ending ≡ ending_of verdict.now) }
+{
+    Ok(Answer {
+        text: answer_text(alloc, form, question, is_listed, graph, verdict)?,
+        ending: ending_of(verdict),
+    })
+}
+
+/// Decides a question about filtersets, first by the tests of the list, and writes the verdict. The first filterset is the one
+/// of the tests that the question is about.
 fn decide_filtersets(
     alloc: Global,
     form: Form,
@@ -56,20 +109,20 @@ fn decide_filtersets(
         → Decides form asked.now setting.now basis (map parsed_of filtersets.now)
         answer.ending (string_bytes answer.text)) }
 {
+    let question = asked.question;
     let within = &filtersets[0].compiled;
     let exprs = expressions_of(alloc, &filtersets[1..])?;
-    let verdict = decide(
-        alloc,
-        within,
-        exprs.as_slice(),
-        context,
-        asked.question,
-        asked.budget,
-    )?;
-    Ok(Answer {
-        text: answer_text(alloc, form, asked.question, setting.graph, &verdict)?,
-        ending: ending_of(&verdict),
-    })
+    let exprs = exprs.as_slice();
+    match find_shown(alloc, setting.groups, asked, context, within, exprs)? {
+        Some(witness) => {
+            let verdict = Verdict::Fails(witness);
+            answer_verdict(alloc, form, question, true, setting.graph, &verdict)
+        }
+        None => {
+            let verdict = decide(alloc, within, exprs, context, question, asked.budget)?;
+            answer_verdict(alloc, form, question, false, setting.graph, &verdict)
+        }
+    }
 }
 
 /// Answers a question by its filtersets.
@@ -101,7 +154,7 @@ fn answer_compiled(
 }
 
 /// Answers a question about filtersets and every possible test, or writes the faults of their texts and of the default
-/// filter.
+/// filter. If the answer is no for a test of the list in a known group, the first such test is shown, and else a possible test.
 ///
 /// The setting has no overrides, since a test counts in every group. Returns an error only if out of memory.
 pub fn answer_texts(

@@ -80,6 +80,8 @@ struct Parts<'a> {
     is_spent: bool,
     /// What an unknown answer hangs on.
     doubt: Value,
+    /// Whether the test is one of the list.
+    listed: Value,
     /// The numbers of the filtersets that pick the test.
     picks: Value,
     test: Value,
@@ -88,19 +90,20 @@ struct Parts<'a> {
 /// Makes the value of a verdict of its parts.
 fn answer_value(alloc: Global, question: Question, parts: Parts<'_>) -> Result<Value, AllocError>
     ensures { IfOk result (λ value. view value ≡ verdict_data parts.entry.answer.now parts.entry.is_spent
-        (view parts.entry.doubt) (view parts.entry.picks) question (view parts.entry.test)) }
+        (view parts.entry.doubt) (view parts.entry.listed) (view parts.entry.picks) question (view parts.entry.test)) }
 {
     let word = question_word(question);
     let Parts {
         answer,
         is_spent,
         doubt,
+        listed,
         picks,
         test,
     } = parts;
     json!(in alloc; {
-        "answer": answer, "budget_spent": is_spent, "hangs_on": doubt, "picked_by": picks,
-        "question": word, "test": test
+        "answer": answer, "budget_spent": is_spent, "hangs_on": doubt, "listed": listed,
+        "picked_by": picks, "question": word, "test": test
     })
 }
 
@@ -108,10 +111,11 @@ fn answer_value(alloc: Global, question: Question, parts: Parts<'_>) -> Result<V
 fn witness_value(
     alloc: Global,
     question: Question,
+    is_listed: bool,
     graph: &PackageGraph,
     witness: &Witness,
 ) -> Result<Value, AllocError>
-    ensures { IfOk result (λ value. IsVerdictData question graph.now (Verdict.Fails witness.now) (view value)) }
+    ensures { IfOk result (λ value. IsVerdictData question is_listed graph.now (Verdict.Fails witness.now) (view value)) }
 {
     let name = package_text(graph, &witness.test.package_id);
     let picks = picks_value(alloc, witness.picks.as_slice())?;
@@ -120,6 +124,7 @@ fn witness_value(
         answer: "no",
         is_spent: false,
         doubt: Value::Null,
+        listed: Value::Bool(is_listed),
         picks,
         test,
     };
@@ -128,13 +133,14 @@ fn witness_value(
 
 /// Makes the value of an unknown verdict.
 fn doubt_value(alloc: Global, question: Question, doubt: &Doubt<'_>) -> Result<Value, AllocError>
-    ensures { IfOk result (λ value. view value ≡ verdict_data (codes "unknown") false (doubt_data doubt.now) null question null) }
+    ensures { IfOk result (λ value. view value ≡ verdict_data (codes "unknown") false (doubt_data doubt.now) null null question null) }
 {
     let values = demand_values(alloc, doubt.field, doubt.demands.as_slice())?;
     let parts = Parts {
         answer: "unknown",
         is_spent: false,
         doubt: Value::Array(values),
+        listed: Value::Null,
         picks: Value::Null,
         test: Value::Null,
     };
@@ -148,12 +154,13 @@ fn bare_value(
     answer: &str,
     is_spent: bool,
 ) -> Result<Value, AllocError>
-    ensures { IfOk result (λ value. view value ≡ verdict_data answer.now is_spent null null question null) }
+    ensures { IfOk result (λ value. view value ≡ verdict_data answer.now is_spent null null null question null) }
 {
     let parts = Parts {
         answer,
         is_spent,
         doubt: Value::Null,
+        listed: Value::Null,
         picks: Value::Null,
         test: Value::Null,
     };
@@ -164,14 +171,15 @@ fn bare_value(
 fn verdict_value(
     alloc: Global,
     question: Question,
+    is_listed: bool,
     graph: &PackageGraph,
     verdict: &Verdict<'_>,
 ) -> Result<Value, AllocError>
-    ensures { IfOk result (λ value. IsVerdictData question graph.now verdict.now (view value)) }
+    ensures { IfOk result (λ value. IsVerdictData question is_listed graph.now verdict.now (view value)) }
 {
     match verdict {
         Verdict::Always => bare_value(alloc, question, "yes", false),
-        Verdict::Fails(witness) => witness_value(alloc, question, graph, witness),
+        Verdict::Fails(witness) => witness_value(alloc, question, is_listed, graph, witness),
         Verdict::Unknown(doubt) => doubt_value(alloc, question, doubt),
         Verdict::Stopped => bare_value(alloc, question, "unknown", true),
     }
@@ -181,13 +189,14 @@ fn verdict_value(
 pub(crate) fn verdict_line(
     alloc: Global,
     question: Question,
+    is_listed: bool,
     graph: &PackageGraph,
     verdict: &Verdict<'_>,
 ) -> Result<String, AllocError>
-    ensures { IfOk result (λ text. (d : Data) × IsVerdictData question graph.now verdict.now d
+    ensures { IfOk result (λ text. (d : Data) × IsVerdictData question is_listed graph.now verdict.now d
         × (string_bytes text ≡ compact_text d ++ codes "\n")) }
 {
-    let value = verdict_value(alloc, question, graph, verdict)?;
+    let value = verdict_value(alloc, question, is_listed, graph, verdict)?;
     let mut text = value.to_string(alloc)?;
     text.push_str("\n")?;
     Ok(text)

@@ -4,6 +4,7 @@
 
 mod answering;
 mod json;
+mod listed;
 mod text;
 
 pub use answering::{TextQuestion, answer_texts};

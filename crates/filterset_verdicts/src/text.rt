@@ -2,7 +2,7 @@
 ghost use Rattle.std.specs.Prelude.{◌≡◌, ◌++◌, IfOk, OnOk, string_bytes};
 ghost use Rattle.filterset_graph.specs.Platforms.{platform_text};
 ghost use Rattle.filterset_verdicts.specs.VerdictForm.{IsVerdictIn};
-ghost use Rattle.filterset_verdicts.specs.VerdictText.{IsPackageText, IsVerdictText, IsWitnessText, demand_line, demand_text, doubt_text, ending_of, failed_text, field_word, field_line, held_text, open_text, picked_line, picked_lines, picked_text, sign_of, test_text};
+ghost use Rattle.filterset_verdicts.specs.VerdictText.{IsPackageText, IsVerdictText, IsWitnessText, demand_line, demand_text, doubt_text, ending_of, failed_text, field_word, field_line, held_text, open_text, origin_line, picked_line, picked_lines, picked_text, sign_of, test_text};
 ghost use Rattle.std.specs.List.{count_by, flat_map};
 
 use crate::json::verdict_line;
@@ -80,11 +80,27 @@ pub(crate) fn platform_word(platform: BuildPlatform) -> &'static str
     }
 }
 
-/// Writes a possible test, of the package with this name.
-fn push_test(output: &mut String, name: &str, test: &PossibleTest) -> Result<(), AllocError>
-    ensures { OnOk result (string_bytes output.new ≡ string_bytes output.old ++ test_text name.now test.now) }
+/// Returns the line that says where a test comes from.
+fn origin_line(is_listed: bool) -> &'static str
+    ensures { result.now ≡ origin_line is_listed }
 {
-    output.push_str("a possible test, which need not be in any list:\n")?;
+    if is_listed {
+        "a test of the list:\n"
+    } else {
+        "a possible test, which need not be in any list:\n"
+    }
+}
+
+/// Writes a test of the list or a possible test, of the package with this name.
+fn push_test(
+    output: &mut String,
+    is_listed: bool,
+    name: &str,
+    test: &PossibleTest,
+) -> Result<(), AllocError>
+    ensures { OnOk result (string_bytes output.new ≡ string_bytes output.old ++ test_text is_listed name.now test.now) }
+{
+    output.push_str(origin_line(is_listed))?;
     push_field(output, "package", name)?;
     push_field(output, "binary id", test.binary_id.as_str())?;
     push_field(output, "binary", test.binary_name.as_str())?;
@@ -138,14 +154,15 @@ fn push_all_picks(output: &mut String, picks: &[bool]) -> Result<(), AllocError>
 fn witness_text(
     alloc: Global,
     question: Question,
+    is_listed: bool,
     graph: &PackageGraph,
     witness: &Witness,
 ) -> Result<String, AllocError>
-    ensures { IfOk result (λ text. IsWitnessText question graph.now witness.now (string_bytes text)) }
+    ensures { IfOk result (λ text. IsWitnessText question is_listed graph.now witness.now (string_bytes text)) }
 {
     let mut text = String::from_str(alloc, failed_text(question))?;
     let name = package_text(graph, &witness.test.package_id);
-    push_test(&mut text, name, &witness.test)?;
+    push_test(&mut text, is_listed, name, &witness.test)?;
     push_all_picks(&mut text, witness.picks.as_slice())?;
     Ok(text)
 }
@@ -227,14 +244,15 @@ fn doubt_text(alloc: Global, question: Question, doubt: &Doubt<'_>) -> Result<St
 fn verdict_text(
     alloc: Global,
     question: Question,
+    is_listed: bool,
     graph: &PackageGraph,
     verdict: &Verdict<'_>,
 ) -> Result<String, AllocError>
-    ensures { IfOk result (λ text. IsVerdictText question graph.now verdict.now (string_bytes text)) }
+    ensures { IfOk result (λ text. IsVerdictText question is_listed graph.now verdict.now (string_bytes text)) }
 {
     match verdict {
         Verdict::Always => String::from_str(alloc, held_text(question)),
-        Verdict::Fails(witness) => witness_text(alloc, question, graph, witness),
+        Verdict::Fails(witness) => witness_text(alloc, question, is_listed, graph, witness),
         Verdict::Unknown(doubt) => doubt_text(alloc, question, doubt),
         Verdict::Stopped => {
             let mut text = String::from_str(alloc, open_text(question))?;
@@ -244,19 +262,21 @@ fn verdict_text(
     }
 }
 
-/// Writes a verdict in a form. The only error is out of memory.
+/// Writes a verdict in a form. `is_listed` says whether its test, if it has one, is one of the list. The only error is out of
+/// memory.
 pub(crate) fn answer_text(
     alloc: Global,
     form: Form,
     question: Question,
+    is_listed: bool,
     graph: &PackageGraph,
     verdict: &Verdict<'_>,
 ) -> Result<String, AllocError>
-    ensures { IfOk result (λ text. IsVerdictIn form question graph.now verdict.now (string_bytes text)) }
+    ensures { IfOk result (λ text. IsVerdictIn form question is_listed graph.now verdict.now (string_bytes text)) }
 {
     match form {
-        Form::Json => verdict_line(alloc, question, graph, verdict),
-        Form::Drawn(_) | Form::Github => verdict_text(alloc, question, graph, verdict),
+        Form::Json => verdict_line(alloc, question, is_listed, graph, verdict),
+        Form::Drawn(_) | Form::Github => verdict_text(alloc, question, is_listed, graph, verdict),
     }
 }
 

@@ -3,10 +3,8 @@ use Rattle.std.specs.Prelude.{IfOk}
 use Rattle.std.proofs.lemmas.Result.{IfErr-weaker, IfOk-weaker}
 use Rattle.filterset_drawing.specs.Columns.{Text}
 use Rattle.filterset_drawing.specs.declared.source.Source.{Source}
-use Rattle.filterset_sources.specs.declared.platforms.BuildPlatforms.{BuildPlatforms}
 use Rattle.filterset_answers.specs.declared.text.Answer.{Answer}
 use Rattle.filterset_profiles.specs.declared.profiles.Profile.{Profile}
-use Rattle.filterset_command.specs.Configurations.{AreKnown}
 use Rattle.filterset_command.specs.Deciding.{AnswersNamed, IsNamedFault, LacksNamed, naming_of}
 use Rattle.filterset_command.proofs.FaultLemmas.{OrMemory-weaker}
 use Rattle.filterset_command.proofs.deciding.decide_configured.Goals as goal
@@ -18,16 +16,15 @@ returns-clause-answered g c =
     let parts = c.configured_texts-texts.ensures in
     let origin_of : Source → Text = λ s. s.origin.now in
     let text_of : Source → Text = λ s. s.text.now in
-    let AreKnownOf : BuildPlatforms → Type 0 = λ built. AreKnown (g.F.FileSource.content c.args.files.now) c.args.profile.now built known in
     let texts = c.configured_texts-texts.result in
-    let AnswersOver : List Profile → Answer → Type 0 = λ profiles answer. AnswersNamed c.args.request.now c.args.graph.now file.groups (naming_of profiles known texts) c.args.profile.now.name.now answer.ending (string_bytes answer.text) in
+    let AnswersOver : List Profile → Answer → Type 0 = λ profiles answer. AnswersNamed c.args.request.now c.args.workspace.graph.now c.args.workspace.suites.now file.groups (naming_of profiles known texts) c.args.profile.now.name.now answer.ending (string_bytes answer.text) in
     let told = subst (λ profiles. IfOk c.decide_named.result (AnswersOver profiles)) c.as_slice-profiles.ensures.value c.decide_named.ensures.answered in
     IfOk-weaker c.decide_named.result (AnswersOver file.profiles.items) _ (λ answer answers. (
       file,
       naming_of file.profiles.items known texts,
       c.in_ok-text.ensures.read,
       refl,
-      subst AreKnownOf c.nowhere.ensures c.in_ok-known.ensures.read,
+      c.in_ok-known.ensures.read,
       (
         ap origin_of parts.file ∙ c.in_ok-source.ensures.origin ∙ c.name_of-name.ensures,
         ap text_of parts.file ∙ c.in_ok-source.ensures.text ∙ c.as_str.ensures.value,

@@ -8,7 +8,7 @@ pub returns : goal.returns
 returns c =
     let parts = c.plain_setting-setting.ensures in
     let request = c.args.request.now in
-    let asked : TextQuestion = record { question = request.question; entries = c.args.entries; budget = request.budget } in
+    let asked : TextQuestion = record { question = request.question; entries = c.args.entries; suites = c.args.workspace.suites; budget = request.budget } in
     IfOk-weaker c.answer_texts.result _ _ (λ answer answers. (
       c.plain_setting-setting.result,
       asked,
@@ -17,6 +17,6 @@ returns c =
       ap text_row parts.default,
       parts.overrides,
       parts.profiles,
-      (refl, refl, refl),
+      (refl, refl, refl, refl),
       answers,
     )) c.answer_texts.ensures

@@ -16,6 +16,13 @@ returns-in-Nothing-clause-fault c = λ test agrees.
     let none = rw (c.as_slice.ensures.value, c.in-Nothing.is) at c.in_ok-text.ensures in
     none (text_of field test) (text_is_utf8 field test) ((c.in_ok-doubt.ensures.meets test).1 (agrees_on (IsOfField field) test c.args.branch.now agrees))
 
+pub returns-in-Unknown-clause-fault : goal.returns-in-Unknown-clause-fault
+returns-in-Unknown-clause-fault c =
+    let (not_compared, unsearched) = rw (c.as_slice.ensures.value, c.in-Unknown.is) at c.in_ok-text.ensures in
+    record { is_open = record { about = c.in_ok-doubt.ensures.about; not_compared = not_compared }; unsearched = unsearched }
+
 pub returns-clause-fault : goal.returns-clause-fault
-returns-clause-fault c =
-    record { about = c.in_ok-doubt.ensures.about; not_compared = rw (c.as_slice.ensures.value, c.in-Unknown.is) at c.in_ok-text.ensures }
+returns-clause-fault c = (
+  c.in_ok-doubt.doubt,
+  record { about = c.in_ok-doubt.ensures.about; not_compared = rw (c.as_slice.ensures.value, c.in-Stopped.is) at c.in_ok-text.ensures },
+)

@@ -1,4 +1,4 @@
-use Rattle.std.proofs.Common.{◌≡◌, ◌<◌, ◌+◌, ◌*◌, ◌^◌, ◌∙◌, ap, length, map, subst, sym, arith}
+use Rattle.std.proofs.Common.{◌≡◌, ◌<◌, ◌+◌, ◌*◌, ◌^◌, ◌∙◌, ap, inl, inr, length, map, subst, sym, ⊎_elim, arith}
 use Rattle.std.specs.Borrow.{Bor}
 use Rattle.filterset_expression.specs.Expression.{with_default}
 use Rattle.filterset_expression.specs.declared.expression.CompiledExpr.{CompiledExpr}
@@ -8,11 +8,11 @@ use Rattle.filterset_expression.specs.FlatSteps.{step_of, steps_of}
 use Rattle.filterset_deciding.specs.Deciding.{IsUnmetAt, formulas_asked, leaves_asked, steps_asked}
 use Rattle.filterset_deciding.specs.Demands.{IsDoubtAbout}
 use Rattle.filterset_deciding.specs.Searching.{pushed}
-use Rattle.filterset_deciding.specs.Texts.{AreComparisons}
+use Rattle.filterset_deciding.specs.Texts.{AreComparisons, HasUnsearched}
 use Rattle.filterset_deciding.specs.declared.demand.Doubt.{Doubt}
 use Rattle.filterset_deciding.specs.declared.witness.Witness.{Witness}
 use Rattle.filterset_deciding.proofs.Branches.{always}
-use Rattle.filterset_deciding.proofs.Doubts.{kept_doubt, pushed-all}
+use Rattle.filterset_deciding.proofs.Doubts.{kept_doubt, open_leaves, pushed-all}
 use Rattle.filterset_deciding.proofs.Sizes.{steps_some}
 use Rattle.filterset_deciding.proofs.deciding.decide.Goals as goal
 
@@ -38,29 +38,35 @@ returns-in-Unknown-clause-unknown c = λ doubt e.
     let same : kept.field-0 ≡ doubt = cc in
     let is = rw c.deref.ensures.value at (c.in_ok-search.ensures.unknown c.in-Unknown.doubt c.in-Unknown.is) in
     subst (IsDoubtAbout (leaves_asked c.args.given.now default c.args.exprs.now)) same
-    (kept_doubt (formulas_asked c.args.given.now default c.args.exprs.now) (steps_of c.loop-expr.steps.items) c.in-Unknown.doubt kept.field-0 made kept.ensures.field kept.ensures.demands is.about)
+    (kept_doubt (formulas_asked c.args.given.now default c.args.exprs.now) (steps_of c.loop-expr.steps.items) c.in-Unknown.doubt kept.field-0 made kept.ensures.field kept.ensures.demands is.is_open.about)
 
 pub returns-in-Unknown-clause-decided : goal.returns-in-Unknown-clause-decided
-returns-in-Unknown-clause-decided c = λ doubt e are.
+returns-in-Unknown-clause-decided c = λ doubt e.
     let kept = c.in_ok-without_repeats-in-Unknown in
     let same : kept.field-0 ≡ doubt = cc in
     let is = rw c.deref.ensures.value at (c.in_ok-search.ensures.unknown c.in-Unknown.doubt c.in-Unknown.is) in
-    is.not_compared (kept.ensures.comparisons (subst (λ (d : Doubt). AreComparisons d.demands.items) (sym same) are))
+    let Open : Doubt → Type 0 = λ d. (¬ AreComparisons d.demands.items) × HasUnsearched d.demands.items in
+    subst Open same (λ are. is.is_open.not_compared (kept.ensures.comparisons are), kept.ensures.unsearched is.unsearched)
 
 pub returns-in-Stopped-clause-stopped : goal.returns-in-Stopped-clause-stopped
 returns-in-Stopped-clause-stopped c = λ e.
     let default = default_of c.args.cx.now in
     let formulas = formulas_asked c.args.given.now default c.args.exprs.now in
     let steps = c.loop-expr.steps in
+    let branches = c.branches_of-branches.result in
     let made = rw (take_all c.loop-expr.expr-index c.args.exprs.now c.loop-expr-test.false) at c.loop-expr.invariant in
-    let few = rw c.deref.ensures.value at (c.in_ok-search.ensures.stopped c.in-Stopped.is) in
+    let stopped = rw c.deref.ensures.value at (c.in_ok-search.ensures.stopped c.in-Stopped.is) in
     let items : c.len.result ≡ length steps.items = omega (arith, c.len.ensures, steps.ok.0) in
     let long : c.len.result ≡ length (steps_asked c.args.given.now default c.args.exprs.now) = items ∙ sym (length-map steps.items step_of) ∙ ap length made in
-    let less = c.branches_of.ensures _ (subst (λ n. c.branches_of.result < 2 ^ (n + 1)) (ap (λ s. length (pushed s)) made ∙ ap length (pushed-all formulas)) few) in
-    subst (λ n. c.args.budget < 2 ^ (length (leaves_asked c.args.given.now default c.args.exprs.now) + 1) * n) long less
+    let short : (branches < 2 ^ (length (pushed (steps_of steps.items)) + 1))
+    → c.args.budget < 2 ^ (length (leaves_asked c.args.given.now default c.args.exprs.now) + 1) * length (steps_asked c.args.given.now default c.args.exprs.now) =
+    λ few.
+    let less = c.branches_of-branches.ensures _ (subst (λ n. branches < 2 ^ (n + 1)) (ap (λ s. length (pushed s)) made ∙ ap length (pushed-all formulas)) few) in
+    subst (λ n. c.args.budget < 2 ^ (length (leaves_asked c.args.given.now default c.args.exprs.now) + 1) * n) long less in
+    ⊎_elim (λ few. inl (short few)) (λ open'. inr (open_leaves formulas (steps_of steps.items) made open')) stopped
 
-pub branches_of-requires : goal.branches_of-requires
-branches_of-requires c =
+pub branches_of-branches-requires : goal.branches_of-branches-requires
+branches_of-branches-requires c =
     let default = default_of c.args.cx.now in
     let steps = c.loop-expr.steps in
     let made = rw (take_all c.loop-expr.expr-index c.args.exprs.now c.loop-expr-test.false) at c.loop-expr.invariant in

@@ -1,11 +1,11 @@
-use Rattle.std.proofs.Common.{◌≡◌, ◌∙◌, Option, Some, None, [], ◌++◌, IfSome, refl, sym, ap, subst, length, arith}
+use Rattle.std.proofs.Common.{◌≡◌, ◌∙◌, Option, Some, None, [], ◌++◌, IfSome, refl, sym, ap, subst, length, arith, inl, inr}
 use Rattle.std.specs.Prelude.{MatchOption}
 use Rattle.std.specs.List.{AllByRecursion}
 use Rattle.std.specs.declared.vec.Vec.{Vec}
 use Rattle.std.specs.declared.alloc.Global.{Global}
 use Rattle.filterset_expression.specs.FlatSteps.{steps_of}
 use Rattle.filterset_expression.specs.Contexts.{default_of}
-use Rattle.filterset_deciding.specs.Candidates.{IsOpenDoubt}
+use Rattle.filterset_deciding.specs.Candidates.{HasOpen, IsLeftDoubt}
 use Rattle.filterset_deciding.specs.Deciding.{IsUnmetAt}
 use Rattle.filterset_deciding.specs.declared.witness.Witness.{Witness}
 use Rattle.filterset_deciding.specs.Known.{steps_in}
@@ -60,7 +60,7 @@ branches-preserved c =
     elim c.match-branch-4.branch [
       | in-Closed w ↦ record {
         steps = kept.0;
-        left = subst (λ o. IfSome o (IsOpenDoubt steps)) (sym w.left-is) c.branches.invariant.left;
+        left = subst (λ o. IfSome o (IsLeftDoubt steps)) (sym w.left-is) c.branches.invariant.left;
         missed = λ none test missed.
             one_fewer test steps old mid new branch c.in-Some.ensures.items
             (rw c.deref.ensures.value at (c.in_ok-explore.ensures.closed w.in-Closed.is test steps missed))
@@ -69,8 +69,8 @@ branches-preserved c =
       }
       | in-Left w ↦ record {
         steps = kept.0;
-        left = subst (λ o. IfSome o (IsOpenDoubt steps)) (sym w.left-is)
-            (subst (λ s. IsOpenDoubt s w.in-Left.doubt) kept.1 (rw c.deref.ensures.value at (c.in_ok-explore.ensures.left w.in-Left.doubt w.in-Left.is)));
+        left = subst (λ o. IfSome o (IsLeftDoubt steps)) (sym w.left-is)
+            (subst (λ s. IsLeftDoubt s w.in-Left.doubt) kept.1 (rw c.deref.ensures.value at (c.in_ok-explore.ensures.left w.in-Left.doubt w.in-Left.is)));
         missed = λ none test missed. absurd (let clash : Some w.in-Left.doubt ≡ None = sym w.left-is ∙ none in cc);
         size = size;
       }
@@ -88,4 +88,11 @@ returns-in-Found-clause-found c = λ witness e made.
 
 pub returns-clause-stopped : goal.returns-clause-stopped
 returns-clause-stopped c = λ e.
-    stopped_before c.args.branches c.branches.searched (length (pushed (steps_of c.args.steps.now))) c.branches.pending.items c.branches-test.false c.branches.invariant.size
+    inl (stopped_before c.args.branches c.branches.searched (length (pushed (steps_of c.args.steps.now))) c.branches.pending.items c.branches-test.false c.branches.invariant.size)
+
+pub returns-in-Stopped-clause-stopped : goal.returns-in-Stopped-clause-stopped
+returns-in-Stopped-clause-stopped c = λ e.
+    let steps = steps_of c.args.steps.now in
+    let kept = kept_steps steps c.branches.pending.items c.pop.new.self.items c.explore.new.pending.items c.in-Some.branch c.in-Some.ensures.items
+    (rw c.deref.ensures.value at c.in_ok-explore.ensures.steps) c.branches.invariant.steps in
+    inr (subst HasOpen kept.1 (rw c.deref.ensures.value at (c.in_ok-explore.ensures.stopped c.in-Stopped.is)))

@@ -1,20 +1,16 @@
-use Rattle.std.proofs.Common.{rules, arith, ◌≡◌, ◌↔◌, ◌<◌, ◌+◌, ◌∙◌, Bool, [], ◌∷◌, ◌++◌, length, get_or, take, ap, IsTrue}
-use Rattle.std.specs.Borrow.{Bor}
+use Rattle.std.proofs.Common.{rules, arith, ◌≡◌, ◌<◌, ◌+◌, ◌∙◌, [], ◌∷◌, ◌++◌, length, get_or, take, ap}
 use Rattle.std.proofs.lemmas.List.{take_more}
 use Rattle.std.proofs.lemmas.Slice.Zip.{all_zipped_more}
-use Rattle.filterset_expression.specs.Contexts.{default_of}
-use Rattle.filterset_expression.specs.declared.expression.CompiledExpr.{CompiledExpr}
-use Rattle.filterset_deciding.specs.AnyTest.{PicksAsked}
+use Rattle.filterset_deciding.specs.AnyTest.{IsPickOf}
 use Rattle.filterset_deciding.proofs.witness.pick_all.Goals as goal
 
-pub loop-expr-preserved : goal.loop-expr-preserved
-loop-expr-preserved c =
-    let exprs = c.args.exprs.now in
-    let i = c.loop-expr.expr-index in
-    let expr = c.expr-item.result in
-    let R : Bor CompiledExpr → Bool → Type 0 = λ e answer. IsTrue answer ↔ PicksAsked (default_of c.args.cx.now) c.args.query.now c.args.lookup.now.group.now e.now in
-    let lt : i < length exprs = omega (arith, c.loop-expr-test.true) in
-    let at : get_or exprs i expr ≡ expr = search (rules, c.expr-item.is) in
-    let more : take (i + 1) exprs ≡ take i exprs ++ expr ∷ [] = take_more exprs i expr lt ∙ ap (λ z. take i exprs ++ z ∷ []) at in
+pub loop-flat-preserved : goal.loop-flat-preserved
+loop-flat-preserved c =
+    let flats = c.args.flats.now in
+    let i = c.loop-flat.flat-index in
+    let flat = c.flat-item.result in
+    let lt : i < length flats = omega (arith, c.loop-flat-test.true) in
+    let at : get_or flats i flat ≡ flat = search (rules, c.flat-item.is) in
+    let more : take (i + 1) flats ≡ take i flats ++ flat ∷ [] = take_more flats i flat lt ∙ ap (λ z. take i flats ++ z ∷ []) at in
     rw (more, c.in_ok-push.ensures.items)
-    (all_zipped_more R (take i exprs) c.loop-expr.all.items expr c.in_ok-picks.field-0 c.loop-expr.invariant c.in_ok-picks.ensures)
+    (all_zipped_more (IsPickOf c.args.query.now c.args.lookup.now.group.now) (take i flats) c.loop-flat.all.items flat c.in_ok-picks.field-0 c.loop-flat.invariant c.in_ok-picks.ensures)

@@ -2,7 +2,7 @@ use Rattle.std.proofs.Common.{◌++◌, string_bytes}
 use Rattle.std.specs.Prelude.{codes}
 use Rattle.filterset_drawing.specs.Columns.{Text}
 use Rattle.filterset_graph.specs.Platforms.{platform_text}
-use Rattle.filterset_verdicts.specs.VerdictText.{field_line}
+use Rattle.filterset_verdicts.specs.VerdictText.{field_line, origin_line}
 use Rattle.filterset_verdicts.proofs.TextLemmas.{joined}
 use Rattle.filterset_verdicts.proofs.text.push_test.Goals as goal
 
@@ -18,7 +18,7 @@ returns c =
     let placed : Text = string_bytes c.push_field-5.new.output in
     let tested : Text = string_bytes c.push_field-6.new.output in
     let whole : Text = string_bytes c.push_field-7.new.output in
-    let header : Text = codes "a possible test, which need not be in any list:\n" in
+    let header = origin_line c.args.is_listed in
     let owner = field_line (codes "package") c.args.name.now in
     let id = field_line (codes "binary id") test.binary_id in
     let binary = field_line (codes "binary") (string_bytes test.binary_name) in
@@ -31,7 +31,7 @@ returns c =
     let after_binary = kind ++ after_kind in
     let after_id = binary ++ after_binary in
     let after_owner = id ++ after_id in
-    joined start headed whole header (owner ++ after_owner) c.in_ok-push_str.ensures.bytes
+    joined start headed whole header (owner ++ after_owner) (rw c.origin_line.ensures at c.in_ok-push_str.ensures.bytes)
     (joined headed owned whole owner after_owner c.in_ok-push_field.ensures
     (joined owned identified whole id after_id (rw c.as_str.ensures at c.in_ok-push_field-2.ensures)
     (joined identified named whole binary after_binary (rw c.as_str-2.ensures.value at c.in_ok-push_field-3.ensures)

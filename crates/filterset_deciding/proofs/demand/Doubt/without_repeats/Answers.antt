@@ -5,7 +5,7 @@ use Rattle.filterset_deciding.specs.Texts.{IsAmong}
 use Rattle.filterset_deciding.proofs.Agreeing.{each_taken}
 use Rattle.filterset_deciding.proofs.Branches.{each_pushed}
 use Rattle.filterset_deciding.proofs.Doubts.{contains_at, each_weaker}
-use Rattle.filterset_deciding.proofs.Parts.{among_comparisons, among_left, among_own}
+use Rattle.filterset_deciding.proofs.Parts.{among_comparisons, among_left, among_own, among_unsearched}
 use Rattle.filterset_deciding.proofs.demand.Doubt.without_repeats.Goals as goal
 use Rattle.filterset_deciding.proofs.demand.Doubt.without_repeats.Goals.{then-not-is_repeated+in_ok-push, else-not-is_repeated}
 
@@ -42,3 +42,10 @@ returns-clause-comparisons c =
     let i = c.loop-demand.demand-index in
     let past : length all ≤ i = subst (λ xs. length xs ≤ i) c.deref-demand-items.ensures.value c.loop-demand-test.false in
     among_comparisons c.loop-demand.demands.items all (rw (take_all i all past) at c.loop-demand.invariant.among)
+
+pub returns-clause-unsearched : goal.returns-clause-unsearched
+returns-clause-unsearched c =
+    let all = c.args.self.now.demands.items in
+    let i = c.loop-demand.demand-index in
+    let past : length all ≤ i = subst (λ xs. length xs ≤ i) c.deref-demand-items.ensures.value c.loop-demand-test.false in
+    among_unsearched c.loop-demand.demands.items all (rw (take_all i all past) at c.loop-demand.invariant.among)
