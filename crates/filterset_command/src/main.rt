@@ -14,6 +14,7 @@ mod ending;
 mod explaining;
 mod fault;
 mod files;
+mod greeting;
 mod input;
 mod naming;
 mod overriding;

@@ -1,18 +1,16 @@
 //! The command `lsp`: a language server over standard input and output.
-ghost use Rattle.std.specs.Prelude.{◌≡◌, IfErr, IfOk, Some};
-ghost use Rattle.filterset_editor.specs.Machine.{says};
-ghost use Rattle.filterset_editor.specs.Sessions.{Served};
+ghost use Rattle.std.specs.Prelude.{◌≡◌, IfErr, IfOk, Some, None, option_map};
+ghost use Rattle.std.specs.Io.KnownBytes.{prepend_known};
 ghost use Rattle.filterset_names.specs.Workspaces.{known_of, workspace_row};
-ghost use Rattle.filterset_server.specs.Responses.{Responds, abilities};
-ghost use Rattle.filterset_server.specs.Unmatched.{DiagnosesIn};
-ghost use Rattle.filterset_command.specs.Serving.{IsServiceFault, Serves, row_of};
+ghost use Rattle.filterset_command.specs.Serving.{IsServiceFault, Serves, ServesIn, row_of};
 ghost use Rattle.filterset_command.specs.Files.{OrMemory};
 
 use crate::fault::CommandFault;
 use crate::files::FileSource;
+use crate::greeting::greet;
 use crate::workspace::{Workspace, WorkspacePaths, read_workspace};
-use filterset_editor::{Ending, serve};
-use filterset_io::{RunFault, Sink, Source};
+use filterset_editor::{Ending, read_opening, serve};
+use filterset_io::{RunFault, Sink, Source, write_all};
 use filterset_names::Workspace as KnownWorkspace;
 use filterset_server::FiltersetLanguage;
 use std::alloc::Global;
@@ -27,17 +25,34 @@ fn known(workspace: &Workspace) -> KnownWorkspace<'_>
     }
 }
 
-/// Serves an editor with what is known of a workspace, until its session ends.
+/// Returns what an editor is told of a workspace, if there is one.
+fn known_if(workspace: &Option<Workspace>) -> Option<KnownWorkspace<'_>>
+    ensures { known_of result ≡ option_map row_of workspace.now }
+{
+    match workspace {
+        Some(workspace) => Some(known(workspace)),
+        None => None,
+    }
+}
+
+/// Serves an editor with what is known of a workspace, until its session ends. The opening was read of the input before.
 fn serve_with<R: Source, W: Sink>(
     alloc: Global,
     workspace: Option<KnownWorkspace<'_>>,
+    opening: &[u8],
     input: &mut R,
     output: &mut W,
 ) -> Result<Ending, RunFault>
-    ensures { IfOk result (Served (says (DiagnosesIn (known_of workspace.entry)) (Responds (known_of workspace.entry)) abilities)
-        (R.left input.old) (R.left input.new) (W.taken output.old) (W.taken output.new)) }
+    ensures { IfOk result (ServesIn (known_of workspace.entry) (prepend_known opening.now (R.left input.old)) (R.left input.new)
+        (W.taken output.old) (W.taken output.new)) }
 {
-    serve(&FiltersetLanguage { workspace }, alloc, input, output)
+    serve(
+        &FiltersetLanguage { workspace },
+        alloc,
+        opening,
+        input,
+        output,
+    )
 }
 
 /// Serves an editor with the workspace that the files at these paths describe.
@@ -48,17 +63,35 @@ fn serve_known<F: FileSource, R: Source, W: Sink>(
     input: &mut R,
     output: &mut W,
 ) -> Result<Ending, CommandFault>
-    ensures session { IfOk result (Serves (F.content files.now) (Some paths.now) (R.left input.old) (R.left input.new)
-        (W.taken output.old) (W.taken output.new)) }
+    ensures session { IfOk result (Serves (F.content files.now) (F.fails files.now) (Some paths.now) (R.left input.old)
+        (R.left input.new) (W.taken output.old) (W.taken output.new)) }
     ensures refused { IfErr result
         (OrMemory (IsServiceFault (F.content files.now) (F.fails files.now) (Some paths.now))) }
 {
     let workspace = read_workspace(alloc, files, paths)?;
-    Ok(serve_with(alloc, Some(known(&workspace)), input, output)?)
+    Ok(serve_with(alloc, Some(known(&workspace)), &[], input, output)?)
 }
 
-/// Serves an editor until its session ends, with the names of the workspace that the files at these paths describe, if they are
-/// given. They are read once, before the session begins.
+/// Serves an editor with the workspace that it names, if it names one.
+fn serve_named<F: FileSource, R: Source, W: Sink>(
+    alloc: Global,
+    files: &F,
+    input: &mut R,
+    output: &mut W,
+) -> Result<Ending, CommandFault>
+    ensures session { IfOk result (Serves (F.content files.now) (F.fails files.now) None (R.left input.old) (R.left input.new)
+        (W.taken output.old) (W.taken output.new)) }
+    ensures refused { IfErr result (OrMemory (IsServiceFault (F.content files.now) (F.fails files.now) None)) }
+{
+    let opening = read_opening(alloc, input)?;
+    let greeting = greet(alloc, files, &opening.options)?;
+    write_all(output, greeting.shown.as_bytes())?;
+    let workspace = known_if(&greeting.workspace);
+    Ok(serve_with(alloc, workspace, &opening.read, input, output)?)
+}
+
+/// Serves an editor until its session ends, with the names of a workspace: the one that the files at these paths describe, if they are
+/// given, or else the one that the editor names first. Its files are read once, before the session's first answer.
 pub fn serve_editor<F: FileSource, R: Source, W: Sink>(
     alloc: Global,
     files: &F,
@@ -67,12 +100,12 @@ pub fn serve_editor<F: FileSource, R: Source, W: Sink>(
     output: &mut W,
 ) -> Result<Ending, CommandFault>
     // What was written answers the messages that were read, and nothing else was.
-    ensures session { IfOk result (Serves (F.content files.now) paths.entry (R.left input.old) (R.left input.new)
-        (W.taken output.old) (W.taken output.new)) }
+    ensures session { IfOk result (Serves (F.content files.now) (F.fails files.now) paths.entry (R.left input.old)
+        (R.left input.new) (W.taken output.old) (W.taken output.new)) }
     ensures refused { IfErr result (OrMemory (IsServiceFault (F.content files.now) (F.fails files.now) paths.entry)) }
 {
     match paths {
         Some(paths) => serve_known(alloc, files, &paths, input, output),
-        None => Ok(serve_with(alloc, None, input, output)?),
+        None => serve_named(alloc, files, input, output),
     }
 }

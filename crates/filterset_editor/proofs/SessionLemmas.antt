@@ -1,24 +1,25 @@
 -- Sessions that go on.
-use Rattle.std.proofs.Common.{◌≡◌, ℕ, ◌<◌, List, [], ◌∷◌, ◌++◌, length, Option, None, Some, refl, sym, ap, ◌∙◌, subst, append_assoc, arith, length-append}
+use Rattle.std.proofs.Common.{◌≡◌, ℕ, ◌<◌, List, [], ◌∷◌, ◌++◌, length, take, Option, None, Some, refl, sym, ap, ◌∙◌, subst, append_assoc, arith, length-append}
 use Rattle.std.proofs.Common.{Vec, Result, Ok, Err}
 use Rattle.std.specs.Prelude.{false, option_map}
 use Rattle.std.specs.Result.{IfOk, OnOk}
 use Rattle.serde_json.specs.View.{view}
 use Rattle.serde_json.specs.Written.{compact_text, has_float}
 use Rattle.serde_json.specs.declared.value.Value.{Value}
-use Rattle.std.specs.Io.KnownBytes.{Appends, Consumes}
+use Rattle.std.specs.Io.KnownBytes.{Appends, Consumes, prepend_known}
 use Rattle.std.specs.declared.alloc.Global.{Global}
 use Rattle.std.specs.declared.alloc.AllocError.{AllocError}
 use Rattle.std.proofs.lemmas.List.{append-nil}
 use Rattle.filterset_editor.proofs.FrameLemmas.{frame-some}
 use Rattle.filterset_editor.specs.Frames.{Bytes, IsFrame, IsTaken, Waits, framed}
-use Rattle.filterset_editor.specs.Machine.{Says, State}
+use Rattle.filterset_editor.specs.Machine.{Says, State, state_of}
 use Rattle.filterset_editor.specs.Refusals.{Exchange}
 use Rattle.filterset_editor.specs.Sessions.{AddsExchange, Advances, Ends, IsEnding, IsServing, IsTurn, Served, Session, Splits}
 use Rattle.filterset_editor.specs.Written.{Writes}
 use Rattle.filterset_editor.specs.declared.ending.Ending.{Ending}
 use Rattle.filterset_editor.specs.declared.ending.Ending.TheVariants.{Exit, InputEnded, Malformed}
 use Rattle.filterset_editor.specs.declared.phase.Phase.TheVariants.{New}
+use Rattle.filterset_editor.specs.declared.server.Server.{Server}
 use Rattle.filterset_editor.specs.declared.session.Turn.{Turn}
 
 abbrev begun : State
@@ -92,6 +93,30 @@ IsServing-step S left now later taken grown more phase new waiting rest piece wr
       Session-then S ms ns begun phase new w v session session',
       Appends-then taken grown more w v appended (subst R e appends),
     )
+
+-- what was read before belongs to the input
+Consumes-read : (left : Option Bytes) (opening : Bytes) → Consumes (prepend_known opening left) left opening
+Consumes-read None opening = tt
+Consumes-read (Some xs) opening = refl
+
+-- a read of no byte consumes nothing
+pub Consumes-none : (old mid new : Option Bytes) (front : Bytes) (count : ℕ) (buf : Bytes) → count ≡ 0 → Consumes old mid front
+    → Consumes mid new (take count buf) → Consumes old new front
+Consumes-none old mid new front count buf none h k =
+    let P : ℕ → Type 0 = λ n. Consumes mid new (take n buf) in
+    let Q : Bytes → Type 0 = λ b. Consumes old new b in
+    subst Q (append-nil front) (Consumes-then old mid new front [] h (subst P none k))
+
+-- a session begins with what was read before
+pub IsServing-begun : (S : Says) (left taken more : Option Bytes) (server : Server) (waiting : Bytes) (new : State) (rest opening written : Bytes)
+    → state_of server ≡ begun → waiting ≡ [] → Advances S (state_of server) (waiting ++ opening) [] new rest written
+    → Appends taken more written → IsServing S (prepend_known opening left) left taken more new rest
+IsServing-begun S left taken more server waiting new rest opening written is_new empty advances appends =
+    let P : State → Type 0 = λ p. Advances S p (waiting ++ opening) [] new rest written in
+    let Q : Bytes → Type 0 = λ w. Advances S begun (w ++ opening) [] new rest written in
+    let R : Bytes → Type 0 = λ t. Appends taken more t in
+    let (ns, v, splits, session, e) = subst Q empty (subst P is_new advances) in
+    (opening, ns, v, Consumes-read left opening, splits, session, subst R e appends)
 
 -- the next message was answered
 pub Advances-taken : (S : Says) (r : Result Turn AllocError) (old new : State) (stream text rest grown message : Bytes) (taken : Option (Vec ℕ Global)) (v : Vec ℕ Global)

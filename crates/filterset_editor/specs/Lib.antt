@@ -5,6 +5,7 @@ pub mod Heads
 pub mod Inquiries
 pub mod Machine
 pub mod Messages
+pub mod Openings
 pub mod Positions
 pub mod Refusals
 pub mod Sessions

@@ -12,7 +12,7 @@ const MOST_OF_HEAD: usize = 8 * 1024;
 
 /// What is at the front of a stream.
 #[derive(Clone, Copy, Debug, PartialEq, Eq)]
-enum Next {
+pub enum Next {
     /// Less than a message.
     Partial,
     /// No message, however the stream goes on.
@@ -31,7 +31,7 @@ fn front(stream: &[u8]) -> &[u8]
 }
 
 /// Finds the message at the front of a stream.
-fn next_frame(stream: &[u8]) -> Next
+pub fn next_frame(stream: &[u8]) -> Next
     ensures { IsNext stream.now result }
 {
     match read_head(front(stream)) {

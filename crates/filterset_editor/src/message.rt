@@ -275,7 +275,7 @@ fn asked_in(alloc: Global, method: &str, message: &Value) -> Result<Asked, Alloc
 }
 
 /// Returns the method of a message.
-fn method_of(message: &Value) -> Option<&str>
+pub fn method_of(message: &Value) -> Option<&str>
     ensures { option_map (λ t. t.now) result ≡ spec.method_of (view message.now) }
 {
     match message.get("method") {

@@ -1,6 +1,6 @@
 //! The loop of a server.
 ghost use Rattle.std.specs.Prelude.{◌≡◌, ◌++◌, IfOk, IsTrue, []};
-ghost use Rattle.std.specs.Io.KnownBytes.{Appends};
+ghost use Rattle.std.specs.Io.KnownBytes.{Appends, prepend_known};
 ghost use Rattle.filterset_editor.specs.Frames.{Bytes};
 ghost use Rattle.filterset_editor.specs.Machine.{says, state_of};
 ghost use Rattle.filterset_editor.specs.Sessions.{Advances, IsBehind, Served};
@@ -35,19 +35,23 @@ fn step<L: Language, W: Sink>(
     Ok(ended)
 }
 
-/// Answers the messages of a client until the session ends. Fails if a read or a write fails, or out of memory, which an input
-/// without end comes to.
+/// Answers the messages of a client until the session ends. `opening` is what was read of the input before, which comes first.
+/// Fails if a read or a write fails, or out of memory, which an input without end comes to.
 pub fn serve<L: Language, R: Source, W: Sink>(
     language: &L,
     alloc: Global,
+    opening: &[u8],
     input: &mut R,
     output: &mut W,
 ) -> Result<Ending, RunFault>
     ensures served { IfOk result (Served (says (L.has language.now) (L.gives language.now) (L.can language.now))
-        (R.left input.old) (R.left input.new) (W.taken output.old) (W.taken output.new)) }
+        (prepend_known opening.now (R.left input.old)) (R.left input.new) (W.taken output.old) (W.taken output.new)) }
     ensures ended { IfOk result (λ ending. ending ≡ Ending.InputEnded → IsTrue (R.ended input.new)) }
 {
     let mut session = Session::new(alloc);
+    if let Some(ending) = step(&mut session, language, alloc, opening, output)? {
+        return Ok(ending);
+    }
     let mut piece = [0u8; PIECE];
     for _piece in 0..u64::MAX {
         let Ok(count) = input.read_some(&mut piece) else {

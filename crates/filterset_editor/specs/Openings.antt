@@ -1,0 +1,60 @@
+-- How a session begins: the first message of a stream, and the options that it gives the server.
+use Rattle.std.specs.Prelude.{◌≡◌, ◌⊎◌, ◌&&◌, ◌++◌, Bool, false, IsUtf8, Option, Some, None, codes, is_some, option_and_then, option_map, if◌then◌else◌}
+use Rattle.std.specs.Io.KnownBytes.{Consumes, IsAtEnd}
+use Rattle.std.specs.Str.{bytes_eq}
+use Rattle.serde_json.specs.Data.{Data, number, unsigned, object, string, member, no_members}
+use Rattle.serde_json.specs.Find.{get, pointer}
+use Rattle.serde_json.specs.Read.{read}
+use Rattle.serde_json.specs.View.{view}
+use Rattle.filterset_editor.specs.Frames.{Bytes, IsFrame, IsMalformed, IsPartial}
+use Rattle.filterset_editor.specs.Messages.{method_of}
+use Rattle.filterset_editor.specs.Positions.{Text}
+use Rattle.filterset_editor.specs.declared.opening.Front.{Front}
+use Rattle.filterset_editor.specs.declared.opening.Front.TheVariants.{Waiting, Settled}
+
+abbrev pub names_initialize : Option Text → Bool
+names_initialize None = false
+names_initialize (Some name) = bytes_eq name (codes "initialize")
+
+-- the message is the request `initialize`
+abbrev pub is_initialize : Data → Bool
+is_initialize d = names_initialize (method_of d) && is_some (get (codes "id") d)
+
+-- the options of the request `initialize`
+abbrev pub options_in : Data → Option Data
+options_in d = if is_initialize d then pointer (codes "/params/initializationOptions") d else None
+
+-- the options that the bytes of a message give
+abbrev pub GivesOptions : Bytes → Option Data → Type 0
+GivesOptions message options =
+    (IsUtf8 message → options ≡ option_and_then options_in (read message)) × (¬ IsUtf8 message → options ≡ None)
+
+-- the stream begins with this message, which came whole
+abbrev pub BeginsWith : Bytes → Bytes → Type 0
+BeginsWith stream message = (frame : Bytes) × (rest : Bytes) × IsFrame frame message × (stream ≡ frame ++ rest)
+
+-- the first message of the stream gives these options; or no message begins it, however it goes on, and so there are none
+abbrev pub Settles : Bytes → Option Data → Type 0
+Settles stream options = ((message : Bytes) × BeginsWith stream message × GivesOptions message options)
+    ⊎ ((options ≡ None) × IsMalformed stream)
+
+-- What was read is the opening, in which the first message gives these options. There are none if the stream has no message
+-- next, or came to its end before one came whole.
+abbrev pub IsOpening : Option Bytes → Option Bytes → Bytes → Option Data → Type 0
+IsOpening left_old left_new opening options = Consumes left_old left_new opening
+    × (Settles opening options ⊎ ((options ≡ None) × IsPartial opening × IsAtEnd left_new))
+
+-- the notification that shows the user an error (1)
+abbrev pub shown_data : Text → Data
+shown_data message =
+    object (member (codes "jsonrpc") (string (codes "2.0"))
+    (member (codes "method") (string (codes "window/showMessage"))
+    (member (codes "params") (object (member (codes "message") (string message)
+    (member (codes "type") (number (unsigned 1)) no_members))) no_members)))
+
+-- ---- what only contracts of private functions cite
+
+-- the stream may still bring the options, or these are all
+abbrev pub IsFront : Bytes → Front → Type 0
+IsFront stream Waiting = IsPartial stream
+IsFront stream (Settled options) = Settles stream (option_map view options)
