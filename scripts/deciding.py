@@ -7,11 +7,10 @@ says with what the pairs pick of all tests with short names.
 The names are all texts of `a` and `b` up to length 4, with three kinds and both platforms. What a filterset picks is
 computed here, by docs/LANGUAGE.md. If the program says that the answer is yes for every test, it must be so for these. If
 it shows a test, the test must be one for which the answer is no, and the lines below it must say which filtersets pick it.
-Half of the pairs are the same filterset, written in two ways: their difference must not be shown. The answer must not be
-unknown for a pair without globs, nor if it hangs on predicates none of which is a glob.
+Half of the pairs are the same filterset, written in two ways: their difference must not be shown. No answer may be unknown.
 
 `rt ci` builds the program. Without --pairs there are 200; with the same seed they are the same. The last line is 'N passed,
-M failed', by answers; the line before it counts those that are unknown. The status is 1 if one failed.
+M failed', by answers. The status is 1 if one failed.
 """
 
 import argparse
@@ -131,26 +130,9 @@ def shown_test(lines):
     return (fields["test"], fields["kind"], fields["platform"]), numbers
 
 
-def has_glob(tree):
-    """Whether a filterset has a glob."""
-    if tree[0] == "test":
-        return tree[1] == "#"
-    return any(has_glob(operand) for operand in tree[1:] if isinstance(operand, tuple))
-
-
-def unknown_fault(pair, lines):
-    """What is wrong with an unknown answer to a pair, if something is."""
-    hanging = [line for line in lines if line.startswith("  ")]
-    if hanging and not any("(#" in line for line in hanging):
-        return f"unknown, which hangs on {hanging}"
-    return None if any(map(has_glob, pair)) else f"unknown, but there is no glob: {lines[-1]!r}"
-
-
 def fault_of(command, pair, status, lines):
     """What is wrong with an answer to a pair, if something is."""
     yes, no, is_met = COMMANDS[command]
-    if status == 4 and lines[0].startswith("unknown: "):
-        return unknown_fault(pair, lines)
     if (status, lines) == (0, [yes]):
         missed = next((test for test in TESTS if not is_met(sum(picks(tree, test) for tree in pair))), None)
         return missed and f"the answer is no for {missed}"
@@ -177,7 +159,7 @@ def main():
     parser.add_argument("--pairs", type=int, default=200)
     parser.add_argument("--seed", type=int, default=1)
     given = parser.parse_args()
-    passed, failed, unknown = 0, 0, 0
+    passed, failed = 0, 0
     if not given.program.is_file():
         print(f"deciding: there is no {given.program}: run rt ci first")
         failed = 1
@@ -188,13 +170,11 @@ def main():
         for command in COMMANDS:
             ran = subprocess.run([given.program, command, *texts], capture_output=True, text=True, check=False)
             fault = fault_of(command, pair, ran.returncode, (ran.stdout + ran.stderr).splitlines() or [""])
-            unknown += ran.returncode == 4
             if fault:
                 print(f"deciding: {command} {texts[0]!r} {texts[1]!r}: FAILED: {fault}")
                 failed += 1
             else:
                 passed += 1
-    print(f"unknown: {unknown}")
     print(f"{passed} passed, {failed} failed")
     return 1 if failed or not passed else 0
 

@@ -20,7 +20,8 @@ A session is a block ```session of a page, named by the heading above it. An ind
     status NUMBER                it ends with this status, and no message that the session does not show
 
 A text "@NAME" is that of the block of this page with this name, such as ```toml NAME, or the value of a block ```json
-NAME. With `crlf` behind the name, the lines of the block end in a carriage return and a line feed.
+NAME. With `crlf` behind the name, the lines of the block end in a carriage return and a line feed. A text "path @NAME" is
+the path of a file with the text of that block.
 
 The program is `filterset_command` in its crate, or in FOLDER, with the argument `lsp`. Each session runs twice: message
 by message, and byte by byte, where the client waits until the server has read each byte. It sends no more before it has
@@ -149,12 +150,19 @@ def take(server, step, said, size):
     return "", ""
 
 
+def path_of(name, files, folder):
+    """The path of a file in a folder that has the text of the block with this name."""
+    path = Path(folder, name)
+    path.write_text(files[name])
+    return str(path)
+
+
 def arguments_of(steps, files, folder):
-    """The arguments of the server, with the files that they name in a folder, and the other steps of the session."""
+    """The arguments of the server, and the other steps of the session, with paths of files in a folder for names."""
     words = steps[0][1].split() if steps[0][0] == "with" else []
-    for name in (word[1:] for word in words if word.startswith("@")):
-        Path(folder, name).write_text(files[name])
-    return [str(Path(folder, word[1:])) if word.startswith("@") else word for word in words], steps[bool(words) :]
+    words = [path_of(word[1:], files, folder) if word.startswith("@") else word for word in words]
+    named = lambda found: json.dumps(path_of(found[1], files, folder))
+    return words, [(sign, re.sub(r'"path @(\w+)"', named, text)) for sign, text in steps[bool(words) :]]
 
 
 def run(program, steps, files, size):
