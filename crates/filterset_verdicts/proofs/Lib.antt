@@ -3,3 +3,4 @@ pub mod TextLemmas
 pub mod JsonLemmas
 pub mod GroupLemmas
 pub mod AnswerLemmas
+pub mod ReasonLemmas

@@ -3,3 +3,4 @@ pub mod VerdictText
 pub mod VerdictJson
 pub mod VerdictForm
 pub mod Verdicts
+pub mod Reasons

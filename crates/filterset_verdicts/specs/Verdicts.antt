@@ -29,7 +29,7 @@ use Rattle.filterset_graph.specs.declared.package.PackageMetadata.{PackageMetada
 use Rattle.nextest_filtering.specs.Groups.{IsGroupName}
 use Rattle.nextest_filtering.specs.declared.compile.context.KnownGroups.{KnownGroups}
 use Rattle.filterset_verdicts.specs.ListedTests.{AreTestsOf}
-use Rattle.filterset_verdicts.specs.VerdictForm.{IsVerdictIn}
+use Rattle.filterset_verdicts.specs.VerdictForm.{IsExplainedIn}
 use Rattle.filterset_verdicts.specs.VerdictText.{ending_of}
 use Rattle.filterset_verdicts.specs.declared.answering.TextQuestion.{TextQuestion}
 
@@ -113,7 +113,8 @@ abbrev pub ShowsListed : Form → TextQuestion → (setting : Setting) → Basis
 ShowsListed form asked setting basis within trees tests ending text = (witness : Witness)
     × FailsFirstAt asked.question setting.graph.now basis.default within trees setting.groups.now tests witness.test
     witness.picks.items
-    × IsVerdictIn form asked.question true setting.graph.now (verdicts.Fails witness) text × (ending ≡ Differing)
+    × IsExplainedIn form asked.question true setting.graph.now basis.default trees (verdicts.Fails witness) text
+    × (ending ≡ Differing)
 
 -- a right verdict, if the list has no such test
 abbrev pub ShowsVerdict : Form → TextQuestion → (setting : Setting) → Basis setting → Tree SourceSpan
@@ -121,7 +122,7 @@ abbrev pub ShowsVerdict : Form → TextQuestion → (setting : Setting) → Basi
 ShowsVerdict form asked setting basis within trees tests ending text =
     HoldsForTests asked.question setting.graph.now basis.default within trees setting.groups.now tests
     × (verdict : Verdict) × IsRight asked.question setting.graph.now basis.default within trees asked.budget verdict
-    × IsVerdictIn form asked.question false setting.graph.now verdict text × (ending ≡ ending_of verdict)
+    × IsExplainedIn form asked.question false setting.graph.now basis.default trees verdict text × (ending ≡ ending_of verdict)
 
 -- the answer to the question about the trees behind the first, and the tests that the first one picks
 abbrev pub Decides : Form → TextQuestion → (setting : Setting) → Telling setting

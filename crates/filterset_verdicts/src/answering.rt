@@ -12,11 +12,12 @@ ghost use Rattle.filterset_faults.specs.declared.span.SourceSpan.{SourceSpan};
 ghost use Rattle.filterset_grammar.specs.Tree.{Tree};
 ghost use Rattle.nextest_filtering.specs.Groups.{IsKnown};
 ghost use Rattle.filterset_verdicts.specs.ListedTests.{AreTestsOf};
-ghost use Rattle.filterset_verdicts.specs.VerdictForm.{IsVerdictIn};
+ghost use Rattle.filterset_verdicts.specs.VerdictForm.{IsExplainedIn};
 ghost use Rattle.filterset_verdicts.specs.VerdictText.{ending_of};
 ghost use Rattle.filterset_verdicts.specs.Verdicts.{AnswersQuestion, Decides, IsShown, question_rows};
 
 use crate::listed::{group_names, listed_tests};
+use crate::reasons::push_reasons_of;
 use crate::text::{answer_text, ending_of};
 use filterset_answers::{
     Answer, CompiledTexts, Ending, Form, QuestionFiltersets, Setting, TextEntry, compile_texts,
@@ -74,34 +75,46 @@ fn find_shown<'x>(
     )
 }
 
-/// Makes the answer of a verdict. `is_listed` says whether its test, if it has one, is one of the list.
+/// Makes the answer of a verdict: in lines for people with the reasons of each filterset below its test. `is_listed` says
+/// whether the test, if there is one, is one of the list.
 fn answer_verdict(
     alloc: Global,
     form: Form,
     question: Question,
     is_listed: bool,
     graph: &PackageGraph,
+    context: &EvalContext<'_>,
+    filtersets: &[Filterset],
     verdict: &Verdict<'_>,
 ) -> Result<Answer, AllocError>
     ensures text { IfOk result (λ answer.
-        IsVerdictIn form question is_listed graph.now verdict.now (string_bytes answer.text)) }
+        AllZip (IsCompiled graph.now) (map parsed_of filtersets.now) (map compiled_of filtersets.now)
+        → IsExplainedIn form question is_listed graph.now (default_of context.now) (map parsed_of filtersets.now) verdict.now
+        (string_bytes answer.text)) }
     ensures ending { IfOk result (λ answer. answer.ending ≡ ending_of verdict.now) }
 {
+    let mut text = answer_text(alloc, form, question, is_listed, graph, verdict)?;
+    match form {
+        Form::Json => {}
+        Form::Drawn(_) | Form::Github => {
+            push_reasons_of(&mut text, alloc, graph, context, filtersets, verdict)?;
+        }
+    }
     Ok(Answer {
-        text: answer_text(alloc, form, question, is_listed, graph, verdict)?,
+        text,
         ending: ending_of(verdict),
     })
 }
 
 /// Decides a question about filtersets, first by the tests of the list, and writes the verdict. The first filterset is the one
 /// of the tests that the question is about.
-fn decide_filtersets(
+fn decide_filtersets<'x>(
     alloc: Global,
     form: Form,
     setting: &Setting<'_>,
     asked: &TextQuestion<'_>,
-    context: &EvalContext<'_>,
-    filtersets: &[Filterset],
+    context: &EvalContext<'x>,
+    filtersets: &'x [Filterset],
 ) -> Result<Answer, AllocError>
     requires { 0 < length filtersets.now }
     ensures { IfOk result (λ answer. (basis : Basis setting.now) → basis.default ≡ default_of context.now
@@ -111,16 +124,22 @@ fn decide_filtersets(
 {
     let question = asked.question;
     let within = &filtersets[0].compiled;
-    let exprs = expressions_of(alloc, &filtersets[1..])?;
+    let others = &filtersets[1..];
+    let exprs = expressions_of(alloc, others)?;
     let exprs = exprs.as_slice();
+    let graph = setting.graph;
     match find_shown(alloc, setting.groups, asked, context, within, exprs)? {
         Some(witness) => {
             let verdict = Verdict::Fails(witness);
-            answer_verdict(alloc, form, question, true, setting.graph, &verdict)
+            answer_verdict(
+                alloc, form, question, true, graph, context, others, &verdict,
+            )
         }
         None => {
             let verdict = decide(alloc, within, exprs, context, question, asked.budget)?;
-            answer_verdict(alloc, form, question, false, setting.graph, &verdict)
+            answer_verdict(
+                alloc, form, question, false, graph, context, others, &verdict,
+            )
         }
     }
 }

@@ -5,6 +5,7 @@
 mod answering;
 mod json;
 mod listed;
+mod reasons;
 mod text;
 
 pub use answering::{TextQuestion, answer_texts};

@@ -13,7 +13,7 @@ use Rattle.filterset_expression.specs.declared.expression.CompiledExpr.{Compiled
 use Rattle.filterset_expression.specs.declared.query.TestQuery.{TestQuery}
 use Rattle.nextest_filtering.specs.declared.filterset.Filterset.{Filterset}
 use Rattle.filterset_verdicts.specs.ListedTests.{AreTestsOf}
-use Rattle.filterset_verdicts.specs.VerdictForm.{IsVerdictIn}
+use Rattle.filterset_verdicts.specs.VerdictForm.{IsExplainedIn}
 use Rattle.filterset_verdicts.specs.VerdictText.{ending_of}
 use Rattle.filterset_verdicts.specs.Verdicts.{Decides, IsShown}
 use Rattle.filterset_verdicts.proofs.AnswerLemmas.{both_ok}
@@ -38,7 +38,8 @@ returns-in-Some c =
     let shown = rw (c.as_slice-exprs.ensures.value, c.in-Some.is) at c.in_ok-witness.ensures in
     let Shown : Filterset → CompiledExpr → Type 0 = λ f d. (tests : List TestQuery) × AreTestsOf asked.suites.now tests
     × IsShown question (compiled_of f) d exprs groups tests (Some witness) in
-    let Written : Answer → Type 0 = λ answer. IsVerdictIn c.args.form question true packages (verdicts.Fails witness) (string_bytes answer.text) in
+    let Compiled : List Filterset → Type 0 = λ fs. AllZip (IsCompiled packages) (map parsed_of fs) (map compiled_of fs) in
+    let Written : Answer → Type 0 = λ answer. Compiled others → IsExplainedIn c.args.form question true packages default (map parsed_of others) (verdicts.Fails witness) (string_bytes answer.text) in
     let Ends : Answer → Type 0 = λ answer. answer.ending ≡ ending_of (verdicts.Fails witness) in
     both_ok c.answer_verdict.result Written Ends _ (λ answer written ends. λ basis is are.
     let compiled = subst (λ fs. AllZip (IsCompiled packages) (map parsed_of fs) (map compiled_of fs)) whole are in
@@ -46,9 +47,10 @@ returns-in-Some c =
     let told = subst (Shown first) (sym is) (subst (λ f. Shown f default) at shown) in
     let found = first_of_trees packages basis.default question (parsed_of first) (compiled_of first) (map parsed_of others) exprs groups told.2.0 told.0 witness.test witness.picks.items
     compiled.0 others_compiled told.2.1 told.2.2 in
+    let explained = subst (λ (d : CompiledExpr). IsExplainedIn c.args.form question true packages d (map parsed_of others) (verdicts.Fails witness) (string_bytes answer.text)) (sym is) (written compiled.1) in
     subst (λ fs. Decides c.args.form asked setting basis (map parsed_of fs) answer.ending (string_bytes answer.text)) (sym whole)
-    (told.0, told.1, inl (witness, found, written, ends)))
-    c.answer_verdict.ensures.text c.answer_verdict.ensures.ending
+    (told.0, told.1, inl (witness, found, explained, ends)))
+    (rw (others_whole filters) at c.answer_verdict.ensures.text) c.answer_verdict.ensures.ending
 
 pub returns : goal.returns
 returns c =
@@ -77,7 +79,8 @@ returns c =
     let Unknown : Doubt → Filterset → CompiledExpr → Type 0 = λ doubt f d. IsDoubtAbout (leaves_asked (compiled_of f) d exprs) doubt in
     let Stopped : Filterset → CompiledExpr → Type 0 = λ f d. (asked.budget < 2 ^ (length (leaves_asked (compiled_of f) d exprs) + 1) * length (steps_asked (compiled_of f) d exprs))
     ⊎ HasUncompared (leaves_asked (compiled_of f) d exprs) in
-    let Written : Answer → Type 0 = λ answer. IsVerdictIn c.args.form question false packages verdict (string_bytes answer.text) in
+    let Compiled : List Filterset → Type 0 = λ fs. AllZip (IsCompiled packages) (map parsed_of fs) (map compiled_of fs) in
+    let Written : Answer → Type 0 = λ answer. Compiled others → IsExplainedIn c.args.form question false packages default (map parsed_of others) verdict (string_bytes answer.text) in
     let Ends : Answer → Type 0 = λ answer. answer.ending ≡ ending_of verdict in
     both_ok c.answer_verdict-in-None.result Written Ends _ (λ answer written ends. λ basis is are.
     let compiled = subst (λ fs. AllZip (IsCompiled packages) (map parsed_of fs) (map compiled_of fs)) whole are in
@@ -90,6 +93,7 @@ returns c =
     (λ doubt e. subst (Unknown doubt first) (sym is) (subst (λ f. Unknown doubt f default) at (unknown doubt e)))
     c.in_ok-verdict-in-None.ensures.decided
     (λ e. subst (Stopped first) (sym is) (subst (λ f. Stopped f default) at (stopped e))) in
+    let explained = subst (λ (d : CompiledExpr). IsExplainedIn c.args.form question false packages d (map parsed_of others) verdict (string_bytes answer.text)) (sym is) (written compiled.1) in
     subst (λ fs. Decides c.args.form asked setting basis (map parsed_of fs) answer.ending (string_bytes answer.text)) (sym whole)
-    (told.0, told.1, inr (holds, verdict, right, written, ends)))
-    c.answer_verdict-in-None.ensures.text c.answer_verdict-in-None.ensures.ending
+    (told.0, told.1, inr (holds, verdict, right, explained, ends)))
+    (rw (others_whole filters) at c.answer_verdict-in-None.ensures.text) c.answer_verdict-in-None.ensures.ending
