@@ -1,15 +1,18 @@
 -- Opens nextest's configuration in neovim with the language server FILTERSET, edits it, and writes the diagnostics that
 -- neovim shows after each edit: range, code, text in the range, and message. One of the edits is a code action, the first of
 -- those that are offered. Then writes a hover, and what is offered at a place, and takes the first of that. Lines and columns
--- count from 0, and columns in bytes. client.sh runs it.
+-- count from 0, and columns in bytes. The server is asked for a workspace that is not there, so it first shows an error.
+-- client.sh runs it.
 local api = vim.api
-local published, status
+local published, status, message
 
 local publish = vim.lsp.handlers['textDocument/publishDiagnostics']
 vim.lsp.handlers['textDocument/publishDiagnostics'] = function(fault, result, ...)
   publish(fault, result, ...)
   published = result.version
 end
+
+vim.lsp.handlers['window/showMessage'] = function(_, result) message = result.message end
 
 local function write(shown)
   local text = api.nvim_buf_get_text(0, shown.lnum, shown.col, shown.end_lnum, shown.end_col, {})
@@ -72,12 +75,14 @@ local config = {
   name = 'filterset',
   cmd = { os.getenv('FILTERSET'), 'lsp' },
   root_dir = vim.fn.getcwd(),
+  init_options = { cargoMetadata = '/none/metadata.json', nextestList = '/none/list.json' },
   get_language_id = function() return 'toml' end,
   on_exit = function(code) status = code end,
 }
 local client = (vim.lsp.start or vim.lsp.start_client)(config)
 vim.lsp.buf_attach_client(0, client)
 show('opened', 0)
+io.write('message: ', vim.split(message or 'nothing', '\n')[1], '\n')
 
 api.nvim_buf_set_text(0, 3, 29, 3, 29, { '😀' })
 show('with an emoji before the first fault', api.nvim_buf_get_changedtick(0))
