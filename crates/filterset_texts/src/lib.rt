@@ -11,8 +11,6 @@ mod part;
 mod places;
 mod searching;
 mod states;
-#[cfg(test)]
-mod tests;
 mod texts;
 mod tokens;
 

@@ -25,11 +25,15 @@ mod platforms;
 #[cfg(test)]
 mod profiles;
 #[cfg(test)]
+mod sequences;
+#[cfg(test)]
 mod sessions;
 #[cfg(test)]
 mod simplified;
 #[cfg(test)]
 mod support;
+#[cfg(test)]
+mod texts;
 #[cfg(test)]
 mod trees;
 #[cfg(test)]

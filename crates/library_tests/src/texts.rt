@@ -1,5 +1,5 @@
 //! Conditions, and the texts that meet them.
-use crate::{Condition, Found, Part, find_text};
+use filterset_texts::{Condition, Found, Part, find_text};
 use std::alloc::{AllocError, Global};
 use std::test::Fail;
 

@@ -1,8 +1,6 @@
 //! Sequences of matchers, worked by hand.
-use crate::expanding::{Expansion, sequences_of};
-use crate::part::Part;
-use filterset_glob::GenericGlob;
-use filterset_matchers::{NameMatcher, PatternRegex};
+use filterset_texts::{Expansion, Part, sequences_of};
+use nextest_filtering::{GenericGlob, NameMatcher, PatternRegex};
 use std::alloc::{AllocError, Global};
 use std::fmt::Write;
 use std::process::Abort;

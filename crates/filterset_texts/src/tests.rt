@@ -1,3 +1,0 @@
-//! Tables of matchers and of conditions, worked by hand.
-mod expanding;
-mod searching;
