@@ -13,7 +13,6 @@ holds() {
 }
 
 holds "the list of docs/TRUST.md" scripts/trusted.py --check
-holds "heads of files" scripts/map.py --check
 for check in clauses code crates calls links paths tables stored; do
     holds "$check of the pages" scripts/pages.py "$check"
 done
