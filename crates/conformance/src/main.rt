@@ -4,7 +4,7 @@
 
 mod program;
 
-use filterset_io::execute;
+use filterset_json::execute;
 use program::Rows;
 use std::process::ExitCode;
 

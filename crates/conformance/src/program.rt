@@ -1,5 +1,5 @@
 //! The program and its exit statuses.
-use filterset_io::Program;
+use filterset_json::Program;
 use std::alloc::{AllocError, Global};
 use suite_judges::report;
 use suite_rows::Verdict;

@@ -2,8 +2,8 @@
 use Rattle.std.proofs.Common.{◌≡◌, ◌≢◌, ℕ, suc, Bool, add-zero, arith, ◌+◌, ◌<◌, ◌≤◌, List, [], ◌∷◌, ◌++◌, length, map, take, get_or, ◌∙◌, sym, ap, subst, append_assoc, refl, true, false, String, Global, string_bytes}
 use Rattle.std.proofs.Math.Dec.{eqb-suc-zero}
 use Rattle.std.proofs.lemmas.List.{append-nil, map-append, take_more, length-map, length-take-le}
-use Rattle.filterset_io.specs.Pieces.{Pieces}
-use Rattle.filterset_io.proofs.PieceLemmas.{Pieces-push}
+use Rattle.filterset_json.specs.Pieces.{Pieces}
+use Rattle.filterset_json.proofs.PieceLemmas.{Pieces-push}
 use Rattle.serde_json.specs.Data.{Data}
 use Rattle.serde_json.specs.Written.{has_float}
 use Rattle.filterset_drawing.specs.Columns.{Text}

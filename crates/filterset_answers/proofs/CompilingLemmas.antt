@@ -3,7 +3,7 @@ use Rattle.std.proofs.Common.{◌≡◌, ◌≢◌, ℕ, Bool, arith, ◌+◌, L
 use Rattle.std.proofs.lemmas.List.{append-nil}
 use Rattle.std.specs.Prelude.{Option, Some, None, is_none, option_map, option_to_list, if◌then◌else◌}
 use Rattle.std.specs.List.{AllZip, cons_option, filter_map}
-use Rattle.filterset_io.specs.Pieces.{no_pieces}
+use Rattle.filterset_json.specs.Pieces.{no_pieces}
 use Rattle.filterset_drawing.specs.Columns.{Text}
 use Rattle.filterset_faults.specs.declared.error.ParseSingleError.{ParseSingleError}
 use Rattle.filterset_faults.specs.declared.kind.FiltersetKind.{FiltersetKind}

@@ -5,3 +5,9 @@ pub mod LineLemmas
 pub mod OverridingLemmas
 pub mod RowsLemmas
 pub mod PickingLemmas
+pub mod VerdictLemmas
+pub mod ListedLemmas
+pub mod VerdictJsonLemmas
+pub mod ReasonLemmas
+pub mod VerdictTextLemmas
+pub mod TreeLemmas

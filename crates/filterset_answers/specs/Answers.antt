@@ -6,7 +6,7 @@ use Rattle.filterset_faults.specs.declared.span.SourceSpan.{SourceSpan}
 use Rattle.filterset_grammar.specs.Printing.{printed}
 use Rattle.filterset_grammar.specs.Tree.{Tree}
 use Rattle.filterset_language.specs.Parsed.{Reads}
-use Rattle.filterset_io.specs.Pieces.{Pieces}
+use Rattle.filterset_json.specs.Pieces.{Pieces}
 use Rattle.filterset_answers.specs.Checked.{HasFaults, HasReadingFaults, TextRow}
 use Rattle.filterset_answers.specs.Forms.{FaultPieces}
 use Rattle.filterset_answers.specs.declared.form.Form.{Form}

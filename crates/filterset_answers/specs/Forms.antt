@@ -11,7 +11,7 @@ use Rattle.filterset_drawing.specs.declared.color.Color.{Color}
 use Rattle.filterset_drawing.specs.declared.source.FileSpan.{FileSpan}
 use Rattle.filterset_faults.specs.Faults.{code_of, message_of, span_of}
 use Rattle.filterset_faults.specs.declared.error.ParseSingleError.{ParseSingleError}
-use Rattle.filterset_io.specs.Pieces.{Pieces}
+use Rattle.filterset_json.specs.Pieces.{Pieces}
 use Rattle.filterset_answers.specs.Checked.{TextRow}
 use Rattle.filterset_answers.specs.Placements.{IsRegionOf, Placement, file_part, note_of}
 use Rattle.filterset_answers.specs.declared.form.Form.{Form}

@@ -13,3 +13,9 @@ pub mod Overriding
 pub mod Picking
 pub mod Explained
 pub mod Profile
+pub mod ListedTests
+pub mod Reasons
+pub mod VerdictForm
+pub mod VerdictJson
+pub mod VerdictText
+pub mod Verdicts

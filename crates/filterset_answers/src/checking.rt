@@ -7,9 +7,7 @@ ghost use Rattle.filterset_answers.specs.Answers.{ChecksTexts, FaultsOf, TextFau
 ghost use Rattle.filterset_answers.specs.Answers.{counts_text, summary};
 ghost use Rattle.filterset_answers.specs.Checked.{HasFaults, text_row};
 ghost use Rattle.filterset_answers.specs.Endings.{ending_of};
-ghost use Rattle.filterset_answers.specs.Entries.{rows_in};
 
-use crate::entries::{ConfiguredTexts, configured_entries};
 use crate::faults::faults_of;
 use crate::form::{Form, has_some, push_faults};
 use crate::names::Names;
@@ -139,38 +137,4 @@ pub fn check(
         text,
         ending: ending_of(faulty),
     })
-}
-
-/// Makes the entries of a configuration's filtersets, and after them those of other texts.
-fn all_entries<'t>(
-    alloc: Global,
-    configured: ConfiguredTexts<'t>,
-    given: Vec<TextEntry<'t>>,
-) -> Result<Vec<TextEntry<'t>>, AllocError>
-    ensures { IfOk result (λ all.
-        map text_row all.items ≡ rows_in configured.entry ++ map text_row given.entry.items) }
-{
-    let mut given = given;
-    let mut all = configured_entries(alloc, configured)?;
-    all.append(&mut given)?;
-    Ok(all)
-}
-
-/// Checks the filtersets of a configuration, and after them other texts, as [`check`] does.
-///
-/// Returns an error only if out of memory.
-pub fn check_configured<'t>(
-    alloc: Global,
-    names: &Names<'_>,
-    form: Form,
-    configured: ConfiguredTexts<'t>,
-    given: Vec<TextEntry<'t>>,
-) -> Result<Answer, AllocError>
-    requires { IsKnown names.now.known_groups }
-    ensures { IfOk result (λ answer. (faulty : ℕ) × ChecksTexts names.now form
-        (rows_in configured.entry ++ map text_row given.entry.items) faulty (string_bytes answer.text)
-        × (answer.ending ≡ ending_of faulty)) }
-{
-    let entries = all_entries(alloc, configured, given)?;
-    check(alloc, names, form, entries.as_slice())
 }

@@ -4,7 +4,7 @@ ghost use Rattle.serde_json.specs.Data.{Data};
 ghost use Rattle.serde_json.specs.Written.{compact_text};
 ghost use Rattle.filterset_drawing.specs.Columns.{Text};
 ghost use Rattle.filterset_drawing.specs.Json.{FaultData};
-ghost use Rattle.filterset_io.specs.Pieces.{Pieces};
+ghost use Rattle.filterset_json.specs.Pieces.{Pieces};
 ghost use Rattle.filterset_answers.specs.Answers.{has_some};
 ghost use Rattle.filterset_answers.specs.Checked.{text_row};
 ghost use Rattle.filterset_answers.specs.Forms.{FaultPieces, IsAnnotatedIn, IsDrawnIn, WrittenIn};

@@ -1,7 +1,7 @@
 //! Filtersets as they print, or simplified.
 ghost use Rattle.std.specs.Prelude.{◌≡◌, ◌≢◌, ◌++◌, IfOk, ℕ, map, string_bytes};
 ghost use Rattle.filterset_drawing.specs.Columns.{Text};
-ghost use Rattle.filterset_io.specs.Pieces.{Pieces};
+ghost use Rattle.filterset_json.specs.Pieces.{Pieces};
 ghost use Rattle.filterset_answers.specs.Answers.{FaultsOf, FormatsTexts, FormattedLine, FormattedPart, IsRewritten, RewritesTexts, SimplifiesTexts, TextFaults};
 ghost use Rattle.filterset_answers.specs.Checked.{HasReadingFaults, text_row};
 ghost use Rattle.filterset_answers.specs.Endings.{ending_of};

@@ -20,9 +20,10 @@ mod profile;
 mod question;
 mod setting;
 mod text;
+mod verdicts;
 
 pub use binaries::asked_binaries;
-pub use checking::{check, check_configured};
+pub use checking::check;
 pub use compiling::{CompiledTexts, QuestionFiltersets, SettingFiltersets, compile_texts};
 pub use entries::{
     ConfiguredTexts, configured_entries, default_entry, entry_of, given_entries, line_entries,
@@ -39,3 +40,4 @@ pub use profile::{asked_profiles, entry_at, override_entries};
 pub use question::Question;
 pub use setting::{OverrideEntry, Setting};
 pub use text::{Answer, Ending, TextEntry, answer_unknown};
+pub use verdicts::{TextQuestion, answer_texts};

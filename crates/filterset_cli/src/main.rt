@@ -1,7 +1,7 @@
 //! Reads a record of filtersets from standard input, and writes its report to standard output.
 #![tactic(auto)]
 
-use filterset_io::execute;
+use filterset_json::execute;
 use filterset_report::Filtersets;
 use std::process::ExitCode;
 

@@ -2,7 +2,7 @@
 use Rattle.std.proofs.Common.{◌≡◌, Option, subst, sym}
 use Rattle.std.specs.declared.io.Error.{Error}
 use Rattle.filterset_drawing.specs.Columns.{Text}
-use Rattle.filterset_io.specs.declared.fault.RunFault.TheVariants.{Memory}
+use Rattle.filterset_json.specs.declared.fault.RunFault.TheVariants.{Memory}
 use Rattle.filterset_command.specs.Files.{IsFaultAt, IsFileFault, IsUnused, OrMemory}
 use Rattle.filterset_command.specs.declared.fault.CommandFault.{CommandFault}
 use Rattle.filterset_command.specs.declared.fault.CommandFault.TheVariants.{File, Run}

@@ -25,7 +25,7 @@ use Rattle.filterset_graph.specs.declared.package.PackageMetadata.{PackageMetada
 use Rattle.filterset_listing.specs.declared.binary.AskedBinary.{AskedBinary}
 use Rattle.filterset_listing.specs.declared.explaining.candidate.Candidate.{Candidate}
 use Rattle.filterset_overrides.specs.declared.asked.AskedProfile.{AskedProfile}
-use Rattle.filterset_platforms.specs.Trees.{facts_of}
+use Rattle.filterset_profiles.specs.PlatformTrees.{facts_of}
 use Rattle.filterset_profiles.specs.Lineages.{Lineage}
 use Rattle.filterset_profiles.specs.Ranking.{IsDefaultFilter, IsRanked, placed}
 use Rattle.filterset_profiles.specs.declared.defaults.DefaultFilter as defaults

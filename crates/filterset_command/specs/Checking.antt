@@ -14,7 +14,7 @@ use Rattle.filterset_answers.specs.declared.names.Names.{Names}
 use Rattle.filterset_answers.specs.declared.text.Ending.{Ending}
 use Rattle.filterset_drawing.specs.Columns.{Text}
 use Rattle.filterset_drawing.specs.declared.source.Source.{Source}
-use Rattle.filterset_io.specs.Pieces.{Pieces}
+use Rattle.filterset_json.specs.Pieces.{Pieces}
 use Rattle.filterset_graph.specs.declared.package.PackageMetadata.{PackageMetadata}
 use Rattle.filterset_places.specs.declared.place.Place.{Place}
 use Rattle.filterset_places.specs.declared.places.Places.{Places}
@@ -25,7 +25,7 @@ use Rattle.filterset_sources.specs.Metadata.{RefusesMetadata}
 use Rattle.filterset_sources.specs.declared.configuration.Configuration.{Configuration}
 use Rattle.filterset_command.specs.Configurations.{AreTextsOf, IsConfigurationIn}
 use Rattle.filterset_command.specs.Files.{BySource, IsFileFault, content_of, name_of}
-use Rattle.filterset_values.specs.Values.{IsValuePiece}
+use Rattle.filterset_warnings.specs.Values.{IsValuePiece}
 use Rattle.filterset_command.specs.Warned.{AnswersWarned, IsWarnedFault, either_ending, request_after}
 use Rattle.filterset_command.specs.Workspaces.{ArePackagesIn, RefusesValue}
 use Rattle.filterset_command.specs.declared.checking.CheckPaths.{CheckPaths}

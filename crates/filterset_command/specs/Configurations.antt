@@ -10,11 +10,11 @@ use Rattle.filterset_drawing.specs.Columns.{Text}
 use Rattle.filterset_places.specs.Places.{ArePlaces}
 use Rattle.filterset_places.specs.declared.place.Place.{Place}
 use Rattle.filterset_places.specs.declared.places.Places.{Places}
-use Rattle.filterset_platforms.specs.Grammar.{IsLine}
-use Rattle.filterset_platforms.specs.Reading.{Refuses}
-use Rattle.filterset_platforms.specs.Trees.{setting_of}
-use Rattle.filterset_platforms.specs.declared.fault.CfgRefusal.TheVariants.{Line}
-use Rattle.filterset_platforms.specs.declared.settings.Cfg.{Cfg}
+use Rattle.filterset_profiles.specs.PlatformGrammar.{IsLine}
+use Rattle.filterset_profiles.specs.PlatformReading.{Refuses}
+use Rattle.filterset_profiles.specs.PlatformTrees.{setting_of}
+use Rattle.filterset_profiles.specs.declared.platforms.fault.CfgRefusal.TheVariants.{Line}
+use Rattle.filterset_profiles.specs.declared.platforms.settings.Cfg.{Cfg}
 use Rattle.filterset_profiles.specs.Lineages.{IsLineageFault}
 use Rattle.filterset_profiles.specs.Profiles.{HasProfiles}
 use Rattle.filterset_profiles.specs.declared.fault.LineageFault.TheVariants as lineages

@@ -13,7 +13,7 @@ use Rattle.filterset_answers.specs.declared.text.Ending.{Ending}
 use Rattle.filterset_drawing.specs.Columns.{Text}
 use Rattle.filterset_faults.specs.declared.kind.FiltersetKind.TheVariants as kinds
 use Rattle.filterset_graph.specs.declared.package.PackageMetadata.{PackageMetadata}
-use Rattle.filterset_platforms.specs.Trees.{facts_of}
+use Rattle.filterset_profiles.specs.PlatformTrees.{facts_of}
 use Rattle.filterset_profiles.specs.Lineages.{Lineage}
 use Rattle.filterset_profiles.specs.Ranking.{IsDefaultFilter, IsRanked, placed}
 use Rattle.filterset_profiles.specs.declared.defaults.DefaultFilter.{DefaultFilter}
@@ -25,8 +25,8 @@ use Rattle.filterset_sources.specs.declared.list.Suite.{Suite}
 use Rattle.filterset_sources.specs.declared.platforms.BuildPlatforms.{BuildPlatforms}
 use Rattle.nextest_filtering.specs.Groups.{IsGlobalOnly}
 use Rattle.nextest_filtering.specs.declared.compile.context.KnownGroups.{KnownGroups}
-use Rattle.filterset_verdicts.specs.Verdicts.{AnswersQuestion, question_rows}
-use Rattle.filterset_verdicts.specs.declared.answering.TextQuestion.{TextQuestion}
+use Rattle.filterset_answers.specs.Verdicts.{AnswersQuestion, question_rows}
+use Rattle.filterset_answers.specs.declared.verdicts.answering.TextQuestion.{TextQuestion}
 use Rattle.filterset_command.specs.Asking.{chosen, given_row}
 use Rattle.filterset_command.specs.Checking.{KnownPackages}
 use Rattle.filterset_command.specs.Configurations.{AreKnown, AreProfilesIn, AreTextsOf, IsSettingsFault, LacksProfile, RefusesFile}

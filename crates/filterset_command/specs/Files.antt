@@ -3,7 +3,7 @@ use Rattle.std.specs.Prelude.{◌≡◌, ◌≢◌, Bool, Option, Some, IfSome, 
 use Rattle.std.specs.Str.{IsUtf8, bytes_eq}
 use Rattle.std.specs.declared.io.Error.{Error}
 use Rattle.filterset_drawing.specs.Columns.{Text}
-use Rattle.filterset_io.specs.declared.fault.RunFault.TheVariants.{Memory}
+use Rattle.filterset_json.specs.declared.fault.RunFault.TheVariants.{Memory}
 use Rattle.filterset_sources.specs.declared.refusal.SourceRefusal.{SourceRefusal}
 use Rattle.filterset_sources.specs.declared.refusal.SourceRefusal.TheVariants.{OutOfMemory}
 use Rattle.filterset_command.specs.declared.fault.CommandFault.{CommandFault}

@@ -16,8 +16,8 @@ use Rattle.filterset_drawing.specs.Columns.{Text}
 use Rattle.filterset_drawing.specs.declared.source.Source.{Source}
 use Rattle.filterset_faults.specs.declared.kind.FiltersetKind.{FiltersetKind}
 use Rattle.filterset_faults.specs.declared.kind.FiltersetKind.TheVariants as kinds
-use Rattle.filterset_io.specs.Runs.{AreLeft}
-use Rattle.filterset_io.specs.declared.fault.RunFault.TheVariants.{Read}
+use Rattle.filterset_json.specs.Runs.{AreLeft}
+use Rattle.filterset_json.specs.declared.fault.RunFault.TheVariants.{Read}
 use Rattle.filterset_command.specs.Asking.{AnswersAsked, IsAskedFault}
 use Rattle.filterset_command.specs.Checking.{AnswersCheck, IsCheckFault}
 use Rattle.filterset_command.specs.Deciding.{AnswersDecision, IsDecisionFault}

@@ -10,8 +10,8 @@ use Rattle.clap.specs.declared.parser.matches.Found.{Found}
 use Rattle.filterset_answers.specs.declared.form.Form.{Form}
 use Rattle.filterset_answers.specs.declared.form.Form.TheVariants.{Drawn, Github, Json}
 use Rattle.filterset_answers.specs.declared.question.Question.TheVariants as questions
-use Rattle.filterset_completions.specs.Scripts.{name_of}
-use Rattle.filterset_completions.specs.declared.shell.Shell.{Shell}
+use Rattle.filterset_arguments.specs.Scripts.{name_of}
+use Rattle.filterset_arguments.specs.declared.shell.Shell.{Shell}
 use Rattle.filterset_deciding.specs.declared.question.Question.{Question}
 use Rattle.filterset_deciding.specs.declared.question.Question.TheVariants.{AllAlike, AtLeastOne, AtMostOne, ExactlyOne}
 use Rattle.filterset_drawing.specs.Columns.{Text}

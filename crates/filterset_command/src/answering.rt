@@ -11,7 +11,7 @@ use crate::input::read_input;
 use crate::request::Request;
 use crate::texts::{check_given, format_given, input_file, simplify_given};
 use filterset_answers::{Answer, Ending};
-use filterset_io::Source;
+use filterset_json::Source;
 use std::alloc::Global;
 
 /// Answers a request. It may read standard input and files.

@@ -23,7 +23,7 @@ use filterset_drawing::Source;
 use filterset_graph::PackageGraph;
 use filterset_profiles::{WrongValue, find_wrong_values};
 use filterset_sources::Configuration;
-use filterset_values::add_values;
+use filterset_warnings::add_values;
 use std::alloc::{AllocError, Global};
 
 /// The paths of the files that give the names that filtersets may use, and of the list by which there are warnings.

@@ -4,12 +4,12 @@ ghost use Rattle.clap.specs.Words.{kind_of};
 ghost use Rattle.filterset_command.specs.Files.{OrMemory};
 ghost use Rattle.filterset_command.specs.Requests.{IsShown};
 
-use crate::arguments::arguments;
 use crate::fault::CommandFault;
 use crate::request::{Request, Task, task_of};
 use clap::error::ErrorKind;
 use clap::{ArgMatches, Error};
-use filterset_io::RunFault;
+use filterset_arguments::arguments;
+use filterset_json::RunFault;
 use std::alloc::{AllocError, Global};
 
 /// What the words of the command line are.

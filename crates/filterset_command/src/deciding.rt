@@ -23,15 +23,14 @@ use crate::profile::{
 use crate::profiled::ChosenFilter;
 use crate::workspace::{platforms_of, read_list};
 use filterset_answers::{
-    Answer, ConfiguredTexts, Form, Setting, TextEntry, answer_unknown, default_entry, entry_of,
-    given_entries,
+    Answer, ConfiguredTexts, Form, Setting, TextEntry, TextQuestion, answer_texts, answer_unknown,
+    default_entry, entry_of, given_entries,
 };
 use filterset_deciding::Question;
 use filterset_drawing::Source;
 use filterset_graph::PackageGraph;
 use filterset_profiles::Profile;
 use filterset_sources::{BuildPlatforms, Suite};
-use filterset_verdicts::{TextQuestion, answer_texts};
 use nextest_filtering::{FiltersetKind, KnownGroups};
 use serde_json::Value;
 use std::alloc::{AllocError, Global};

@@ -4,7 +4,7 @@ ghost use Rattle.filterset_command.specs.Files.{IsFaultAt, OrMemory, name_of};
 
 use crate::input::{INPUT_NAME, is_input};
 use clap::Error;
-use filterset_io::RunFault;
+use filterset_json::RunFault;
 use filterset_profiles::LineageFault;
 use filterset_sources::SourceRefusal;
 use std::alloc::{AllocError, Global};
@@ -261,7 +261,7 @@ impl fmt::Display for CommandFault {
 impl From<AllocError> for CommandFault {
     ghost use Rattle.std.specs.Prelude.{◌≡◌};
     ghost use Rattle.filterset_command.specs.declared.fault.CommandFault.TheVariants.{Run};
-    ghost use Rattle.filterset_io.specs.declared.fault.RunFault.TheVariants.{Memory};
+    ghost use Rattle.filterset_json.specs.declared.fault.RunFault.TheVariants.{Memory};
 
     ghost from_gives = { λ refused fault. fault ≡ Run (Memory refused) };
 

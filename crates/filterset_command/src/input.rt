@@ -1,11 +1,11 @@
 //! Standard input.
 ghost use Rattle.std.specs.Prelude.{◌≡◌, IfErr, IfOk, OnOk, string_bytes};
-ghost use Rattle.filterset_io.specs.Runs.{AreLeft};
+ghost use Rattle.filterset_json.specs.Runs.{AreLeft};
 ghost use Rattle.filterset_command.specs.Files.{OrMemory, is_input};
 ghost use Rattle.filterset_command.specs.Requests.{IsInputFault};
 
 use crate::fault::CommandFault;
-use filterset_io::{Source, read_all};
+use filterset_json::{Source, read_all};
 use std::alloc::Global;
 
 /// What faults call standard input.

@@ -4,7 +4,6 @@
 #![tactic(auto)]
 
 mod answering;
-mod arguments;
 mod asking;
 mod checking;
 mod command_line;
@@ -27,13 +26,13 @@ mod texts;
 mod warning;
 mod workspace;
 
-use arguments::completions_for;
 use command_line::CommandLine;
 use ending::{Ended, status};
 use fault::CommandFault;
 use files::HostFiles;
+use filterset_arguments::completions_for;
 use filterset_editor::Ending as SessionEnding;
-use filterset_io::{FromReader, RunFault, ToWriter};
+use filterset_json::{FromReader, RunFault, ToWriter};
 use request::{Request, Task};
 use run::run;
 use serving::serve_editor;

@@ -12,8 +12,10 @@ use crate::configuration::{ConfigurationFile, read_configuration_file};
 use crate::fault::{CommandFault, FileFault, FileRole};
 use crate::files::{FileSource, read_text};
 use filterset_places::Places;
-use filterset_platforms::{Cfg, CfgRefusal, PlatformFacts, read_cfg};
-use filterset_profiles::{LineageFault, Profile, ProfileRefusal, lineage, read_profiles};
+use filterset_profiles::{
+    Cfg, CfgRefusal, LineageFault, PlatformFacts, Profile, ProfileRefusal, lineage, read_cfg,
+    read_profiles,
+};
 use filterset_sources::{
     BuildPlatforms, Configuration, ConfiguredFilterset, SourceRefusal, WrongValue,
 };

@@ -6,7 +6,7 @@ ghost use Rattle.std.specs.Option.{option_map_or};
 ghost use Rattle.filterset_command.specs.Files.{is_input};
 ghost use Rattle.filterset_command.specs.Requests.{are_lines, takes_input};
 ghost use Rattle.filterset_command.specs.Words.{ArePathsAsked, AreTextsAsked, AreWarningsAsked, IsAsked, IsAskedBy, IsBudgetAsked, IsBudgetFault, IsCheckRefusal, IsColorAsked, IsFormAsked, IsKindAsked, IsProfileAsked, IsQuestionAsked, IsTask, IsTextAsked, IsWordsFault, IsWorkspaceAsked, LacksArgument, NamesNoShell, decision_name};
-ghost use Rattle.filterset_completions.specs.Scripts.{name_of};
+ghost use Rattle.filterset_arguments.specs.Scripts.{name_of};
 
 use crate::asking::{Asked, WorkspaceRequest};
 use crate::checking::CheckPaths;
@@ -18,7 +18,7 @@ use crate::warning::WarningRequest;
 use crate::workspace::WorkspacePaths;
 use clap::ArgMatches;
 use filterset_answers::{Form, Question};
-use filterset_completions::Shell;
+use filterset_arguments::Shell;
 use filterset_deciding::Question as Decision;
 use filterset_drawing::Color;
 use nextest_filtering::FiltersetKind;

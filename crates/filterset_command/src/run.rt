@@ -1,7 +1,7 @@
 //! A run: from a request to its answer, written out.
 ghost use Rattle.std.specs.Prelude.{◌≡◌, ◌≢◌, ◌++◌, ◌<◌, Err, IfErr, IfOk, IsTrue, OnOk, length};
 ghost use Rattle.std.specs.Io.KnownBytes.{Appends};
-ghost use Rattle.filterset_io.specs.declared.fault.RunFault.TheVariants.{Write};
+ghost use Rattle.filterset_json.specs.declared.fault.RunFault.TheVariants.{Write};
 ghost use Rattle.filterset_drawing.specs.Columns.{Text};
 ghost use Rattle.filterset_command.specs.Files.{OrMemory};
 ghost use Rattle.filterset_command.specs.Requests.{IsAnswered, IsFaultOf};
@@ -13,7 +13,7 @@ use crate::fault::CommandFault;
 use crate::files::FileSource;
 use crate::request::Request;
 use filterset_answers::Ending;
-use filterset_io::{Sink, Source, write_all};
+use filterset_json::{Sink, Source, write_all};
 use std::alloc::Global;
 
 /// Answers a request, and then writes the answer. The answer is whole before its first byte is written.

@@ -10,7 +10,7 @@ use crate::files::FileSource;
 use crate::greeting::greet;
 use crate::workspace::{Workspace, WorkspacePaths, read_workspace};
 use filterset_editor::{Ending, read_opening, serve};
-use filterset_io::{RunFault, Sink, Source, write_all};
+use filterset_json::{RunFault, Sink, Source, write_all};
 use filterset_names::Workspace as KnownWorkspace;
 use filterset_server::FiltersetLanguage;
 use std::alloc::Global;

@@ -9,7 +9,7 @@ use crate::frames::{Next, next_frame};
 use crate::message::method_of;
 use crate::values::is_same;
 use crate::written::frame_of;
-use filterset_io::{RunFault, Source};
+use filterset_json::{RunFault, Source};
 use serde_json::{Value, json};
 use std::alloc::{AllocError, Global};
 

@@ -8,7 +8,7 @@ ghost use Rattle.filterset_editor.specs.Sessions.{Advances, IsBehind, Served};
 use crate::ending::Ending;
 use crate::language::Language;
 use crate::session::Session;
-use filterset_io::{RunFault, Sink, Source, write_all};
+use filterset_json::{RunFault, Sink, Source, write_all};
 use std::alloc::{AllocError, Global};
 
 /// How many bytes to ask for at a time.

@@ -1,2 +1,4 @@
 pub mod RefusalLemmas
 pub mod ShapeLemmas
+pub mod BytesLemmas
+pub mod PieceLemmas

@@ -4,7 +4,7 @@ use Rattle.std.specs.Prelude.{IfSome, alloc_error, bytes_eq, codes, option_and_t
 use Rattle.std.proofs.lemmas.Bool.{cases_eq}
 use Rattle.std.proofs.lemmas.List.{get_or_default, get_or-set_other}
 use Rattle.std.proofs.lemmas.Slice.Eq.{bytes_eq-Decides}
-use Rattle.filterset_platforms.specs.Trees.{Text}
+use Rattle.filterset_profiles.specs.PlatformTrees.{Text}
 use Rattle.filterset_profiles.specs.Lineages.{IsCycle, IsLineageFault, IsMissing, Leads, Lineage, named, parent}
 use Rattle.filterset_profiles.specs.declared.fault.LineageFault.{LineageFault}
 use Rattle.filterset_profiles.specs.declared.fault.LineageFault.TheVariants.{NoProfile, NoParent, Cycle, OutOfMemory}

@@ -19,7 +19,7 @@ use Rattle.std.proofs.lemmas.Slice.Eq.{bytes_eq-Decides}
 use Rattle.toml.specs.Data.{Data, Members, member, no_members, get_member}
 use Rattle.toml.specs.View.{members_view}
 use Rattle.toml.proofs.Views.{Entry}
-use Rattle.filterset_platforms.specs.Trees.{Text}
+use Rattle.filterset_profiles.specs.PlatformTrees.{Text}
 use Rattle.filterset_profiles.specs.Circles.{AreDistinct, FallsOnItself, IsIndex, IsProfileInCircle, MarksProfiles, after, fallback, fallback_of, link_row, links_of, position_of}
 use Rattle.filterset_profiles.specs.Leads.{AreFar, LeadsBack, MarksEnds, lead, lead_after}
 use Rattle.filterset_sources.specs.Configurations.{keys_of}

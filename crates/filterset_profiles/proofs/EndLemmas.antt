@@ -7,7 +7,7 @@ use Rattle.std.proofs.lemmas.Bool.{cases_eq}
 use Rattle.std.proofs.lemmas.List.{take-append-le, take_all}
 use Rattle.std.proofs.lemmas.Option.{same_Some}
 use Rattle.std.proofs.lemmas.Slice.Eq.{bytes_eq-Decides}
-use Rattle.filterset_platforms.specs.Trees.{Text}
+use Rattle.filterset_profiles.specs.PlatformTrees.{Text}
 use Rattle.filterset_profiles.specs.Circles.{IsIndex, position_of}
 use Rattle.filterset_profiles.specs.Leads.{IsMarked, MarksEnds, lead}
 use Rattle.filterset_profiles.proofs.LeadLemmas.{lead_inside}

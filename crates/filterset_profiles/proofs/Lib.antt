@@ -9,3 +9,10 @@ pub mod LeadLemmas
 pub mod EndLemmas
 pub mod CircleLemmas
 pub mod WrongLemmas
+pub mod PlatformWords
+pub mod PlatformPhrases
+pub mod PlatformLists
+pub mod PlatformTruth
+pub mod PlatformLines
+pub mod PlatformRows
+pub mod PlatformFaults

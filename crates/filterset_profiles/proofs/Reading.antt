@@ -3,7 +3,7 @@ use Rattle.std.proofs.Common.{◌≡◌, List, Result, Ok, Err, Option, Some, No
 use Rattle.std.specs.Prelude.{◌||◌, not, IfErr, IsErrAnd, IsSomeAnd, MatchOption, codes, is_some, unwrap_or}
 use Rattle.std.proofs.lemmas.Bool.{true≢false}
 use Rattle.toml.specs.Data.{Data, string, integer, float, boolean, datetime, array, table, Items, Members, no_members, as_array, as_table, get}
-use Rattle.filterset_platforms.specs.declared.filter.PlatformFilter.{PlatformFilter}
+use Rattle.filterset_profiles.specs.declared.platforms.filter.PlatformFilter.{PlatformFilter}
 use Rattle.filterset_profiles.specs.Profiles.{ArePlatforms, HasSettings, IsPlatform, Under, is_allowed}
 use Rattle.filterset_profiles.specs.Refusals.{IsWrong, Refuses}
 use Rattle.filterset_profiles.specs.declared.overrides.Override.{Override}

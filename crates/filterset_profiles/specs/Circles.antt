@@ -7,7 +7,7 @@ use Rattle.std.specs.Option.{option_map_or}
 use Rattle.std.specs.Ordering.{nat_cmp}
 use Rattle.toml.specs.Data.{Data, Members, no_members, member, as_str, as_table, get, get_member}
 use Rattle.toml.specs.View.{view}
-use Rattle.filterset_platforms.specs.Trees.{Text}
+use Rattle.filterset_profiles.specs.PlatformTrees.{Text}
 use Rattle.filterset_sources.specs.Configurations.{keys_of}
 use Rattle.filterset_profiles.specs.declared.checking.CheckedFile.{CheckedFile}
 use Rattle.filterset_profiles.specs.declared.circles.Link.{Link}

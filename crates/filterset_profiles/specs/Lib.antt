@@ -6,3 +6,7 @@ pub mod Profiles
 pub mod Ranking
 pub mod Refusals
 pub mod Wrong
+pub mod PlatformGrammar
+pub mod PlatformReading
+pub mod PlatformTrees
+pub mod PlatformValues

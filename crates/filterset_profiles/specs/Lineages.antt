@@ -1,7 +1,7 @@
 -- The profiles that a profile falls back on.
 use Rattle.std.specs.Prelude.{◌≡◌, ◌≢◌, List, [], ◌∷◌, ◌++◌, Option, None, Some, IfSome, bytes_eq, codes, find, if◌then◌else◌, option_and_then, option_map, string_bytes}
 use Rattle.std.specs.Option.{option_or}
-use Rattle.filterset_platforms.specs.Trees.{Text}
+use Rattle.filterset_profiles.specs.PlatformTrees.{Text}
 use Rattle.filterset_profiles.specs.Paths.{profile_path}
 use Rattle.filterset_profiles.specs.declared.fault.LineageFault.{LineageFault}
 use Rattle.filterset_profiles.specs.declared.fault.LineageFault.TheVariants.{NoProfile, NoParent, Cycle, OutOfMemory}

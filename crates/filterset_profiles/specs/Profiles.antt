@@ -7,10 +7,10 @@ use Rattle.toml.specs.Data.{Data, string, array, table, no_items, Members, no_me
 use Rattle.toml.specs.Parse.{parse_document}
 use Rattle.toml.specs.View.{items_of, members_of}
 use Rattle.filterset_sources.specs.Configurations.{keys_of}
-use Rattle.filterset_platforms.specs.Grammar.{Spells}
-use Rattle.filterset_platforms.specs.Trees.{Text, spec_of}
-use Rattle.filterset_platforms.specs.declared.filter.PlatformFilter.{PlatformFilter}
-use Rattle.filterset_platforms.specs.declared.specification.PlatformSpec.{PlatformSpec}
+use Rattle.filterset_profiles.specs.PlatformGrammar.{Spells}
+use Rattle.filterset_profiles.specs.PlatformTrees.{Text, spec_of}
+use Rattle.filterset_profiles.specs.declared.platforms.filter.PlatformFilter.{PlatformFilter}
+use Rattle.filterset_profiles.specs.declared.platforms.specification.PlatformSpec.{PlatformSpec}
 use Rattle.filterset_profiles.specs.declared.overrides.Override.{Override}
 use Rattle.filterset_profiles.specs.declared.profiles.Profile.{Profile}
 

@@ -7,8 +7,8 @@ use Rattle.filterset_places.specs.Numbers.{AreApart, numbered}
 use Rattle.filterset_places.specs.Places.{IsNumberedPlace}
 use Rattle.filterset_places.specs.declared.place.Place.{Place}
 use Rattle.filterset_places.specs.declared.stretch.Stretch.{Stretch}
-use Rattle.filterset_platforms.specs.Grammar.{Spells}
-use Rattle.filterset_platforms.specs.Trees.{Spec, Text}
+use Rattle.filterset_profiles.specs.PlatformGrammar.{Spells}
+use Rattle.filterset_profiles.specs.PlatformTrees.{Spec, Text}
 use Rattle.filterset_profiles.specs.Circles.{IsInCircle}
 use Rattle.filterset_profiles.specs.Paths.{override_path, profile_path}
 use Rattle.filterset_profiles.specs.Profiles.{is_group}

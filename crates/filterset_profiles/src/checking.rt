@@ -2,18 +2,18 @@
 ghost use Rattle.std.specs.Prelude.{◌≡◌, ◌++◌, List, IfOk, IfSome, OnOk};
 ghost use Rattle.std.specs.Bool.{OnFalse, OnTrue};
 ghost use Rattle.toml.specs.View.{view};
-ghost use Rattle.filterset_platforms.specs.Grammar.{Spells};
-ghost use Rattle.filterset_platforms.specs.Trees.{Spec};
+ghost use Rattle.filterset_profiles.specs.PlatformGrammar.{Spells};
+ghost use Rattle.filterset_profiles.specs.PlatformTrees.{Spec};
 ghost use Rattle.filterset_profiles.specs.Circles.{IsInCircle, KnowsCircles};
 ghost use Rattle.filterset_profiles.specs.Wrong.{AreNumbered, AreWrongValues, FindsWrong, IsRight, IsWrongValue, Judged, is_parent, value_row, value_rows, values_of};
 ghost use Rattle.filterset_profiles.specs.declared.wrong.WrongValue.{WrongValue};
 
 use crate::circles::mark_circles;
 use crate::placing::{NumberedValues, numbered_values, place_in, read_table};
+use crate::platforms::{PlatformRefusal, PlatformSpec};
 use crate::values::is_group;
 use crate::walking::values_of;
 use crate::wrong::{ProfileValue, ValueRole, WrongValue};
-use filterset_platforms::{PlatformRefusal, PlatformSpec};
 use std::alloc::{AllocError, Global};
 use toml::Value;
 

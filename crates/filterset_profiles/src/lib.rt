@@ -14,6 +14,7 @@ mod inheritance;
 mod overrides;
 mod paths;
 mod placing;
+mod platforms;
 mod profiles;
 mod ranking;
 mod refusal;
@@ -26,6 +27,10 @@ pub use defaults::{DefaultFilter, default_filter};
 pub use fault::LineageFault;
 pub use inheritance::lineage;
 pub use overrides::Override;
+pub use platforms::{
+    Cfg, CfgExpr, CfgRefusal, Expected, PlatformFacts, PlatformFault, PlatformFilter,
+    PlatformRefusal, PlatformSpec, read_cfg,
+};
 pub use profiles::{Profile, read_profiles};
 pub use ranking::{RankedOverride, rank_overrides};
 pub use refusal::ProfileRefusal;

@@ -3,15 +3,15 @@ ghost use Rattle.std.specs.Prelude.{◌≡◌, List, IfErr, IfOk, codes, is_some
 ghost use Rattle.std.specs.List.{AllZip};
 ghost use Rattle.toml.specs.Data.{array, get, no_items, no_members, table};
 ghost use Rattle.toml.specs.View.{view};
-ghost use Rattle.filterset_platforms.specs.declared.filter.PlatformFilter.{PlatformFilter};
+ghost use Rattle.filterset_profiles.specs.declared.platforms.filter.PlatformFilter.{PlatformFilter};
 ghost use Rattle.filterset_profiles.specs.Profiles.{AreOverrides, ArePlatforms, HasSettings, IsOverride, IsPlatform, Under, is_allowed};
 ghost use Rattle.filterset_profiles.specs.Refusals.{Refuses};
 ghost use Rattle.filterset_profiles.specs.declared.overrides.Override.{Override};
 
 use crate::paths::override_path;
+use crate::platforms::PlatformFilter;
 use crate::refusal::ProfileRefusal;
 use crate::values::{read_group, read_keys_but, read_platform, read_text, wrong_at, wrong_under};
-use filterset_platforms::PlatformFilter;
 use std::alloc::Global;
 use toml::Value;
 

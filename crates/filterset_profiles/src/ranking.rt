@@ -1,15 +1,15 @@
 //! Puts the overrides of a lineage in order.
 ghost use Rattle.std.specs.Prelude.{◌≡◌, ◌++◌, List, IfOk, OnOk, flat_map, map};
 ghost use Rattle.std.specs.List.{AllZip};
-ghost use Rattle.filterset_platforms.specs.Trees.{facts_of};
+ghost use Rattle.filterset_profiles.specs.PlatformTrees.{facts_of};
 ghost use Rattle.filterset_profiles.specs.Paths.{override_path};
 ghost use Rattle.filterset_profiles.specs.Ranking.{IsRanked, placed};
 ghost use Rattle.filterset_profiles.specs.declared.ranking.RankedOverride.{RankedOverride};
 
 use crate::overrides::Override;
 use crate::paths::{override_path, profile_path};
+use crate::platforms::PlatformFacts;
 use crate::profiles::Profile;
-use filterset_platforms::PlatformFacts;
 use std::alloc::{AllocError, Global};
 
 /// An override of a lineage.

@@ -2,13 +2,13 @@
 ghost use Rattle.std.specs.Prelude.{◌≡◌, Option, String, IfErr, IfOk, codes, map, string_bytes};
 ghost use Rattle.std.specs.declared.alloc.Global.{Global};
 ghost use Rattle.toml.specs.View.{table_view, view};
-ghost use Rattle.filterset_platforms.specs.declared.specification.PlatformSpec.{PlatformSpec};
+ghost use Rattle.filterset_profiles.specs.declared.platforms.specification.PlatformSpec.{PlatformSpec};
 ghost use Rattle.filterset_profiles.specs.Profiles.{IsGroup, IsPlatform, IsText, Under, is_group, keys_but, settings_but};
 ghost use Rattle.filterset_profiles.specs.Refusals.{IsWrong, Refuses};
 ghost use Rattle.filterset_sources.specs.Configurations.{keys_of};
 
+use crate::platforms::{PlatformRefusal, PlatformSpec};
 use crate::refusal::ProfileRefusal;
-use filterset_platforms::{PlatformRefusal, PlatformSpec};
 use std::alloc::{AllocError, Global};
 use toml::{Table, Value};
 

@@ -7,8 +7,8 @@ use Rattle.std.proofs.lemmas.List.{append-nil, get_or-drop, length-append, lengt
 use Rattle.std.proofs.lemmas.Str.{IsCharBoundary-after_ascii, IsCharBoundary-start}
 use Rattle.filterset_columns.specs.Columns.{IsAt}
 use Rattle.filterset_columns.proofs.ColumnLemmas.{some_item}
-use Rattle.filterset_io.specs.Pieces.{Pieces}
-use Rattle.filterset_io.proofs.PieceLemmas.{Pieces-more}
+use Rattle.filterset_json.specs.Pieces.{Pieces}
+use Rattle.filterset_json.proofs.PieceLemmas.{Pieces-more}
 use Rattle.filterset_json.specs.Shape.{Text}
 use Rattle.filterset_report.specs.Lines.{answer_text, lines_of, test_line}
 use Rattle.filterset_report.specs.Record.{TestRow}

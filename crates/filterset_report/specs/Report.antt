@@ -15,7 +15,7 @@ use Rattle.filterset_faults.specs.declared.span.SourceSpan.{SourceSpan}
 use Rattle.filterset_faults.specs.declared.error.ParseSingleError.{ParseSingleError}
 use Rattle.filterset_faults.specs.declared.kind.FiltersetKind.TheVariants as kinds
 use Rattle.filterset_json.specs.Shape.{Text}
-use Rattle.filterset_io.specs.Pieces.{Pieces}
+use Rattle.filterset_json.specs.Pieces.{Pieces}
 use Rattle.filterset_report.specs.Record.{BinaryRow, FiltersetRow, TestRow, RecordRow, IsRecord}
 use Rattle.nextest_filtering.specs.Compiling.{IsFiltersetOf, IsRefusedWith}
 use Rattle.nextest_filtering.specs.Formatting.{PrintsFilterset}

@@ -1,7 +1,7 @@
 //! The program that reports on a record of filtersets.
 use crate::outcome::ReportOutcome;
 use crate::report::report_of;
-use filterset_io::Program;
+use filterset_json::Program;
 use std::alloc::{AllocError, Global};
 
 /// Reports what the library says about each filterset of a record.

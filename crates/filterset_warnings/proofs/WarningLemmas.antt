@@ -13,8 +13,8 @@ use Rattle.filterset_drawing.specs.declared.source.FileSpan.{FileSpan}
 use Rattle.filterset_drawing.specs.declared.warning.Warning.{Warning}
 use Rattle.filterset_hints.specs.Subjects.{Basis}
 use Rattle.filterset_hints.specs.declared.subject.Subject.{Subject}
-use Rattle.filterset_io.proofs.PieceLemmas.{Pieces-push}
-use Rattle.filterset_io.specs.Pieces.{Pieces, no_pieces, next_piece}
+use Rattle.filterset_json.proofs.PieceLemmas.{Pieces-push}
+use Rattle.filterset_json.specs.Pieces.{Pieces, no_pieces, next_piece}
 use Rattle.nextest_filtering.specs.declared.compile.context.KnownGroups.{KnownGroups}
 use Rattle.filterset_warnings.specs.Warnings.{TextWarnings, WarningsOf, no_texts, next_text}
 

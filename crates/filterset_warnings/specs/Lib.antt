@@ -2,3 +2,4 @@ pub mod Spans
 pub mod Forms
 pub mod Warnings
 pub mod Contexts
+pub mod Values

@@ -18,7 +18,7 @@ use Rattle.filterset_hints.specs.Listed.{AreSubjects}
 use Rattle.filterset_hints.specs.Needless.{AreFound, AreUnmatched, Found}
 use Rattle.filterset_hints.specs.Subjects.{Basis}
 use Rattle.filterset_hints.specs.declared.subject.Subject.{Subject}
-use Rattle.filterset_io.specs.Pieces.{Pieces}
+use Rattle.filterset_json.specs.Pieces.{Pieces}
 use Rattle.filterset_listing.specs.declared.binary.AskedBinary.{AskedBinary}
 use Rattle.nextest_filtering.specs.Compiling.{IsFiltersetOf, IsRefusedWith}
 use Rattle.nextest_filtering.specs.declared.compile.context.KnownGroups.{KnownGroups}

@@ -3,7 +3,7 @@ ghost use Rattle.std.specs.Prelude.{◌≡◌, ◌+◌, ◌++◌, IfOk, OnOk, le
 ghost use Rattle.filterset_answers.specs.Placements.{placement_of};
 ghost use Rattle.filterset_drawing.specs.Columns.{Text};
 ghost use Rattle.filterset_hints.specs.Finding.{found_of, unmatched_of};
-ghost use Rattle.filterset_io.specs.Pieces.{Pieces};
+ghost use Rattle.filterset_json.specs.Pieces.{Pieces};
 ghost use Rattle.filterset_language.specs.Views.{tree_of};
 ghost use Rattle.filterset_warnings.specs.Forms.{IsRemarkIn};
 ghost use Rattle.filterset_warnings.specs.Warnings.{constant_text, needless_remark, remarks_of, unmatched_remark};

@@ -1,5 +1,6 @@
 //! Warnings of filterset texts by a list of tests: the predicates that match none of its tests, and the operands that change
-//! nothing. They are drawn under their text, or written as JSON, or as commands of a workflow.
+//! nothing; and the wrong values of a configuration. They are drawn under their text, or written as JSON, or as commands of
+//! a workflow.
 #![tactic(auto)]
 
 mod form;
@@ -8,6 +9,7 @@ mod overrides;
 mod setting;
 mod span;
 mod texts;
+mod values;
 
 pub use setting::warn_setting;
-pub use texts::{WarningContext, warn_texts};
+pub use values::add_values;

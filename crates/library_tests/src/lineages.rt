@@ -1,6 +1,6 @@
 //! Lineages of profiles, their overrides in order, and their default filters.
 use crate::platforms::settings_of;
-use filterset_platforms::PlatformFacts;
+use filterset_profiles::PlatformFacts;
 use filterset_profiles::{
     DefaultFilter, LineageFault, Profile, RankedOverride, default_filter, lineage, rank_overrides,
     read_profiles,

@@ -1,5 +1,5 @@
 //! Platforms of a configuration: which texts are some, and what they say of a platform.
-use filterset_platforms::{
+use filterset_profiles::{
     Cfg, CfgRefusal, Expected, PlatformFacts, PlatformFault, PlatformFilter, PlatformRefusal,
     PlatformSpec, read_cfg,
 };

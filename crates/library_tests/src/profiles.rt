@@ -1,5 +1,5 @@
 //! Profiles of a configuration.
-use filterset_platforms::{CfgExpr, PlatformSpec};
+use filterset_profiles::{CfgExpr, PlatformSpec};
 use filterset_profiles::{Override, Profile, ProfileRefusal, read_profiles};
 use std::alloc::{AllocError, Global};
 use std::process::Abort;

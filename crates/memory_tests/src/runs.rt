@@ -1,6 +1,6 @@
 //! Tests of readers and writers that fail, and of refused memory. What the program writes for each record is shown, and
 //! compared, in examples/transcripts/.
-use filterset_io::{FromReader, RunFault, Sink, Source, ToWriter, run};
+use filterset_json::{FromReader, RunFault, Sink, Source, ToWriter, run};
 use filterset_report::{Filtersets, ReportOutcome};
 use std::alloc::{AllocError, Global};
 use std::io;

@@ -8,7 +8,7 @@ ghost use Rattle.nextest_filtering.specs.Formatting.{PrintsFilterset};
 ghost use Rattle.nextest_filtering.specs.Groups.{IsKnown};
 ghost use Rattle.nextest_filtering.specs.declared.compile.context.KnownGroups.{KnownGroups};
 ghost use Rattle.filterset_expression.specs.Meaning.{IsCompiled};
-ghost use Rattle.filterset_io.specs.Pieces.{Pieces};
+ghost use Rattle.filterset_json.specs.Pieces.{Pieces};
 ghost use Rattle.filterset_expression.specs.FlatExpressions.{IsTold};
 ghost use Rattle.filterset_report.specs.Asking.{ForItsColumns, ForItsExpr, ForItsTree, IsLookupOf, IsSameExpr};
 ghost use Rattle.filterset_report.specs.Library.{background_of, IsAboutBinary};

@@ -1,10 +1,10 @@
 use Rattle.std.proofs.Common.{arith, ◌<◌, [], ◌++◌, length, option_map, sym}
 use Rattle.std.proofs.lemmas.List.{append-nil, take_all}
-use Rattle.filterset_io.proofs.PieceLemmas.{added_twice}
+use Rattle.filterset_json.proofs.PieceLemmas.{added_twice}
 use Rattle.filterset_answers.specs.Forms.{WrittenIn}
 use Rattle.filterset_answers.specs.Placements.{placement_of}
 use Rattle.filterset_answers.proofs.AnswersLemmas.{Pieces-next}
-use Rattle.filterset_io.specs.Pieces.{no_pieces}
+use Rattle.filterset_json.specs.Pieces.{no_pieces}
 use Rattle.filterset_answers.proofs.form.push_faults_of.Goals as goal
 
 pub returns : goal.returns

@@ -1,6 +1,6 @@
 use Rattle.std.proofs.Common.{◌≡◌, ◌++◌, option_map, string_bytes, take}
 use Rattle.filterset_drawing.specs.Columns.{Text}
-use Rattle.filterset_io.specs.Pieces.{Pieces}
+use Rattle.filterset_json.specs.Pieces.{Pieces}
 use Rattle.filterset_answers.specs.Forms.{WrittenIn}
 use Rattle.filterset_answers.specs.Placements.{placement_of}
 use Rattle.filterset_answers.proofs.form.push_faults_of.Given as goal

@@ -1,6 +1,6 @@
 use Rattle.std.proofs.Common.{◌≡◌, ◌≤◌, ◌++◌, map, string_bytes, take}
 use Rattle.filterset_drawing.specs.Columns.{Text}
-use Rattle.filterset_io.specs.Pieces.{Pieces}
+use Rattle.filterset_json.specs.Pieces.{Pieces}
 use Rattle.filterset_answers.specs.Answers.{FaultsOf, FormattedLine}
 use Rattle.filterset_answers.specs.Checked.{HasReadingFaults, text_row}
 use Rattle.filterset_answers.proofs.formatting.push_texts.Given as goal

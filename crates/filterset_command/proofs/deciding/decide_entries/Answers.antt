@@ -1,7 +1,7 @@
 use Rattle.std.proofs.Common.{ap, refl}
 use Rattle.std.proofs.lemmas.Result.{IfOk-weaker}
 use Rattle.filterset_answers.specs.Checked.{text_row}
-use Rattle.filterset_verdicts.specs.declared.answering.TextQuestion.{TextQuestion}
+use Rattle.filterset_answers.specs.declared.verdicts.answering.TextQuestion.{TextQuestion}
 use Rattle.filterset_command.proofs.deciding.decide_entries.Goals as goal
 
 pub returns : goal.returns

@@ -3,7 +3,7 @@ use Rattle.std.specs.Prelude.{codes, option_copied}
 use Rattle.std.proofs.lemmas.Bool.{false≢true}
 use Rattle.std.proofs.lemmas.List.{length-set, map-append}
 use Rattle.std.proofs.lemmas.Slice.Eq.{bytes_eq-Decides}
-use Rattle.filterset_platforms.specs.Trees.{Text}
+use Rattle.filterset_profiles.specs.PlatformTrees.{Text}
 use Rattle.filterset_profiles.specs.Lineages.{IsMissing, Leads, named, parent}
 use Rattle.filterset_profiles.specs.declared.profiles.Profile.{Profile}
 use Rattle.filterset_profiles.proofs.Chains.{IsPassed, cycle_found, leads_push, lineage_once, mark_read, missing_found, no_fault, one_more_passed}

@@ -1,6 +1,6 @@
 use Rattle.std.proofs.Common.{◌≡◌, ◌<◌, List, ◌∷◌, [], ◌++◌, length, get_or, take, string_bytes, ap, append_assoc, arith, subst, ◌∙◌}
 use Rattle.std.proofs.lemmas.List.{take_all}
-use Rattle.filterset_platforms.specs.Trees.{facts_of}
+use Rattle.filterset_profiles.specs.PlatformTrees.{facts_of}
 use Rattle.filterset_profiles.specs.Paths.{override_path, profile_path}
 use Rattle.filterset_profiles.specs.Ranking.{IsRanked, placed}
 use Rattle.filterset_profiles.specs.declared.overrides.Override.{Override}

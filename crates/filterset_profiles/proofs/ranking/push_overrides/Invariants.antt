@@ -1,6 +1,6 @@
 use Rattle.std.proofs.Common.{◌≡◌, ◌++◌, List, take}
 use Rattle.std.specs.List.{AllZip}
-use Rattle.filterset_platforms.specs.Trees.{facts_of}
+use Rattle.filterset_profiles.specs.PlatformTrees.{facts_of}
 use Rattle.filterset_profiles.specs.Ranking.{IsRanked, placed}
 use Rattle.filterset_profiles.specs.declared.ranking.RankedOverride.{RankedOverride}
 use Rattle.filterset_profiles.proofs.ranking.push_overrides.Given as goal

@@ -1,6 +1,6 @@
 use Rattle.std.proofs.Common.{◌<◌, length, map, take}
 use Rattle.std.specs.Prelude.{flat_map}
-use Rattle.filterset_platforms.specs.Trees.{facts_of}
+use Rattle.filterset_profiles.specs.PlatformTrees.{facts_of}
 use Rattle.filterset_profiles.specs.Ranking.{IsRanked, placed}
 use Rattle.filterset_profiles.proofs.Ranks.{flat_more}
 use Rattle.filterset_profiles.proofs.Zips.{zip_append}

@@ -1,7 +1,7 @@
 use Rattle.std.proofs.Common.{map, take}
 use Rattle.std.specs.Prelude.{flat_map}
 use Rattle.std.specs.List.{AllZip}
-use Rattle.filterset_platforms.specs.Trees.{facts_of}
+use Rattle.filterset_profiles.specs.PlatformTrees.{facts_of}
 use Rattle.filterset_profiles.specs.Ranking.{IsRanked, placed}
 use Rattle.filterset_profiles.proofs.ranking.rank_overrides.Given as goal
 

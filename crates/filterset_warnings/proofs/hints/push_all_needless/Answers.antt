@@ -3,8 +3,8 @@ use Rattle.std.proofs.lemmas.List.{append-nil, take_all}
 use Rattle.filterset_answers.specs.Placements.{placement_of}
 use Rattle.filterset_drawing.specs.Columns.{Text}
 use Rattle.filterset_hints.specs.declared.needless.NeedlessOperand.{NeedlessOperand}
-use Rattle.filterset_io.proofs.PieceLemmas.{added_twice}
-use Rattle.filterset_io.specs.Pieces.{no_pieces}
+use Rattle.filterset_json.proofs.PieceLemmas.{added_twice}
+use Rattle.filterset_json.specs.Pieces.{no_pieces}
 use Rattle.filterset_language.specs.Views.{tree_of}
 use Rattle.filterset_warnings.proofs.WarningLemmas.{Pieces-next}
 use Rattle.filterset_warnings.specs.Forms.{IsRemarkIn}

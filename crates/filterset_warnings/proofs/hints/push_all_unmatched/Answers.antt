@@ -4,8 +4,8 @@ use Rattle.std.specs.Borrow.{Bor}
 use Rattle.filterset_answers.specs.Placements.{placement_of}
 use Rattle.filterset_drawing.specs.Columns.{Text}
 use Rattle.filterset_faults.specs.declared.span.SourceSpan.{SourceSpan}
-use Rattle.filterset_io.proofs.PieceLemmas.{added_twice}
-use Rattle.filterset_io.specs.Pieces.{no_pieces}
+use Rattle.filterset_json.proofs.PieceLemmas.{added_twice}
+use Rattle.filterset_json.specs.Pieces.{no_pieces}
 use Rattle.filterset_language.specs.Views.{tree_of}
 use Rattle.filterset_language.specs.declared.tree.ParsedExpr.{ParsedExpr}
 use Rattle.filterset_warnings.proofs.WarningLemmas.{Pieces-next}

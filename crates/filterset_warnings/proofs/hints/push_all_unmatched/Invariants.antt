@@ -1,7 +1,7 @@
 use Rattle.std.proofs.Common.{◌≡◌, ◌++◌, option_map, string_bytes, take}
 use Rattle.filterset_answers.specs.Placements.{placement_of}
 use Rattle.filterset_drawing.specs.Columns.{Text}
-use Rattle.filterset_io.specs.Pieces.{Pieces}
+use Rattle.filterset_json.specs.Pieces.{Pieces}
 use Rattle.filterset_language.specs.Views.{tree_of}
 use Rattle.filterset_warnings.specs.Forms.{IsRemarkIn}
 use Rattle.filterset_warnings.specs.Warnings.{unmatched_remark}

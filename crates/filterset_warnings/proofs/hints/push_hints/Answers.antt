@@ -3,7 +3,7 @@ use Rattle.std.proofs.lemmas.List.{length-map}
 use Rattle.std.proofs.lemmas.Result.{IfOk-weaker}
 use Rattle.filterset_answers.specs.Placements.{placement_of}
 use Rattle.filterset_hints.specs.Finding.{found_of, unmatched_of}
-use Rattle.filterset_io.proofs.PieceLemmas.{added_twice}
+use Rattle.filterset_json.proofs.PieceLemmas.{added_twice}
 use Rattle.filterset_language.specs.Views.{tree_of}
 use Rattle.filterset_warnings.proofs.WarningLemmas.{Pieces-append, Pieces-mapped}
 use Rattle.filterset_warnings.specs.Forms.{IsRemarkIn}

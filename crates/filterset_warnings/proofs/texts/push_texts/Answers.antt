@@ -2,7 +2,7 @@ use Rattle.std.proofs.Common.{rules, arith, ◌≡◌, ◌<◌, [], ◌++◌, le
 use Rattle.std.proofs.lemmas.List.{append-nil}
 use Rattle.filterset_answers.specs.Checked.{text_row}
 use Rattle.filterset_answers.proofs.AnswersLemmas.{next_number, rows_more}
-use Rattle.filterset_io.proofs.PieceLemmas.{added_twice}
+use Rattle.filterset_json.proofs.PieceLemmas.{added_twice}
 use Rattle.filterset_warnings.specs.Contexts.{basis_of}
 use Rattle.filterset_warnings.specs.Warnings.{TextWarnings, no_texts}
 use Rattle.filterset_warnings.proofs.WarningLemmas.{WarningsOf-push}

@@ -2,7 +2,7 @@ use Rattle.std.proofs.Common.{rules, ◌≡◌, ◌++◌, codes, string_bytes}
 use Rattle.std.proofs.lemmas.Result.{on_ok_weaker}
 use Rattle.filterset_language.specs.Views.{tree_of}
 use Rattle.filterset_report.specs.Report.{printed_line}
-use Rattle.filterset_io.proofs.PieceLemmas.{added_twice}
+use Rattle.filterset_json.proofs.PieceLemmas.{added_twice}
 use Rattle.filterset_report.proofs.report.sections.push_accepted.Goals as goal
 
 pub returns : goal.returns

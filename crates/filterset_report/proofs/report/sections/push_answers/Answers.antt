@@ -3,11 +3,11 @@ use Rattle.std.proofs.lemmas.List.{append-nil}
 use Rattle.std.proofs.lemmas.Simd.{map-map}
 use Rattle.filterset_expression.specs.Meaning.{IsCompiled}
 use Rattle.filterset_report.specs.Record.{BinaryRow}
-use Rattle.filterset_io.specs.Pieces.{Pieces, no_pieces}
+use Rattle.filterset_json.specs.Pieces.{Pieces, no_pieces}
 use Rattle.filterset_report.specs.Report.{BinaryLines}
 use Rattle.filterset_report.specs.Rows.{binary_row}
 use Rattle.filterset_report.specs.declared.listed.ListedBinary.{ListedBinary}
-use Rattle.filterset_io.proofs.PieceLemmas.{Pieces-more, added_twice}
+use Rattle.filterset_json.proofs.PieceLemmas.{Pieces-more, added_twice}
 use Rattle.filterset_report.proofs.ReportLemmas.{taken_all}
 use Rattle.filterset_report.proofs.report.sections.push_answers.Goals as goal
 

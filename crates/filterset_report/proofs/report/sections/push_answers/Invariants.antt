@@ -1,7 +1,7 @@
 use Rattle.std.proofs.Common.{◌≡◌, ◌++◌, map, string_bytes, take}
 use Rattle.filterset_report.specs.Asking.{ForItsColumns, IsLookupOf, IsSameExpr}
 use Rattle.filterset_json.specs.Shape.{Text}
-use Rattle.filterset_io.specs.Pieces.{Pieces}
+use Rattle.filterset_json.specs.Pieces.{Pieces}
 use Rattle.filterset_report.specs.Report.{BinaryLines}
 use Rattle.filterset_report.specs.Rows.{binary_row}
 use Rattle.filterset_report.proofs.report.sections.push_answers.Given as goal

@@ -7,7 +7,7 @@ use Rattle.filterset_expression.specs.Meaning.{IsCompiled}
 use Rattle.filterset_report.specs.Record.{BinaryRow}
 use Rattle.filterset_report.specs.Rows.{binary_row}
 use Rattle.filterset_report.specs.Library.{background_of}
-use Rattle.filterset_io.specs.Pieces.{Pieces, no_pieces}
+use Rattle.filterset_json.specs.Pieces.{Pieces, no_pieces}
 use Rattle.filterset_report.specs.Report.{BinaryLines}
 use Rattle.filterset_report.proofs.report.sections.push_asked.Goals as goal
 

@@ -7,7 +7,7 @@ use Rattle.filterset_faults.specs.declared.span.SourceSpan.{SourceSpan}
 use Rattle.filterset_grammar.specs.Tree.{Tree}
 use Rattle.filterset_report.specs.Library.{Background}
 use Rattle.filterset_report.specs.Lines.{answer_text}
-use Rattle.filterset_io.proofs.PieceLemmas.{added_twice}
+use Rattle.filterset_json.proofs.PieceLemmas.{added_twice}
 use Rattle.filterset_report.proofs.report.sections.push_binary.Goals as goal
 
 -- what the library tells of the binary that the question is about

@@ -5,10 +5,10 @@ use Rattle.filterset_expression.specs.declared.query.BinaryQuery.{BinaryQuery}
 use Rattle.filterset_report.specs.Record.{TestRow}
 use Rattle.filterset_report.specs.declared.record.binaries.TestEntry.{TestEntry}
 use Rattle.filterset_report.specs.Library.{IsAboutBinary}
-use Rattle.filterset_io.specs.Pieces.{Pieces, no_pieces}
+use Rattle.filterset_json.specs.Pieces.{Pieces, no_pieces}
 use Rattle.filterset_report.specs.Report.{TestLine}
 use Rattle.filterset_report.specs.Rows.{binary_row, test_row}
-use Rattle.filterset_io.proofs.PieceLemmas.{Pieces-more, added_twice}
+use Rattle.filterset_json.proofs.PieceLemmas.{Pieces-more, added_twice}
 use Rattle.filterset_report.proofs.ReportLemmas.{taken_all}
 use Rattle.filterset_report.proofs.report.sections.push_few_tests.Goals as goal
 

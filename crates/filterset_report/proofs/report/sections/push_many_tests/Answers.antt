@@ -3,8 +3,8 @@ use Rattle.std.proofs.lemmas.List.{append-nil}
 use Rattle.filterset_columns.specs.Columns.{answer_of, IsAt}
 use Rattle.filterset_expression.specs.Meaning.{Meaning}
 use Rattle.filterset_expression.specs.declared.query.BinaryQuery.{BinaryQuery}
-use Rattle.filterset_io.specs.Pieces.{Pieces, no_pieces}
-use Rattle.filterset_io.proofs.PieceLemmas.{added_twice}
+use Rattle.filterset_json.specs.Pieces.{Pieces, no_pieces}
+use Rattle.filterset_json.proofs.PieceLemmas.{added_twice}
 use Rattle.filterset_report.specs.Library.{IsAboutBinary}
 use Rattle.filterset_report.specs.Lines.{lines_of, test_line}
 use Rattle.filterset_report.specs.Lookup.{matches_recorded_group}

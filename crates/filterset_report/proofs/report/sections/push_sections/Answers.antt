@@ -6,7 +6,7 @@ use Rattle.filterset_report.specs.Library.{background_of}
 use Rattle.filterset_report.specs.Report.{no_sections}
 use Rattle.filterset_report.specs.Rows.{filterset_row}
 use Rattle.filterset_report.specs.declared.record.filtersets.FiltersetEntry.{FiltersetEntry}
-use Rattle.filterset_io.proofs.PieceLemmas.{added_twice}
+use Rattle.filterset_json.proofs.PieceLemmas.{added_twice}
 use Rattle.filterset_report.proofs.ReportLemmas.{Sections-push, map-pairs, number_is_position}
 use Rattle.filterset_report.proofs.report.sections.push_sections.Goals as goal
 

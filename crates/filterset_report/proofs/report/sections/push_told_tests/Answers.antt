@@ -6,7 +6,7 @@ use Rattle.filterset_expression.specs.Meaning.{Meaning}
 use Rattle.filterset_expression.proofs.LeafAnswers.{told_of_test}
 use Rattle.filterset_expression.proofs.Meanings.{compiled_means}
 use Rattle.filterset_graph.specs.declared.binary.TestCaseName.{TestCaseName}
-use Rattle.filterset_io.specs.Pieces.{Pieces, no_pieces}
+use Rattle.filterset_json.specs.Pieces.{Pieces, no_pieces}
 use Rattle.filterset_report.specs.Lines.{lines_of, test_line}
 use Rattle.filterset_report.specs.Lookup.{matches_recorded_group}
 use Rattle.filterset_report.specs.Record.{TestRow}

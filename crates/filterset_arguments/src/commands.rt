@@ -1,0 +1,473 @@
+//! The commands and their arguments, as `clap` takes them.
+ghost use Rattle.std.specs.Prelude.{◌≡◌, IfOk, string_bytes};
+ghost use Rattle.clap.specs.declared.builder.command.Command.{Command as ClapCommand};
+ghost use Rattle.filterset_arguments.specs.Scripts.{script_of};
+
+use crate::script::completion_script;
+use crate::shell::Shell;
+use clap::{Arg, ArgAction, Command};
+use std::alloc::{AllocError, Global};
+
+/// The version of the program, which `--version` prints.
+const VERSION: &str = "0.1.0";
+
+/// The values of `--kind`.
+const KINDS: [&str; 4] = ["test", "default", "override", "archive"];
+
+/// The values of `--message-format`.
+const FORMATS: [&str; 2] = ["human", "json"];
+
+/// The values of `--message-format` of `check`.
+const CHECK_FORMATS: [&str; 3] = ["human", "json", "github"];
+
+/// The values of `--color`.
+const COLORS: [&str; 2] = ["never", "always"];
+
+/// The shells that complete command lines.
+const SHELLS: [&str; 3] = ["bash", "zsh", "fish"];
+
+/// Makes the argument of the filtersets.
+fn texts<'a>(alloc: Global) -> Arg<'a> {
+    Arg::new(alloc, "text")
+        .value_name("TEXT")
+        .num_args(1..)
+        .action(ArgAction::Append)
+        .help("filtersets, or `-` for the lines of standard input")
+}
+
+/// Makes the option of the colours.
+fn color<'a>(alloc: Global) -> Arg<'a> {
+    Arg::new(alloc, "color")
+        .long("color")
+        .value_name("WHEN")
+        .value_parser(COLORS.as_slice())
+        .default_value("never")
+        .help("whether the output has colours")
+}
+
+/// Makes the option of the output's form, one of these.
+fn message_format<'a>(alloc: Global, formats: &'a [&'a str]) -> Arg<'a> {
+    Arg::new(alloc, "format")
+        .long("message-format")
+        .value_name("FORMAT")
+        .value_parser(formats)
+        .default_value("human")
+}
+
+/// Makes the option of the file with the packages.
+fn metadata<'a>(alloc: Global) -> Arg<'a> {
+    Arg::new(alloc, "metadata")
+        .long("cargo-metadata")
+        .value_name("FILE")
+        .help("the output of `cargo metadata --format-version 1`")
+}
+
+/// Makes the option of the filtersets' kind.
+fn kind<'a>(alloc: Global) -> Arg<'a> {
+    Arg::new(alloc, "kind")
+        .long("kind")
+        .value_name("KIND")
+        .value_parser(KINDS.as_slice())
+        .default_value("test")
+        .help("what the filtersets are for")
+}
+
+/// Makes the option of the file with the configuration.
+fn config<'a>(alloc: Global) -> Arg<'a> {
+    Arg::new(alloc, "config").long("config").value_name("FILE")
+}
+
+/// Makes the option by which warnings count as faults.
+fn deny_warnings<'a>(alloc: Global) -> Arg<'a> {
+    Arg::new(alloc, "deny")
+        .long("deny-warnings")
+        .action(ArgAction::SetTrue)
+        .help("exits with status 1 if the list gives warnings")
+}
+
+/// Makes the command `check`.
+fn check<'a>(alloc: Global) -> Result<Command<'a>, AllocError> {
+    let command = Command::new(alloc, "check")
+        .about("Shows the faults of filtersets, and where they are")
+        .after_help("Example: filterset check 'package(parser) and not test(~slow)'")
+        .arg(config(alloc).help(
+            "nextest's configuration, or `-` for standard input: its filtersets are checked too, and its groups are known",
+        ))?
+        .arg(metadata(alloc))?
+        .arg(kind(alloc))?
+        .arg(message_format(alloc, CHECK_FORMATS.as_slice()).help(
+            "how the faults are written; `github` is for a workflow, which shows them in the diff",
+        ))?
+        .arg(color(alloc))?;
+    let command = with_argument(command, nextest_list(alloc).requires_arg("metadata"))?;
+    let command = with_profile(alloc, command)?;
+    let command = with_argument(command, deny_warnings(alloc).requires_arg("list"))?;
+    with_argument(command, texts(alloc).required_unless_present("config"))
+}
+
+/// Makes the command `format`.
+fn format<'a>(alloc: Global) -> Result<Command<'a>, AllocError> {
+    Command::new(alloc, "format")
+        .about("Prints filtersets evenly spaced")
+        .after_help("Example: filterset format 'not!all()'")
+        .arg(color(alloc))?
+        .arg(texts(alloc).required(true))
+}
+
+/// Makes the command `simplify`.
+fn simplify<'a>(alloc: Global) -> Result<Command<'a>, AllocError> {
+    Command::new(alloc, "simplify")
+        .about("Prints filtersets without what changes nothing for every test")
+        .after_help("Example: filterset simplify 'test(a) or (test(a) and test(b))'")
+        .arg(color(alloc))?
+        .arg(texts(alloc).required(true))
+}
+
+/// Makes the option of the file with the tests.
+fn nextest_list<'a>(alloc: Global) -> Arg<'a> {
+    Arg::new(alloc, "list")
+        .long("nextest-list")
+        .value_name("FILE")
+        .help("the output of `cargo nextest list --message-format json`")
+}
+
+/// Makes the option of the default filter.
+fn default_filter<'a>(alloc: Global) -> Arg<'a> {
+    Arg::new(alloc, "default")
+        .long("default-filter")
+        .value_name("TEXT")
+        .help(
+            "the default filter, the value of `default()`, in place of that of the profile, or of `all()`",
+        )
+}
+
+/// Makes the option of the profile of the configuration.
+fn profile<'a>(alloc: Global) -> Arg<'a> {
+    Arg::new(alloc, "profile")
+        .long("profile")
+        .value_name("NAME")
+        .default_value("default")
+        .help("the profile of the configuration that nextest is to use")
+}
+
+/// Makes the option of a file with what `rustc` sets for a platform.
+fn cfg<'a>(alloc: Global, name: &'a str, help: &'a str) -> Arg<'a> {
+    Arg::new(alloc, name)
+        .long(name)
+        .value_name("FILE")
+        .help(help)
+}
+
+/// Adds the options of the profile, and of the platforms that its overrides ask about.
+fn with_profile<'a>(alloc: Global, command: Command<'a>) -> Result<Command<'a>, AllocError> {
+    let command = with_argument(command, profile(alloc).requires_arg("config"))?;
+    let target = cfg(
+        alloc,
+        "target-cfg",
+        "the output of `rustc --print cfg --target TRIPLE`, for overrides by what tests are built for",
+    );
+    let command = with_argument(command, target.requires_arg("config"))?;
+    let host = cfg(
+        alloc,
+        "host-cfg",
+        "the output of `rustc --print cfg`, for overrides by the platform that builds",
+    );
+    with_argument(command, host.requires_arg("config"))
+}
+
+/// Adds the options of the workspace and its default filter.
+fn with_workspace<'a>(alloc: Global, command: Command<'a>) -> Result<Command<'a>, AllocError> {
+    command
+        .arg(metadata(alloc).required(true))?
+        .arg(nextest_list(alloc).required(true))?
+        .arg(default_filter(alloc))
+}
+
+/// Adds the options of the workspace, its default filter and the profile.
+fn with_setting<'a>(alloc: Global, command: Command<'a>) -> Result<Command<'a>, AllocError> {
+    let command = with_workspace(alloc, command)?.arg(config(alloc).help(
+        "nextest's configuration, or `-` for standard input: the default filter and the groups of its profile count",
+    ))?;
+    with_profile(alloc, command)
+}
+
+/// Makes the option of a filterset.
+fn filterset<'a>(alloc: Global) -> Arg<'a> {
+    Arg::new(alloc, "filterset")
+        .short('E')
+        .long("filterset")
+        .value_name("TEXT")
+}
+
+/// Makes the option that ignores the default filter.
+fn ignore_default_filter<'a>(alloc: Global) -> Arg<'a> {
+    Arg::new(alloc, "ignore")
+        .long("ignore-default-filter")
+        .action(ArgAction::SetTrue)
+        .help("lists also tests that the default filter does not pick")
+}
+
+/// Makes the command `list`.
+fn list<'a>(alloc: Global) -> Result<Command<'a>, AllocError> {
+    let command = Command::new(alloc, "list")
+        .about("Lists the tests of a workspace that filtersets pick")
+        .after_help(
+            "Example: filterset list --cargo-metadata metadata.json --nextest-list list.json -E 'test(~slow)'",
+        )
+        .arg(
+            filterset(alloc).action(ArgAction::Append).help(
+                "a filterset; of several the union, and without any the default filter",
+            ),
+        )?;
+    with_setting(alloc, command)?
+        .arg(ignore_default_filter(alloc))?
+        .arg(message_format(alloc, FORMATS.as_slice()).help(
+            "how the tests are written; `json` is nextest's own shape",
+        ))?
+        .arg(color(alloc))
+}
+
+/// Makes the option that writes the tests by name.
+fn tests<'a>(alloc: Global) -> Arg<'a> {
+    Arg::new(alloc, "tests")
+        .long("tests")
+        .action(ArgAction::SetTrue)
+        .help("writes the tests by name, and skipped binaries by id")
+}
+
+/// Makes a required argument, given by its place.
+fn required_text<'a>(alloc: Global, id: &'a str, name: &'a str, help: &'a str) -> Arg<'a> {
+    Arg::new(alloc, id)
+        .value_name(name)
+        .required(true)
+        .help(help)
+}
+
+/// Makes the command `compare`.
+fn compare<'a>(alloc: Global) -> Result<Command<'a>, AllocError> {
+    let command = Command::new(alloc, "compare")
+        .about("Counts the tests that only one of two filtersets picks, and those that both pick")
+        .after_help(
+            "Example: filterset compare --cargo-metadata metadata.json --nextest-list list.json --tests 'all()' 'not test(~slow)'",
+        );
+    with_setting(alloc, command)?
+        .arg(tests(alloc))?
+        .arg(color(alloc))?
+        .arg(required_text(alloc, "first", "A", "a filterset"))?
+        .arg(required_text(alloc, "second", "B", "another filterset"))
+}
+
+/// Makes the argument of a test binary.
+fn binary<'a>(alloc: Global) -> Arg<'a> {
+    Arg::new(alloc, "binary")
+        .value_name("BINARY_ID")
+        .help("the id of a test binary")
+}
+
+/// Makes the argument of the test that is explained.
+fn test<'a>(alloc: Global) -> Arg<'a> {
+    Arg::new(alloc, "test")
+        .value_name("TEST")
+        .help("the name of a test of the binary")
+}
+
+/// Makes the command `explain`.
+fn explain<'a>(alloc: Global) -> Result<Command<'a>, AllocError> {
+    let command = Command::new(alloc, "explain")
+        .about(
+            "Shows why a filterset picks a test or not: the value of each predicate and operator",
+        )
+        .after_help(
+            "Example: filterset explain --cargo-metadata metadata.json --nextest-list list.json -E 'test(~slow)' parser tests::deep",
+        )
+        .arg(filterset(alloc).required(true).help("a filterset"))?;
+    with_setting(alloc, command)?
+        .arg(color(alloc))?
+        .arg(binary(alloc).required(true))?
+        .arg(test(alloc))
+}
+
+/// Makes the command `overrides`.
+fn overrides<'a>(alloc: Global) -> Result<Command<'a>, AllocError> {
+    let command = Command::new(alloc, "overrides")
+        .about(
+            "Counts the tests that each override of a profile applies to, or shows what gives a test its settings",
+        )
+        .after_help(
+            "Example: filterset overrides --config .config/nextest.toml --cargo-metadata metadata.json --nextest-list list.json",
+        )
+        .arg(
+            filterset(alloc).action(ArgAction::Append).help(
+                "a filterset of the tests to count; of several the union, and without any all tests",
+            ),
+        )?;
+    let command = with_workspace(alloc, command)?.arg(
+        config(alloc).required(true).help(
+            "nextest's configuration, or `-` for standard input: the overrides of its profile apply",
+        ),
+    )?;
+    let command = with_profile(alloc, command)?
+        .arg(color(alloc))?
+        .arg(binary(alloc))?;
+    with_argument(command, test(alloc).conflicts_with("filterset"))
+}
+
+/// Makes the argument of a question's filtersets.
+fn filtersets<'a>(alloc: Global) -> Arg<'a> {
+    Arg::new(alloc, "filterset")
+        .value_name("TEXT")
+        .num_args(1..)
+        .required(true)
+        .action(ArgAction::Append)
+        .help("the filtersets, or names of profiles such as `@ci`")
+}
+
+/// Makes the option of the tests that a question is about.
+fn within<'a>(alloc: Global) -> Arg<'a> {
+    Arg::new(alloc, "within")
+        .long("within")
+        .value_name("TEXT")
+        .help("a filterset of the tests that count, in place of all tests of the workspace")
+}
+
+/// Makes the option that limits a search.
+fn budget<'a>(alloc: Global) -> Arg<'a> {
+    Arg::new(alloc, "budget")
+        .long("budget")
+        .value_name("STEPS")
+        .default_value("50000000")
+        .help("how many steps the search may take before the answer is `unknown`")
+}
+
+/// Makes a command that asks a question about filtersets and every possible test.
+fn question<'a>(
+    alloc: Global,
+    name: &'a str,
+    about: &'a str,
+    example: &'a str,
+) -> Result<Command<'a>, AllocError> {
+    let command = Command::new(alloc, name)
+        .about(about)
+        .after_help(example)
+        .arg(metadata(alloc))?
+        .arg(config(alloc).help(
+            "nextest's configuration, or `-` for standard input: `@ci` is the default filter of its profile `ci`",
+        ))?;
+    let command = with_argument(command, nextest_list(alloc).requires_arg("metadata"))?;
+    with_profile(alloc, command)?
+        .arg(default_filter(alloc))?
+        .arg(within(alloc))?
+        .arg(budget(alloc))?
+        .arg(message_format(alloc, FORMATS.as_slice()).help("how the answer is written"))?
+        .arg(color(alloc))?
+        .arg(filtersets(alloc))
+}
+
+/// Makes the command `same`.
+fn same<'a>(alloc: Global) -> Result<Command<'a>, AllocError> {
+    question(
+        alloc,
+        "same",
+        "Decides whether filtersets pick the same of all possible tests, or shows a test on which they differ",
+        "Example: filterset same 'not (test(a) or test(b))' 'not test(a) and not test(b)'",
+    )
+}
+
+/// Makes the command `cover`.
+fn cover<'a>(alloc: Global) -> Result<Command<'a>, AllocError> {
+    question(
+        alloc,
+        "cover",
+        "Decides whether each possible test is picked by at least one filterset, or shows one that is not",
+        "Example: filterset cover --cargo-metadata metadata.json 'package(parser)' 'rdeps(lexer)'",
+    )
+}
+
+/// Makes the command `disjoint`.
+fn disjoint<'a>(alloc: Global) -> Result<Command<'a>, AllocError> {
+    question(
+        alloc,
+        "disjoint",
+        "Decides whether each possible test is picked by at most one filterset, or shows one that is not",
+        "Example: filterset disjoint 'kind(lib)' 'kind(test)'",
+    )
+}
+
+/// Makes the command `partition`.
+fn partition<'a>(alloc: Global) -> Result<Command<'a>, AllocError> {
+    question(
+        alloc,
+        "partition",
+        "Decides whether each possible test is picked by exactly one filterset, or shows one that is not",
+        "Example: filterset partition 'test(~slow)' 'not test(~slow)'",
+    )
+}
+
+/// Makes the command `lsp`.
+fn lsp<'a>(alloc: Global) -> Result<Command<'a>, AllocError> {
+    let command = Command::new(alloc, "lsp")
+        .about("Serves an editor over standard input and output, by the Language Server Protocol")
+        .after_help(
+            "Example: filterset lsp --cargo-metadata metadata.json --nextest-list list.json",
+        );
+    let command = with_argument(command, metadata(alloc).requires_arg("list"))?;
+    with_argument(command, nextest_list(alloc).requires_arg("metadata"))
+}
+
+/// Makes the command `completions`.
+fn completions<'a>(alloc: Global) -> Result<Command<'a>, AllocError> {
+    let shell = required_text(alloc, "shell", "SHELL", "the shell");
+    Command::new(alloc, "completions")
+        .about("Writes the script by which a shell completes command lines of this program")
+        .after_help("Example: filterset completions bash")
+        .arg(shell.value_parser(SHELLS.as_slice()))
+}
+
+/// Adds an argument, if it could be made.
+fn with_argument<'a>(
+    command: Command<'a>,
+    argument: Result<Arg<'a>, AllocError>,
+) -> Result<Command<'a>, AllocError> {
+    command.arg(argument?)
+}
+
+/// Adds a command below a command, if it could be made.
+fn with_command<'a>(
+    command: Command<'a>,
+    below: Result<Command<'a>, AllocError>,
+) -> Result<Command<'a>, AllocError> {
+    command.subcommand(below?)
+}
+
+/// Makes the program's command.
+///
+/// Only `with_argument` and `with_command` hold a command across a `?` on another value, once each: the proof of each such
+/// exit drops the command, and commands have many parts.
+pub fn arguments<'a>(alloc: Global) -> Result<Command<'a>, AllocError> {
+    let command = Command::new(alloc, "filterset")
+        .version(VERSION)
+        .about("Checks the filtersets of cargo-nextest, and shows which tests they pick and why")
+        .after_help("Example: filterset check --config .config/nextest.toml")
+        .subcommand_required(true);
+    let command = with_command(command, check(alloc))?;
+    let command = with_command(command, format(alloc))?;
+    let command = with_command(command, simplify(alloc))?;
+    let command = with_command(command, list(alloc))?;
+    let command = with_command(command, compare(alloc))?;
+    let command = with_command(command, explain(alloc))?;
+    let command = with_command(command, overrides(alloc))?;
+    let command = with_command(command, same(alloc))?;
+    let command = with_command(command, cover(alloc))?;
+    let command = with_command(command, disjoint(alloc))?;
+    let command = with_command(command, partition(alloc))?;
+    let command = with_command(command, lsp(alloc))?;
+    with_command(command, completions(alloc))
+}
+
+/// Returns the script by which a shell completes command lines of the program.
+pub fn completions_for(alloc: Global, shell: Shell) -> Result<String, AllocError>
+    ensures { IfOk result (λ script. (command : ClapCommand) × (string_bytes script ≡ script_of shell command)) }
+{
+    let command = arguments(alloc)?;
+    completion_script(alloc, shell, &command)
+}

@@ -1,0 +1,13 @@
+//! The commands of the program for people and their arguments, as `clap` takes them, and the scripts by which a shell
+//! completes its command lines.
+#![tactic(auto)]
+
+mod commands;
+mod engines;
+mod quoting;
+mod script;
+mod shell;
+mod table;
+
+pub use commands::{arguments, completions_for};
+pub use shell::Shell;

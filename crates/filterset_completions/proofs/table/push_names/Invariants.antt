@@ -1,8 +1,0 @@
-use Rattle.std.proofs.Common.{◌≡◌, ◌++◌, codes, string_bytes, take}
-use Rattle.std.specs.List.{flat_map}
-use Rattle.filterset_completions.proofs.table.push_names.Given as goal
-
--- the names so far were written
-abbrev pub invariant-loop-name : goal.invariant-loop-name
-invariant-loop-name l =
-    string_bytes l.output ≡ string_bytes l.initial.output ++ flat_map (λ n. n.now ++ codes " ") (take l.name-index l.names)

@@ -1,4 +1,0 @@
-pub mod Faults
-pub mod Marks
-pub mod Runs
-pub mod Pieces

@@ -1,6 +1,0 @@
-pub mod TreeLemmas
-pub mod TextLemmas
-pub mod JsonLemmas
-pub mod GroupLemmas
-pub mod AnswerLemmas
-pub mod ReasonLemmas
