@@ -44,7 +44,7 @@ try_programs() {
     mkdir "$room/programs"
     ln -s "$prefix/bin/filterset" "$room/programs/filterset_command"
     ln -s "$prefix/bin/filterset-record" "$room/programs/filterset_cli"
-    holds "transcripts" scripts/transcripts.py --programs "$room/programs" examples/transcripts/{options,records}.md
+    holds "transcripts" scripts/examples.py --programs "$room/programs" examples/transcripts/{options,records}.md
 }
 
 # Prints the pages of manual that there must be.
@@ -75,7 +75,7 @@ try_pages() {
 }
 
 try_completions() {
-    scripts/completions.py --from "$prefix" > "$room/pressed" 2>&1 || fail completions "$(tail -n 5 "$room/pressed")"
+    scripts/completions.py "$prefix" > "$room/pressed" 2>&1 || fail completions "$(tail -n 5 "$room/pressed")"
     [[ $(tail -n 1 "$room/pressed") =~ ^([0-9]+)\ passed ]] && passed=$((passed + BASH_REMATCH[1]))
     while IFS= read -r line; do skip "${line%: skipped}"; done < <(grep ': skipped$' "$room/pressed")
 }

@@ -4,10 +4,10 @@
 # twice, so that starting, and reading the packages and binaries, count for nothing. The rows of memory are the program's
 # peak, in MB, for a record of 2,000 packages and 100,000 tests. It is not part of the gate.
 #
-#     bash scripts/instructions.sh            # every row
-#     bash scripts/instructions.sh tests      # the rows whose names begin so
+#     bash bench/instructions.sh            # every row
+#     bash bench/instructions.sh tests      # the rows whose names begin so
 set -uo pipefail
-source "$(dirname "${BASH_SOURCE[0]}")/lib.sh"
+source "$(dirname "${BASH_SOURCE[0]}")/../scripts/lib.sh"
 need "$program"
 
 # The names of the rows, with how many filtersets the smaller record has.
