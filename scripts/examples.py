@@ -3,10 +3,11 @@
 
     scripts/examples.py [--programs FOLDER] [PAGE..]
 
-`rt ci` builds the programs; or they are FOLDER/filterset_command and FOLDER/filterset_cli. examples/README.md says how
-examples are written. Without a page it runs README.md, docs/, examples/transcripts/ and examples/sessions/. Then
-options.md must have each option that `--help` of the program for people or of one of its commands lists, with each
-value, and the example of each help. The last line is 'N passed, M failed', by commands, runs of sessions, and options.
+`rt ci` builds the programs; or they are FOLDER/filterset_command and FOLDER/filterset_cli, with the built conformance.
+examples/README.md says how examples are written. Without a page it runs README.md, docs/, examples/transcripts/ and
+examples/sessions/. Then options.md must have each option that `--help` of the program for people or of one of its
+commands lists, with each value, and the example of each help. The last line is 'N passed, M failed', by commands, runs
+of sessions, and options.
 """
 
 import fcntl
@@ -29,6 +30,7 @@ from repository import TOP, report, tracked
 PAGES = ("README.md", "docs/*.md", "examples/*/*.md")
 OPTIONS = "examples/transcripts/options.md"
 PROGRAMS = ("filterset_command", "filterset_cli")
+SUITE = TOP / "crates/conformance/out/conformance"
 DATA = "crates/filterset_command/data"
 WAYS = {"message by message": 1 << 30, "byte by byte": 1}
 
@@ -93,6 +95,7 @@ def run_commands(page, programs):
         for folder in ("examples", DATA):
             shutil.copytree(TOP / folder, where / folder)
         (where / "filterset").symlink_to(tools / "filterset")
+        (tools / "conformance").symlink_to(SUITE)
         (tools / "filterset").write_text(FILTERSET.format(**programs))
         (tools / "filterset").chmod(0o755)
         script = ["set -o pipefail"]
@@ -256,7 +259,7 @@ def results(programs, pages):
 def main(words):
     folder = Path(words[1]).resolve() if words[:1] == ["--programs"] else None
     programs = {name: (folder or TOP / "crates" / name / "out") / name for name in PROGRAMS}
-    if missing := [program for program in programs.values() if not program.is_file()]:
+    if missing := [program for program in (SUITE, *programs.values())[bool(folder):] if not program.is_file()]:
         return report("examples", [(missing[0], "there is no such file: run rt ci first")])
     return report("examples", results(programs, words[2:] if folder else words))
 

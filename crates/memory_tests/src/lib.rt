@@ -20,8 +20,6 @@ mod runs;
 #[cfg(test)]
 mod sizes;
 #[cfg(test)]
-mod suite;
-#[cfg(test)]
 mod support;
 #[cfg(test)]
 mod trees;
