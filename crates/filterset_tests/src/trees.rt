@@ -151,73 +151,24 @@ fn make_tree(alloc: Global, words: &str) -> Result<Option<Box<ParsedExpr>>, Allo
     Ok(trees.pop())
 }
 
-/// Trees, what each prints, and what it prints with the parentheses that it needs.
-static TREES: [(&str, &str, &str); 16] = [
-    ("all ! not", "not ! all()", "not ! all()"),
-    (
-        "all none or not",
-        "not all() or none()",
-        "not (all() or none())",
-    ),
-    ("all none & !", "! all() & none()", "! (all() & none())"),
-    (
-        "all none - () not",
-        "not (all() - none())",
-        "not (all() - none())",
-    ),
-    (
-        "all none ^ all and",
-        "all() ^ none() and all()",
-        "all() ^ none() and all()",
-    ),
-    (
-        "all none all - -",
-        "all() - none() - all()",
-        "all() - (none() - all())",
-    ),
-    (
-        "all none all and ^",
-        "all() ^ none() and all()",
-        "all() ^ (none() and all())",
-    ),
-    (
-        "all none + all &",
-        "all() + none() & all()",
-        "(all() + none()) & all()",
-    ),
-    (
-        "all none all | -",
-        "all() - none() | all()",
-        "all() - (none() | all())",
-    ),
-    (
-        "all none or all |",
-        "all() or none() | all()",
-        "all() or none() | all()",
-    ),
-    (
-        "all none all | +",
-        "all() + none() | all()",
-        "all() + (none() | all())",
-    ),
-    (
-        "all none all ^ or",
-        "all() or none() ^ all()",
-        "all() or none() ^ all()",
-    ),
-    (
-        "all none & all or",
-        "all() & none() or all()",
-        "all() & none() or all()",
-    ),
-    ("all not none -", "not all() - none()", "not all() - none()"),
-    ("all () ()", "((all()))", "((all()))"),
-    (
-        "all none or not none all | all - ^ !",
-        "! not all() or none() ^ none() | all() - all()",
-        "! (not (all() or none()) ^ ((none() | all()) - all()))",
-    ),
-];
+/// Trees, what each prints, and if it needs parentheses, what it prints with them.
+const TREES: &str = "all ! not -> not ! all()
+all none or not -> not all() or none() -> not (all() or none())
+all none & ! -> ! all() & none() -> ! (all() & none())
+all none - () not -> not (all() - none())
+all none ^ all and -> all() ^ none() and all()
+all none all - - -> all() - none() - all() -> all() - (none() - all())
+all none all and ^ -> all() ^ none() and all() -> all() ^ (none() and all())
+all none + all & -> all() + none() & all() -> (all() + none()) & all()
+all none all | - -> all() - none() | all() -> all() - (none() | all())
+all none or all | -> all() or none() | all()
+all none all | + -> all() + none() | all() -> all() + (none() | all())
+all none all ^ or -> all() or none() ^ all()
+all none & all or -> all() & none() or all()
+all not none - -> not all() - none()
+all () () -> ((all()))
+all none or not none all | all - ^ ! -> ! not all() or none() ^ none() | all() - all() -> \
+! (not (all() or none()) ^ ((none() | all()) - all()))";
 
 /// Returns whether the tree prints so, with and without the parentheses that it needs, and is well formed if it needs none.
 fn is_right_tree(
@@ -235,12 +186,16 @@ fn is_right_tree(
 
 #[test]
 fn trees_are_well_formed_if_they_need_no_parentheses(rt: HostRuntime) -> Result<(), Fail> {
-    for (words, print, with_parens) in &TREES {
+    for line in TREES.lines() {
+        let mut parts = line.split(" -> ");
+        let words = parts.next().unwrap_or(line);
+        let print = parts.next().unwrap_or(line);
+        let with_parens = parts.next().unwrap_or(print);
         let is_right = match make_tree(rt.alloc(), words)? {
             Some(tree) => is_right_tree(rt.alloc(), &tree, print, with_parens)?,
             None => false,
         };
-        assert!(rt; is_right, "{words}");
+        assert!(rt; is_right, "{line}");
     }
     Ok(())
 }
