@@ -1,211 +1,196 @@
-//! An example of a caller: reads filtersets, asks each about some tests, underlines the faults of those that are refused,
-//! and formats texts; then does what a test runner does. `docs/CALLING.md` walks through it.
+//! An example of a test runner: parses filtersets, draws their faults, and plans which tests are run. `docs/CALLING.md`
+//! explains it.
 #![tactic(auto)]
 
-ghost use Rattle.std.specs.Prelude.{All, string_bytes};
-ghost use Rattle.calling.specs.Selecting.{CanBeUnderlined};
-ghost use Rattle.calling.specs.Underlining.{LiesWithin};
+ghost use Rattle.std.specs.Prelude.{◌≡◌, ◌≢◌, false, IfOk, IfNone, IfSome, List};
+ghost use Rattle.filterset_expression.specs.Expression.{has_leaf, is_default, is_group};
+ghost use Rattle.filterset_expression.specs.FlatExpressions.{IsFlatOfTree};
+ghost use Rattle.filterset_expression.specs.Meaning.{Meaning};
+ghost use Rattle.filterset_expression.specs.declared.expression.CompiledExpr.{CompiledExpr};
+ghost use Rattle.filterset_expression.specs.declared.query.TestQuery.{TestQuery};
+ghost use Rattle.filterset_faults.specs.declared.kind.FiltersetKind.TheVariants as kinds;
+ghost use Rattle.filterset_faults.specs.declared.span.SourceSpan.{SourceSpan};
+ghost use Rattle.filterset_grammar.specs.Tree.{Tree};
+ghost use Rattle.filterset_graph.specs.declared.package.PackageMetadata.{PackageMetadata};
+ghost use Rattle.nextest_filtering.specs.Groups.{IsKnown};
 
-mod formatting;
-mod runner;
-mod selecting;
-mod underlining;
+mod faults;
+mod groups;
+mod workspace;
 
-use formatting::{format_text, print_alike, print_with_parens, read_back};
+use faults::print_faults;
+use groups::Groups;
 use nextest_filtering::{
-    BinaryQuery, BuildPlatform, CompiledExpr, EvalContext, FiltersetParseErrors, NotOperator,
-    OrOperator, PackageGraph, PackageId, ParseContext, ParsedExpr, ParsedLeaf, RustBinaryId,
-    RustTestBinaryKind, TestCaseName, TestQuery,
+    BinaryQuery, EvalContext, Filterset, FiltersetKind, FlatExpr, GraphRefusal, GroupLookup,
+    KnownGroups, NotOperator, PackageGraph, ParseContext, ParsedExpr, TestCaseName, TestQuery,
+    laws,
 };
-use selecting::{Selection, select};
 use std::alloc::{AllocError, Global};
 use std::io;
-use underlining::underline;
+use workspace::{TestBinary, graph, test_binaries};
 
-/// The filtersets that are asked. The third needs groups, and those after it are refused.
-static FILTERSETS: [&str; 7] = [
-    "test(parse) and not test(slow) or test(=net::get)",
-    "test(#parse::*) - test(/_list$/)",
-    "group(=@global) and kind(lib)",
-    "test(a,b)",
-    "NOT all()",
-    "test(=é) none()",
-    "test(get) or package(core)",
+/// The default filter.
+const DEFAULT_FILTER: &str = "not test(slow)";
+
+/// The group of some tests, and the filterset that picks them.
+const GROUP: &str = "network";
+
+const GROUP_FILTER: &str = "package(net) and test(/^live_/)";
+
+/// A test of `net`, which is asked about alone.
+const TEST: &str = "live_slow_get";
+
+/// The filtersets of the example. The first three have faults.
+static FILTERSETS: [&str; 6] = [
+    "NOT test(slow)",
+    "test(=é) test(get)",
+    "package(txet) or group(=disk)",
+    "default()",
+    "rdeps(text) - package(text)",
+    "group(=network) or test(=parse::slow_sum)",
 ];
 
-/// The texts that are formatted. The last has a fault.
-static UNFORMATTED: [&str; 4] = [" all ( ) ", "not!all()", "not  test  ( foo)", "and"];
-
-/// Prints a filterset and its answer for each test.
-fn print_answers(
-    rt: &impl Print,
-    filterset: &str,
-    tests: &[TestQuery<'_>],
-    answers: &[bool],
-) -> io::Result<()> {
-    println!(rt; "{filterset}")?;
-    for (test, holds) in tests.iter().zip(answers) {
-        let name = test.test_name.as_str();
-        let answer = if *holds { "yes" } else { "no" };
-        println!(rt; "  {name}: {answer}")?;
-    }
-    Ok(())
-}
-
-/// Prints each fault: the underlined text, the label and the help.
-fn print_faults(rt: &impl Print, alloc: Global, refused: &FiltersetParseErrors) -> io::Result<()>
-    requires { All (LiesWithin (string_bytes refused.now.input)) refused.now.errors.items }
-{
-    for fault in &refused.errors {
-        if let Some(span) = fault.span() {
-            let lines = underline(alloc, refused.input.as_str(), span)?;
-            print!(rt; "{lines} ")?;
-        }
-        if let Some(label) = fault.label() {
-            println!(rt; "{label}")?;
-        }
-        if let Some(help) = fault.help() {
-            println!(rt; "help: {help}")?;
-        }
-    }
-    Ok(())
-}
-
-/// Prints the answers of a filterset, or why there are none.
-fn print_selection(
+/// Parses a filterset. If it has faults, prints them and returns `None`.
+fn parse(
     rt: &impl Print,
     alloc: Global,
-    filterset: &str,
-    tests: &[TestQuery<'_>],
-    selection: &Selection,
-) -> io::Result<()>
-    requires { CanBeUnderlined selection.now }
-{
-    match selection {
-        Selection::Answers(answers) => print_answers(rt, filterset, tests, answers.as_slice()),
-        Selection::NeedsGroups(_) => { println!(rt; "{filterset}\n  needs the groups of tests") }
-        Selection::Refused(refused) => print_faults(rt, alloc, refused),
-    }
-}
-
-/// Reads a filterset and prints its answers.
-fn answer(
-    rt: &impl Print,
-    alloc: Global,
-    filterset: &str,
+    text: &str,
     parse_context: &ParseContext<'_>,
-    eval_context: &EvalContext<'_>,
-    tests: &[TestQuery<'_>],
-) -> io::Result<()> {
-    let text = String::from_str(alloc, filterset)?;
-    let selection = select(alloc, text, parse_context, eval_context, tests)?;
-    print_selection(rt, alloc, filterset, tests, &selection)
-}
-
-/// Makes the contexts and prints the answers of each filterset.
-fn answer_all(rt: &impl Print, alloc: Global, tests: &[TestQuery<'_>]) -> io::Result<()> {
-    let graph = PackageGraph::empty(alloc);
-    let parse_context = ParseContext::new(alloc, &graph)?;
-    let default_filter = CompiledExpr::ALL;
-    let eval_context = EvalContext::new(&default_filter);
-    for filterset in &FILTERSETS {
-        answer(rt, alloc, filterset, &parse_context, &eval_context, tests)?;
+    kind: FiltersetKind,
+    known_groups: &KnownGroups,
+) -> io::Result<Option<Filterset>>
+    requires { kind ≡ kinds.Test → IsKnown known_groups.now }
+    ensures no_default { kind ≡ kinds.DefaultFilter →
+        IfOk result (λ found. IfSome found (λ made. has_leaf is_default made.compiled ≡ false)) }
+    ensures no_group { kind ≢ kinds.Test →
+        IfOk result (λ found. IfSome found (λ made. has_leaf is_group made.compiled ≡ false)) }
+{
+    let text = String::from_str(alloc, text)?;
+    match Filterset::parse(alloc, text, parse_context, kind, known_groups) {
+        Ok(filterset) => Ok(Some(filterset)),
+        Err(refusal) => {
+            print_faults(rt, alloc, &refusal.into_faults()?)?;
+            Ok(None)
+        }
     }
-    Ok(())
 }
 
-/// Prints each text and what it is formatted to.
-fn print_formatted(rt: &impl Print, alloc: Global) -> io::Result<()> {
-    for text in &UNFORMATTED {
-        match format_text(alloc, text)? {
-            Some(formatted) => println!(rt; "`{text}` is formatted `{formatted}`")?,
-            None => println!(rt; "`{text}` has faults")?,
+/// Prints whether the filterset picks the test.
+fn print_answer(
+    rt: &impl Print,
+    alloc: Global,
+    filterset: &Filterset,
+    groups: &Groups<'_>,
+    test: &TestQuery<'_>,
+) -> io::Result<()> {
+    let is_picked = filterset.matches_test_with_groups(alloc, test, &groups.eval_context, groups)?;
+    let answer = if is_picked { "yes" } else { "no" };
+    println!(rt; "  {}: {answer}", test.test_name.as_str())
+}
+
+/// Returns those tests of a binary that the filterset picks, or `None` if the binary need not be started: the filterset
+/// picks none of its tests, whatever their names and groups are.
+fn plan<'t>(
+    alloc: Global,
+    flat: &FlatExpr<'_>,
+    groups: &dyn GroupLookup,
+    binary: &BinaryQuery<'_>,
+    tests: &'t [TestCaseName],
+) -> Result<Option<Vec<&'t TestCaseName>>, AllocError>
+    ensures { IfOk result (λ plan. (packages : List PackageMetadata) (e : Tree SourceSpan) (default : CompiledExpr)
+        (test : TestQuery) → IsFlatOfTree flat.now packages e default → test.binary_query ≡ binary.now
+        → IfNone plan (¬ Meaning e packages test default (matches_group groups.now))) }
+{
+    laws::skipping_loses_no_test(groups);
+    let told = flat.matches_binary(alloc, binary)?;
+    if told == Some(false) {
+        return Ok(None);
+    }
+    let mut picked = Vec::new(alloc);
+    for test_name in tests {
+        let test = TestQuery {
+            binary_query: *binary,
+            test_name,
+        };
+        if flat.matches_test_of_told(alloc, told, &test, groups)? {
+            picked.push(test_name)?;
+        }
+    }
+    Ok(Some(picked))
+}
+
+/// Prints which tests of each binary are run.
+fn print_plan(
+    rt: &impl Print,
+    alloc: Global,
+    filterset: &Filterset,
+    groups: &Groups<'_>,
+    binaries: &[TestBinary],
+) -> io::Result<()> {
+    let flat = FlatExpr::new(alloc, &filterset.compiled, &groups.eval_context)?;
+    for binary in binaries {
+        let query = binary.query();
+        let id = query.binary_id.as_str();
+        match plan(alloc, &flat, groups, &query, &binary.tests)? {
+            None => println!(rt; "  {id}: not started")?,
+            Some(picked) => {
+                println!(rt; "  {id}:")?;
+                for name in &picked {
+                    println!(rt; "    {}", name.as_str())?;
+                }
+            }
         }
     }
     Ok(())
 }
 
-/// Returns whether what the tree prints reads back to it.
-fn reads_back(alloc: Global, made: &ParsedExpr<()>) -> Result<bool, AllocError> {
-    let parsed = read_back(alloc, made)?;
-    match &parsed.tree {
-        Some(tree) => print_alike(alloc, made, tree),
-        None => Ok(false),
-    }
+/// Prints the filterset of all tests that the filterset does not pick.
+fn print_others(rt: &impl Print, alloc: Global, filterset: &Filterset) -> io::Result<()> {
+    let tree = Box::new(alloc, filterset.parsed.try_clone(alloc)?)?;
+    let others = ParsedExpr::Not(NotOperator::LiteralNot, tree).with_parens(alloc)?;
+    println!(rt; "  others: {others}")
 }
 
-/// Prints a tree that is made without spans, and whether what it prints reads back to it.
-fn print_made(rt: &impl Print, alloc: Global) -> io::Result<()> {
-    let made: ParsedExpr<()> = ParsedExpr::Set(ParsedLeaf::Default(()));
-    let is_back = reads_back(alloc, &made)?;
-    let answer = if is_back { "reads back" } else { "is lost" };
-    println!(rt; "`{made}` {answer}")
-}
-
-/// Makes the negation of a union, without spans and parentheses.
-fn make_negation(alloc: Global) -> Result<ParsedExpr<()>, AllocError> {
-    let default = Box::new(alloc, ParsedExpr::Set(ParsedLeaf::Default(())))?;
-    let none = Box::new(alloc, ParsedExpr::Set(ParsedLeaf::None))?;
-    let union = ParsedExpr::Union(OrOperator::LiteralOr, default, none);
-    Ok(ParsedExpr::Not(NotOperator::LiteralNot, Box::new(alloc, union)?))
-}
-
-/// Prints a tree that is made without parentheses, and the text that spells it with them.
-fn print_negation(rt: &impl Print, alloc: Global) -> io::Result<()> {
-    let made = make_negation(alloc)?;
-    match print_with_parens(alloc, &made)? {
-        Some(text) => println!(rt; "`{made}` is written `{text}`"),
-        None => println!(rt; "`{made}` has no text"),
-    }
-}
-
-/// Makes the names of the tests.
-fn test_names(alloc: Global) -> Result<[TestCaseName; 3], AllocError> {
-    Ok([
-        TestCaseName::new(alloc, "parse::reads_a_list")?,
-        TestCaseName::new(alloc, "parse::slow_sum")?,
-        TestCaseName::new(alloc, "net::get")?,
-    ])
-}
-
-/// Makes the questions about the tests of a binary that have these names.
-fn tests_of<'a>(binary_query: BinaryQuery<'a>, names: &'a [TestCaseName; 3]) -> [TestQuery<'a>; 3] {
-    [
-        TestQuery {
-            binary_query,
-            test_name: &names[0],
-        },
-        TestQuery {
-            binary_query,
-            test_name: &names[1],
-        },
-        TestQuery {
-            binary_query,
-            test_name: &names[2],
-        },
-    ]
-}
-
-/// Makes the tests and prints the answers about them.
-fn answer_about_tests(rt: &impl Print, alloc: Global) -> io::Result<()> {
-    let package_id = PackageId::new(String::from_str(alloc, "text 0.1.0")?);
-    let binary_id = RustBinaryId::new(alloc, "text")?;
-    let binary_query = BinaryQuery {
-        package_id: &package_id,
-        binary_id: &binary_id,
-        binary_name: "text",
-        kind: &RustTestBinaryKind::LIB,
-        platform: BuildPlatform::Target,
+/// Reads the settings, and prints the answers of each filterset.
+fn run(rt: &impl Print, alloc: Global, graph: &PackageGraph) -> io::Result<()> {
+    let parse_context = ParseContext::new(alloc, graph)?;
+    let unknown = KnownGroups::Unavailable;
+    let kind = FiltersetKind::DefaultFilter;
+    let default_filter = parse(rt, alloc, DEFAULT_FILTER, &parse_context, kind, &unknown)?.ok_or(
+        io::ErrorKind::InvalidInput,
+    )?;
+    let kind = FiltersetKind::OverrideFilter;
+    let group_filter = parse(rt, alloc, GROUP_FILTER, &parse_context, kind, &unknown)?.ok_or(
+        io::ErrorKind::InvalidInput,
+    )?;
+    let groups = Groups {
+        filterset: &group_filter,
+        group: GROUP,
+        eval_context: EvalContext::new(&default_filter.compiled),
     };
-    let names = test_names(alloc)?;
-    answer_all(rt, alloc, &tests_of(binary_query, &names))
+    let known_groups = KnownGroups::of(alloc, vec![in alloc; String::from_str(alloc, GROUP)?]?)?;
+    let binaries = test_binaries(alloc)?;
+    let test = TestQuery {
+        binary_query: binaries[1].query(),
+        test_name: &TestCaseName::new(alloc, TEST)?,
+    };
+    for text in &FILTERSETS {
+        println!(rt; "{text}")?;
+        let kind = FiltersetKind::Test;
+        if let Some(filterset) = parse(rt, alloc, text, &parse_context, kind, &known_groups)? {
+            print_answer(rt, alloc, &filterset, &groups, &test)?;
+            print_plan(rt, alloc, &filterset, &groups, &binaries)?;
+            print_others(rt, alloc, &filterset)?;
+        }
+    }
+    Ok(())
 }
 
 fn main(rt: HostRuntime) -> io::Result<()> {
     let alloc = rt.alloc();
-    answer_about_tests(&rt, alloc)?;
-    print_formatted(&rt, alloc)?;
-    print_made(&rt, alloc)?;
-    print_negation(&rt, alloc)?;
-    runner::run(&rt, alloc)
+    match graph(alloc) {
+        Ok(graph) => run(&rt, alloc, &graph),
+        Err(GraphRefusal::OutOfMemory(error)) => Err(io::Error::from(error)),
+        Err(_) => Err(io::Error::from(io::ErrorKind::InvalidInput)),
+    }
 }

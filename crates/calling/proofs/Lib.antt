@@ -1,3 +1,0 @@
-pub mod AnswersOfTests
-pub mod ComingBack
-pub mod FirstOverride
