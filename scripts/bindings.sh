@@ -2,7 +2,7 @@
 # Tests the library for C that scripts/library.sh built in out/lib/, and the callers in bindings/:
 # - the header compiles as C and as C++, and declares just the functions that the library exports;
 # - the example in C writes what it should, also under valgrind, and with each request for memory refused in turn;
-# - copies of a filterset are asked on several threads at once, and valgrind finds no race, but finds one where handles share;
+# - filtersets of one workspace are asked on several threads at once, and valgrind finds no race;
 # - wrong arguments get the statuses that the header says, in their order (bindings/c/wrong.c);
 # - the callers in C, Python and Rust give the answers of bindings/cases.json.
 # What is not built, or what the machine lacks, is skipped, and counted as skipped. The last line is 'N passed, M failed'.
@@ -99,17 +99,13 @@ in_c() {
     try "the example with refused memory" example_refused
 }
 
-# Returns whether valgrind finds races where handles share a default filter.
-finds_races() { ! valgrind -q --tool=helgrind --error-exitcode=99 "$room/threads" shared > "$room/wrote" 2> "$room/errors" && grep -q 'data race' "$room/errors"; }
-
 on_threads() {
     try "threads in C" "$compiler" -std=c99 -O2 -Wall -Wextra -Wpedantic -Werror -Ibindings/c bindings/c/threads.c \
         "$lib/libfilterset.a" -pthread -o "$room/threads"
-    try "copies on threads" "$room/threads" copies
+    try "filtersets on threads" "$room/threads"
     if ! has valgrind; then skip "races" "there is no valgrind"; return; fi
-    try "copies on threads under helgrind" valgrind -q --tool=helgrind --error-exitcode=99 "$room/threads" copies
-    try "copies on threads under memcheck" valgrind -q --error-exitcode=99 --leak-check=full --errors-for-leak-kinds=all "$room/threads" copies
-    try "races of handles that share" finds_races
+    try "filtersets on threads under helgrind" valgrind -q --tool=helgrind --error-exitcode=99 "$room/threads"
+    try "filtersets on threads under memcheck" valgrind -q --error-exitcode=99 --leak-check=full --errors-for-leak-kinds=all "$room/threads"
 }
 
 with_wrong_arguments() {

@@ -9,7 +9,7 @@
  * the handle held. Free each handle at the end with filterset_workspace_free or filterset_free, which empty it; an empty
  * handle may be freed again. Never copy a handle and use both, change its word, or pass one handle twice to one call.
  *
- * Handles do not refer to each other: a workspace may be freed before the filtersets that were parsed with it.
+ * No two handles share anything: a workspace may be freed before the filtersets that were parsed with it.
  *
  * Errors. Most calls return a filterset_status. If it is not FILTERSET_OK, the call changed nothing, except that
  * FILTERSET_REJECTED may store faults in a handle, as the call says. If several arguments are wrong, the status is that of
@@ -18,11 +18,8 @@
  * (FILTERSET_NOT_UTF8). Other failures come only if all arguments are well.
  *
  * Threads. One handle is for one thread at a time, also if the calls only ask, and may move to another thread between calls.
- * Two threads may use two handles at the same time, or free them, if the handles share nothing. Handles share nothing but a
- * default filter, without locks: a workspace for which one was set (filterset_workspace_set_default_filter), and the
- * filtersets that were parsed with it after that. So without a default filter any two handles may be used at the same time.
- * With one, give each thread a copy that filterset_try_clone makes: a copy shares nothing with any other handle. While a
- * filterset is copied, no other thread may use it, or what it shares with.
+ * Any two handles may be used, or freed, by two threads at the same time. So parse a filterset once for each thread that asks
+ * about tests.
  *
  * Stack. Parsing, printing and freeing take up stack for each level of parentheses and negations. A workspace limits the
  * levels of a text: to FILTERSET_DEPTH_LIMIT, unless filterset_workspace_set_depth says otherwise.
@@ -54,8 +51,7 @@ enum {
     FILTERSET_WRONG_HANDLE = 2,     /* the handle is empty, or does not hold what the call takes */
     FILTERSET_NOT_UTF8 = 3,         /* a text is not UTF-8 */
     FILTERSET_REJECTED = 4,         /* the text has faults, or the bytes describe no workspace */
-    FILTERSET_INVALID_ARGUMENT = 5, /* a number has no meaning, lengths differ, or a pointer is null */
-    FILTERSET_TOO_LARGE = 6         /* a pattern was found too large when it was compiled again, for a copy */
+    FILTERSET_INVALID_ARGUMENT = 5  /* a number has no meaning, lengths differ, or a pointer is null */
 };
 
 /* The limit of levels of a new workspace, which fits a thread with a stack of 1 MiB. One with 256 KiB bears 64 levels. */
@@ -142,8 +138,9 @@ filterset_status filterset_workspace_set_groups(filterset_workspace *workspace, 
  * negation that passes it. In a text that is no filterset, each `(`, `!` and `not` counts from some place on. */
 filterset_status filterset_workspace_set_depth(filterset_workspace *workspace, size_t levels);
 
-/* Parses a default filter, and sets it. It replaces `default()` in filtersets that are parsed from then on; those that were
- * parsed before keep the one that they have. FILTERSET_REJECTED stores the faults of the text in `faults`. */
+/* Parses a default filter, and sets it. It replaces `default()` in filtersets that are parsed from then on, and is parsed
+ * again with each of them; those that were parsed before keep the one that they have. FILTERSET_REJECTED stores the faults of
+ * the text in `faults`. */
 filterset_status filterset_workspace_set_default_filter(filterset_workspace *workspace, const uint8_t *text,
                                                         size_t length, filterset *faults);
 
@@ -177,13 +174,6 @@ filterset_status filterset_needs_groups(filterset *parsed, uint8_t *answer);
 /* Writes the filterset as text, as far as there is room, and the length of the whole text. The text parses to the same
  * filterset. */
 filterset_status filterset_print(filterset *parsed, uint8_t *room, size_t size, size_t *length);
-
-/* Copies a filterset, and stores the copy in `copy`. The copy answers each call as the filterset does, and shares nothing
- * with it or with any other handle. Globs are parsed and regular expressions compiled again, so a copy costs about as much as
- * a parse. FILTERSET_TOO_LARGE if a regular expression is found too large that was not when the filterset was parsed; never
- * for one that has at most 1024 bytes and 64 backslashes and no `{`, nor for a plain one, whose characters all stand for
- * themselves. */
-filterset_status filterset_try_clone(filterset *parsed, filterset *copy);
 
 /* Frees what the handle holds, and empties it. */
 void filterset_free(filterset *parsed);
@@ -303,11 +293,6 @@ static inline filterset_status filterset_checked_print(filterset *parsed, uint8_
     return filterset_print(parsed, room, size, length);
 }
 
-static inline filterset_status filterset_checked_try_clone(filterset *parsed, filterset *copy) {
-    if (!parsed || !copy || parsed == copy) return FILTERSET_INVALID_ARGUMENT;
-    return filterset_try_clone(parsed, copy);
-}
-
 static inline void filterset_checked_free(filterset *parsed) {
     if (parsed) filterset_free(parsed);
 }
@@ -339,7 +324,6 @@ static inline filterset_status filterset_checked_fault_text(filterset *faults, s
 #define filterset_matches_tests(...) filterset_checked_matches_tests(__VA_ARGS__)
 #define filterset_needs_groups(...) filterset_checked_needs_groups(__VA_ARGS__)
 #define filterset_print(...) filterset_checked_print(__VA_ARGS__)
-#define filterset_try_clone(...) filterset_checked_try_clone(__VA_ARGS__)
 #define filterset_free(...) filterset_checked_free(__VA_ARGS__)
 #define filterset_fault_count(...) filterset_checked_fault_count(__VA_ARGS__)
 #define filterset_fault_span(...) filterset_checked_fault_span(__VA_ARGS__)

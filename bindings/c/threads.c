@@ -1,5 +1,4 @@
-/* Asks copies of one filterset on several threads at the same time: `threads copies`. With `threads shared` the threads use
- * filtersets that share a default filter, which no caller may do: a tool that finds races must find one there. */
+/* Asks filtersets of one workspace, which has a default filter, on several threads at the same time. */
 #include "filterset.h"
 #include <pthread.h>
 #include <stdio.h>
@@ -21,13 +20,12 @@ typedef struct worker {
     int failed;
 } worker;
 
-/* Asks one filterset in all ways, copies it once more, and frees both. */
+/* Asks one filterset in all ways, and frees it. */
 static void *work(void *given) {
     worker *own = (worker *)given;
     const filterset_binary binary = {filterset_text_of("p"), filterset_text_of("p"), filterset_text_of("p"),
                                      filterset_text_of("lib"), FILTERSET_PLATFORM_TARGET};
     filterset_test tests[4];
-    filterset copy = {0};
     int round, i;
     for (i = 0; i < 4; i++) {
         tests[i].name = filterset_text_of(names[i]);
@@ -35,14 +33,11 @@ static void *work(void *given) {
     }
     for (round = 0; round < ROUNDS; round++) {
         uint8_t answers[4], answer;
-        filterset *asked = round % 2 && copy.held ? &copy : &own->parsed;
-        if (filterset_matches_tests(asked, &binary, tests, 4, answers, 4) || memcmp(answers, wanted, 4)) own->failed = 1;
+        if (filterset_matches_tests(&own->parsed, &binary, tests, 4, answers, 4) || memcmp(answers, wanted, 4)) own->failed = 1;
         for (i = 0; i < 4; i++)
-            if (filterset_matches_test(asked, &binary, &tests[i], &answer) || answer != wanted[i]) own->failed = 1;
-        if (filterset_matches_binary(asked, &binary, &answer) || answer != FILTERSET_UNKNOWN) own->failed = 1;
-        if (filterset_try_clone(&own->parsed, &copy)) own->failed = 1;
+            if (filterset_matches_test(&own->parsed, &binary, &tests[i], &answer) || answer != wanted[i]) own->failed = 1;
+        if (filterset_matches_binary(&own->parsed, &binary, &answer) || answer != FILTERSET_UNKNOWN) own->failed = 1;
     }
-    filterset_free(&copy);
     filterset_free(&own->parsed);
     return NULL;
 }
@@ -51,8 +46,8 @@ static filterset_status parse(filterset_workspace *workspace, filterset *parsed)
     return filterset_parse(workspace, (const uint8_t *)text, strlen(text), FILTERSET_KIND_TEST, parsed);
 }
 
-int main(int argc, char **argv) {
-    int is_shared = argc == 2 && !strcmp(argv[1], "shared"), failed = 0, i;
+int main(void) {
+    int failed = 0, i;
     filterset_workspace workspace = {0};
     filterset parsed = {0};
     worker workers[THREADS];
@@ -61,21 +56,16 @@ int main(int argc, char **argv) {
     status = filterset_workspace_from_record((const uint8_t *)record, strlen(record), &workspace);
     if (!status)
         status = filterset_workspace_set_default_filter(&workspace, (const uint8_t *)filter, strlen(filter), &parsed);
-    if (!status) status = parse(&workspace, &parsed);
-    for (i = 0; i < THREADS && !status; i++)
-        status = is_shared ? parse(&workspace, &workers[i].parsed) : filterset_try_clone(&parsed, &workers[i].parsed);
+    for (i = 0; i < THREADS && !status; i++) status = parse(&workspace, &workers[i].parsed);
     if (status) {
         fprintf(stderr, "status %d\n", status);
         return 1;
     }
     for (i = 0; i < THREADS; i++)
         if (pthread_create(&workers[i].thread, NULL, work, &workers[i])) return 2;
-    /* (meanwhile this thread parses, copies and frees) */
-    for (i = 0; i < ROUNDS; i++) {
-        filterset copy = {0};
-        if (parse(&workspace, &parsed) || filterset_try_clone(&parsed, &copy)) failed = 1;
-        filterset_free(&copy);
-    }
+    /* (meanwhile this thread parses and frees) */
+    for (i = 0; i < ROUNDS; i++)
+        if (parse(&workspace, &parsed)) failed = 1;
     for (i = 0; i < THREADS; i++) {
         pthread_join(workers[i].thread, NULL);
         failed |= workers[i].failed;

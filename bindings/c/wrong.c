@@ -111,21 +111,6 @@ static void try_faults(void) {
     check("faults of a workspace", (unsigned)filterset_fault_count((filterset *)&workspace), 0);
 }
 
-static void try_copies(void) {
-    filterset copy = {0};
-    check("a copy", filterset_try_clone(&parsed, &copy), FILTERSET_OK);
-    check("a copy of a copy", filterset_try_clone(&copy, &parsed), FILTERSET_OK);
-    check("a copy of faults", filterset_try_clone(&faults, &copy), FILTERSET_WRONG_HANDLE);
-    check("a copy of a workspace", filterset_try_clone((filterset *)&workspace, &copy), FILTERSET_WRONG_HANDLE);
-    check("a copy of nothing", filterset_try_clone(&empty, &copy), FILTERSET_WRONG_HANDLE);
-    check("a copy over itself", filterset_try_clone(&copy, &copy), FILTERSET_INVALID_ARGUMENT);
-    check("a copy to null", filterset_try_clone(&copy, NULL), FILTERSET_INVALID_ARGUMENT);
-    check("the copy is kept", copy.held != NULL, 1);
-    filterset_free(&copy);
-    filterset_free(&copy);
-    check("it is freed", copy.held != NULL, 0);
-}
-
 int main(void) {
     check("the version", filterset_version(), FILTERSET_VERSION);
     try_sources();
@@ -133,8 +118,8 @@ int main(void) {
     try_parsing();
     try_questions();
     try_faults();
-    try_copies();
     filterset_free(&parsed);
+    check("it is freed", parsed.held != NULL, 0);
     filterset_free(&faults);
     filterset_free(&empty);
     filterset_free(NULL);

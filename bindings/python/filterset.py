@@ -9,8 +9,8 @@
         answers = parsed.matches_tests(binary, [filterset.Test("tests::deep")])
 
 The library is found in the folder that the environment variable FILTERSET_LIB names, beside this file, or by the system.
-No two objects share anything. Use each on one thread at a time: calls give up the interpreter's lock. `Filterset.copy` makes
-one for another thread. `MemoryError` says that there was not enough memory, and nothing about the arguments.
+No two objects share anything. Use each on one thread at a time, since calls give up the interpreter's lock: parse a
+filterset once for each thread. `MemoryError` says that there was not enough memory, and nothing about the arguments.
 """
 
 import ctypes
@@ -118,7 +118,6 @@ _MEANINGS = {
     3: "not UTF-8",
     4: "not a workspace",
     5: "invalid argument",
-    6: "a pattern is too large to be copied",
 }
 
 
@@ -147,7 +146,6 @@ def _load() -> ctypes.CDLL:
         ("filterset_matches_tests", status, [handle, binary, tests, count, number, count]),
         ("filterset_needs_groups", status, [handle, number]),
         ("filterset_print", status, [handle, number, count, size]),
-        ("filterset_try_clone", status, [handle, handle]),
         ("filterset_free", None, [handle]),
         ("filterset_fault_count", count, [handle]),
         ("filterset_fault_span", status, [handle, count, ctypes.POINTER(_Span)]),
@@ -223,12 +221,6 @@ class Filterset:
         """Returns a text that parses to the same filterset."""
         return _written(lambda room, size, length: _library.filterset_print(self._handle, room, size, length))
 
-    def copy(self) -> "Filterset":
-        """Copies the filterset. Globs are parsed and patterns compiled again, so that costs about as much as a parse."""
-        handle = _Handle()
-        _check(_library.filterset_try_clone(self._handle, handle))
-        return Filterset(handle)
-
     def matches_binary(self, binary: Binary) -> Optional[bool]:
         """Returns whether the filterset matches all tests of a binary (True) or none (False), or None if that depends on
         the tests."""
@@ -263,8 +255,6 @@ class Workspace:
 
     def __init__(self, handle: _Handle) -> None:
         self._handle = handle
-        # whether a default filter was set, which filtersets share when they are parsed
-        self._is_shared = False
 
     def __del__(self) -> None:
         if getattr(self, "_handle", None) and _library:
@@ -300,16 +290,13 @@ class Workspace:
         encoded, faults = text.encode(), _Handle()
         status = _library.filterset_workspace_set_default_filter(self._handle, encoded, len(encoded), faults)
         self._reject(status, text, faults)
-        self._is_shared = True
 
     def parse(self, text: str, kind: Kind = Kind.TEST) -> Filterset:
-        """Parses a filterset. Raises `Rejected` if it has faults, or nests more deeply than the limit. With a default filter,
-        this makes a copy too, as `Filterset.copy` does."""
+        """Parses a filterset. Raises `Rejected` if it has faults, or nests more deeply than the limit."""
         encoded, handle = text.encode(), _Handle()
         status = _library.filterset_parse(self._handle, encoded, len(encoded), int(kind), handle)
         self._reject(status, text, handle)
-        parsed = Filterset(handle)
-        return parsed.copy() if self._is_shared else parsed
+        return Filterset(handle)
 
     @staticmethod
     def _reject(status: int, text: str, handle: _Handle) -> None:

@@ -59,9 +59,6 @@ pub enum FiltersetError {
     Faults(FiltersetParseErrors),
     /// Bytes describe no workspace.
     NotAWorkspace,
-    /// A pattern was found too large when it was compiled again, for a copy. Never one that has at most 1,024 bytes and 64
-    /// backslashes, and no `{`.
-    TooLarge,
     /// The library reports a status that this crate does not know.
     Status(u8),
 }
@@ -72,7 +69,6 @@ impl fmt::Display for FiltersetError {
             FiltersetError::OutOfMemory => f.write_str("out of memory"),
             FiltersetError::Faults(errors) => errors.fmt(f),
             FiltersetError::NotAWorkspace => f.write_str("the bytes describe no workspace"),
-            FiltersetError::TooLarge => f.write_str("a pattern is too large to be copied"),
             FiltersetError::Status(status) => write!(f, "status {status}"),
         }
     }

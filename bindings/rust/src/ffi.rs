@@ -6,7 +6,6 @@ use std::os::raw::c_void;
 pub const OK: u8 = 0;
 pub const OUT_OF_MEMORY: u8 = 1;
 pub const REJECTED: u8 = 4;
-pub const TOO_LARGE: u8 = 6;
 
 /// One word, null if the handle is empty.
 #[repr(C)]
@@ -14,8 +13,7 @@ pub struct RawHandle {
     held: *mut c_void,
 }
 
-// Handles share a default filter alone. `Filterset::parse` copies what shares one before it gives it out, so two handles
-// of this crate never share anything, and each may go to another thread.
+// No two handles share anything, so each may go to another thread.
 unsafe impl Send for RawHandle {}
 
 impl RawHandle {
@@ -97,7 +95,6 @@ extern "C" {
     ) -> u8;
     pub fn filterset_needs_groups(parsed: *mut RawHandle, answer: *mut u8) -> u8;
     pub fn filterset_print(parsed: *mut RawHandle, room: *mut u8, size: usize, length: *mut usize) -> u8;
-    pub fn filterset_try_clone(parsed: *mut RawHandle, copy: *mut RawHandle) -> u8;
     pub fn filterset_free(parsed: *mut RawHandle);
     pub fn filterset_fault_count(faults: *mut RawHandle) -> usize;
     pub fn filterset_fault_span(faults: *mut RawHandle, index: usize, span: *mut Span) -> u8;

@@ -26,8 +26,7 @@
 //! # }
 //! ```
 //!
-//! No two values share anything, so each is `Send`. None is `Sync`: give each thread a filterset of its own, by
-//! [`Filterset::try_clone`].
+//! No two values share anything, so each is `Send`. None is `Sync`: parse a filterset once for each thread.
 
 mod errors;
 mod ffi;
@@ -141,7 +140,6 @@ fn check(status: u8) -> Result<(), FiltersetError> {
     match status {
         ffi::OK => Ok(()),
         ffi::OUT_OF_MEMORY => Err(FiltersetError::OutOfMemory),
-        ffi::TOO_LARGE => Err(FiltersetError::TooLarge),
         status => Err(FiltersetError::Status(status)),
     }
 }
@@ -188,8 +186,6 @@ fn faults_of(handle: &Handle, input: &str) -> Result<FiltersetParseErrors, Filte
 #[derive(Debug)]
 pub struct ParseContext {
     handle: Handle,
-    /// Whether a default filter was set, which filtersets share when they are parsed.
-    is_shared: bool,
 }
 
 impl ParseContext {
@@ -208,7 +204,7 @@ impl ParseContext {
     fn made(call: impl FnOnce(&mut RawHandle) -> u8) -> Result<ParseContext, FiltersetError> {
         let handle = Handle::empty();
         match handle.with(call) {
-            ffi::OK => Ok(ParseContext { handle, is_shared: false }),
+            ffi::OK => Ok(ParseContext { handle }),
             ffi::OUT_OF_MEMORY => Err(FiltersetError::OutOfMemory),
             _ => Err(FiltersetError::NotAWorkspace),
         }
@@ -230,11 +226,7 @@ impl ParseContext {
         });
         match status {
             ffi::REJECTED => Err(FiltersetError::Faults(faults_of(&faults, input)?)),
-            status => {
-                check(status)?;
-                self.is_shared = true;
-                Ok(())
-            }
+            status => check(status),
         }
     }
 
@@ -251,8 +243,7 @@ pub struct Filterset {
 }
 
 impl Filterset {
-    /// Parses a filterset. A rejected text is returned with its faults. If the context has a default filter, this makes a copy
-    /// too, as [`Filterset::try_clone`] does.
+    /// Parses a filterset. A rejected text is returned with its faults.
     pub fn parse(
         input: String,
         cx: &ParseContext,
@@ -268,17 +259,9 @@ impl Filterset {
             ffi::REJECTED => Err(FiltersetError::Faults(faults_of(&handle, &input)?)),
             status => {
                 check(status)?;
-                let parsed = Filterset { handle };
-                if cx.is_shared { parsed.try_clone() } else { Ok(parsed) }
+                Ok(Filterset { handle })
             }
         }
-    }
-
-    /// Copies the filterset. Globs are parsed and patterns compiled again, so that costs about as much as a parse.
-    pub fn try_clone(&self) -> Result<Filterset, FiltersetError> {
-        let handle = Handle::empty();
-        check(self.handle.with(|raw| handle.with(|copy| unsafe { ffi::filterset_try_clone(raw, copy) })))?;
-        Ok(Filterset { handle })
     }
 
     /// Returns whether the filterset matches all tests of a binary (`Some(true)`) or none (`Some(false)`), or `None` if that

@@ -1,7 +1,6 @@
 pub mod Limits
 pub mod Numbers
 pub mod Records
-pub mod Single
 pub mod Statuses
 pub mod Steps
 pub mod Storing

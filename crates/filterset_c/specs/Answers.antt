@@ -1,7 +1,6 @@
 -- What C is answered.
 use Rattle.std.specs.Prelude.{◌≡◌, ◌↔◌, ℕ, Bool, true, false, List, Option, None, Some, IsTrue}
 use Rattle.filterset_expression.specs.BinaryMeaning.{IsDefiniteTree}
-use Rattle.filterset_expression.specs.Expression.{Holds}
 use Rattle.filterset_expression.specs.FlatExpressions.{IsFlatOfTree}
 use Rattle.filterset_expression.specs.Meaning.{IsCompiled, Meaning}
 use Rattle.filterset_expression.specs.declared.expression.CompiledExpr.{CompiledExpr}
@@ -13,7 +12,7 @@ use Rattle.filterset_grammar.specs.Printing.{printed}
 use Rattle.filterset_grammar.specs.Tree.{Tree}
 use Rattle.filterset_graph.specs.declared.package.PackageMetadata.{PackageMetadata}
 use Rattle.filterset_language.specs.Views.{tree_of}
-use Rattle.filterset_c.specs.Queries.{matches_named, IsAbout, IsAboutTest, IsWellTest}
+use Rattle.filterset_c.specs.Queries.{matches_named, IsAbout, IsAboutTest}
 use Rattle.filterset_c.specs.declared.object.BoundFilterset.{BoundFilterset}
 use Rattle.filterset_c.specs.declared.object.Object.{Object}
 use Rattle.filterset_c.specs.declared.object.Object.TheVariants.{Filterset}
@@ -69,26 +68,10 @@ IsFilterset held = HoldsFilterset (λ _. Unit {0}) held
 abbrev pub IsPrint : List ℕ → BoundFilterset → Type 0
 IsPrint text bound = text ≡ printed (tree_of bound.filterset.parsed)
 
--- ---- for all tests of a binary
-
--- the texts of the test are UTF-8, and the number is its own for each binary that the query is about
-abbrev pub IsBoundNumber : BoundFilterset → BinaryQuery → Test → ℕ → Type 0
-IsBoundNumber bound binary_query test number =
-    IsWellTest test × ((binary : Binary) → IsAbout binary binary_query → IsTestNumber bound binary test number)
-
--- the same by an expression in which nothing stands for the default filter
-abbrev pub IsAskedNumber : CompiledExpr → BinaryQuery → Test → ℕ → Type 0
-IsAskedNumber expr binary_query test number =
-    IsWellTest test × (answer : Bool) × (number ≡ yes_or_no answer)
-    × (query : TestQuery) × (query.binary_query ≡ binary_query) × (query.test_name.now ≡ test.name.now)
-    × ((default : CompiledExpr) → IsTrue answer ↔ Holds expr query default (matches_named test.group.now))
-
--- ---- by steps that are laid out once
-
--- the number of the answer that the steps give for a test of the binary, whose texts are UTF-8
+-- the number of the answer that the steps give for a test of the binary
 abbrev pub IsFlatNumber : FlatExpr → BinaryQuery → Test → ℕ → Type 0
 IsFlatNumber flat binary_query test number =
-    IsWellTest test × (answer : Bool) × (number ≡ yes_or_no answer)
+    (answer : Bool) × (number ≡ yes_or_no answer)
     × ((packages : List PackageMetadata) (e : Tree SourceSpan) (default : CompiledExpr) → IsFlatOfTree flat packages e default
     → (query : TestQuery) × (query.binary_query ≡ binary_query) × (query.test_name.now ≡ test.name.now)
     × (IsTrue answer ↔ Meaning e packages query default (matches_named test.group.now)))

@@ -1,5 +1,4 @@
 pub mod Answers
-pub mod Copies
 pub mod Facts
 pub mod Faulty
 pub mod Owning

@@ -1,6 +1,9 @@
 -- What is parsed for C.
-use Rattle.std.specs.Prelude.{◌≡◌, ◌≢◌, ◌==◌, ◌<◌, ◌≤◌, ◌⊎◌, ℕ, List, Option, Some, Result, Ok, Err, length, slice_index, string_bytes, if◌then◌else◌}
+use Rattle.std.specs.Prelude.{◌≡◌, ◌≢◌, ◌==◌, ◌<◌, ◌≤◌, ◌⊎◌, ℕ, List, Option, None, Some, Result, Ok, Err, String, length, slice_index, string_bytes, if◌then◌else◌}
+use Rattle.std.specs.declared.alloc.Global.{Global}
+use Rattle.filterset_expression.specs.Expression as leaves
 use Rattle.filterset_expression.specs.Expression.{formula}
+use Rattle.filterset_expression.specs.Formula as formulas
 use Rattle.filterset_expression.specs.Meaning.{IsCompiled}
 use Rattle.filterset_expression.specs.declared.expression.CompiledExpr.{CompiledExpr}
 use Rattle.filterset_faults.specs.declared.kind.FiltersetKind.{FiltersetKind}
@@ -11,10 +14,10 @@ use Rattle.filterset_grammar.specs.Tree.{Tree}
 use Rattle.filterset_language.specs.Views.{tree_of}
 use Rattle.filterset_nesting.specs.Depth.{depth}
 use Rattle.nextest_filtering.specs.Compiling.{IsFiltersetOf, IsRefusedWith}
+use Rattle.nextest_filtering.specs.declared.filterset.Filterset.{Filterset}
 use Rattle.filterset_c.specs.Statuses.{status_code}
 use Rattle.filterset_c.specs.declared.failure.Failure.{Failure}
 use Rattle.filterset_c.specs.declared.failure.Failure.TheVariants.{OutOfMemory, Rejected}
-use Rattle.filterset_c.specs.declared.object.BoundFilterset.{BoundFilterset}
 use Rattle.filterset_c.specs.declared.object.Object.{Object}
 use Rattle.filterset_c.specs.declared.object.Object.TheVariants as held
 use Rattle.filterset_c.specs.declared.faults.Span.{Span}
@@ -40,11 +43,23 @@ pub record IsTooDeep (limit : ℕ) (text : List ℕ) (place : Span) : Type 0 whe
   pub within : place.offset < length text
   pub extent : place.length ≡ (if slice_index text place.offset == 110 then 3 else 1)
 
--- the text is a filterset of this kind of the workspace, with its default filter
-pub record IsBound (workspace : Workspace) (text : List ℕ) (kind : FiltersetKind) (bound : BoundFilterset) : Type 0 where
-  pub accepted : IsFiltersetOf text kind workspace.graph workspace.known_groups (tree_of bound.filterset.parsed)
-  pub compiled : IsCompiled workspace.graph (tree_of bound.filterset.parsed) bound.filterset.compiled
-  pub default : formula bound.default_filter ≡ formula workspace.default_filter
+-- the text is a filterset of this kind of the workspace
+pub record IsAccepted (workspace : Workspace) (text : List ℕ) (kind : FiltersetKind) (filterset : Filterset) : Type 0 where
+  pub input : string_bytes filterset.input ≡ text
+  pub accepted : IsFiltersetOf text kind workspace.graph workspace.known_groups (tree_of filterset.parsed)
+  pub compiled : IsCompiled workspace.graph (tree_of filterset.parsed) filterset.compiled
+
+-- the same within the workspace's limit
+abbrev pub IsFiltersetWithin : Workspace → List ℕ → FiltersetKind → Filterset → Type 0
+IsFiltersetWithin workspace text kind filterset =
+    IsAccepted workspace text kind filterset × IsWithin workspace.depth (depth (tree_of filterset.parsed))
+
+-- the expression is what the text of a default filter is compiled to, or all() without a text
+abbrev pub IsDefaultFilter : Workspace → Option (String Global) → CompiledExpr → Type 0
+IsDefaultFilter workspace None expr = formula expr ≡ formulas.Leaf leaves.All
+IsDefaultFilter workspace (Some text) expr = (e : Tree SourceSpan)
+    × IsFiltersetOf (string_bytes text) DefaultFilter workspace.graph workspace.known_groups e
+    × IsCompiled workspace.graph e expr
 
 -- the text is rejected for these faults, or since it nests past the workspace's limit
 abbrev pub IsRefused : Workspace → List ℕ → FiltersetKind → Refusal → Type 0
@@ -53,18 +68,13 @@ IsRefused workspace text kind (Faults refused) =
     × IsRefusedWith text kind workspace.graph workspace.known_groups refused.errors.items
 IsRefused workspace text kind (TooDeep place) = IsTooDeep workspace.depth text place
 
--- what a text is parsed to: a filterset within the workspace's limit, or why it is rejected
+-- what a text is parsed to: a filterset within the workspace's limit, with its default filter; or why it is rejected
 abbrev pub IsParsed : Workspace → List ℕ → FiltersetKind → Object → Type 0
 IsParsed workspace text kind (held.Filterset bound) =
-    IsBound workspace text kind bound × IsWithin workspace.depth (depth (tree_of bound.filterset.parsed))
+    IsFiltersetWithin workspace text kind bound.filterset
+    × IsDefaultFilter workspace workspace.default_filter bound.default_filter
 IsParsed workspace text kind (held.Refused refusal) = IsRefused workspace text kind refusal
 IsParsed workspace text kind _ = ⊥
-
--- the same of the parser, which knows no limit
-abbrev pub IsRead : Workspace → List ℕ → FiltersetKind → Object → Type 0
-IsRead workspace text kind (held.Filterset bound) = IsBound workspace text kind bound
-IsRead workspace text kind (held.Refused refusal) = IsRefused workspace text kind refusal
-IsRead workspace text kind _ = ⊥
 
 -- the same for a number of a kind, if the handle holds a workspace
 abbrev pub ParsesIn : Option Object → List ℕ → ℕ → Object → Type 0
@@ -89,18 +99,6 @@ abbrev pub IsOutcome : (Object → Type 0) → Option Object → ℕ → Option 
 IsOutcome P old status new =
     ((object : Object) × P object × (status ≡ object_status object) × (new ≡ Some object))
     ⊎ ((failure : Failure) × (failure ≢ Rejected) × (status ≡ status_code failure) × (new ≡ old))
-
--- the expression is what the text is compiled to, as a default filter of the workspace, within its limit
-abbrev pub IsDefaultFilter : Workspace → List ℕ → CompiledExpr → Type 0
-IsDefaultFilter workspace text expr =
-    (e : Tree SourceSpan) × IsFiltersetOf text DefaultFilter workspace.graph workspace.known_groups e
-    × IsCompiled workspace.graph e expr × IsWithin workspace.depth (depth e)
-
--- the same of the parser, which knows no limit
-abbrev pub IsDefaultRead : Workspace → List ℕ → CompiledExpr → Type 0
-IsDefaultRead workspace text expr =
-    (e : Tree SourceSpan) × IsFiltersetOf text DefaultFilter workspace.graph workspace.known_groups e
-    × IsCompiled workspace.graph e expr
 
 -- the same for a workspace
 abbrev pub IsWorkspaceStored : Option Object → Result Workspace Failure → ℕ → Option Object → Type 0

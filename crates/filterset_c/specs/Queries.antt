@@ -1,15 +1,12 @@
 -- What C asks about.
-use Rattle.std.specs.Prelude.{◌≡◌, ◌⊎◌, ◌<◌, ℕ, All, List}
+use Rattle.std.specs.Prelude.{◌≡◌, ◌<◌, ℕ, All, List}
 use Rattle.std.specs.Str.{IsUtf8}
-use Rattle.filterset_asking.specs.declared.asked.AskedTest.{AskedTest}
 use Rattle.filterset_expression.specs.Expression.{Lookup}
 use Rattle.filterset_expression.specs.declared.query.BinaryQuery.{BinaryQuery}
 use Rattle.filterset_expression.specs.declared.query.TestQuery.{TestQuery}
 use Rattle.filterset_graph.specs.declared.package.BuildPlatform.{BuildPlatform}
 use Rattle.filterset_graph.specs.declared.package.BuildPlatform.TheVariants.{Target, Host}
 use Rattle.filterset_matchers.specs.Matcher.{MatchesName}
-use Rattle.filterset_c.specs.declared.failure.Failure.{Failure}
-use Rattle.filterset_c.specs.declared.failure.Failure.TheVariants.{OutOfMemory, NotUtf8}
 use Rattle.filterset_c.specs.declared.queries.Binary.{Binary}
 use Rattle.filterset_c.specs.declared.queries.KnownBinary.{KnownBinary}
 use Rattle.filterset_c.specs.declared.queries.KnownTest.{KnownTest}
@@ -47,11 +44,6 @@ IsWellBinary binary = HasTexts binary × (binary.platform < 2)
 abbrev pub IsWellTest : Test → Type 0
 IsWellTest test = IsUtf8 test.name.now × IsUtf8 test.group.now
 
--- Why a question about a binary fails whose platform is one: a text is not UTF-8; or there is not enough memory, and then
--- the texts of the binary are.
-abbrev pub IsQuestionFailure : Binary → Failure → Type 0
-IsQuestionFailure binary failure = (failure ≡ NotUtf8) ⊎ ((failure ≡ OutOfMemory) × HasTexts binary)
-
 -- the text is UTF-8
 abbrev pub IsText : Text → Type 0
 IsText text = IsUtf8 text.bytes.now
@@ -81,13 +73,3 @@ pub record IsKnownBinary (binary : Binary) (known : KnownBinary) : Type 0 where
 pub record IsKnownTest (test : Test) (known : KnownTest) : Type 0 where
   pub name : known.name ≡ test.name.now
   pub group : known.group.name.now ≡ test.group.now
-
--- the same with all texts of the question
-pub record IsAskedTest (binary : Binary) (test : Test) (asked : AskedTest) : Type 0 where
-  pub package_id : asked.package_id.now ≡ binary.package_id.now
-  pub binary_id : asked.binary_id.now ≡ binary.binary_id.now
-  pub binary_name : asked.binary_name.now ≡ binary.name.now
-  pub kind : asked.kind.now ≡ binary.kind.now
-  pub platform : HasPlatform binary.platform asked.platform
-  pub name : asked.name.now ≡ test.name.now
-  pub group : asked.group.now ≡ test.group.now

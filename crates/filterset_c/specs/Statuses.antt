@@ -1,7 +1,7 @@
 -- The statuses of calls.
 use Rattle.std.specs.Prelude.{◌≡◌, ◌⊎◌, ℕ, Result, Ok, Err}
 use Rattle.filterset_c.specs.declared.failure.Failure.{Failure}
-use Rattle.filterset_c.specs.declared.failure.Failure.TheVariants.{OutOfMemory, WrongHandle, NotUtf8, Rejected, InvalidArgument, TooLarge}
+use Rattle.filterset_c.specs.declared.failure.Failure.TheVariants.{OutOfMemory, WrongHandle, NotUtf8, Rejected, InvalidArgument}
 
 abbrev pub status_code : Failure → ℕ
 status_code OutOfMemory = 1
@@ -9,7 +9,6 @@ status_code WrongHandle = 2
 status_code NotUtf8 = 3
 status_code Rejected = 4
 status_code InvalidArgument = 5
-status_code TooLarge = 6
 
 -- the call was done, or there was not enough memory for it
 abbrev pub IsDone : ℕ → Type 0
@@ -19,11 +18,7 @@ IsDone status = (status ≡ 0) ⊎ (status ≡ 1)
 abbrev pub IsJudged : ℕ → Type 0
 IsJudged status = (status ≡ 0) ⊎ ((status ≡ 1) ⊎ (status ≡ 4))
 
--- the call that checks texts failed: a text is not UTF-8, or there was not enough memory
-abbrev pub IsTextFailure : Failure → Type 0
-IsTextFailure failure = (failure ≡ NotUtf8) ⊎ (failure ≡ OutOfMemory)
-
--- the same of a call that reads a file, which may have been rejected
+-- the call that reads a file failed: the file is rejected, or there was not enough memory
 abbrev pub IsSourceFailure : Failure → Type 0
 IsSourceFailure failure = (failure ≡ Rejected) ⊎ (failure ≡ OutOfMemory)
 

@@ -1,10 +1,8 @@
 -- What makes a workspace, and what changes one.
-use Rattle.std.specs.Prelude.{◌≡◌, ◌⊎◌, ℕ, List, Option, None, Some}
+use Rattle.std.specs.Prelude.{◌≡◌, ◌⊎◌, ℕ, List, Option, None, Some, option_map, string_bytes}
 use Rattle.serde_json.specs.Data.{Data}
 use Rattle.serde_json.specs.Read.{read}
-use Rattle.filterset_expression.specs.Expression.{CompiledLeaf, formula}
-use Rattle.filterset_expression.specs.Expression as leaves
-use Rattle.filterset_expression.specs.Formula as formulas
+use Rattle.filterset_faults.specs.declared.kind.FiltersetKind.TheVariants.{DefaultFilter}
 use Rattle.filterset_graph.specs.Refusals.{IsRefusalOf}
 use Rattle.filterset_graph.specs.declared.refusal.GraphRefusal.{GraphRefusal}
 use Rattle.filterset_graph.specs.declared.refusal.GraphRefusal.TheVariants as graph
@@ -14,7 +12,8 @@ use Rattle.filterset_sources.specs.Metadata.{IsMetadata, RefusesMetadata}
 use Rattle.filterset_sources.specs.declared.refusal.SourceRefusal.{SourceRefusal}
 use Rattle.filterset_sources.specs.declared.refusal.SourceRefusal.TheVariants.{OutOfMemory}
 use Rattle.nextest_filtering.specs.Groups.{AreGroups, IsGlobalOnly}
-use Rattle.filterset_c.specs.Parsing.{IsDefaultFilter}
+use Rattle.nextest_filtering.specs.declared.filterset.Filterset.{Filterset}
+use Rattle.filterset_c.specs.Parsing.{IsFiltersetWithin}
 use Rattle.filterset_c.specs.declared.object.Object.{Object}
 use Rattle.filterset_c.specs.declared.object.Object.TheVariants as held
 use Rattle.filterset_c.specs.declared.object.Workspace.{Workspace}
@@ -23,9 +22,9 @@ use Rattle.filterset_c.specs.declared.object.Workspace.{Workspace}
 abbrev pub usual_depth : ℕ
 usual_depth = 256
 
--- the workspace's default filter is all()
-abbrev pub HasNoFilter : Workspace → Type 0
-HasNoFilter workspace = formula workspace.default_filter ≡ formulas.Leaf leaves.All
+-- the text is a default filter of the workspace, within its limit
+abbrev pub IsDefaultText : Workspace → List ℕ → Type 0
+IsDefaultText workspace text = (filterset : Filterset) × IsFiltersetWithin workspace text DefaultFilter filterset
 
 -- the workspace has the packages of what `cargo metadata` writes, no custom groups, and the default filter all()
 pub record IsOfMetadata (text : List ℕ) (workspace : Workspace) : Type 0 where
@@ -33,7 +32,7 @@ pub record IsOfMetadata (text : List ℕ) (workspace : Workspace) : Type 0 where
   pub is_json : read text ≡ Some value
   pub packages : IsMetadata value workspace.graph
   pub groups : IsGlobalOnly workspace.known_groups
-  pub default : HasNoFilter workspace
+  pub default : workspace.default_filter ≡ None
   pub depth : workspace.depth ≡ usual_depth
 
 -- the refusal is about the file, and not about memory
@@ -61,7 +60,7 @@ pub record IsOfRecord (text : List ℕ) (workspace : Workspace) : Type 0 where
   pub is_record : IsRecord value row
   pub packages : workspace.graph ≡ row.packages
   pub groups : AreGroups row.groups workspace.known_groups
-  pub default : HasNoFilter workspace
+  pub default : workspace.default_filter ≡ None
   pub depth : workspace.depth ≡ usual_depth
 
 -- an id of the packages is repeated, or a link names none of them
@@ -105,9 +104,10 @@ pub record HasDepth (levels : ℕ) (before after : Workspace) : Type 0 where
   pub groups : after.known_groups ≡ before.known_groups
   pub default : after.default_filter ≡ before.default_filter
 
--- only the default filter changes, to what this text is compiled to
+-- only the default filter changes, to this text, which is one
 pub record HasFilter (text : List ℕ) (before after : Workspace) : Type 0 where
-  pub filter : IsDefaultFilter before text after.default_filter
+  pub filter : IsDefaultText before text
+  pub kept : option_map (λ s. string_bytes s) after.default_filter ≡ Some text
   pub packages : after.graph ≡ before.graph
   pub groups : after.known_groups ≡ before.known_groups
   pub depth : after.depth ≡ before.depth

@@ -17,8 +17,6 @@ pub enum Failure {
     Rejected,
     /// A number has no meaning, or two lists differ in length.
     InvalidArgument,
-    /// `regex` finds a pattern too large that it compiled before.
-    TooLarge,
 }
 
 impl Failure {
@@ -32,7 +30,6 @@ impl Failure {
             Failure::NotUtf8 => 3,
             Failure::Rejected => 4,
             Failure::InvalidArgument => 5,
-            Failure::TooLarge => 6,
         }
     }
 }

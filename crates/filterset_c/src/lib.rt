@@ -10,7 +10,6 @@ ghost use Rattle.std.specs.List.{AllZip};
 ghost use Rattle.std.specs.Str.{IsUtf8};
 ghost use Rattle.filterset_expression.specs.Expression.{has_leaf, is_group};
 ghost use Rattle.filterset_c.specs.Answers.{yes_or_no, HoldsFilterset, IsBinaryNumber, IsFilterset, IsNoFilterset, IsPrint, IsTestNumber};
-ghost use Rattle.filterset_c.specs.Copies.{HasLarge, IsCopied, IsCopy, IsFiltersetStored};
 ghost use Rattle.filterset_c.specs.Faulty.{IsSpanAt, IsTextAt, fault_count};
 ghost use Rattle.filterset_c.specs.Parsing.{object_status, IsOutcome, IsStored, IsWorkspaceStored, ParsesIn};
 ghost use Rattle.filterset_c.specs.Workspaces.{Changes, HasDepth, HasFilter, HasGroups, HoldsWorkspace, IsNoMetadata, IsNoRecord, IsNoWorkspace, IsOfMetadata, IsOfRecord, IsWorkspace};
@@ -19,8 +18,6 @@ ghost use Rattle.filterset_c.specs.Queries.{AreAllTexts, AreTexts, HasTexts, IsT
 ghost use Rattle.filterset_c.specs.Statuses.{IsDone, IsJudged};
 ghost use Rattle.filterset_c.specs.Written.{AreWritten, IsTextWritten, IsWritten, IsWrittenText};
 
-mod batch;
-mod copying;
 mod failure;
 mod faults;
 mod handle;
@@ -31,17 +28,16 @@ mod queries;
 mod raw_box;
 mod workspaces;
 
-use batch::test_numbers;
-use copying::copy_of;
 use failure::{Failure, status_of};
 use faults::{Span, copy_text, fault_count, span_at, text_at};
 use handle::Handle;
-use matching::{number_of_binary, test_number, yes_or_no};
-use object::{BoundFilterset, Object, Workspace};
+use matching::{number_of_binary, test_numbers, yes_or_no};
+use object::{Object, Workspace};
 use parsing::parse_in;
 use queries::{Binary, Test, Text};
 use std::alloc::Global;
 use std::mem::replace;
+use std::slice;
 use workspaces::{
     set_default_filter, set_depth, set_groups, workspace_of_metadata, workspace_of_record,
 };
@@ -251,39 +247,6 @@ pub extern "C" fn filterset_parse(
     store(alloc, parsed, made)
 }
 
-/// Copies a filterset, and stores the copy in `copy`. The two share nothing.
-#[unsafe(no_mangle)]
-pub extern "C" fn filterset_try_clone(
-    alloc: Global,
-    filterset: &mut Handle,
-    copy: &mut Handle,
-) -> u8
-    ensures kept { filterset.new.held ≡ filterset.old.held }
-    ensures copied { result ≡ 0 →
-        HoldsFilterset (λ bound. HoldsFilterset (IsCopy bound) copy.new.held) filterset.old.held }
-    ensures failed { result ≢ 0 → copy.new.held ≡ copy.old.held }
-    ensures well { IsFilterset filterset.old.held → IsCopied result }
-    ensures too_large { result ≡ 6 → HoldsFilterset HasLarge filterset.old.held }
-    ensures wrong { IsNoFilterset filterset.old.held → result ≡ 2 }
-{
-    let Some(object) = take(alloc, filterset) else {
-        return Failure::WrongHandle.code();
-    };
-    let made = copy_of(alloc, &object);
-    give(alloc, filterset, object);
-    store_filterset(alloc, copy, made)
-}
-
-/// Stores a filterset in a handle, as `store` does.
-fn store_filterset(alloc: Global, handle: &mut Handle, made: Result<BoundFilterset, Failure>) -> u8
-    ensures { IsFiltersetStored handle.old.held made result handle.new.held }
-{
-    match made {
-        Ok(bound) => store(alloc, handle, Ok(Object::Filterset(bound))),
-        Err(failure) => store(alloc, handle, Err(failure)),
-    }
-}
-
 /// Writes 0 or 1, or 2 for unknown: whether the filterset matches the tests of a binary, if the binary decides that.
 #[unsafe(no_mangle)]
 pub extern "C" fn filterset_matches_binary(
@@ -324,6 +287,7 @@ fn write_number(number: Result<u8, Failure>, answer: &mut u8) -> u8
 }
 
 /// Writes 0 or 1: whether the filterset matches a test.
+#[tactic(auto, using(crate::proofs::Numbers::only_answer, crate::proofs::Numbers::only_well))]
 #[unsafe(no_mangle)]
 pub extern "C" fn filterset_matches_test(
     alloc: Global,
@@ -342,12 +306,8 @@ pub extern "C" fn filterset_matches_test(
     ensures not_utf8 { IsFilterset filterset.old.held → binary.now.platform < 2
         → (AreTexts binary.now test.now → ⊥) → result ≡ 3 }
 {
-    let Some(object) = take(alloc, filterset) else {
-        return Failure::WrongHandle.code();
-    };
-    let number = test_number(alloc, &object, binary, test);
-    give(alloc, filterset, object);
-    write_number(number, answer)
+    let answers = slice::from_mut(answer);
+    filterset_matches_tests(alloc, filterset, binary, slice::from_ref(test), answers)
 }
 
 /// Writes 0 or 1 for each test of a binary: whether the filterset matches it. There must be an answer for each test.

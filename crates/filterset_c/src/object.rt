@@ -14,12 +14,11 @@ use nextest_filtering::{
 pub struct Workspace {
     pub graph: PackageGraph,
     pub known_groups: KnownGroups,
-    pub default_filter: CompiledExpr,
+    /// The text of the default filter; `None` if that is `all()`.
+    pub default_filter: Option<String>,
     /// How many levels of parentheses and negations a text may have; 0 if there is no limit.
     pub depth: usize,
     ghost known: { IsKnown known_groups } by { is_known_prop known_groups },
-    ghost no_default: { has_leaf is_default default_filter ≡ false },
-    ghost no_group: { has_leaf is_group default_filter ≡ false },
 }
 
 /// A filterset, with the default filter that replaces each `default()`.

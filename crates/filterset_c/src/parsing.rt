@@ -5,7 +5,7 @@ ghost use Rattle.filterset_faults.specs.declared.span.SourceSpan.{SourceSpan};
 ghost use Rattle.filterset_grammar.specs.Grammar.{Spells};
 ghost use Rattle.filterset_grammar.specs.Tree.{Tree};
 ghost use Rattle.filterset_nesting.specs.Depth.{depth};
-ghost use Rattle.filterset_c.specs.Parsing.{HasKind, IsDefaultFilter, IsDefaultRead, IsParsed, IsRead, IsRefused, IsTooDeep, IsWithin, ParsesIn};
+ghost use Rattle.filterset_c.specs.Parsing.{HasKind, IsAccepted, IsDefaultFilter, IsFiltersetWithin, IsRefused, IsTooDeep, IsWithin, ParsesIn};
 ghost use Rattle.std.specs.Str.{IsUtf8};
 ghost use Rattle.filterset_c.specs.Workspaces.{IsNoWorkspace, IsWorkspace};
 ghost use Rattle.filterset_c.specs.declared.failure.Failure.TheVariants as failures;
@@ -58,38 +58,58 @@ fn parse_text(
     workspace: &Workspace,
     text: &str,
     kind: FiltersetKind,
-) -> Result<Object, Failure>
-    ensures parsed { IfOk result (IsRead workspace.now text.now kind) }
+) -> Result<Result<Filterset, Refusal>, Failure>
+    ensures accepted { IfOk result (λ parsed. IfOk parsed (IsAccepted workspace.now text.now kind)) }
+    ensures refused { IfOk result (λ parsed. IfErr parsed (IsRefused workspace.now text.now kind)) }
+    ensures no_default { kind ≡ kinds.DefaultFilter → IfOk result (λ parsed.
+        IfOk parsed (λ filterset. has_leaf is_default filterset.compiled ≡ false)) }
+    ensures no_group { kind ≡ kinds.DefaultFilter → IfOk result (λ parsed.
+        IfOk parsed (λ filterset. has_leaf is_group filterset.compiled ≡ false)) }
     ensures failed { IfErr result (λ failure. failure ≡ failures.OutOfMemory) }
 {
     let input = String::from_str(alloc, text)?;
     let context = ParseContext::new(alloc, &workspace.graph)?;
     match Filterset::parse(alloc, input, &context, kind, &workspace.known_groups) {
-        Ok(filterset) => Ok(Object::Filterset(BoundFilterset {
-            filterset,
-            default_filter: workspace.default_filter.try_clone(alloc)?,
-        })),
-        Err(ParseRefusal::Faults(faults)) => Ok(Object::Refused(Refusal::Faults(faults))),
+        Ok(filterset) => Ok(Ok(filterset)),
+        Err(ParseRefusal::Faults(faults)) => Ok(Err(Refusal::Faults(faults))),
         Err(ParseRefusal::OutOfMemory { .. }) => Err(Failure::OutOfMemory),
     }
 }
 
 /// Parses a filterset of the workspace. Returns why the text is rejected if it is.
-fn parse_within(
+pub fn parse_within(
     alloc: Global,
     workspace: &Workspace,
     bytes: &[u8],
     kind: FiltersetKind,
-) -> Result<Object, Failure>
-    ensures parsed { IfOk result (IsParsed workspace.now bytes.now kind) }
+) -> Result<Result<Filterset, Refusal>, Failure>
+    ensures accepted { IfOk result (λ parsed. IfOk parsed (IsFiltersetWithin workspace.now bytes.now kind)) }
+    ensures refused { IfOk result (λ parsed. IfErr parsed (IsRefused workspace.now bytes.now kind)) }
     ensures failed { IfErr result (λ failure. failure ≢ failures.Rejected) }
     ensures well { IsUtf8 bytes.now → IfErr result (λ failure. failure ≡ failures.OutOfMemory) }
     ensures not_utf8 { (IsUtf8 bytes.now → ⊥) → result ≡ Err failures.NotUtf8 }
 {
     let text = text_of(bytes)?;
     match find_deep_place(alloc, workspace.depth, bytes)? {
-        Some(place) => Ok(Object::Refused(Refusal::TooDeep(place))),
+        Some(place) => Ok(Err(Refusal::TooDeep(place))),
         None => parse_text(alloc, workspace, text, kind),
+    }
+}
+
+/// Parses the default filter of the workspace anew, so that handles share nothing. The only error is out of memory, which a
+/// pattern is taken for that `regex` finds too large, and did not when the filter was set.
+fn parse_default_filter(alloc: Global, workspace: &Workspace) -> Result<CompiledExpr, Failure>
+    ensures filter { IfOk result (IsDefaultFilter workspace.now workspace.now.default_filter) }
+    ensures no_default { IfOk result (λ filter. has_leaf is_default filter ≡ false) }
+    ensures no_group { IfOk result (λ filter. has_leaf is_group filter ≡ false) }
+    ensures failed { IfErr result (λ failure. failure ≡ failures.OutOfMemory) }
+{
+    match &workspace.default_filter {
+        None => Ok(CompiledExpr::ALL),
+        Some(text) => match parse_text(alloc, workspace, text, FiltersetKind::DefaultFilter)? {
+            Ok(filterset) => Ok(filterset.compiled),
+            Err(_) => Err(Failure::OutOfMemory),
+        },
     }
 }
 
@@ -103,55 +123,15 @@ pub fn parse_in(alloc: Global, object: &Object, bytes: &[u8], kind: u8) -> Resul
     ensures no_kind { IsWorkspace (Some object.now) → 4 ≤ kind → result ≡ Err failures.InvalidArgument }
     ensures not_utf8 { IsWorkspace (Some object.now) → kind < 4 → (IsUtf8 bytes.now → ⊥) → result ≡ Err failures.NotUtf8 }
 {
-    match object {
-        Object::Workspace(workspace) => {
-            let filterset_kind = kind_of(kind)?;
-            let made = parse_within(alloc, workspace, bytes, filterset_kind)?;
-            Ok(made)
-        }
-        Object::Filterset(_) | Object::Refused(_) => Err(Failure::WrongHandle),
-    }
-}
-
-/// Parses a default filter of the workspace, without a limit. Returns the faults of the text if it has any.
-fn parse_default_text(
-    alloc: Global,
-    workspace: &Workspace,
-    text: &str,
-) -> Result<Result<CompiledExpr, Refusal>, Failure>
-    ensures filter { IfOk result (λ parsed. IfOk parsed (IsDefaultRead workspace.now text.now)) }
-    ensures no_default { IfOk result (λ parsed. IfOk parsed (λ filter. has_leaf is_default filter ≡ false)) }
-    ensures no_group { IfOk result (λ parsed. IfOk parsed (λ filter. has_leaf is_group filter ≡ false)) }
-    ensures refused { IfOk result (λ parsed. IfErr parsed (IsRefused workspace.now text.now kinds.DefaultFilter)) }
-    ensures failed { IfErr result (λ failure. failure ≡ failures.OutOfMemory) }
-{
-    let input = String::from_str(alloc, text)?;
-    let context = ParseContext::new(alloc, &workspace.graph)?;
-    let kind = FiltersetKind::DefaultFilter;
-    match Filterset::parse(alloc, input, &context, kind, &workspace.known_groups) {
-        Ok(filterset) => Ok(Ok(filterset.compiled)),
-        Err(ParseRefusal::Faults(faults)) => Ok(Err(Refusal::Faults(faults))),
-        Err(ParseRefusal::OutOfMemory { .. }) => Err(Failure::OutOfMemory),
-    }
-}
-
-/// Parses a default filter of the workspace. Returns why the text is rejected if it is.
-pub fn parse_default_filter(
-    alloc: Global,
-    workspace: &Workspace,
-    bytes: &[u8],
-) -> Result<Result<CompiledExpr, Refusal>, Failure>
-    ensures filter { IfOk result (λ parsed. IfOk parsed (IsDefaultFilter workspace.now bytes.now)) }
-    ensures no_default { IfOk result (λ parsed. IfOk parsed (λ filter. has_leaf is_default filter ≡ false)) }
-    ensures no_group { IfOk result (λ parsed. IfOk parsed (λ filter. has_leaf is_group filter ≡ false)) }
-    ensures refused { IfOk result (λ parsed. IfErr parsed (IsRefused workspace.now bytes.now kinds.DefaultFilter)) }
-    ensures failed { IfErr result (λ failure. failure ≢ failures.Rejected) }
-    ensures well { IsUtf8 bytes.now → IfErr result (λ failure. failure ≡ failures.OutOfMemory) }
-    ensures not_utf8 { (IsUtf8 bytes.now → ⊥) → result ≡ Err failures.NotUtf8 }
-{
-    let text = text_of(bytes)?;
-    match find_deep_place(alloc, workspace.depth, bytes)? {
-        Some(place) => Ok(Err(Refusal::TooDeep(place))),
-        None => parse_default_text(alloc, workspace, text),
+    let Object::Workspace(workspace) = object else {
+        return Err(Failure::WrongHandle);
+    };
+    let filterset_kind = kind_of(kind)?;
+    match parse_within(alloc, workspace, bytes, filterset_kind)? {
+        Ok(filterset) => Ok(Object::Filterset(BoundFilterset {
+            filterset,
+            default_filter: parse_default_filter(alloc, workspace)?,
+        })),
+        Err(refusal) => Ok(Object::Refused(refusal)),
     }
 }

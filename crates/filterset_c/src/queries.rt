@@ -1,14 +1,12 @@
 //! What C asks about: test binaries and tests, whose texts are slices of bytes.
 ghost use Rattle.std.specs.Prelude.{◌≡◌, ◌≤◌, ◌<◌, ◌↔◌, All, Err, IfErr, IfOk, IsTrue, MatchResult};
 ghost use Rattle.std.specs.Str.{IsUtf8};
-ghost use Rattle.filterset_c.specs.Queries.{matches_named, AreTexts, HasPlatform, HasTexts, IsAbout, IsAboutTest, IsAskedTest, IsKnownBinary, IsQuestionFailure, IsText, IsWellBinary, IsWellTest};
-ghost use Rattle.filterset_c.specs.Statuses.{IsTextFailure};
+ghost use Rattle.filterset_c.specs.Queries.{matches_named, AreTexts, HasPlatform, HasTexts, IsAbout, IsKnownBinary, IsText, IsWellBinary, IsWellTest};
 ghost use Rattle.filterset_c.specs.declared.failure.Failure.TheVariants.{InvalidArgument, NotUtf8, OutOfMemory};
 ghost use Rattle.filterset_c.specs.declared.queries.Binary.{Binary as BinaryOfC};
 ghost use Rattle.filterset_c.specs.declared.queries.Test.{Test as TestOfC};
 
 use crate::failure::Failure;
-use filterset_asking::AskedTest;
 use nextest_filtering::{
     BinaryQuery, BuildPlatform, GroupLookup, NameMatcher, PackageId, RustBinaryId,
     RustTestBinaryKind, TestCaseName, TestQuery,
@@ -53,32 +51,16 @@ pub fn text_of(bytes: &[u8]) -> Result<&str, Failure>
 }
 
 /// Returns the platform that has this number.
-fn platform_of(number: u8) -> Result<BuildPlatform, Failure>
-    ensures { MatchResult result (HasPlatform number) (λ failure. (failure ≡ InvalidArgument) × (2 ≤ number)) }
+pub fn platform_of(number: u8) -> Result<BuildPlatform, Failure>
+    ensures platform { IfOk result (HasPlatform number) }
+    ensures number { 2 ≤ number → result ≡ Err InvalidArgument }
+    ensures well { number < 2 → IfErr result (λ failure. ⊥) }
 {
     match number {
         0 => Ok(BuildPlatform::Target),
         1 => Ok(BuildPlatform::Host),
         _ => Err(Failure::InvalidArgument),
     }
-}
-
-/// Returns the texts of a question about a test. Checks the platform, then the texts.
-pub fn asked_test<'a>(binary: &Binary<'a>, test: &Test<'a>) -> Result<AskedTest<'a>, Failure>
-    ensures asked { IfOk result (IsAskedTest binary.now test.now) }
-    ensures number { 2 ≤ binary.now.platform → result ≡ Err InvalidArgument }
-    ensures not_utf8 { binary.now.platform < 2 → (AreTexts binary.now test.now → ⊥) → result ≡ Err NotUtf8 }
-    ensures well { IsWellBinary binary.now → IsWellTest test.now → IfErr result (λ failure. ⊥) }
-{
-    Ok(AskedTest {
-        platform: platform_of(binary.platform)?,
-        package_id: text_of(binary.package_id)?,
-        binary_id: text_of(binary.binary_id)?,
-        binary_name: text_of(binary.name)?,
-        kind: text_of(binary.kind)?,
-        name: text_of(test.name)?,
-        group: text_of(test.group)?,
-    })
 }
 
 /// Returns whether the bytes are UTF-8.
@@ -135,7 +117,6 @@ impl<'a> KnownBinary<'a> {
         ensures known { IfOk result (IsKnownBinary binary.now) }
         ensures texts { IfOk result (λ _. HasTexts binary.now) }
         ensures number { 2 ≤ binary.now.platform → result ≡ Err InvalidArgument }
-        ensures failed { binary.now.platform < 2 → IfErr result (IsQuestionFailure binary.now) }
         ensures not_utf8 { binary.now.platform < 2 → (HasTexts binary.now → ⊥) → result ≡ Err NotUtf8 }
         ensures well { IsWellBinary binary.now → IfErr result (λ failure. failure ≡ OutOfMemory) }
     {
@@ -199,8 +180,7 @@ impl<'a> KnownTest<'a> {
     /// Reads the description of a test. Fails if a part is not UTF-8.
     pub fn read(alloc: Global, test: &Test<'a>) -> Result<KnownTest<'a>, Failure>
         ensures known { IfOk result (IsKnownTest test.now) }
-        ensures texts { IfOk result (λ _. IsWellTest test.now) }
-        ensures failed { IfErr result IsTextFailure }
+        ensures not_utf8 { (IsWellTest test.now → ⊥) → result ≡ Err NotUtf8 }
         ensures well { IsWellTest test.now → IfErr result (λ failure. failure ≡ OutOfMemory) }
     {
         let name = text_of(test.name)?;

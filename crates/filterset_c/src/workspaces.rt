@@ -16,12 +16,12 @@ ghost use Rattle.filterset_c.specs.declared.failure.Failure.TheVariants as failu
 
 use crate::failure::Failure;
 use crate::object::{Object, Refusal, Workspace};
-use crate::parsing::parse_default_filter;
+use crate::parsing::parse_within;
 use crate::queries::{Text, are_utf8, text_of};
 use filterset_json::{Entry, EntryRefusal};
 use filterset_report::Record;
 use filterset_sources::{SourceRefusal, read_json, read_metadata};
-use nextest_filtering::{CompiledExpr, GraphRefusal, KnownGroups, PackageGraph, PackageMetadata};
+use nextest_filtering::{FiltersetKind, GraphRefusal, KnownGroups, PackageGraph, PackageMetadata};
 use serde_json::Value;
 use std::alloc::Global;
 
@@ -78,7 +78,7 @@ pub fn workspace_of_metadata(alloc: Global, bytes: &[u8]) -> Result<Workspace, F
     Ok(Workspace {
         graph,
         known_groups,
-        default_filter: CompiledExpr::ALL,
+        default_filter: None,
         depth: USUAL_DEPTH,
     })
 }
@@ -136,7 +136,7 @@ pub fn workspace_of_record(alloc: Global, bytes: &[u8]) -> Result<Workspace, Fai
     Ok(Workspace {
         graph,
         known_groups,
-        default_filter: CompiledExpr::ALL,
+        default_filter: None,
         depth: USUAL_DEPTH,
     })
 }
@@ -220,13 +220,15 @@ pub fn set_default_filter(
     ensures not_utf8 { IsWorkspace (Some object.old) → (IsUtf8 bytes.now → ⊥) → result ≡ Err failures.NotUtf8 }
 {
     match object {
-        Object::Workspace(workspace) => match parse_default_filter(alloc, workspace, bytes)? {
-            Ok(filter) => {
-                workspace.default_filter = filter;
-                Ok(None)
+        Object::Workspace(workspace) => {
+            match parse_within(alloc, workspace, bytes, FiltersetKind::DefaultFilter)? {
+                Ok(filter) => {
+                    workspace.default_filter = Some(filter.input);
+                    Ok(None)
+                }
+                Err(refusal) => Ok(Some(refusal)),
             }
-            Err(refusal) => Ok(Some(refusal)),
-        },
+        }
         _ => Err(Failure::WrongHandle),
     }
 }

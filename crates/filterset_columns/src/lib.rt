@@ -14,4 +14,3 @@ pub use column::Column;
 pub use expression::ColumnExpr;
 pub use groups::PlacedLookup;
 pub use names::Names;
-pub use search::Searchers;

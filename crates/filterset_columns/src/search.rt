@@ -85,7 +85,7 @@ impl<'a> Searcher<'a> {
 /// The searchers of an expression's `test` leaves, which are kept from one binary to the next. A searcher knows its
 /// matcher, so no answer depends on what is kept.
 #[derive(Drop)]
-pub struct Searchers<'a> {
+pub(crate) struct Searchers<'a> {
     kept: Vec<Option<Searcher<'a>>>,
     /// The place of the next leaf among the `test` leaves.
     next: usize,
@@ -95,7 +95,7 @@ impl<'a> Searchers<'a> {
     ghost use Rattle.filterset_columns.specs.Searching.{Finds};
 
     /// Keeps nothing.
-    pub fn new(alloc: Global) -> Searchers<'a> {
+    pub(crate) fn new(alloc: Global) -> Searchers<'a> {
         Searchers {
             kept: Vec::new(alloc),
             next: 0,
@@ -103,12 +103,12 @@ impl<'a> Searchers<'a> {
     }
 
     /// Begins again with the first leaf.
-    pub fn rewind(&mut self) {
+    pub(crate) fn rewind(&mut self) {
         self.next = 0;
     }
 
     /// Passes over the `test` leaves of an expression.
-    pub fn pass(&mut self, expr: &CompiledExpr) {
+    pub(crate) fn pass(&mut self, expr: &CompiledExpr) {
         match expr {
             CompiledExpr::Not(operand) => self.pass(operand),
             CompiledExpr::Union(left, right)
@@ -125,40 +125,6 @@ impl<'a> Searchers<'a> {
     /// Goes on to the next leaf.
     fn advance(&mut self) {
         self.next = self.next.saturating_add(1);
-    }
-
-    /// Returns whether the matcher of the next leaf matches a name, and goes on to the leaf after it. The only error is out of
-    /// memory.
-    pub fn search(
-        &mut self,
-        alloc: Global,
-        matcher: &'a NameMatcher,
-        name: &str,
-    ) -> Result<bool, AllocError>
-        ensures { IfOk result (λ found. IsTrue found ↔ MatchesName (matcher_of matcher.now) name.now) }
-    {
-        match matcher {
-            NameMatcher::Equal { .. } | NameMatcher::Contains { .. } => {
-                self.advance();
-                matcher.is_match(alloc, name)
-            }
-            _ => self.search_prepared(alloc, matcher, name),
-        }
-    }
-
-    /// Does the same by a searcher that is kept.
-    fn search_prepared(
-        &mut self,
-        alloc: Global,
-        matcher: &'a NameMatcher,
-        name: &str,
-    ) -> Result<bool, AllocError>
-        ensures { IfOk result (λ found. IsTrue found ↔ MatchesName (matcher_of matcher.now) name.now) }
-    {
-        let mut searcher = self.take(alloc, matcher)?;
-        let found = searcher.is_match(alloc, name)?;
-        self.keep(searcher)?;
-        Ok(found)
     }
 
     /// Returns the searcher of the next leaf, whose matcher is this one. The only error is out of memory.

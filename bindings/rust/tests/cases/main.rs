@@ -62,7 +62,7 @@ fn accepted() -> Result<(), FiltersetError> {
     let cases = cases();
     for case in cases.at("accepted").list() {
         let text = case.at("text").text();
-        let filterset = parse(&cases, case)?.try_clone()?;
+        let filterset = parse(&cases, case)?;
         assert_eq!(filterset.to_string(), case.get("print").map_or(text, Json::text));
         assert_eq!(filterset.has_group_matchers()?, case.at("needs_groups").boolean(), "{text}");
         for asked in case.at("asked").list() {
@@ -88,7 +88,7 @@ fn accepted() -> Result<(), FiltersetError> {
 }
 
 #[test]
-fn copies_on_threads() -> Result<(), FiltersetError> {
+fn filtersets_on_threads() -> Result<(), FiltersetError> {
     fn is_send<T: Send>() {}
     is_send::<ParseContext>();
     is_send::<Filterset>();
@@ -96,7 +96,7 @@ fn copies_on_threads() -> Result<(), FiltersetError> {
     context.set_default_filter("test(#case_*) and not test(/[02468]$/)")?;
     let text = "default() or test(/^slow::/)";
     let parse = || Filterset::parse(text.to_owned(), &context, FiltersetKind::Test, &KnownGroups::default());
-    let filtersets = (0..4).map(|_| parse()?.try_clone()).chain((0..4).map(|_| parse())).collect::<Result<Vec<_>, _>>()?;
+    let filtersets = (0..8).map(|_| parse()).collect::<Result<Vec<_>, _>>()?;
     let threads: Vec<_> = filtersets.into_iter().map(|own| std::thread::spawn(move || ask_all(&own))).collect();
     for _ in 0..8 {
         assert_eq!(parse()?.to_string(), text);
@@ -111,12 +111,11 @@ fn copies_on_threads() -> Result<(), FiltersetError> {
 fn ask_all(filterset: &Filterset) -> Result<(), FiltersetError> {
     let binary_query =
         BinaryQuery { package_id: "p", binary_id: "p", binary_name: "p", kind: "lib", platform: BuildPlatform::Target };
-    let copy = filterset.try_clone()?;
     for number in 0..20 {
         let (case, slow) = (format!("case_{number}"), format!("slow::{number}"));
         let wanted = vec![number % 2 == 1, true];
         assert_eq!(filterset.matches_tests(&binary_query, &[&case, &slow], &NoGroups)?, wanted, "{number}");
-        assert_eq!(copy.matches_test(&TestQuery { binary_query, test_name: &case })?, wanted[0], "{number}");
+        assert_eq!(filterset.matches_test(&TestQuery { binary_query, test_name: &case })?, wanted[0], "{number}");
     }
     Ok(())
 }

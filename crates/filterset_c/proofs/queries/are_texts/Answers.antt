@@ -1,4 +1,4 @@
-use Rattle.std.proofs.Common.{rules, arith, ◌≡◌, ◌<◌, IsTrue, List, [], length, refl, subst}
+use Rattle.std.proofs.Common.{rules, arith, ◌<◌, IsTrue, List, [], length, refl, subst}
 use Rattle.std.specs.Prelude.{All}
 use Rattle.std.proofs.lemmas.Bool.{false≢true}
 use Rattle.std.proofs.lemmas.List.{take_all}
