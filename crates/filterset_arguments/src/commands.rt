@@ -59,7 +59,9 @@ fn metadata<'a>(alloc: Global) -> Arg<'a> {
     Arg::new(alloc, "metadata")
         .long("cargo-metadata")
         .value_name("FILE")
-        .help("the output of `cargo metadata --format-version 1`")
+        .help(
+            "the output of `cargo metadata --format-version=1 --all-features --filter-platform TRIPLE`",
+        )
 }
 
 /// Makes the option of the filtersets' kind.
@@ -128,7 +130,7 @@ fn nextest_list<'a>(alloc: Global) -> Arg<'a> {
     Arg::new(alloc, "list")
         .long("nextest-list")
         .value_name("FILE")
-        .help("the output of `cargo nextest list --message-format json`")
+        .help("the output of `cargo nextest list --message-format json --ignore-default-filter`")
 }
 
 /// Makes the option of the default filter.

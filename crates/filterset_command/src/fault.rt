@@ -40,10 +40,10 @@ impl FileRole {
     fn help(self) -> &'static str {
         match self {
             FileRole::Metadata => {
-                "`--cargo-metadata` takes the output of `cargo metadata --format-version 1`"
+                "`--cargo-metadata` takes the output of `cargo metadata --format-version=1 --all-features --filter-platform TRIPLE`"
             }
             FileRole::List => {
-                "`--nextest-list` takes the output of `cargo nextest list --message-format json`"
+                "`--nextest-list` takes the output of `cargo nextest list --message-format json --ignore-default-filter`"
             }
             FileRole::Configuration => {
                 "`--config` takes nextest's configuration, such as `.config/nextest.toml`"
