@@ -3,3 +3,4 @@ pub mod GraphLemmas
 pub mod KindLemmas
 pub mod ConfigurationLemmas
 pub mod PlatformLemmas
+pub mod TestLemmas

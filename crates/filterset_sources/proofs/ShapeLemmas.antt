@@ -1,8 +1,8 @@
 -- Objects of entries, and refusals.
 use Rattle.std.proofs.Common.{◌≡◌, List, [], ◌∷◌, ◌++◌, map, refl, string_bytes, Result, Ok, Err, ap, inl, inr, subst, sym}
 use Rattle.std.specs.Prelude.{IfErr, IsErrAnd, OnOk}
-use Rattle.std.specs.Map as maps
-use Rattle.serde_json.specs.Data.{Data}
+use Rattle.std.specs.List.{AllZip}
+use Rattle.serde_json.specs.Data.{Data, Members, no_members, member}
 use Rattle.serde_json.specs.View.{view, members_view}
 use Rattle.serde_json.proofs.Views.{Entry}
 use Rattle.filterset_json.specs.Paths.{joined, key_text}
@@ -14,9 +14,7 @@ use Rattle.std.specs.declared.alloc.AllocError.{AllocError}
 use Rattle.filterset_json.specs.declared.refusal.EntryRefusal.TheVariants.{Wrong}
 use Rattle.filterset_json.specs.declared.refusal.EntryRefusal.TheVariants as refusals
 use Rattle.filterset_sources.specs.Refusals.{Refuses, source_refusal}
-use Rattle.filterset_sources.specs.Shape.{EachMember, keys_of}
-use Rattle.filterset_sources.specs.Suites.{IsSuiteUnder, WrongSuites, WrongSuiteUnder}
-use Rattle.filterset_sources.specs.declared.list.Suite.{Suite}
+use Rattle.filterset_sources.specs.Shape.{EachMember, WrongMembers}
 use Rattle.filterset_sources.specs.declared.refusal.SourceRefusal.{SourceRefusal}
 use Rattle.filterset_sources.specs.declared.refusal.SourceRefusal.TheVariants.{NotJson, NotToml, WrongValue, OutOfMemory}
 
@@ -28,11 +26,6 @@ EachMember-push P [] (z ∷ ys) e y h p = absurd h
 EachMember-push P (d ∷ done) [] e y h p = absurd h
 EachMember-push P (d ∷ done) (z ∷ ys) e y h p = (h.0, EachMember-push P done ys e y h.1 p)
 
--- the keys of the members are those of the entries
-pub keys-entries : (es : List Entry) → map string_bytes (maps.keys_of es) ≡ keys_of (members_view es)
-keys-entries [] = refl
-keys-entries (e ∷ es) = ap (λ t. string_bytes e.0 ∷ t) (keys-entries es)
-
 -- the entry of a member
 pub EachMember-at : {A : Type 0} (P : Text → Data → A → Type 0) (done : List Entry) (e : Entry) (rest : List Entry) (xs : List A) → EachMember P (members_view (done ++ e ∷ rest)) xs → (x : A) × P (string_bytes e.0) (view e.1) x
 EachMember-at P [] e rest [] h = absurd h
@@ -40,12 +33,23 @@ EachMember-at P [] e rest (x ∷ xs) h = (x, h.0)
 EachMember-at P (d ∷ done) e rest [] h = absurd h
 EachMember-at P (d ∷ done) e rest (x ∷ xs) h = EachMember-at P done e rest xs h.1
 
--- the first suite that is wrong
-pub WrongSuites-at : (done : List Entry) (suites : List Suite) (e : Entry) (rest : List Entry) (place : Place) → EachMember IsSuiteUnder (members_view done) suites →
-    After (key_text (string_bytes e.0)) (WrongSuiteUnder (string_bytes e.0) (view e.1)) place → WrongSuites (members_view (done ++ e ∷ rest)) place
-WrongSuites-at [] suites e rest place h wrong = inl wrong
-WrongSuites-at (d ∷ done) [] e rest place h wrong = absurd h
-WrongSuites-at (d ∷ done) (x ∷ xs) e rest place h wrong = inr ((x, h.0), WrongSuites-at done xs e rest place h.1 wrong)
+-- the first member that is wrong
+pub WrongMembers-at : {A : Type 0} (P : Text → Data → A → Type 0) (W : Text → Data → Place → Type 0) (done : List Entry) (xs : List A) (e : Entry) (rest : List Entry) (place : Place) →
+    EachMember P (members_view done) xs → After (key_text (string_bytes e.0)) (W (string_bytes e.0) (view e.1)) place → WrongMembers P W (members_view (done ++ e ∷ rest)) place
+WrongMembers-at P W [] xs e rest place h wrong = inl wrong
+WrongMembers-at P W (d ∷ done) [] e rest place h wrong = absurd h
+WrongMembers-at P W (d ∷ done) (x ∷ xs) e rest place h wrong = inr ((x, h.0), WrongMembers-at P W done xs e rest place h.1 wrong)
+
+-- other entries of the same members
+pub EachMember-zip : {A B C : Type 0} (P : Text → Data → B → Type 0) (Q : Text → Data → C → Type 0) (f : A → B) (R : A → C → Type 0) → ((key : Text) (d : Data) (x : A) (y : C) → R x y → P key d (f x) → Q key d y) →
+    (ms : Members) (xs : List A) (ys : List C) → AllZip R xs ys → EachMember P ms (map f xs) → EachMember Q ms ys
+EachMember-zip P Q f R step no_members [] [] zip each = tt
+EachMember-zip P Q f R step no_members [] (y ∷ ys) zip each = absurd zip
+EachMember-zip P Q f R step no_members (x ∷ xs) ys zip each = absurd each
+EachMember-zip P Q f R step (member key d ms) [] ys zip each = absurd each
+EachMember-zip P Q f R step (member key d ms) (x ∷ xs) [] zip each = absurd zip
+EachMember-zip P Q f R step (member key d ms) (x ∷ xs) (y ∷ ys) zip each =
+    (step key d x y zip.0 each.0, EachMember-zip P Q f R step ms xs ys zip.1 each.1)
 
 -- a refusal by a longer path
 pub Names-by : (P : Place → Type 0) (step : Text) (inner outer : EntryRefusal) → ((v w : Wrongs) → inner ≡ Wrong v → outer ≡ Wrong w → (string_bytes w.path ≡ joined step (string_bytes v.path)) × (w.expected.now ≡ v.expected.now)) →

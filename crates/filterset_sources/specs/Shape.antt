@@ -1,6 +1,9 @@
 -- Shapes of objects in which any key may be, and paths.
-use Rattle.std.specs.Prelude.{◌≡◌, ◌++◌, ℕ, List, [], ◌∷◌, codes, decimal}
+use Rattle.std.specs.Prelude.{◌≡◌, ◌⊎◌, ◌++◌, ℕ, List, [], ◌∷◌, MatchOption, codes, decimal}
 use Rattle.serde_json.specs.Data.{Data, object, Members, no_members, member}
+use Rattle.serde_json.specs.Find.{as_object}
+use Rattle.filterset_json.specs.Paths.{key_text}
+use Rattle.filterset_json.specs.Places.{After, Place}
 use Rattle.filterset_json.specs.Shape.{Text}
 
 -- P holds of each key, what stands under it and the entry at its position, and there are as many of both
@@ -14,14 +17,15 @@ EachMember P (member key d ms) (x ∷ xs) = P key d x × EachMember P ms xs
 abbrev pub IsObjectOf : {A : Type 0} → (Text → Data → A → Type 0) → Data → List A → Type 0
 IsObjectOf P d xs = (ms : Members) × (d ≡ object ms) × EachMember P ms xs
 
--- the keys, in their order
-abbrev pub keys_of : Members → List Text
-keys_of no_members = []
-keys_of (member key d ms) = key ∷ keys_of ms
+-- the first member that is wrong
+abbrev pub WrongMembers : {A : Type 0} → (Text → Data → A → Type 0) → (Text → Data → Place → Type 0) → Members → Place → Type 0
+WrongMembers P W no_members place = ⊥
+WrongMembers {A} P W (member key d ms) place =
+    After (key_text key) (W key d) place ⊎ (((x : A) × P key d x) × WrongMembers P W ms place)
 
--- the value is an object with these keys
-abbrev pub HasKeys : Data → List Text → Type 0
-HasKeys d keys = (ms : Members) × (d ≡ object ms) × (keys ≡ keys_of ms)
+-- the value is no object, or this is its first member that is wrong
+abbrev pub WrongObject : {A : Type 0} → (Text → Data → A → Type 0) → (Text → Data → Place → Type 0) → Data → Place → Type 0
+WrongObject P W d place = MatchOption (as_object d) (place ≡ ([], codes "an object")) (λ ms. WrongMembers P W ms place)
 
 -- the path to the item at a position of what is at a path
 abbrev pub item_path : Text → ℕ → Text

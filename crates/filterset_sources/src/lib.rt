@@ -4,6 +4,7 @@
 mod configuration;
 mod json;
 mod list;
+mod members;
 mod metadata;
 mod platforms;
 mod refusal;
@@ -11,7 +12,7 @@ mod refusal;
 pub use configuration::{Configuration, ConfiguredFilterset, read_configuration};
 pub use filterset_json::WrongValue;
 pub use json::read_json;
-pub use list::{Suite, SuiteStatus, TestList, check_packages, read_test_list};
+pub use list::{RunIgnored, Suite, SuiteStatus, TestList, check_packages, read_test_list};
 pub use metadata::read_metadata;
 pub use platforms::{BuildPlatforms, read_platforms};
 pub use refusal::SourceRefusal;

@@ -4,8 +4,9 @@ ghost use Rattle.serde_json.specs.View.{view};
 ghost use Rattle.filterset_graph.specs.Packages.{ids};
 ghost use Rattle.filterset_json.specs.Paths.{joined, key_text};
 ghost use Rattle.filterset_sources.specs.Refusals.{Refuses};
-ghost use Rattle.filterset_sources.specs.Suites.{IsOfPackage, IsTestList, WrongPackages, WrongTestList};
+ghost use Rattle.filterset_sources.specs.Suites.{IsOfPackage, IsTestList, WrongPackages, WrongTestList, counts};
 
+use crate::members::Members;
 use crate::refusal::SourceRefusal;
 use filterset_graph::{
     BuildPlatform, PackageGraph, PackageId, RustBinaryId, RustTestBinaryKind, TestCaseName,
@@ -16,7 +17,30 @@ use std::alloc::Global;
 
 mod suites;
 
-use suites::Suites;
+use suites::{ListedSuite, count_all_tests};
+
+/// Which listed tests count, by whether they are `#[ignore]`d: nextest's option `--run-ignored`.
+#[derive(Clone, Copy, Debug, PartialEq, Eq)]
+pub enum RunIgnored {
+    /// Those that are not ignored.
+    Default,
+    /// Those that are ignored.
+    Only,
+    All,
+}
+
+impl RunIgnored {
+    /// Returns whether a test counts.
+    pub fn counts(self, is_ignored: bool) -> bool
+        ensures { result ≡ counts self is_ignored }
+    {
+        match self {
+            RunIgnored::Default => !is_ignored,
+            RunIgnored::Only => is_ignored,
+            RunIgnored::All => true,
+        }
+    }
+}
 
 /// Whether nextest listed the tests of a binary.
 #[derive(Clone, Copy, Debug, PartialEq, Eq)]
@@ -35,8 +59,10 @@ pub struct Suite {
     pub kind: RustTestBinaryKind,
     pub platform: BuildPlatform,
     pub status: SuiteStatus,
-    /// The names of its tests, in the order of the file, which nextest sorts.
+    /// The names of its tests that count, in the order of the file, which nextest sorts.
     pub tests: Vec<TestCaseName>,
+    /// The names of its other tests, in that order.
+    pub uncounted: Vec<TestCaseName>,
 }
 
 /// The test binaries that nextest listed.
@@ -46,13 +72,18 @@ pub struct TestList {
     pub suites: Vec<Suite>,
 }
 
-/// Reads the test binaries of what `cargo nextest list --message-format json` writes. Ignores keys that it has no use for.
-/// Refuses a suite whose key is not the id of its binary.
-pub fn read_test_list(alloc: Global, value: &Value) -> Result<TestList, SourceRefusal>
-    ensures read { IfOk result (λ list. IsTestList (view value.now) list.suites.items) }
+/// Reads the test binaries of what `cargo nextest list --message-format json` writes, with the tests that count. Ignores keys
+/// that it has no use for. Refuses a suite whose key is not the id of its binary.
+pub fn read_test_list(
+    alloc: Global,
+    value: &Value,
+    run_ignored: RunIgnored,
+) -> Result<TestList, SourceRefusal>
+    ensures read { IfOk result (λ list. IsTestList run_ignored (view value.now) list.suites.items) }
     ensures refused { IfErr result (Refuses (WrongTestList (view value.now))) }
 {
-    let Suites(suites) = required(alloc, value, "rust-suites")?;
+    let Members::<ListedSuite>(all) = required(alloc, value, "rust-suites")?;
+    let suites = count_all_tests(alloc, all, run_ignored)?;
     Ok(TestList { suites })
 }
 

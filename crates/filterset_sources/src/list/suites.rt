@@ -1,16 +1,13 @@
 //! The suites of a list.
-ghost use Rattle.std.specs.Prelude.{◌≡◌, IfErr, IfOk, List};
-ghost use Rattle.serde_json.specs.View.{members_view, view};
-ghost use Rattle.filterset_json.specs.Places.{Names};
-ghost use Rattle.filterset_json.specs.Refusals.{Refuses};
-ghost use Rattle.filterset_sources.specs.Shape.{EachMember, keys_of};
-ghost use Rattle.filterset_sources.specs.Suites.{IsSuiteUnder, WrongSuiteUnder, WrongSuites};
-ghost use Rattle.filterset_sources.specs.declared.list.Suite as suites;
+ghost use Rattle.std.specs.Prelude.{IfOk, map};
+ghost use Rattle.std.specs.List.{AllZip};
+ghost use Rattle.filterset_sources.specs.Suites.{IsCounted, counts};
 
-use crate::list::{Suite, SuiteStatus};
+use crate::list::{RunIgnored, Suite, SuiteStatus};
+use crate::members::{Member, Members};
 use filterset_graph::TestCaseName;
 use filterset_json::{Entry, EntryRefusal, Step, optional, required};
-use serde_json::{Map, Value};
+use serde_json::Value;
 use std::alloc::{AllocError, Global};
 
 impl Entry for SuiteStatus {
@@ -36,129 +33,135 @@ impl Entry for SuiteStatus {
     }
 }
 
-/// The tests of a binary, whose names are the keys of an object.
+/// A test of a suite, as the list has it.
 #[derive(Drop)]
-struct Tests(Vec<TestCaseName>);
-
-/// Copies the keys of an object.
-fn names_of(alloc: Global, members: &Map<String, Value>) -> Result<Vec<TestCaseName>, AllocError>
-    ensures { IfOk result (λ names. names.items ≡ keys_of (members_view members.now.entries)) }
-{
-    let mut names = Vec::with_capacity(alloc, members.len())?;
-    for name in members.keys() {
-        names.push(TestCaseName::new(alloc, name.as_str())?)?;
-    }
-    Ok(names)
+pub struct ListedTest {
+    name: TestCaseName,
+    is_ignored: bool,
 }
 
-impl Entry for Tests {
-    ghost use Rattle.std.specs.Prelude.{List, codes};
-    ghost use Rattle.filterset_json.specs.Places.{Itself};
+impl Member for ListedTest {
+    ghost use Rattle.std.specs.Prelude.{Bool};
     ghost use Rattle.filterset_json.specs.Shape.{Text};
-    ghost use Rattle.filterset_sources.specs.Shape.{HasKeys};
+    ghost use Rattle.filterset_sources.specs.Suites.{IsTest, WrongTest};
 
-    ghost Row = { List Text };
+    ghost Row = { Text × Bool };
 
-    ghost row_of = { λ tests. tests.0.items };
+    ghost row_of = { λ test. (test.name, test.is_ignored) };
 
-    ghost stands_for = { HasKeys };
+    ghost stands_for = { IsTest };
 
-    ghost is_wrong = { Itself HasKeys (codes "an object") };
+    ghost is_wrong = { λ key. WrongTest };
 
-    const EXPECTED: &'static str = "an object";
-
-    fn read(alloc: Global, value: &Value) -> Result<Tests, EntryRefusal> {
-        match value.as_object() {
-            Some(members) => Ok(Tests(names_of(alloc, members)?)),
-            None => Err(EntryRefusal::wrong(alloc, Self::EXPECTED)),
-        }
+    fn read_under(alloc: Global, key: &str, value: &Value) -> Result<ListedTest, EntryRefusal> {
+        Ok(ListedTest {
+            name: TestCaseName::new(alloc, key)?,
+            is_ignored: optional(alloc, value, "ignored", false)?,
+        })
     }
 }
 
-impl Entry for Suite {
-    ghost use Rattle.filterset_sources.specs.Suites.{IsSuite, WrongSuite};
-    ghost use Rattle.filterset_sources.specs.declared.list.Suite as suites;
+/// A suite, whose tests are not in it yet, and all of its tests.
+#[derive(Drop)]
+pub struct ListedSuite {
+    suite: Suite,
+    tests: Vec<ListedTest>,
+}
 
-    ghost Row = { suites.Suite };
+impl Entry for ListedSuite {
+    ghost use Rattle.std.specs.Prelude.{map};
+    ghost use Rattle.filterset_sources.specs.Suites.{IsListed, ListedRow, WrongSuite};
 
-    ghost row_of = { λ suite. suite };
+    ghost Row = { ListedRow };
 
-    ghost stands_for = { IsSuite };
+    ghost row_of = { λ listed. (listed.suite, map (λ test. (test.name, test.is_ignored)) listed.tests.items) };
+
+    ghost stands_for = { IsListed };
 
     ghost is_wrong = { WrongSuite };
 
     const EXPECTED: &'static str = "an object";
 
-    fn read(alloc: Global, value: &Value) -> Result<Suite, EntryRefusal> {
-        Ok(Suite {
+    fn read(alloc: Global, value: &Value) -> Result<ListedSuite, EntryRefusal> {
+        let suite = Suite {
             package_id: required(alloc, value, "package-id")?,
             binary_id: required(alloc, value, "binary-id")?,
             binary_name: required(alloc, value, "binary-name")?,
             kind: required(alloc, value, "kind")?,
             platform: required(alloc, value, "build-platform")?,
             status: optional(alloc, value, "status", SuiteStatus::Listed)?,
-            tests: required::<Tests>(alloc, value, "testcases")?.0,
-        })
+            tests: Vec::new(alloc),
+            uncounted: Vec::new(alloc),
+        };
+        let Members(tests) = required(alloc, value, "testcases")?;
+        Ok(ListedSuite { suite, tests })
     }
 }
 
-/// The suites that are the members of an object.
-#[derive(Drop)]
-pub struct Suites(pub Vec<Suite>);
+/// A suite under a key, which is the id of its binary.
+impl Member for ListedSuite {
+    ghost use Rattle.std.specs.Prelude.{map};
+    ghost use Rattle.filterset_sources.specs.Suites.{IsListedUnder, ListedRow, WrongSuiteUnder};
 
-/// Reads the suite under a key, which is the id of its binary.
-fn suite_under(alloc: Global, key: &str, value: &Value) -> Result<Suite, EntryRefusal>
-    ensures read { IfOk result (IsSuiteUnder key.now (view value.now)) }
-    ensures refused { IfErr result (Refuses ((suite : suites.Suite) × IsSuiteUnder key.now (view value.now) suite)) }
-    ensures place { IfErr result (Names (WrongSuiteUnder key.now (view value.now))) }
-{
-    let suite = Suite::read(alloc, value)?;
-    if suite.binary_id.as_str() == key {
-        Ok(suite)
-    } else {
-        Err(EntryRefusal::wrong(alloc, "the key of its suite").after(alloc, Step::Key("binary-id")))
-    }
-}
+    ghost Row = { ListedRow };
 
-/// Reads the suites that are the members of an object.
-fn suites_of(alloc: Global, members: &Map<String, Value>) -> Result<Vec<Suite>, EntryRefusal>
-    ensures read { IfOk result (λ all. EachMember IsSuiteUnder (members_view members.now.entries) all.items) }
-    ensures refused { IfErr result (Refuses ((all : List suites.Suite)
-        × EachMember IsSuiteUnder (members_view members.now.entries) all)) }
-    ensures place { IfErr result (Names (WrongSuites (members_view members.now.entries))) }
-{
-    let mut suites = Vec::with_capacity(alloc, members.len())?;
-    for (key, value) in members.iter() {
-        let key = key.as_str();
-        match suite_under(alloc, key, value) {
-            Ok(suite) => suites.push(suite)?,
-            Err(refusal) => return Err(refusal.after(alloc, Step::Key(key))),
+    ghost row_of = { λ listed. (listed.suite, map (λ test. (test.name, test.is_ignored)) listed.tests.items) };
+
+    ghost stands_for = { IsListedUnder };
+
+    ghost is_wrong = { WrongSuiteUnder };
+
+    fn read_under(alloc: Global, key: &str, value: &Value) -> Result<ListedSuite, EntryRefusal> {
+        let listed = ListedSuite::read(alloc, value)?;
+        if listed.suite.binary_id.as_str() == key {
+            Ok(listed)
+        } else {
+            Err(EntryRefusal::wrong(alloc, "the key of its suite").after(
+                alloc,
+                Step::Key("binary-id"),
+            ))
         }
+    }
+}
+
+/// Returns the suite with its tests: those that count, and the others.
+fn count_tests(
+    alloc: Global,
+    listed: ListedSuite,
+    run_ignored: RunIgnored,
+) -> Result<Suite, AllocError>
+    ensures { IfOk result (IsCounted run_ignored
+        (listed.suite, map (λ test. (test.name, test.is_ignored)) listed.tests.items)) }
+{
+    let ListedSuite { suite, tests } = listed;
+    let (mut counted, mut uncounted) = (Vec::new(alloc), Vec::new(alloc));
+    for test in tests {
+        let ListedTest { name, is_ignored } = test;
+        if run_ignored.counts(is_ignored) {
+            counted.push(name)?;
+        } else {
+            uncounted.push(name)?;
+        }
+    }
+    Ok(Suite {
+        tests: counted,
+        uncounted,
+        ..suite
+    })
+}
+
+/// Returns the suites with their tests.
+pub fn count_all_tests(
+    alloc: Global,
+    all: Vec<ListedSuite>,
+    run_ignored: RunIgnored,
+) -> Result<Vec<Suite>, AllocError>
+    ensures { IfOk result (λ suites. AllZip (λ listed. IsCounted run_ignored
+        (listed.suite, map (λ test. (test.name, test.is_ignored)) listed.tests.items)) all.items suites.items) }
+{
+    let mut suites = Vec::with_capacity(alloc, all.len())?;
+    for listed in all {
+        suites.push(count_tests(alloc, listed, run_ignored)?)?;
     }
     Ok(suites)
-}
-
-impl Entry for Suites {
-    ghost use Rattle.std.specs.Prelude.{◌≡◌, List, MatchOption, [], codes};
-    ghost use Rattle.serde_json.specs.Find.{as_object};
-    ghost use Rattle.filterset_sources.specs.Shape.{IsObjectOf};
-    ghost use Rattle.filterset_sources.specs.Suites.{IsSuiteUnder, WrongSuites};
-    ghost use Rattle.filterset_sources.specs.declared.list.Suite as suites;
-
-    ghost Row = { List suites.Suite };
-
-    ghost row_of = { λ all. all.0.items };
-
-    ghost stands_for = { IsObjectOf IsSuiteUnder };
-
-    ghost is_wrong = { λ d place. MatchOption (as_object d) (place ≡ ([], codes "an object")) (λ ms. WrongSuites ms place) };
-
-    const EXPECTED: &'static str = "an object";
-
-    fn read(alloc: Global, value: &Value) -> Result<Suites, EntryRefusal> {
-        match value.as_object() {
-            Some(members) => Ok(Suites(suites_of(alloc, members)?)),
-            None => Err(EntryRefusal::wrong(alloc, Self::EXPECTED)),
-        }
-    }
 }
