@@ -1,3 +1,5 @@
 mod PieceLemmas
 mod StringLemmas
 mod PlaceLemmas
+pub mod EditLemmas
+pub mod KeyLemmas
