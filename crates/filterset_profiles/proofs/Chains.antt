@@ -1,29 +1,22 @@
 -- Chains of profiles that fall back one on the next.
 use Rattle.std.proofs.Common.{◌≡◌, ℕ, zero, suc, ◌+◌, ◌<◌, Bool, true, false, List, [], ◌∷◌, ◌++◌, length, get_or, set, Option, Some, None, string_bytes, length-append, append_assoc, arith, refl, ap, sym, subst, ◌∙◌, ⊎_elim}
-use Rattle.std.specs.Prelude.{IfSome, alloc_error, bytes_eq, codes, option_and_then, slice_get}
-use Rattle.std.proofs.lemmas.Bool.{cases_eq}
+use Rattle.std.specs.Prelude.{IfSome, IsTrue, String, alloc_error, option_and_then, slice_get}
+use Rattle.std.specs.declared.alloc.Global.{Global}
+use Rattle.std.proofs.lemmas.Bool.{cases_eq, false≢true}
 use Rattle.std.proofs.lemmas.List.{get_or_default, get_or-set_other}
-use Rattle.std.proofs.lemmas.Slice.Eq.{bytes_eq-Decides}
-use Rattle.filterset_profiles.specs.PlatformTrees.{Text}
-use Rattle.filterset_profiles.specs.Lineages.{IsCycle, IsLineageFault, IsMissing, Leads, Lineage, named, parent}
+use Rattle.filterset_json.specs.Shape.{Text}
+use Rattle.filterset_profiles.specs.Names.{is_built_in}
+use Rattle.filterset_profiles.specs.Paths.{profile_path}
+use Rattle.filterset_profiles.specs.Lineages.{IsLineageFault, IsMissing, Leads, Lineage, named, parent}
 use Rattle.filterset_profiles.specs.declared.fault.LineageFault.{LineageFault}
 use Rattle.filterset_profiles.specs.declared.fault.LineageFault.TheVariants.{NoProfile, NoParent, Cycle, OutOfMemory}
 use Rattle.filterset_profiles.specs.declared.profiles.Profile.{Profile}
-use Rattle.filterset_profiles.proofs.Finds.{find_passes}
 
 -- the list goes on from the profile to the end of the chain
 abbrev pub IsIn : List Profile → Profile → Type 0
 IsIn chain p = (front : List Profile) × (rest : List Profile) × (chain ≡ front ++ p ∷ rest)
 
 module _ (ps : List Profile) where
-  named_is : (t : Text) (p : Profile) → named ps t ≡ Some p → t ≡ string_bytes p.name
-  named_is t p h = sym ((bytes_eq-Decides (string_bytes p.name) t).0 (find_passes (λ (q : Profile). bytes_eq (string_bytes q.name) t) ps p h))
-
-  -- where a profile is, its name leads
-  name_of : (o : Option Text) (p : Profile) → option_and_then (named ps) o ≡ Some p → o ≡ Some (string_bytes p.name)
-  name_of None p h = cc
-  name_of (Some t) p h = ap Some (named_is t p h)
-
   pub leads_on : (a : Option Text) (xs : List Profile) (b : Option Text) (ys : List Profile) (c : Option Text)
       → Leads ps a xs b → Leads ps b ys c → Leads ps a (xs ++ ys) c
   leads_on a [] b ys c h k = subst (λ (o : Option Text). Leads ps o ys c) (sym h) k
@@ -42,30 +35,19 @@ module _ (ps : List Profile) where
       (rest.0, (h.0, rest.1), rest.2)
 
   -- a chain that comes back to a profile
-  pub cycle_found : (name : Text) (chain : List Profile) (next : Option Text) (p : Profile) (fault : LineageFault) → Leads ps (Some name) chain next
-      → option_and_then (named ps) next ≡ Some p → IsIn chain p → IsCycle p fault → IsLineageFault ps name fault
-  cycle_found name chain next p (Cycle path) h at within is =
+  pub cycle_found : (name : Text) (chain : List Profile) (next : Option Text) (p : Profile) (path : String Global) → Leads ps (Some name) chain next
+      → option_and_then (named ps) next ≡ Some p → IsIn chain p → string_bytes path ≡ profile_path (string_bytes p.name) → IsLineageFault ps name (Cycle path)
+  cycle_found name chain next p path h at within is =
       let parts = leads_split (Some name) within.0 (p ∷ within.1) next (subst (λ (xs : List Profile). Leads ps (Some name) xs next) within.2 h) in
-      let same : parts.0 ≡ next = name_of parts.0 p parts.2.0 ∙ sym (name_of next p at) in (
-        within.0,
-        within.1,
-        p,
-        is,
-        next,
-        subst (λ (o : Option Text). Leads ps (Some name) within.0 o) same parts.1,
-        subst (λ (o : Option Text). Leads ps o (p ∷ within.1) next) same parts.2,
-      )
-  cycle_found name chain next p (NoProfile n) h at within is = absurd is
-  cycle_found name chain next p (NoParent path n) h at within is = absurd is
-  cycle_found name chain next p (OutOfMemory error) h at within is = absurd is
+      (chain, within.1, p, is, next, h, (at, parts.2.1))
 
   -- a chain that leads to a name that no profile has
   pub missing_found : (name : Text) (chain : List Profile) (wanted : Text) (fault : LineageFault) → Leads ps (Some name) chain (Some wanted)
-      → named ps wanted ≡ None → (wanted ≡ codes "default" → ⊥) → IsMissing chain wanted fault → IsLineageFault ps name fault
+      → named ps wanted ≡ None → is_built_in wanted ≡ false → IsMissing chain wanted fault → IsLineageFault ps name fault
   missing_found name chain wanted (NoProfile n) h none other is =
       let here : Leads ps (Some name) [] (Some wanted) = subst (λ (xs : List Profile). Leads ps (Some name) xs (Some wanted)) is.0 h in
       let same : wanted ≡ name = cc in
-      (is.1 ∙ same, subst (λ (t : Text). named ps t ≡ None) same none, λ e. other (same ∙ e))
+      (is.1 ∙ same, subst (λ (t : Text). named ps t ≡ None) same none, subst (λ (t : Text). is_built_in t ≡ false) same other)
   missing_found name chain wanted (NoParent path n) h none other is =
       let name_is : wanted ≡ string_bytes n = sym is.4 in (
         is.0,
@@ -73,7 +55,7 @@ module _ (ps : List Profile) where
         is.3,
         subst (λ (t : Text). Leads ps (Some name) (is.0 ++ is.1 ∷ []) (Some t)) name_is (subst (λ (xs : List Profile). Leads ps (Some name) xs (Some wanted)) is.2 h),
         subst (λ (t : Text). named ps t ≡ None) name_is none,
-        λ e. other (name_is ∙ e),
+        subst (λ (t : Text). is_built_in t ≡ false) name_is other,
       )
   missing_found name chain wanted (Cycle path) h none other is = absurd is
   missing_found name chain wanted (OutOfMemory error) h none other is = absurd is
@@ -119,14 +101,17 @@ module _ (ps : List Profile) where
       let whole : length xs ≡ suc (length circle) + length rest.0 = ap length rest.1 ∙ length-append (p ∷ circle) rest.0 in
       circle_goes_on n a p circle rest.0 c (omega arith) h rest.2 end
 
+  not_built_in : {A : Type 0} (t : Text) → is_built_in t ≡ false → IsTrue (is_built_in t) → A
+  not_built_in t other built_in = absurd (false≢true (sym other ∙ built_in))
+
   -- where there is a lineage, a fault is out of memory
   pub no_fault : (name : Text) (chain : List Profile) (fault : LineageFault) → Lineage ps name chain → IsLineageFault ps name fault → fault ≡ OutOfMemory alloc_error
   no_fault name chain (NoProfile n) h is =
       let last = leads_none (Some name) chain h.0 is.1 h.1 in
-      absurd (is.2 (subst (λ (o : Option Text). IfSome o (λ t. t ≡ codes "default")) (sym last.1) h.3))
+      not_built_in name is.2 (subst (λ (o : Option Text). IfSome o (λ t. IsTrue (is_built_in t))) (sym last.1) h.3)
   no_fault name chain (NoParent path n) h is =
       let last = leads_once (Some name) (is.0 ++ is.1 ∷ []) (Some (string_bytes n)) chain h.0 is.3 is.4 h.1 h.2 in
-      absurd (is.5 (subst (λ (o : Option Text). IfSome o (λ t. t ≡ codes "default")) (sym last.1) h.3))
+      not_built_in (string_bytes n) is.5 (subst (λ (o : Option Text). IfSome o (λ t. IsTrue (is_built_in t))) (sym last.1) h.3)
   no_fault name chain (Cycle path) h is =
       let rest = leads_past (Some name) is.0 is.4 chain h.0 is.5 h.1 h.2 in
       absurd (circle_goes_on (suc (length rest.0)) is.4 is.2 is.1 rest.0 h.0 (omega arith) is.6 rest.2 h.2)

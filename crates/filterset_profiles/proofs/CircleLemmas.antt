@@ -1,6 +1,6 @@
 -- Circles of names, by the positions of names.
-use Rattle.std.proofs.Common.{◌≡◌, ◌≢◌, ◌<◌, ◌⊎◌, inl, inr, ℕ, zero, suc, Bool, true, false, List, [], ◌∷◌, None, Option, Some, String, ⊎_elim, ap, arith, length, map, refl, string_bytes, subst, sym, ◌∙◌}
-use Rattle.std.specs.Prelude.{◌↔◌, IsSome, bytes_eq, option_and_then, option_copied, option_map, slice_get}
+use Rattle.std.proofs.Common.{◌≡◌, ◌≢◌, ◌<◌, ◌⊎◌, inl, inr, ℕ, zero, suc, Bool, true, false, List, [], ◌∷◌, None, Option, Some, String, ⊎_elim, ap, arith, length, map, refl, string_bytes, sym, ◌∙◌}
+use Rattle.std.specs.Prelude.{IsSome, bytes_eq, option_and_then, option_copied, option_map, slice_get}
 use Rattle.std.specs.Borrow.{Bor}
 use Rattle.std.specs.BTreeMap.{BTreeMap}
 use Rattle.std.specs.Cmp.Lexicographic.{slice_cmp}
@@ -14,13 +14,13 @@ use Rattle.std.specs.declared.cmp.Ordering.{Ordering}
 use Rattle.std.specs.declared.cmp.Ordering.TheVariants.{Equal, Greater, Less}
 use Rattle.std.proofs.lemmas.List.{length-map}
 use Rattle.std.proofs.lemmas.Map.Text.{is_eq-slice_cmp}
-use Rattle.std.proofs.lemmas.Option.{same_Some, slice_get-map, slice_get_within}
+use Rattle.std.proofs.lemmas.Option.{same_Some, slice_get-map}
 use Rattle.std.proofs.lemmas.Slice.Eq.{bytes_eq-Decides}
 use Rattle.toml.specs.Data.{Data, Members, member, no_members, get_member}
 use Rattle.toml.specs.View.{members_view}
 use Rattle.toml.proofs.Views.{Entry}
-use Rattle.filterset_profiles.specs.PlatformTrees.{Text}
-use Rattle.filterset_profiles.specs.Circles.{AreDistinct, FallsOnItself, IsIndex, IsProfileInCircle, MarksProfiles, after, fallback, fallback_of, link_row, links_of, position_of}
+use Rattle.filterset_json.specs.Shape.{Text}
+use Rattle.filterset_profiles.specs.Circles.{AreDistinct, IsIndex, IsProfileInCircle, MarksProfiles, after, fallback, fallback_of, link_row, links_of, position_of}
 use Rattle.filterset_profiles.specs.Leads.{AreFar, LeadsBack, MarksEnds, lead, lead_after}
 use Rattle.filterset_sources.specs.Configurations.{keys_of}
 use Rattle.filterset_profiles.specs.declared.circles.Link.{Link}

@@ -1,13 +1,13 @@
 -- The marks of positions that others lead to, and the index of names.
-use Rattle.std.proofs.Common.{◌≡◌, ◌≢◌, ◌<◌, ◌≤◌, ◌+◌, ◌++◌, ℕ, zero, suc, Bool, true, false, List, [], ◌∷◌, None, Option, Some, ◌⊎◌, inl, inr, ⊎_elim, ap, arith, cond, length, refl, replicate, sym, take, ◌∙◌}
-use Rattle.std.specs.Prelude.{◌↔◌, IsSome, bytes_eq, option_and_then, slice_get}
+use Rattle.std.proofs.Common.{◌≡◌, ◌<◌, ◌≤◌, ◌+◌, ◌++◌, ℕ, zero, suc, Bool, true, false, List, [], ◌∷◌, Option, Some, ◌⊎◌, inl, inr, ⊎_elim, ap, arith, cond, length, refl, replicate, sym, take, ◌∙◌}
+use Rattle.std.specs.Prelude.{◌↔◌, IsSome, bytes_eq, slice_get}
 use Rattle.std.specs.Borrow.{Bor}
 use Rattle.std.specs.BTreeMap.{BTreeMap}
 use Rattle.std.proofs.lemmas.Bool.{cases_eq}
 use Rattle.std.proofs.lemmas.List.{take-append-le, take_all}
 use Rattle.std.proofs.lemmas.Option.{same_Some}
 use Rattle.std.proofs.lemmas.Slice.Eq.{bytes_eq-Decides}
-use Rattle.filterset_profiles.specs.PlatformTrees.{Text}
+use Rattle.filterset_json.specs.Shape.{Text}
 use Rattle.filterset_profiles.specs.Circles.{IsIndex, position_of}
 use Rattle.filterset_profiles.specs.Leads.{IsMarked, MarksEnds, lead}
 use Rattle.filterset_profiles.proofs.LeadLemmas.{lead_inside}
@@ -108,10 +108,4 @@ index_more names name old new updates index = (
       (λ same. absurd (let wrong = (bytes_eq-Decides name q).1 same in cc))
       (there_or_last names name at q there)) in
       rw (updates q) kept),
-)
-
-pub index_none : (old : BTreeMap (Bor Text) ℕ) → ((q : Text) → position_of old q ≡ None) → IsIndex [] old
-index_none old none = (
-  (λ q at found. absurd (let empty = none q in cc)),
-  (λ q at there. absurd (cc)),
 )

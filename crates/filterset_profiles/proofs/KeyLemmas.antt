@@ -6,7 +6,7 @@ use Rattle.std.specs.Map as maps
 use Rattle.std.specs.Str.{bytes_eq}
 use Rattle.toml.specs.View.{members_view}
 use Rattle.toml.proofs.Views.{Entry}
-use Rattle.filterset_profiles.specs.PlatformTrees.{Text}
+use Rattle.filterset_json.specs.Shape.{Text}
 use Rattle.filterset_profiles.specs.Profiles.{keys_but}
 use Rattle.filterset_sources.specs.Configurations.{keys_of}
 

@@ -1,5 +1,5 @@
 -- Where positions lead after many steps.
-use Rattle.std.proofs.Common.{◌≡◌, ◌≢◌, ◌<◌, ◌≤◌, ◌+◌, ◌-◌, ◌*◌, ℕ, zero, suc, Bool, true, false, List, [], ◌∷◌, None, Option, Some, ◌⊎◌, inl, inr, ⊎_elim, ap, arith, eqb, length, map, refl, subst, sym, ◌∙◌}
+use Rattle.std.proofs.Common.{◌≡◌, ◌≢◌, ◌<◌, ◌+◌, ◌*◌, ℕ, zero, suc, true, false, List, [], ◌∷◌, None, Option, Some, ◌⊎◌, inl, inr, ⊎_elim, ap, arith, eqb, length, map, refl, subst, sym, ◌∙◌}
 use Rattle.std.specs.Prelude.{option_and_then, option_map, slice_get}
 use Rattle.std.specs.List.{AllByRecursion, IsDistinct, list_any}
 use Rattle.std.specs.Option.{option_map_or}
@@ -153,13 +153,6 @@ module _ (ps : List (Option ℕ)) where
   same_then : (o : Option ℕ) (f g : ℕ → Option ℕ) → ((k : ℕ) → f k ≡ g k) → option_and_then f o ≡ option_and_then g o
   same_then None f g h = refl
   same_then (Some k) f g h = h k
-
-  one_step : (o : Option ℕ) → o ≡ option_and_then (lead_after ps 0) o
-  one_step None = refl
-  one_step (Some k) = refl
-
-  pub after_one : AreLeadsAfter ps 1 ps
-  after_one = (refl, λ at. one_step (lead ps at))
 
   leads_mapped : (f : Option ℕ → Option ℕ) (o : Option (Option ℕ)) → f None ≡ None
       → option_and_then (λ (to : Option ℕ). to) (option_map f o) ≡ f (option_and_then (λ (to : Option ℕ). to) o)

@@ -3,7 +3,7 @@ use Rattle.std.proofs.Common.{◌≡◌, ◌++◌, Bool, true, List, Option, Som
 use Rattle.std.specs.Prelude.{◌&&◌, IfOk, codes, is_some, option_map, string_bytes, unwrap_or}
 use Rattle.std.specs.declared.alloc.AllocError.{AllocError}
 use Rattle.std.proofs.lemmas.Bool.{and_parts, false≢true}
-use Rattle.filterset_profiles.specs.PlatformTrees.{Text}
+use Rattle.filterset_json.specs.Shape.{Text}
 use Rattle.filterset_profiles.specs.Ranking.{IsDefaultFilter, IsSetTo, first_default}
 use Rattle.filterset_profiles.specs.declared.defaults.DefaultFilter.{DefaultFilter}
 use Rattle.filterset_profiles.specs.declared.defaults.DefaultFilter.TheVariants.{All, Set, Unknown}

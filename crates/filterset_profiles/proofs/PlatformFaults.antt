@@ -3,7 +3,7 @@ use Rattle.std.proofs.Common.{◌≡◌, ℕ, ◌-◌, false, ◌∷◌, length,
 use Rattle.std.specs.Prelude.{Result, Ok, Err, IfErr}
 use Rattle.std.specs.Result.{IsErrAnd}
 use Rattle.std.specs.Borrow.{Bor}
-use Rattle.filterset_profiles.specs.PlatformTrees.{Text}
+use Rattle.filterset_json.specs.Shape.{Text}
 use Rattle.filterset_profiles.specs.PlatformGrammar.{is_triple_byte}
 use Rattle.filterset_profiles.specs.PlatformReading.{Gives, IsOutOfMemory, IsPlaced, IsRest, IsTrueOf, Returns}
 use Rattle.filterset_profiles.specs.declared.platforms.fault.Expected.TheVariants.{TripleCharacter}

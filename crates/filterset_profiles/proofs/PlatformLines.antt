@@ -5,7 +5,8 @@ use Rattle.std.proofs.lemmas.Option.{slice_get-get_or}
 use Rattle.std.specs.Borrow.{Bor}
 use Rattle.std.specs.List.{AllZip, slice_get}
 use Rattle.filterset_profiles.proofs.PlatformWords.{tails}
-use Rattle.filterset_profiles.specs.PlatformTrees.{Text, Setting}
+use Rattle.filterset_profiles.specs.PlatformTrees.{Setting}
+use Rattle.filterset_json.specs.Shape.{Text}
 use Rattle.filterset_profiles.specs.PlatformGrammar.{IsLine}
 
 pub one_more_line : (lines : List Text) (ss : List Setting) (line : Text) (s : Setting)

@@ -5,7 +5,8 @@ use Rattle.std.specs.Prelude.{IfOk}
 use Rattle.std.specs.Borrow.{Bor}
 use Rattle.filterset_profiles.specs.declared.platforms.expressions.CfgExpr.{CfgExpr}
 use Rattle.filterset_profiles.specs.declared.platforms.fault.ReadError.{ReadError}
-use Rattle.filterset_profiles.specs.PlatformTrees.{Text, Expr, Exprs, none, more, expr_of, exprs_of}
+use Rattle.filterset_profiles.specs.PlatformTrees.{Expr, Exprs, none, more, expr_of, exprs_of}
+use Rattle.filterset_json.specs.Shape.{Text}
 use Rattle.filterset_profiles.specs.PlatformGrammar.{Sign, Inside, Expression}
 use Rattle.filterset_profiles.proofs.PlatformWords.{heads, no_word, tails}
 

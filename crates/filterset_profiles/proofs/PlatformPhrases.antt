@@ -4,7 +4,8 @@ use Rattle.std.specs.Prelude.{IsTrue, codes}
 use Rattle.std.specs.List.{All}
 use Rattle.std.proofs.lemmas.Bool.{false≢true}
 use Rattle.std.specs.Borrow.{Bor}
-use Rattle.filterset_profiles.specs.PlatformTrees.{Text, name, key_value, Expr, set, literal, negated, all, any, Exprs, Spec, is_named, satisfies}
+use Rattle.filterset_profiles.specs.PlatformTrees.{name, key_value, Expr, set, literal, negated, all, any, Exprs, Spec, is_named, satisfies}
+use Rattle.filterset_json.specs.Shape.{Text}
 use Rattle.filterset_profiles.specs.PlatformGrammar.{Sign, Quoted, IsKey, IsNamed, IsWhole, GoesOn, Inside, Expression, Spells, is_triple_byte}
 use Rattle.filterset_profiles.specs.PlatformReading.{Gives}
 use Rattle.filterset_profiles.specs.declared.platforms.fault.ReadError.{ReadError}

@@ -5,7 +5,7 @@ use Rattle.std.specs.Borrow.{Bor}
 use Rattle.std.specs.List.{enumerate_from}
 use Rattle.std.proofs.lemmas.List.{flat_map_more, get_or-map, length-map, map-append, take_more}
 use Rattle.std.proofs.lemmas.List.FromFn.{get_or-enumerate_from, length-enumerate_from}
-use Rattle.filterset_profiles.specs.PlatformTrees.{Text}
+use Rattle.filterset_json.specs.Shape.{Text}
 use Rattle.filterset_profiles.specs.Paths.{override_path, profile_path}
 use Rattle.filterset_profiles.specs.Ranking.{placed}
 use Rattle.filterset_profiles.specs.declared.overrides.Override.{Override}

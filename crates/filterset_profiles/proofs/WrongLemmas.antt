@@ -8,7 +8,7 @@ use Rattle.filterset_places.specs.Numbers.{AreApart, numbered}
 use Rattle.filterset_places.specs.Places.{IsNumberedPlace}
 use Rattle.filterset_places.specs.declared.place.Place.{Place}
 use Rattle.filterset_places.specs.declared.stretch.Stretch.{Stretch}
-use Rattle.filterset_profiles.specs.PlatformTrees.{Text}
+use Rattle.filterset_json.specs.Shape.{Text}
 use Rattle.filterset_profiles.specs.Wrong.{FindsWrong, IsValuePlace, Judged, ValueRow, values_of}
 use Rattle.filterset_profiles.specs.declared.wrong.WrongValue.{WrongValue}
 

@@ -6,10 +6,8 @@ use Rattle.std.specs.Cmp.Lexicographic.{slice_cmp}
 use Rattle.std.specs.Option.{option_map_or}
 use Rattle.std.specs.Ordering.{nat_cmp}
 use Rattle.toml.specs.Data.{Data, Members, no_members, member, as_str, as_table, get, get_member}
-use Rattle.toml.specs.View.{view}
-use Rattle.filterset_profiles.specs.PlatformTrees.{Text}
+use Rattle.filterset_json.specs.Shape.{Text}
 use Rattle.filterset_sources.specs.Configurations.{keys_of}
-use Rattle.filterset_profiles.specs.declared.checking.CheckedFile.{CheckedFile}
 use Rattle.filterset_profiles.specs.declared.circles.Link.{Link}
 
 -- the name of the profile that the one of this name falls back on: `default`, unless it inherits from another; `default`
@@ -40,18 +38,16 @@ IsProfileInCircle profiles at = (name : Text) × (slice_get (keys_of profiles) a
 abbrev pub MarksProfiles : Members → List Bool → Type 0
 MarksProfiles profiles marks = (at : ℕ) → (slice_get marks at ≡ Some true) ↔ IsProfileInCircle profiles at
 
--- the same of a file, which may have no profiles
-abbrev pub profiles_of : Data → Members
-profiles_of file = unwrap_or (option_and_then as_table (get (codes "profile") file)) no_members
+-- the members of the table under a key: there are none if there is no table
+abbrev pub members_under : Text → Data → Members
+members_under key d = unwrap_or (option_and_then as_table (get key d)) no_members
 
+-- the same of a file
 abbrev pub IsInCircle : Data → ℕ → Type 0
-IsInCircle file at = IsProfileInCircle (profiles_of file) at
+IsInCircle file at = IsProfileInCircle (members_under (codes "profile") file) at
 
 abbrev pub MarksCircles : Data → List Bool → Type 0
-MarksCircles file marks = MarksProfiles (profiles_of file) marks
-
-abbrev pub KnowsCircles : CheckedFile → Type 0
-KnowsCircles f = MarksCircles (view f.file.now) f.circles.items
+MarksCircles file marks = MarksProfiles (members_under (codes "profile") file) marks
 
 -- ---- how they are found
 

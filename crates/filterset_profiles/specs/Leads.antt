@@ -1,5 +1,5 @@
 -- Lists that lead from positions to positions.
-use Rattle.std.specs.Prelude.{◌≡◌, ◌<◌, ◌↔◌, ◌⊎◌, ℕ, zero, suc, Bool, true, List, None, Option, Some, length, option_and_then, slice_get}
+use Rattle.std.specs.Prelude.{◌≡◌, ◌<◌, ◌↔◌, ◌⊎◌, ℕ, zero, suc, Bool, true, List, Option, Some, length, option_and_then, slice_get}
 
 -- where a position leads, if anywhere
 abbrev pub lead : List (Option ℕ) → ℕ → Option ℕ

@@ -1,6 +1,7 @@
 pub mod Circles
 pub mod Leads
 pub mod Lineages
+pub mod Names
 pub mod Paths
 pub mod Profiles
 pub mod Ranking

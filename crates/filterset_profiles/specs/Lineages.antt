@@ -1,15 +1,21 @@
 -- The profiles that a profile falls back on.
-use Rattle.std.specs.Prelude.{◌≡◌, ◌≢◌, List, [], ◌∷◌, ◌++◌, Option, None, Some, IfSome, bytes_eq, codes, find, if◌then◌else◌, option_and_then, option_map, string_bytes}
+use Rattle.std.specs.Prelude.{◌≡◌, List, [], ◌∷◌, ◌++◌, Option, None, Some, IfSome, IsTrue, bytes_eq, codes, false, find, if◌then◌else◌, option_and_then, option_map, string_bytes}
 use Rattle.std.specs.Option.{option_or}
-use Rattle.filterset_profiles.specs.PlatformTrees.{Text}
+use Rattle.filterset_json.specs.Shape.{Text}
+use Rattle.filterset_profiles.specs.Names.{is_built_in}
 use Rattle.filterset_profiles.specs.Paths.{profile_path}
 use Rattle.filterset_profiles.specs.declared.fault.LineageFault.{LineageFault}
 use Rattle.filterset_profiles.specs.declared.fault.LineageFault.TheVariants.{NoProfile, NoParent, Cycle, OutOfMemory}
 use Rattle.filterset_profiles.specs.declared.profiles.Profile.{Profile}
 
--- the first profile of this name
+-- the first profile that is named so
+abbrev pub first_named : List Profile → Text → Option Profile
+first_named ps name = find (λ p. bytes_eq (string_bytes p.name) name) ps
+
+-- the profile of this name, which is `default` for a `default-miri` that the file lacks
 abbrev pub named : List Profile → Text → Option Profile
-named ps name = find (λ p. bytes_eq (string_bytes p.name) name) ps
+named ps name = option_or (first_named ps name)
+    (if bytes_eq name (codes "default-miri") then first_named ps (codes "default") else None)
 
 -- a profile falls back on the one that it inherits from, and else on `default`, which falls back on none
 abbrev pub parent : Profile → Option Text
@@ -22,19 +28,19 @@ abbrev pub Leads : List Profile → Option Text → List Profile → Option Text
 Leads ps name [] last = name ≡ last
 Leads ps name (p ∷ chain) last = (option_and_then (named ps) name ≡ Some p) × Leads ps (parent p) chain last
 
--- the chain ends where nothing follows, or at `default`, if no profile has this name
+-- the chain ends where nothing follows, or at a profile that is built in, if the file lacks it
 abbrev pub Lineage : List Profile → Text → List Profile → Type 0
 Lineage ps name chain =
     (last : Option Text) × Leads ps (Some name) chain last
-    × (option_and_then (named ps) last ≡ None) × IfSome last (λ t. t ≡ codes "default")
+    × (option_and_then (named ps) last ≡ None) × IfSome last (λ t. IsTrue (is_built_in t))
 
 -- no profile has the name, or the one that the last of a chain inherits from; or a chain comes back to where it was
 abbrev pub IsLineageFault : List Profile → Text → LineageFault → Type 0
-IsLineageFault ps name (NoProfile n) = (string_bytes n ≡ name) × (named ps name ≡ None) × (name ≢ codes "default")
+IsLineageFault ps name (NoProfile n) = (string_bytes n ≡ name) × (named ps name ≡ None) × (is_built_in name ≡ false)
 IsLineageFault ps name (NoParent path n) =
     (chain : List Profile) × (p : Profile) × (string_bytes path ≡ profile_path (string_bytes p.name) ++ codes ".inherits")
     × Leads ps (Some name) (chain ++ p ∷ []) (Some (string_bytes n))
-    × (named ps (string_bytes n) ≡ None) × (string_bytes n ≢ codes "default")
+    × (named ps (string_bytes n) ≡ None) × (is_built_in (string_bytes n) ≡ false)
 IsLineageFault ps name (Cycle path) =
     (chain circle : List Profile) × (p : Profile) × (string_bytes path ≡ profile_path (string_bytes p.name))
     × (t : Option Text) × Leads ps (Some name) chain t × Leads ps t (p ∷ circle) t
@@ -48,8 +54,3 @@ IsMissing chain name (NoParent path n) =
     × (string_bytes path ≡ profile_path (string_bytes p.name) ++ codes ".inherits") × (string_bytes n ≡ name)
 IsMissing chain name (Cycle path) = ⊥
 IsMissing chain name (OutOfMemory error) = ⊥
-
--- the fault of a chain that comes back to a profile
-abbrev pub IsCycle : Profile → LineageFault → Type 0
-IsCycle p (Cycle path) = string_bytes path ≡ profile_path (string_bytes p.name)
-IsCycle p fault = ⊥

@@ -1,7 +1,7 @@
 -- Paths to the profiles of a configuration, and to their overrides.
 use Rattle.std.specs.Prelude.{ℕ, ◌++◌, codes, decimal}
 use Rattle.filterset_json.specs.Paths.{key_text}
-use Rattle.filterset_profiles.specs.PlatformTrees.{Text}
+use Rattle.filterset_json.specs.Shape.{Text}
 
 -- the path to the profile of this name
 abbrev pub profile_path : Text → Text

@@ -5,7 +5,8 @@ use Rattle.std.specs.Char.{is_ascii_alphabetic, is_ascii_digit}
 use Rattle.std.specs.List.{All, prefix_len}
 use Rattle.std.specs.Option.{option_map_or}
 use Rattle.std.specs.Str.{bytes_eq, trim_start}
-use Rattle.filterset_profiles.specs.PlatformTrees.{Text, Setting, name, key_value, Expr, set, literal, negated, all, any, Exprs, none, more, Spec, is_named, satisfies}
+use Rattle.filterset_profiles.specs.PlatformTrees.{Setting, name, key_value, Expr, set, literal, negated, all, any, Exprs, none, more, Spec, is_named, satisfies}
+use Rattle.filterset_json.specs.Shape.{Text}
 
 -- an ASCII letter or `_`; or a digit
 abbrev pub is_letter : ℕ → Bool

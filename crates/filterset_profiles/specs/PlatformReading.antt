@@ -1,11 +1,14 @@
 -- What readers return.
-use Rattle.std.specs.Prelude.{◌≡◌, ◌≢◌, ◌+◌, ◌≤◌, ℕ, false, List, [], ◌∷◌, ◌++◌, IsSomeAnd, length, drop, slice_get, take, Result, Ok, Err}
+use Rattle.std.specs.Prelude.{◌≡◌, ◌≢◌, ◌+◌, ◌≤◌, ℕ, false, List, [], ◌∷◌, ◌++◌, IsSomeAnd, length, drop, slice_get, take, None, Some, Result, Ok, Err}
 use Rattle.std.specs.List.{All, AllZip}
 use Rattle.std.specs.Borrow.{Bor}
+use Rattle.std.specs.Str.Lines.{lines}
 use Rattle.filterset_profiles.specs.PlatformGrammar.{BeginsWithWord, IsLine, Spells, is_triple_byte}
-use Rattle.filterset_profiles.specs.PlatformTrees.{Text, Setting, Spec}
+use Rattle.filterset_profiles.specs.PlatformTrees.{Setting, Spec}
+use Rattle.filterset_json.specs.Shape.{Text}
+use Rattle.filterset_profiles.specs.PlatformValues.{lacking}
 use Rattle.filterset_profiles.specs.declared.platforms.fault.CfgRefusal.{CfgRefusal}
-use Rattle.filterset_profiles.specs.declared.platforms.fault.CfgRefusal.TheVariants as lines
+use Rattle.filterset_profiles.specs.declared.platforms.fault.CfgRefusal.TheVariants as refusals
 use Rattle.filterset_profiles.specs.declared.platforms.fault.Expected.{Expected}
 use Rattle.filterset_profiles.specs.declared.platforms.fault.Expected.TheVariants.{Expression, OpenParenthesis, CloseParenthesis, CommaOrCloseParenthesis, Value, End, TripleCharacter}
 use Rattle.filterset_profiles.specs.declared.platforms.fault.PlatformRefusal.{PlatformRefusal}
@@ -57,8 +60,14 @@ FaultStands text (platforms.OutOfMemory error) = Unit {0}
 FaultStands text (platforms.Fault fault) =
     ((spec : Spec) → ¬ Spells text spec) × (fault.offset ≤ length text) × Lacks fault.expected (drop fault.offset text)
 
--- the refused line, counted from 1, is the first that is of no setting
-abbrev pub Refuses : List Text → CfgRefusal → Type 0
-Refuses all (lines.OutOfMemory error) = Unit {0}
-Refuses all (lines.Line number) = (at : ℕ) × (ss : List Setting) × (number ≡ at + 1) × AllZip IsLine (take at all) ss
-    × IsSomeAnd (slice_get all at) (λ line. (s : Setting) → ¬ IsLine line s)
+-- the lines of the text are these settings of a platform
+abbrev pub AreSettings : Text → List Setting → Type 0
+AreSettings text ss = AllZip IsLine (lines text) ss × (lacking ss ≡ None)
+
+-- the refused line, counted from 1, is the first that is of no setting; or the lines are settings that lack this
+abbrev pub Refuses : Text → CfgRefusal → Type 0
+Refuses text (refusals.OutOfMemory error) = Unit {0}
+Refuses text (refusals.Lacks key) = (ss : List Setting) × AllZip IsLine (lines text) ss × (lacking ss ≡ Some key.now)
+Refuses text (refusals.Line number) = (at : ℕ) × (ss : List Setting) × (number ≡ at + 1)
+    × AllZip IsLine (take at (lines text)) ss
+    × IsSomeAnd (slice_get (lines text) at) (λ line. (s : Setting) → ¬ IsLine line s)

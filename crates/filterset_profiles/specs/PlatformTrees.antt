@@ -1,15 +1,13 @@
 -- Platforms of a configuration, and what is known of a platform, as plain values.
 use Rattle.std.specs.Prelude.{ℕ, Bool, List, [], ◌∷◌, Option, map, string_bytes}
 use Rattle.std.specs.Option.{option_map}
+use Rattle.filterset_json.specs.Shape.{Text}
 use Rattle.filterset_profiles.specs.declared.platforms.settings.Cfg.{Cfg}
 use Rattle.filterset_profiles.specs.declared.platforms.settings.Cfg.TheVariants.{Name, KeyValue}
 use Rattle.filterset_profiles.specs.declared.platforms.expressions.CfgExpr.{CfgExpr, Value, Literal, Not', All', Any', Row_of-CfgExpr, end_of-CfgExpr, more_of-CfgExpr}
 use Rattle.filterset_profiles.specs.declared.platforms.facts.PlatformFacts.{PlatformFacts}
 use Rattle.filterset_profiles.specs.declared.platforms.specification.PlatformSpec.{PlatformSpec}
 use Rattle.filterset_profiles.specs.declared.platforms.specification.PlatformSpec.TheVariants as platforms
-
-abbrev pub Text : Type 0
-Text = List ℕ
 
 -- what rustc sets: a name, or one of a key's values
 pub data Setting : Type 0 where

@@ -1,9 +1,10 @@
 -- What platforms mean, as far as facts decide it.
-use Rattle.std.specs.Prelude.{◌≡◌, Bool, true, false, not, ◌&&◌, List, Option, None, Some, IsSome, if◌then◌else◌, option_and_then, option_map}
+use Rattle.std.specs.Prelude.{◌≡◌, Bool, true, false, not, ◌&&◌, codes, List, Option, None, Some, IsSome, if◌then◌else◌, option_and_then, option_map}
 use Rattle.std.specs.List.{list_any}
 use Rattle.std.specs.Option.{option_map_or}
 use Rattle.std.specs.Str.{bytes_eq}
 use Rattle.filterset_profiles.specs.PlatformTrees.{Setting, name, key_value, Expr, set, literal, negated, all, any, Exprs, none, more, Spec, is_named, satisfies, spec_of, Facts}
+use Rattle.filterset_json.specs.Shape.{Text}
 use Rattle.filterset_profiles.specs.declared.platforms.filter.PlatformFilter.{PlatformFilter}
 use Rattle.filterset_profiles.specs.declared.platforms.specification.PlatformSpec.{PlatformSpec}
 
@@ -15,6 +16,21 @@ same_setting _ _ = false
 -- the setting is one of these
 abbrev pub is_set : List Setting → Setting → Bool
 is_set ts s = list_any (λ t. same_setting t s) ts
+
+-- the name or the key of a setting
+abbrev pub word_of : Setting → Text
+word_of (name n) = n
+word_of (key_value k v) = k
+
+-- one of these settings has this name or key
+abbrev pub sets : List Setting → Text → Bool
+sets ss word = list_any (λ s. bytes_eq (word_of s) word) ss
+
+-- what settings lack of those that each platform has: an architecture and an operating system
+abbrev pub lacking : List Setting → Option Text
+lacking ss =
+    if not (sets ss (codes "target_arch")) then Some (codes "target_arch")
+    else if not (sets ss (codes "target_os")) then Some (codes "target_os") else None
 
 -- Kleene's connectives: `None` is unknown, and one side may decide
 abbrev pub both : Option Bool → Option Bool → Option Bool

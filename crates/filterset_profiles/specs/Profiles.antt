@@ -3,12 +3,13 @@ use Rattle.std.specs.Prelude.{◌≡◌, ◌||◌, Bool, List, [], ◌∷◌, Op
 use Rattle.std.specs.List.{AllZip, list_any}
 use Rattle.std.specs.Option.{option_map_or}
 use Rattle.std.specs.declared.alloc.Global.{Global}
-use Rattle.toml.specs.Data.{Data, string, array, table, no_items, Members, no_members, member, as_table, get}
+use Rattle.toml.specs.Data.{Data, string, array, table, no_items, Members, no_members, as_table, get}
 use Rattle.toml.specs.Parse.{parse_document}
 use Rattle.toml.specs.View.{items_of, members_of}
 use Rattle.filterset_sources.specs.Configurations.{keys_of}
 use Rattle.filterset_profiles.specs.PlatformGrammar.{Spells}
-use Rattle.filterset_profiles.specs.PlatformTrees.{Text, spec_of}
+use Rattle.filterset_profiles.specs.PlatformTrees.{spec_of}
+use Rattle.filterset_json.specs.Shape.{Text}
 use Rattle.filterset_profiles.specs.declared.platforms.filter.PlatformFilter.{PlatformFilter}
 use Rattle.filterset_profiles.specs.declared.platforms.specification.PlatformSpec.{PlatformSpec}
 use Rattle.filterset_profiles.specs.declared.overrides.Override.{Override}

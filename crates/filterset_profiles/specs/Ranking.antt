@@ -3,7 +3,8 @@ use Rattle.std.specs.Prelude.{◌≡◌, ◌++◌, ◌&&◌, ℕ, true, List, Op
 use Rattle.std.specs.Borrow.{Bor}
 use Rattle.std.specs.List.{enumerate_from}
 use Rattle.std.specs.declared.alloc.Global.{Global}
-use Rattle.filterset_profiles.specs.PlatformTrees.{Facts, Text}
+use Rattle.filterset_profiles.specs.PlatformTrees.{Facts}
+use Rattle.filterset_json.specs.Shape.{Text}
 use Rattle.filterset_profiles.specs.PlatformValues.{applies}
 use Rattle.filterset_profiles.specs.Paths.{override_path, profile_path}
 use Rattle.filterset_profiles.specs.declared.defaults.DefaultFilter.{DefaultFilter}

@@ -1,7 +1,7 @@
 -- What a refusal says.
 use Rattle.std.specs.Prelude.{◌≡◌, None, List}
 use Rattle.toml.specs.Parse.{parse_document}
-use Rattle.filterset_profiles.specs.PlatformTrees.{Text}
+use Rattle.filterset_json.specs.Shape.{Text}
 use Rattle.filterset_profiles.specs.Profiles.{HasProfiles}
 use Rattle.filterset_profiles.specs.declared.profiles.Profile.{Profile}
 use Rattle.filterset_profiles.specs.declared.refusal.ProfileRefusal.{ProfileRefusal}

@@ -1,21 +1,27 @@
 -- Which values of a configuration's profiles are wrong, other than its filtersets.
-use Rattle.std.specs.Prelude.{◌≡◌, ◌+◌, ◌++◌, ◌||◌, ◌⊎◌, ℕ, Bool, false, List, [], ◌∷◌, None, Option, Some, IfSome, IsTrue, MatchOption, bytes_eq, codes, if◌then◌else◌, is_none, is_some, map, option_and_then, option_map, option_to_list, slice_get, string_bytes}
+use Rattle.std.specs.Prelude.{◌≡◌, ◌+◌, ◌++◌, ◌||◌, ◌⊎◌, ℕ, Bool, false, List, [], ◌∷◌, None, Option, Some, IfSome, IsTrue, MatchOption, codes, if◌then◌else◌, is_none, is_some, map, option_and_then, option_map, option_to_list, slice_get, string_bytes}
 use Rattle.std.specs.Option.{option_map_or}
 use Rattle.toml.specs.Data.{Data, table, Items, no_items, item, Members, no_members, member, as_array, as_str, as_table, get}
 use Rattle.toml.specs.Parse.{parse_document}
+use Rattle.toml.specs.View.{view}
+use Rattle.filterset_json.specs.Paths.{key_text}
 use Rattle.filterset_places.specs.Numbers.{AreApart, numbered}
 use Rattle.filterset_places.specs.Places.{IsNumberedPlace}
 use Rattle.filterset_places.specs.declared.place.Place.{Place}
 use Rattle.filterset_places.specs.declared.stretch.Stretch.{Stretch}
 use Rattle.filterset_profiles.specs.PlatformGrammar.{Spells}
-use Rattle.filterset_profiles.specs.PlatformTrees.{Spec, Text}
-use Rattle.filterset_profiles.specs.Circles.{IsInCircle}
+use Rattle.filterset_profiles.specs.PlatformTrees.{Spec}
+use Rattle.filterset_json.specs.Shape.{Text}
+use Rattle.filterset_profiles.specs.Circles.{IsInCircle, MarksCircles, members_under}
+use Rattle.filterset_profiles.specs.Names.{is_built_in, is_reserved}
 use Rattle.filterset_profiles.specs.Paths.{override_path, profile_path}
 use Rattle.filterset_profiles.specs.Profiles.{is_group}
 use Rattle.filterset_profiles.specs.declared.placing.NumberedValues.{NumberedValues}
+use Rattle.filterset_profiles.specs.declared.checking.CheckedFile.{CheckedFile}
+use Rattle.filterset_profiles.specs.declared.walking.Walk.{Walk}
 use Rattle.filterset_profiles.specs.declared.wrong.ProfileValue.{ProfileValue}
 use Rattle.filterset_profiles.specs.declared.wrong.ValueRole.{ValueRole}
-use Rattle.filterset_profiles.specs.declared.wrong.ValueRole.TheVariants.{ForBoth, ForNothing, Group, NoCircle, NoText, Parent, Platform}
+use Rattle.filterset_profiles.specs.declared.wrong.ValueRole.TheVariants.{ForBoth, ForNothing, Group, NoCircle, NoText, Parent, Platform, ReservedGroup, ReservedProfile}
 use Rattle.filterset_profiles.specs.declared.wrong.WrongValue.{WrongValue}
 
 -- ---- the values that are checked
@@ -26,30 +32,34 @@ pub record ValueRow : Type 0 where
   pub role : ValueRole
   pub text : Text
 
+abbrev pub row : Text → ValueRole → Text → ValueRow
+row at to_be found = record { path = at; role = to_be; text = found }
+
 abbrev pub value_row : ProfileValue → ValueRow
-value_row v = record { path = string_bytes v.path; role = v.role; text = string_bytes v.text }
+value_row v = row (string_bytes v.path) v.role (string_bytes v.text)
 
 abbrev pub value_rows : List ProfileValue → List ValueRow
 value_rows values = map value_row values
 
+-- a walk finds these more
+abbrev pub Adds : List ValueRow → Walk → Walk → Type 0
+Adds rows old new = value_rows new.values.items ≡ value_rows old.values.items ++ rows
+
 -- a value at a path, which is to be a text
-abbrev pub text_values : Text → ValueRole → Data → List ValueRow
-text_values path role e = option_map_or (λ t. record { path = path; role = role; text = t }) (as_str e)
-    (record { path = path; role = NoText; text = [] }) ∷ []
+abbrev pub text_row : Text → ValueRole → Data → ValueRow
+text_row path role e = option_map_or (row path role) (as_str e) (row path NoText [])
 
 -- the path to what is under a key of what is at a path
 abbrev pub below : Text → Text → Text
 below path key = path ++ (codes "." ++ key)
 
 abbrev pub value_under : Text → Text → ValueRole → Data → List ValueRow
-value_under path key role d = option_map_or (text_values (below path key) role) (get key d) []
+value_under path key role d = option_to_list (option_map (text_row (below path key) role) (get key d))
 
 -- the platforms of an override: a text, or the parts of a table
-abbrev pub part_values : Text → Data → List ValueRow
-part_values path e = value_under path (codes "host") Platform e ++ value_under path (codes "target") Platform e
-
 abbrev pub platforms_at : Text → Data → List ValueRow
-platforms_at path e = if is_some (as_table e) then part_values path e else text_values path Platform e
+platforms_at path e = if is_none (as_table e) then text_row path Platform e ∷ []
+    else (value_under path (codes "host") Platform e ++ value_under path (codes "target") Platform e)
 
 abbrev pub platform_values : Text → Data → List ValueRow
 platform_values path d = option_map_or (platforms_at (below path (codes "platform"))) (get (codes "platform") d) []
@@ -66,14 +76,9 @@ shape_of d =
     if is_none (get (codes "filter") d) then if has_platform d then None else Some ForNothing
     else if is_some (get (codes "default-filter") d) then Some ForBoth else None
 
-abbrev pub shape_values : Text → Data → List ValueRow
-shape_values path d = option_to_list (option_map (λ role. record { path = path; role = role; text = [] }) (shape_of d))
-
-abbrev pub target_values : Text → Data → List ValueRow
-target_values path d = platform_values path d ++ shape_values path d
-
 abbrev pub override_values : Text → Data → List ValueRow
-override_values path d = value_under path (codes "test-group") Group d ++ target_values path d
+override_values path d = value_under path (codes "test-group") Group d
+    ++ (platform_values path d ++ option_to_list (option_map (λ role. row path role []) (shape_of d)))
 
 -- those of the overrides of the profile at a path, of which the first has this position
 abbrev pub item_values : Text → ℕ → Items → List ValueRow
@@ -86,29 +91,35 @@ list_values path d = option_map_or (item_values path 0) (option_and_then as_arra
 -- the name that the profile at a position inherits from is also to lead to no circle
 abbrev pub circle_values : Text → ℕ → Data → List ValueRow
 circle_values path at d =
-    option_to_list (option_map (λ t. record { path = below path (codes "inherits"); role = NoCircle at; text = t })
+    option_to_list (option_map (row (below path (codes "inherits")) (NoCircle at))
     (option_and_then as_str (get (codes "inherits") d)))
 
-abbrev pub inherited_values : Text → ℕ → Data → List ValueRow
-inherited_values path at d = value_under path (codes "inherits") Parent d ++ circle_values path at d
-
 abbrev pub profile_values : Text → ℕ → Data → List ValueRow
-profile_values path at d = inherited_values path at d ++ list_values path d
+profile_values path at d =
+    value_under path (codes "inherits") Parent d ++ (circle_values path at d ++ list_values path d)
 
 -- those of profiles, of which the first has this position
 abbrev pub member_values : ℕ → Members → List ValueRow
 member_values at no_members = []
 member_values at (member name d ms) = profile_values (profile_path name) at d ++ member_values (at + 1) ms
 
--- those of a file, with profiles by the order of their names
+-- those of the members of the table at a path whose names are reserved
+abbrev pub name_values : Text → ValueRole → Members → List ValueRow
+name_values path role no_members = []
+name_values path role (member name d ms) =
+    (if is_reserved role name then row (below path (key_text name)) role [] ∷ [] else []) ++ name_values path role ms
+
+-- those of a file
 abbrev pub values_of : Data → List ValueRow
-values_of file = option_map_or (member_values 0) (option_and_then as_table (get (codes "profile") file)) []
+values_of file = member_values 0 (members_under (codes "profile") file)
+    ++ (name_values (codes "profile") ReservedProfile (members_under (codes "profile") file)
+    ++ name_values (codes "test-groups") ReservedGroup (members_under (codes "test-groups") file))
 
 -- ---- which of them are wrong
 
--- a profile falls back on `default`, or on a key of the file's `[profile]`
+-- a profile falls back on one that is built in, or on a key of the file's `[profile]`
 abbrev pub is_parent : Data → Text → Bool
-is_parent file t = bytes_eq t (codes "default") || is_some (option_and_then (get t) (get (codes "profile") file))
+is_parent file t = is_built_in t || is_some (option_and_then (get t) (get (codes "profile") file))
 
 abbrev pub IsRight : Data → ValueRole → Text → Type 0
 IsRight file Parent t = IsTrue (is_parent file t)
@@ -119,13 +130,15 @@ IsRight file _ t = ⊥
 
 -- what such a value must be
 abbrev pub expected : ValueRole → Text
-expected Parent = codes "`default` or a key of `[profile]`"
+expected Parent = codes "`default`, `default-miri` or a key of `[profile]`"
 expected (NoCircle at) = codes "a profile that does not fall back on this one"
 expected Group = codes "`@global` or a key of `[test-groups]`"
 expected Platform = codes "a triple, or `cfg(..)`"
 expected NoText = codes "a text"
 expected ForNothing = codes "an override with `filter` or `platform`"
 expected ForBoth = codes "an override without `filter` or without `default-filter`"
+expected ReservedProfile = codes "a name that does not begin with `default-`"
+expected ReservedGroup = codes "a name that does not begin with `@`"
 
 -- The place is that of the value at this position: its literal is read as the value's text; and if in the file some literals
 -- are replaced by their numbers, this one among them, then the value at this position has the same path, and the number of
@@ -164,3 +177,7 @@ ReadsAs text values = (ms : Members) × (parse_document text ≡ Some ms) × (va
 -- these are the values of the file with some of its literals replaced by their numbers
 abbrev pub AreNumbered : Text → NumberedValues → Type 0
 AreNumbered file n = AreApart 0 n.numbering.literals.items × ReadsAs (numbered file n.numbering.literals.items) n.values.items
+
+-- a file is known: its values with numbers, and which of its profiles fall back on themselves
+abbrev pub IsKnown : CheckedFile → Type 0
+IsKnown f = MarksCircles (view f.file.now) f.circles.items × IfSome f.numbered (AreNumbered f.text.now)

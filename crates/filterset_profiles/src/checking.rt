@@ -1,34 +1,22 @@
 //! Checks the values of profiles.
-ghost use Rattle.std.specs.Prelude.{◌≡◌, ◌++◌, List, IfOk, IfSome, OnOk};
+ghost use Rattle.std.specs.Prelude.{◌≡◌, ◌++◌, List, IfOk, OnOk};
 ghost use Rattle.std.specs.Bool.{OnFalse, OnTrue};
 ghost use Rattle.toml.specs.View.{view};
 ghost use Rattle.filterset_profiles.specs.PlatformGrammar.{Spells};
 ghost use Rattle.filterset_profiles.specs.PlatformTrees.{Spec};
-ghost use Rattle.filterset_profiles.specs.Circles.{IsInCircle, KnowsCircles};
-ghost use Rattle.filterset_profiles.specs.Wrong.{AreNumbered, AreWrongValues, FindsWrong, IsRight, IsWrongValue, Judged, is_parent, value_row, value_rows, values_of};
+ghost use Rattle.filterset_profiles.specs.Circles.{IsInCircle};
+ghost use Rattle.filterset_profiles.specs.Wrong.{AreWrongValues, FindsWrong, IsKnown, IsRight, IsWrongValue, Judged, value_row, value_rows, values_of};
 ghost use Rattle.filterset_profiles.specs.declared.wrong.WrongValue.{WrongValue};
 
 use crate::circles::mark_circles;
+use crate::names::is_built_in;
 use crate::placing::{NumberedValues, numbered_values, place_in, read_table};
 use crate::platforms::{PlatformRefusal, PlatformSpec};
-use crate::values::is_group;
+use crate::values::{has_member, is_group};
 use crate::walking::values_of;
 use crate::wrong::{ProfileValue, ValueRole, WrongValue};
 use std::alloc::{AllocError, Global};
 use toml::Value;
-
-/// Returns whether a profile may fall back on the one of this name.
-fn is_parent(file: &Value, name: &str) -> bool
-    ensures { result ≡ is_parent (view file.now) name.now }
-{
-    if name == "default" {
-        return true;
-    }
-    match file.get("profile") {
-        Some(profiles) => profiles.get(name).is_some(),
-        None => false,
-    }
-}
 
 /// Returns whether a text is a platform.
 fn is_platform(alloc: Global, text: &str) -> Result<bool, AllocError>
@@ -42,16 +30,20 @@ fn is_platform(alloc: Global, text: &str) -> Result<bool, AllocError>
     }
 }
 
-/// A file, and which of its profiles fall back on themselves.
+/// A file whose values are checked.
 #[derive(Drop)]
 struct CheckedFile<'f> {
+    text: &'f str,
     file: &'f Value,
+    /// Which of its profiles fall back on themselves.
     circles: Vec<bool>,
+    /// Its values, with numbers in place of their texts.
+    numbered: Option<NumberedValues>,
 }
 
 /// Returns whether the profile at a position does not fall back on itself.
 fn is_in_no_circle(file: &CheckedFile<'_>, at: usize) -> bool
-    requires { KnowsCircles file.now }
+    requires { IsKnown file.now }
     ensures right { OnTrue result (¬ IsInCircle (view file.now.file.now) at) }
     ensures wrong { OnFalse result (IsInCircle (view file.now.file.now) at) }
 {
@@ -68,32 +60,32 @@ fn is_right(
     role: ValueRole,
     text: &str,
 ) -> Result<bool, AllocError>
-    requires { KnowsCircles file.now }
+    requires { IsKnown file.now }
     ensures right { IfOk result (λ is. OnTrue is (IsRight (view file.now.file.now) role text.now)) }
     ensures wrong { IfOk result (λ is. OnFalse is (¬ IsRight (view file.now.file.now) role text.now)) }
 {
     match role {
-        ValueRole::Parent => Ok(is_parent(file.file, text)),
+        ValueRole::Parent => Ok(is_built_in(text) || has_member(file.file, "profile", text)),
         ValueRole::NoCircle(at) => Ok(is_in_no_circle(file, at)),
         ValueRole::Group => Ok(is_group(file.file, text)),
         ValueRole::Platform => is_platform(alloc, text),
         ValueRole::NoText | ValueRole::ForNothing | ValueRole::ForBoth => Ok(false),
+        ValueRole::ReservedProfile | ValueRole::ReservedGroup => Ok(false),
     }
 }
 
 /// Says what is wrong with the value at a position of a file's values.
 fn wrong_value(
     alloc: Global,
-    text: &str,
-    numbered: Option<&NumberedValues>,
+    file: &CheckedFile<'_>,
     at: usize,
     value: &ProfileValue,
 ) -> Result<WrongValue, AllocError>
-    requires { IfSome numbered (λ n. AreNumbered text.now n.now) }
-    ensures { IfOk result (IsWrongValue text.now at (value_row value.now)) }
+    requires { IsKnown file.now }
+    ensures { IfOk result (IsWrongValue file.now.text.now at (value_row value.now)) }
 {
-    let place = match numbered {
-        Some(numbered) => place_in(alloc, text, numbered, at, value)?,
+    let place = match &file.numbered {
+        Some(numbered) => place_in(alloc, file.text, numbered, at, value)?,
         None => None,
     };
     Ok(WrongValue {
@@ -108,39 +100,34 @@ fn wrong_value(
 fn push_wrong(
     found: &mut Vec<WrongValue>,
     alloc: Global,
-    text: &str,
     file: &CheckedFile<'_>,
-    numbered: Option<&NumberedValues>,
     at: usize,
     value: &ProfileValue,
 ) -> Result<(), AllocError>
-    requires circles { KnowsCircles file.now }
-    requires numbered { IfSome numbered (λ n. AreNumbered text.now n.now) }
+    requires { IsKnown file.now }
     ensures { OnOk result ((front : List WrongValue) × (found.new.items ≡ found.old.items ++ front)
-        × Judged text.now (view file.now.file.now) at (value_row value.now) front) }
+        × Judged file.now.text.now (view file.now.file.now) at (value_row value.now) front) }
 {
     if is_right(alloc, file, value.role, value.text.as_str())? {
         return Ok(());
     }
-    found.push(wrong_value(alloc, text, numbered, at, value)?)?;
+    found.push(wrong_value(alloc, file, at, value)?)?;
     Ok(())
 }
 
 /// Finds the wrong ones of a file's values.
 fn wrong_among(
     alloc: Global,
-    text: &str,
     file: &CheckedFile<'_>,
-    numbered: Option<&NumberedValues>,
     values: &[ProfileValue],
 ) -> Result<Vec<WrongValue>, AllocError>
-    requires circles { KnowsCircles file.now }
-    requires numbered { IfSome numbered (λ n. AreNumbered text.now n.now) }
-    ensures { IfOk result (λ found. FindsWrong text.now (view file.now.file.now) 0 (value_rows values.now) found.items) }
+    requires { IsKnown file.now }
+    ensures { IfOk result (λ found. FindsWrong file.now.text.now (view file.now.file.now) 0 (value_rows values.now)
+        found.items) }
 {
     let mut found = Vec::new(alloc);
     for (at, value) in values.iter().enumerate() {
-        push_wrong(&mut found, alloc, text, file, numbered, at, value)?;
+        push_wrong(&mut found, alloc, file, at, value)?;
     }
     Ok(found)
 }
@@ -150,15 +137,18 @@ fn wrong_in(alloc: Global, text: &str, file: &Value) -> Result<Vec<WrongValue>, 
     ensures { IfOk result (λ found. FindsWrong text.now (view file.now) 0 (values_of (view file.now)) found.items) }
 {
     let values = values_of(alloc, file)?;
-    let numbered = numbered_values(alloc, text, values.as_slice())?;
-    let circles = mark_circles(alloc, file)?;
-    let file = CheckedFile { file, circles };
-    wrong_among(alloc, text, &file, numbered.as_ref(), values.as_slice())
+    let file = CheckedFile {
+        text,
+        file,
+        circles: mark_circles(alloc, file)?,
+        numbered: numbered_values(alloc, text, values.as_slice())?,
+    };
+    wrong_among(alloc, &file, values.as_slice())
 }
 
 /// Finds the values of a configuration that are wrong, other than its filtersets, each with its place: what a profile
-/// inherits from if it is no profile, or falls back on that profile; a group that the file lacks; what is no platform; and
-/// an override that is for nothing.
+/// inherits from if it is no profile, or falls back on that profile; a group that the file lacks; what is no platform; an
+/// override that is for nothing; and a name of a profile or of a group that is reserved.
 ///
 /// Each place is right. That each text has one is tested only. Returns an error only if out of memory.
 pub fn find_wrong_values(alloc: Global, text: &str) -> Result<Vec<WrongValue>, AllocError>

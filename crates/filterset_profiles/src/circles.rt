@@ -6,6 +6,7 @@ ghost use Rattle.filterset_profiles.specs.Circles.{AreDistinct, IsIndex, MarksCi
 ghost use Rattle.filterset_profiles.specs.Leads.{AreFar, IsMarked, MarksEnds, lead};
 ghost use Rattle.filterset_sources.specs.Configurations.{keys_of};
 
+use crate::walking::table_under;
 use std::alloc::{AllocError, Global};
 use std::collections::BTreeMap;
 use toml::{Table, Value};
@@ -98,10 +99,7 @@ fn twice(alloc: Global, leads: &[Option<usize>]) -> Result<Vec<Option<usize>>, A
 {
     let mut further = Vec::with_capacity(alloc, leads.len())?;
     for to in leads {
-        further.push(match to {
-            Some(at) => lead(leads, *at),
-            None => None,
-        })?;
+        further.push(to.and_then(|at| lead(leads, at)))?;
     }
     Ok(further)
 }
@@ -158,10 +156,7 @@ fn mark_profiles(alloc: Global, profiles: &Table) -> Result<Vec<bool>, AllocErro
 pub(crate) fn mark_circles(alloc: Global, file: &Value) -> Result<Vec<bool>, AllocError>
     ensures { IfOk result (λ marks. MarksCircles (view file.now) marks.items) }
 {
-    let Some(found) = file.get("profile") else {
-        return Ok(Vec::new(alloc));
-    };
-    match found.as_table() {
+    match table_under(file, "profile") {
         Some(profiles) => mark_profiles(alloc, profiles),
         None => Ok(Vec::new(alloc)),
     }

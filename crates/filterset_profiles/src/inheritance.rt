@@ -1,16 +1,17 @@
 //! Finds the profiles that a profile falls back on.
 ghost use Rattle.std.specs.Prelude.{◌≡◌, ◌<◌, List, Some, IfErr, IfOk, IfSome, MatchResult, alloc_error, length, map, option_copied, option_map, slice_get};
-ghost use Rattle.filterset_profiles.specs.Lineages.{IsCycle, IsLineageFault, IsMissing, Lineage, named, parent};
+ghost use Rattle.filterset_profiles.specs.Lineages.{IsLineageFault, IsMissing, Lineage, first_named, named, parent};
 ghost use Rattle.filterset_profiles.specs.declared.fault.LineageFault.TheVariants.{OutOfMemory};
 
 use crate::fault::LineageFault;
+use crate::names::is_built_in;
 use crate::paths::profile_path;
 use crate::profiles::Profile;
 use std::alloc::{AllocError, Global};
 
-/// Returns the first profile of a name, with its position.
-fn find_profile<'p>(profiles: &'p [Profile], name: &str) -> Option<(usize, &'p Profile)>
-    ensures found { option_map (λ x. x.1.now) result ≡ named profiles.now name.now }
+/// Returns the first profile that is named so, with its position.
+fn find_named<'p>(profiles: &'p [Profile], name: &str) -> Option<(usize, &'p Profile)>
+    ensures found { option_map (λ x. x.1.now) result ≡ first_named profiles.now name.now }
     ensures position { IfSome result (λ x. (x.0 < length profiles.now) × (slice_get profiles.now x.0 ≡ Some x.1.now)) }
 {
     for (at, profile) in profiles.iter().enumerate() {
@@ -19,6 +20,17 @@ fn find_profile<'p>(profiles: &'p [Profile], name: &str) -> Option<(usize, &'p P
         }
     }
     None
+}
+
+/// Returns the profile of a name, with its position: `default` for a `default-miri` that the file lacks.
+fn find_profile<'p>(profiles: &'p [Profile], name: &str) -> Option<(usize, &'p Profile)>
+    ensures found { option_map (λ x. x.1.now) result ≡ named profiles.now name.now }
+    ensures position { IfSome result (λ x. (x.0 < length profiles.now) × (slice_get profiles.now x.0 ≡ Some x.1.now)) }
+{
+    match find_named(profiles, name) {
+        None if name == "default-miri" => find_named(profiles, "default"),
+        found => found,
+    }
 }
 
 /// Returns the name of the profile that a profile falls back on. `default` need not fall back on one.
@@ -45,16 +57,8 @@ fn missing(alloc: Global, chain: &[&Profile], name: &str) -> Result<LineageFault
     Ok(LineageFault::NoParent { path, name })
 }
 
-/// Makes the fault of a chain that comes back to a profile.
-fn cycle(alloc: Global, profile: &Profile) -> Result<LineageFault, AllocError>
-    ensures { IfOk result (IsCycle profile.now) }
-{
-    let path = profile_path(alloc, profile.name.as_str())?;
-    Ok(LineageFault::Cycle { path })
-}
-
 /// Returns the profiles that the profile of a name falls back on: itself first, then those that each inherits from, and
-/// last `default`, which may be absent.
+/// last `default`. `default` and `default-miri`, which are built in, may be absent.
 pub fn lineage<'p>(
     alloc: Global,
     profiles: &'p [Profile],
@@ -70,13 +74,14 @@ pub fn lineage<'p>(
     let mut next = Some(name);
     while let Some(wanted) = next {
         let Some((at, profile)) = find_profile(profiles, wanted) else {
-            if wanted == "default" {
+            if is_built_in(wanted) {
                 return Ok(chain);
             }
             return Err(missing(alloc, &chain, wanted)?);
         };
         if is_passed[at] {
-            return Err(cycle(alloc, profile)?);
+            let path = profile_path(alloc, profile.name.as_str())?;
+            return Err(LineageFault::Cycle { path });
         }
         is_passed[at] = true;
         chain.push(profile)?;

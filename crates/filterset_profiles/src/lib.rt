@@ -11,6 +11,7 @@ mod circles;
 mod defaults;
 mod fault;
 mod inheritance;
+mod names;
 mod overrides;
 mod paths;
 mod placing;
@@ -27,10 +28,7 @@ pub use defaults::{DefaultFilter, default_filter};
 pub use fault::LineageFault;
 pub use inheritance::lineage;
 pub use overrides::Override;
-pub use platforms::{
-    Cfg, CfgExpr, CfgRefusal, Expected, PlatformFacts, PlatformFault, PlatformFilter,
-    PlatformRefusal, PlatformSpec, read_cfg,
-};
+pub use platforms::{Cfg, CfgRefusal, PlatformFacts, read_cfg};
 pub use profiles::{Profile, read_profiles};
 pub use ranking::{RankedOverride, rank_overrides};
 pub use refusal::ProfileRefusal;

@@ -1,9 +1,8 @@
 //! Finds the places of values in the file that they were read from.
-ghost use Rattle.std.specs.Prelude.{◌≡◌, IfOk, IfSome, Some, option_map, slice_get, string_bytes};
-ghost use Rattle.std.specs.Bool.{OnTrue};
+ghost use Rattle.std.specs.Prelude.{◌≡◌, IfOk, IfSome, option_map, string_bytes};
 ghost use Rattle.toml.specs.Parse.{parse_document};
 ghost use Rattle.toml.specs.View.{table_view};
-ghost use Rattle.filterset_profiles.specs.Wrong.{AreNumbered, IsValuePlace, ReadsAs, value_row, value_rows};
+ghost use Rattle.filterset_profiles.specs.Wrong.{AreNumbered, IsValuePlace, ReadsAs, value_row};
 
 use crate::walking::values_of;
 use crate::wrong::ProfileValue;
@@ -66,20 +65,6 @@ pub(crate) fn numbered_values(
     }
 }
 
-/// Returns whether two texts are the same.
-fn is_same(a: &str, b: &str) -> bool
-    ensures { OnTrue result (a.now ≡ b.now) }
-{
-    a == b
-}
-
-/// Returns the value at a position.
-fn value_at(values: &[ProfileValue], at: usize) -> Option<&ProfileValue>
-    ensures { IfSome result (λ found. slice_get (value_rows values.now) at ≡ Some (value_row found.now)) }
-{
-    values.get(at)
-}
-
 /// Returns the place of the value at a position, if it was found.
 pub(crate) fn place_in(
     alloc: Global,
@@ -91,10 +76,10 @@ pub(crate) fn place_in(
     requires { AreNumbered file.now numbered.now }
     ensures { IfOk result (λ o. IfSome o (IsValuePlace file.now at (value_row value.now))) }
 {
-    let Some(other) = value_at(numbered.values.as_slice(), at) else {
+    let Some(other) = numbered.values.get(at) else {
         return Ok(None);
     };
-    if !is_same(other.path.as_str(), value.path.as_str()) {
+    if other.path.as_str() != value.path.as_str() {
         return Ok(None);
     }
     let (text, number) = (value.text.as_str(), other.text.as_str());

@@ -2,7 +2,6 @@
 ghost use Rattle.std.specs.Prelude.{◌≡◌, ◌++◌, List, IfOk, OnOk, flat_map, map};
 ghost use Rattle.std.specs.List.{AllZip};
 ghost use Rattle.filterset_profiles.specs.PlatformTrees.{facts_of};
-ghost use Rattle.filterset_profiles.specs.Paths.{override_path};
 ghost use Rattle.filterset_profiles.specs.Ranking.{IsRanked, placed};
 ghost use Rattle.filterset_profiles.specs.declared.ranking.RankedOverride.{RankedOverride};
 
@@ -24,25 +23,6 @@ pub struct RankedOverride<'p> {
     pub for_host: Option<bool>,
 }
 
-/// Ranks the override at a position of the profile at `path`.
-fn rank<'p>(
-    alloc: Global,
-    path: &str,
-    at: usize,
-    read: &'p Override,
-    host: &PlatformFacts,
-    target: &PlatformFacts,
-) -> Result<RankedOverride<'p>, AllocError>
-    ensures { IfOk result (IsRanked (facts_of host.now) (facts_of target.now) (override_path path.now at, read.now)) }
-{
-    Ok(RankedOverride {
-        path: override_path(alloc, path, at)?,
-        read,
-        for_target: read.platform.applies(host, target),
-        for_host: read.platform.applies(host, host),
-    })
-}
-
 /// Adds the overrides of a profile.
 fn push_overrides<'p>(
     alloc: Global,
@@ -56,7 +36,12 @@ fn push_overrides<'p>(
 {
     let path = profile_path(alloc, profile.name.as_str())?;
     for (at, read) in profile.overrides.iter().enumerate() {
-        ranked.push(rank(alloc, path.as_str(), at, read, host, target)?)?;
+        ranked.push(RankedOverride {
+            path: override_path(alloc, path.as_str(), at)?,
+            read,
+            for_target: read.platform.applies(host, target),
+            for_host: read.platform.applies(host, host),
+        })?;
     }
     Ok(())
 }

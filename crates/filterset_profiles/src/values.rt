@@ -1,6 +1,7 @@
 //! Reads single values.
-ghost use Rattle.std.specs.Prelude.{◌≡◌, Option, String, IfErr, IfOk, codes, map, string_bytes};
+ghost use Rattle.std.specs.Prelude.{◌≡◌, Option, String, IfErr, IfOk, codes, is_some, map, option_and_then, string_bytes};
 ghost use Rattle.std.specs.declared.alloc.Global.{Global};
+ghost use Rattle.toml.specs.Data.{get};
 ghost use Rattle.toml.specs.View.{table_view, view};
 ghost use Rattle.filterset_profiles.specs.declared.platforms.specification.PlatformSpec.{PlatformSpec};
 ghost use Rattle.filterset_profiles.specs.Profiles.{IsGroup, IsPlatform, IsText, Under, is_group, keys_but, settings_but};
@@ -86,17 +87,21 @@ pub(crate) fn read_keys_but(
     }
 }
 
+/// Returns whether the table under a key of a file has a member of this name.
+pub(crate) fn has_member(file: &Value, key: &str, name: &str) -> bool
+    ensures { result ≡ is_some (option_and_then (get name.now) (get key.now (view file.now))) }
+{
+    match file.get(key) {
+        Some(found) => found.get(name).is_some(),
+        None => false,
+    }
+}
+
 /// Returns whether a group of tests is `@global`, or a key of the file's `[test-groups]`.
 pub(crate) fn is_group(file: &Value, name: &str) -> bool
     ensures { result ≡ is_group (view file.now) name.now }
 {
-    if name == "@global" {
-        return true;
-    }
-    match file.get("test-groups") {
-        Some(groups) => groups.get(name).is_some(),
-        None => false,
-    }
+    name == "@global" || has_member(file, "test-groups", name)
 }
 
 /// Reads the group of tests that an override sets, if it sets one.

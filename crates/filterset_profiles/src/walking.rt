@@ -1,84 +1,24 @@
 //! Finds the values of profiles that are checked.
-ghost use Rattle.std.specs.Prelude.{◌≡◌, ◌++◌, IfOk, OnOk, codes};
+ghost use Rattle.std.specs.Prelude.{◌≡◌, ◌∷◌, [], IfOk, OnOk, codes, option_and_then, option_map, string_bytes};
+ghost use Rattle.toml.specs.Data.{as_table, get};
 ghost use Rattle.toml.specs.View.{items_view, table_view, view};
-ghost use Rattle.filterset_profiles.specs.Wrong.{circle_values, has_platform, inherited_values, item_values, list_values, member_values, override_values, part_values, platform_values, profile_values, shape_of, shape_values, target_values, text_values, value_rows, value_under, values_of};
+ghost use Rattle.filterset_profiles.specs.Circles.{members_under};
+ghost use Rattle.filterset_profiles.specs.Wrong.{Adds, circle_values, has_platform, item_values, member_values, name_values, override_values, platform_values, profile_values, row, shape_of, text_row, value_rows, value_under, values_of};
 
+use crate::names::is_reserved;
 use crate::paths::{override_path, profile_path};
 use crate::wrong::{ProfileValue, ValueRole};
+use filterset_json::{Step, step_text};
 use std::alloc::{AllocError, Global};
 use toml::{Table, Value};
 
-/// Adds the value at `path`, which is to be a text.
-fn push_text(
-    output: &mut Vec<ProfileValue>,
-    alloc: Global,
-    path: &str,
-    role: ValueRole,
-    value: &Value,
-) -> Result<(), AllocError>
-    ensures { OnOk result (value_rows output.new.items
-        ≡ value_rows output.old.items ++ text_values path.now role (view value.now)) }
+/// Returns the table under a key, if there is one.
+pub(crate) fn table_under<'f>(value: &'f Value, key: &str) -> Option<&'f Table>
+    ensures { option_map (λ t. table_view t.now) result ≡ option_and_then as_table (get key.now (view value.now)) }
 {
-    let path = String::from_str(alloc, path)?;
-    let (role, text) = match value.as_str() {
-        Some(text) => (role, String::from_str(alloc, text)?),
-        None => (ValueRole::NoText, String::new(alloc)),
-    };
-    output.push(ProfileValue { path, role, text })?;
-    Ok(())
-}
-
-/// Adds the value under a key of the value at `path`, if there is one.
-fn push_under(
-    output: &mut Vec<ProfileValue>,
-    alloc: Global,
-    path: &str,
-    key: &str,
-    role: ValueRole,
-    value: &Value,
-) -> Result<(), AllocError>
-    ensures { OnOk result (value_rows output.new.items
-        ≡ value_rows output.old.items ++ value_under path.now key.now role (view value.now)) }
-{
-    let Some(found) = value.get(key) else {
-        return Ok(());
-    };
-    let path = format!(in alloc; "{path}.{key}")?;
-    push_text(output, alloc, path.as_str(), role, found)
-}
-
-/// Adds the parts of the table of platforms at `path`.
-fn push_parts(
-    output: &mut Vec<ProfileValue>,
-    alloc: Global,
-    path: &str,
-    value: &Value,
-) -> Result<(), AllocError>
-    ensures { OnOk result (value_rows output.new.items
-        ≡ value_rows output.old.items ++ part_values path.now (view value.now)) }
-{
-    push_under(output, alloc, path, "host", ValueRole::Platform, value)?;
-    push_under(output, alloc, path, "target", ValueRole::Platform, value)
-}
-
-/// Adds the platforms of an override, which are a text, or the parts of a table.
-fn push_platforms(
-    output: &mut Vec<ProfileValue>,
-    alloc: Global,
-    path: &str,
-    value: &Value,
-) -> Result<(), AllocError>
-    ensures { OnOk result (value_rows output.new.items
-        ≡ value_rows output.old.items ++ platform_values path.now (view value.now)) }
-{
-    let Some(found) = value.get("platform") else {
-        return Ok(());
-    };
-    let path = format!(in alloc; "{path}.platform")?;
-    if found.is_table() {
-        push_parts(output, alloc, path.as_str(), found)
-    } else {
-        push_text(output, alloc, path.as_str(), ValueRole::Platform, found)
+    match value.get(key) {
+        Some(found) => found.as_table(),
+        None => None,
     }
 }
 
@@ -108,169 +48,160 @@ fn shape_of(value: &Value) -> Option<ValueRole>
     value.get("default-filter").map(|_| ValueRole::ForBoth)
 }
 
-/// Adds the override at `path`, if its keys are wrong.
-fn push_shape(
-    output: &mut Vec<ProfileValue>,
+/// The values that were found so far.
+#[derive(Drop)]
+struct Walk {
     alloc: Global,
-    path: &str,
-    value: &Value,
-) -> Result<(), AllocError>
-    ensures { OnOk result (value_rows output.new.items
-        ≡ value_rows output.old.items ++ shape_values path.now (view value.now)) }
-{
-    let Some(role) = shape_of(value) else {
-        return Ok(());
-    };
-    let (path, text) = (String::from_str(alloc, path)?, String::new(alloc));
-    output.push(ProfileValue { path, role, text })?;
-    Ok(())
+    values: Vec<ProfileValue>,
 }
 
-/// Adds the platforms of the override at `path`, and itself, if its keys are wrong.
-fn push_targets(
-    output: &mut Vec<ProfileValue>,
-    alloc: Global,
-    path: &str,
-    value: &Value,
-) -> Result<(), AllocError>
-    ensures { OnOk result (value_rows output.new.items
-        ≡ value_rows output.old.items ++ target_values path.now (view value.now)) }
-{
-    push_platforms(output, alloc, path, value)?;
-    push_shape(output, alloc, path, value)
-}
-
-/// Adds the values of the override at `path`.
-fn push_override(
-    output: &mut Vec<ProfileValue>,
-    alloc: Global,
-    path: &str,
-    value: &Value,
-) -> Result<(), AllocError>
-    ensures { OnOk result (value_rows output.new.items
-        ≡ value_rows output.old.items ++ override_values path.now (view value.now)) }
-{
-    push_under(output, alloc, path, "test-group", ValueRole::Group, value)?;
-    push_targets(output, alloc, path, value)
-}
-
-/// Adds the values of each override of the profile at `path`.
-fn push_items(
-    output: &mut Vec<ProfileValue>,
-    alloc: Global,
-    path: &str,
-    values: &[Value],
-) -> Result<(), AllocError>
-    ensures { OnOk result (value_rows output.new.items
-        ≡ value_rows output.old.items ++ item_values path.now 0 (items_view values.now)) }
-{
-    for (at, value) in values.iter().enumerate() {
-        let path = override_path(alloc, path, at)?;
-        push_override(output, alloc, path.as_str(), value)?;
+impl Walk {
+    /// Adds a value.
+    fn push(&mut self, path: String, role: ValueRole, text: &str) -> Result<(), AllocError>
+        ensures { OnOk result (Adds (row (string_bytes path) role text.now ∷ []) self.old self.new) }
+    {
+        let text = String::from_str(self.alloc, text)?;
+        self.values.push(ProfileValue { path, role, text })?;
+        Ok(())
     }
-    Ok(())
-}
 
-/// Adds the values of the overrides of the profile at `path`.
-fn push_overrides(
-    output: &mut Vec<ProfileValue>,
-    alloc: Global,
-    path: &str,
-    value: &Value,
-) -> Result<(), AllocError>
-    ensures { OnOk result (value_rows output.new.items
-        ≡ value_rows output.old.items ++ list_values path.now (view value.now)) }
-{
-    let Some(found) = value.get("overrides") else {
-        return Ok(());
-    };
-    match found.as_array() {
-        Some(values) => push_items(output, alloc, path, values.as_slice()),
-        None => Ok(()),
+    /// Adds the value at `path`, which is to be a text.
+    fn push_text(&mut self, path: String, role: ValueRole, value: &Value) -> Result<(), AllocError>
+        ensures { OnOk result (Adds (text_row (string_bytes path) role (view value.now) ∷ []) self.old self.new) }
+    {
+        match value.as_str() {
+            Some(text) => self.push(path, role, text),
+            None => self.push(path, ValueRole::NoText, ""),
+        }
+    }
+
+    /// Adds the value under a key of the value at `path`, if there is one.
+    fn push_under(
+        &mut self,
+        path: &str,
+        key: &str,
+        role: ValueRole,
+        value: &Value,
+    ) -> Result<(), AllocError>
+        ensures { OnOk result (Adds (value_under path.now key.now role (view value.now)) self.old self.new) }
+    {
+        match value.get(key) {
+            Some(found) => self.push_text(format!(in self.alloc; "{path}.{key}")?, role, found),
+            None => Ok(()),
+        }
+    }
+
+    /// Adds the platforms of the override at `path`, which are a text, or the parts of a table.
+    fn push_platforms(&mut self, path: &str, value: &Value) -> Result<(), AllocError>
+        ensures { OnOk result (Adds (platform_values path.now (view value.now)) self.old self.new) }
+    {
+        let Some(found) = value.get("platform") else {
+            return Ok(());
+        };
+        let path = format!(in self.alloc; "{path}.platform")?;
+        if !found.is_table() {
+            return self.push_text(path, ValueRole::Platform, found);
+        }
+        self.push_under(path.as_str(), "host", ValueRole::Platform, found)?;
+        self.push_under(path.as_str(), "target", ValueRole::Platform, found)
+    }
+
+    /// Adds the values of the override at `path`, and itself, if its keys are wrong.
+    fn push_override(&mut self, path: &str, value: &Value) -> Result<(), AllocError>
+        ensures { OnOk result (Adds (override_values path.now (view value.now)) self.old self.new) }
+    {
+        self.push_under(path, "test-group", ValueRole::Group, value)?;
+        self.push_platforms(path, value)?;
+        match shape_of(value) {
+            Some(role) => self.push(String::from_str(self.alloc, path)?, role, ""),
+            None => Ok(()),
+        }
+    }
+
+    /// Adds the values of each override of the profile at `path`.
+    fn push_items(&mut self, path: &str, values: &[Value]) -> Result<(), AllocError>
+        ensures { OnOk result (Adds (item_values path.now 0 (items_view values.now)) self.old self.new) }
+    {
+        for (at, value) in values.iter().enumerate() {
+            let path = override_path(self.alloc, path, at)?;
+            self.push_override(path.as_str(), value)?;
+        }
+        Ok(())
+    }
+
+    /// Adds the name that the profile at `path`, which has this position, inherits from.
+    fn push_circle(&mut self, path: &str, at: usize, value: &Value) -> Result<(), AllocError>
+        ensures { OnOk result (Adds (circle_values path.now at (view value.now)) self.old self.new) }
+    {
+        let Some(found) = value.get("inherits") else {
+            return Ok(());
+        };
+        match found.as_str() {
+            Some(name) => {
+                let path = format!(in self.alloc; "{path}.inherits")?;
+                self.push(path, ValueRole::NoCircle(at), name)
+            }
+            None => Ok(()),
+        }
+    }
+
+    /// Adds the values of the profile at `path`, which has this position.
+    fn push_profile(&mut self, path: &str, at: usize, value: &Value) -> Result<(), AllocError>
+        ensures { OnOk result (Adds (profile_values path.now at (view value.now)) self.old self.new) }
+    {
+        self.push_under(path, "inherits", ValueRole::Parent, value)?;
+        self.push_circle(path, at, value)?;
+        let Some(found) = value.get("overrides") else {
+            return Ok(());
+        };
+        match found.as_array() {
+            Some(values) => self.push_items(path, values.as_slice()),
+            None => Ok(()),
+        }
+    }
+
+    /// Adds the values of each profile of a file.
+    fn push_profiles(&mut self, file: &Value) -> Result<(), AllocError>
+        ensures { OnOk result (Adds (member_values 0 (members_under (codes "profile") (view file.now)))
+            self.old self.new) }
+    {
+        let Some(members) = table_under(file, "profile") else {
+            return Ok(());
+        };
+        for (at, (name, value)) in members.iter().enumerate() {
+            let path = profile_path(self.alloc, name.as_str())?;
+            self.push_profile(path.as_str(), at, value)?;
+        }
+        Ok(())
+    }
+
+    /// Adds the members of the table under a key of a file whose names are reserved.
+    fn push_reserved(&mut self, file: &Value, key: &str, role: ValueRole) -> Result<(), AllocError>
+        ensures { OnOk result (Adds (name_values key.now role (members_under key.now (view file.now)))
+            self.old self.new) }
+    {
+        let Some(members) = table_under(file, key) else {
+            return Ok(());
+        };
+        for (name, _value) in members.iter() {
+            if !is_reserved(role, name.as_str()) {
+                continue;
+            }
+            let name = step_text(self.alloc, Step::Key(name.as_str()))?;
+            self.push(format!(in self.alloc; "{key}.{name}")?, role, "")?;
+        }
+        Ok(())
     }
 }
 
-/// Adds the name that the profile at `path`, which has this position, inherits from.
-fn push_circle(
-    output: &mut Vec<ProfileValue>,
-    alloc: Global,
-    path: &str,
-    at: usize,
-    value: &Value,
-) -> Result<(), AllocError>
-    ensures { OnOk result (value_rows output.new.items
-        ≡ value_rows output.old.items ++ circle_values path.now at (view value.now)) }
-{
-    let Some(found) = value.get("inherits") else {
-        return Ok(());
-    };
-    let Some(name) = found.as_str() else {
-        return Ok(());
-    };
-    output.push(ProfileValue {
-        path: format!(in alloc; "{path}.inherits")?,
-        role: ValueRole::NoCircle(at),
-        text: String::from_str(alloc, name)?,
-    })?;
-    Ok(())
-}
-
-/// Adds what the profile at `path`, which has this position, falls back on.
-fn push_inherited(
-    output: &mut Vec<ProfileValue>,
-    alloc: Global,
-    path: &str,
-    at: usize,
-    value: &Value,
-) -> Result<(), AllocError>
-    ensures { OnOk result (value_rows output.new.items
-        ≡ value_rows output.old.items ++ inherited_values path.now at (view value.now)) }
-{
-    push_under(output, alloc, path, "inherits", ValueRole::Parent, value)?;
-    push_circle(output, alloc, path, at, value)
-}
-
-/// Adds the values of the profile at `path`, which has this position.
-fn push_profile(
-    output: &mut Vec<ProfileValue>,
-    alloc: Global,
-    path: &str,
-    at: usize,
-    value: &Value,
-) -> Result<(), AllocError>
-    ensures { OnOk result (value_rows output.new.items
-        ≡ value_rows output.old.items ++ profile_values path.now at (view value.now)) }
-{
-    push_inherited(output, alloc, path, at, value)?;
-    push_overrides(output, alloc, path, value)
-}
-
-/// Adds the values of each profile of a table.
-fn push_members(
-    output: &mut Vec<ProfileValue>,
-    alloc: Global,
-    members: &Table,
-) -> Result<(), AllocError>
-    ensures { OnOk result (value_rows output.new.items
-        ≡ value_rows output.old.items ++ member_values 0 (table_view members.now)) }
-{
-    for (at, (name, value)) in members.iter().enumerate() {
-        let path = profile_path(alloc, name.as_str())?;
-        push_profile(output, alloc, path.as_str(), at, value)?;
-    }
-    Ok(())
-}
-
-/// Returns the values of a file's profiles that are checked.
+/// Returns the values of a file's profiles that are checked, and its reserved names.
 pub(crate) fn values_of(alloc: Global, file: &Value) -> Result<Vec<ProfileValue>, AllocError>
     ensures { IfOk result (λ values. value_rows values.items ≡ values_of (view file.now)) }
 {
-    let mut values = Vec::new(alloc);
-    let Some(found) = file.get("profile") else {
-        return Ok(values);
-    };
-    if let Some(members) = found.as_table() {
-        push_members(&mut values, alloc, members)?;
-    }
-    Ok(values)
+    let values = Vec::new(alloc);
+    let mut walk = Walk { alloc, values };
+    walk.push_profiles(file)?;
+    walk.push_reserved(file, "profile", ValueRole::ReservedProfile)?;
+    walk.push_reserved(file, "test-groups", ValueRole::ReservedGroup)?;
+    Ok(walk.values)
 }

@@ -21,6 +21,10 @@ pub enum ValueRole {
     ForNothing,
     /// An override that has both `filter` and `default-filter`.
     ForBoth,
+    /// A profile whose name is reserved.
+    ReservedProfile,
+    /// A group whose name is reserved.
+    ReservedGroup,
 }
 
 impl ValueRole {
@@ -29,13 +33,15 @@ impl ValueRole {
         ensures { result.now ≡ expected self }
     {
         match self {
-            ValueRole::Parent => "`default` or a key of `[profile]`",
+            ValueRole::Parent => "`default`, `default-miri` or a key of `[profile]`",
             ValueRole::NoCircle(_) => "a profile that does not fall back on this one",
             ValueRole::Group => "`@global` or a key of `[test-groups]`",
             ValueRole::Platform => "a triple, or `cfg(..)`",
             ValueRole::NoText => "a text",
             ValueRole::ForNothing => "an override with `filter` or `platform`",
             ValueRole::ForBoth => "an override without `filter` or without `default-filter`",
+            ValueRole::ReservedProfile => "a name that does not begin with `default-`",
+            ValueRole::ReservedGroup => "a name that does not begin with `@`",
         }
     }
 }

@@ -5,9 +5,10 @@ ghost use Rattle.std.specs.Str.{bytes_eq};
 ghost use Rattle.std.specs.Option.{option_map};
 ghost use Rattle.std.specs.Str.Lines.{lines};
 ghost use Rattle.filterset_profiles.specs.PlatformGrammar.{IsLine};
-ghost use Rattle.filterset_profiles.specs.PlatformReading.{Refuses};
-ghost use Rattle.filterset_profiles.specs.PlatformTrees.{Setting, Text, facts_of, setting_of};
-ghost use Rattle.filterset_profiles.specs.PlatformValues.{is_set};
+ghost use Rattle.filterset_profiles.specs.PlatformReading.{AreSettings, Refuses};
+ghost use Rattle.filterset_profiles.specs.PlatformTrees.{Setting, facts_of, setting_of};
+ghost use Rattle.filterset_json.specs.Shape.{Text};
+ghost use Rattle.filterset_profiles.specs.PlatformValues.{is_set, sets};
 
 use crate::platforms::fault::CfgRefusal;
 use crate::platforms::parsing::words::split_word;
@@ -28,20 +29,16 @@ impl PlatformFacts {
     pub(crate) fn has_triple(&self, triple: &str) -> Option<bool>
         ensures { result ≡ option_map (λ known. bytes_eq known triple.now) (facts_of self.now).triple }
     {
-        match &self.triple {
-            Some(known) => Some(known.as_str() == triple),
-            None => None,
-        }
+        self.triple.as_ref().map(|known| known.as_str() == triple)
     }
 
     /// Returns whether `rustc` sets this for the platform, if that is known.
     pub(crate) fn is_set(&self, setting: &Cfg) -> Option<bool>
         ensures { result ≡ option_map (λ ts. is_set ts (setting_of setting.now)) (facts_of self.now).settings }
     {
-        match &self.cfg {
-            Some(settings) => Some(is_among(settings, setting)),
-            None => None,
-        }
+        self.cfg
+            .as_ref()
+            .map(|settings| is_among(settings, setting))
     }
 }
 
@@ -57,12 +54,40 @@ fn is_among(settings: &[Cfg], setting: &Cfg) -> bool
     false
 }
 
+/// Returns whether one of the settings is of this name or key.
+fn sets(settings: &[Cfg], word: &str) -> bool
+    ensures { result ≡ sets (map setting_of settings.now) word.now }
+{
+    for setting in settings {
+        if setting.word() == word {
+            return true;
+        }
+    }
+    false
+}
+
 /// Reads what `rustc --print cfg` writes, a line for each setting.
 ///
-/// Refuses a line that is neither a name nor a key with a value in quotes.
+/// Refuses a line that is neither a name nor a key with a value in quotes, and then a text without `target_arch` or
+/// `target_os`, which `rustc` sets for each platform.
 pub fn read_cfg(alloc: Global, text: &str) -> Result<Vec<Cfg>, CfgRefusal>
+    ensures read { IfOk result (λ settings. AreSettings text.now (map setting_of settings.items)) }
+    ensures refused { IfErr result (Refuses text.now) }
+{
+    let settings = read_lines(alloc, text)?;
+    if !sets(settings.as_slice(), "target_arch") {
+        return Err(CfgRefusal::Lacks("target_arch"));
+    }
+    if !sets(settings.as_slice(), "target_os") {
+        return Err(CfgRefusal::Lacks("target_os"));
+    }
+    Ok(settings)
+}
+
+/// Reads a line for each setting.
+fn read_lines(alloc: Global, text: &str) -> Result<Vec<Cfg>, CfgRefusal>
     ensures read { IfOk result (λ settings. AllZip IsLine (lines text.now) (map setting_of settings.items)) }
-    ensures refused { IfErr result (Refuses (lines text.now)) }
+    ensures refused { IfErr result (Refuses text.now) }
 {
     let mut settings = Vec::new(alloc);
     for line in text.lines() {

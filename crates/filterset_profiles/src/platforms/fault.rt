@@ -65,8 +65,23 @@ pub enum PlatformRefusal {
 pub enum CfgRefusal {
     /// This line, counted from 1, is neither a name nor a key with a value.
     Line(usize),
+    /// No line sets this, which `rustc` sets for each platform.
+    Lacks(&'static str),
     /// Out of memory.
     OutOfMemory(AllocError),
+}
+
+impl fmt::Display for CfgRefusal {
+    fn fmt<W: fmt::Write>(&self, f: &mut fmt::Formatter<W>) -> fmt::Result {
+        match self {
+            CfgRefusal::Line(line) => write!(
+                f,
+                "line {line} must be a name, or a key with a value in quotes",
+            ),
+            CfgRefusal::Lacks(key) => write!(f, "no line sets `{key}`"),
+            CfgRefusal::OutOfMemory(_) => f.write_str("out of memory"),
+        }
+    }
 }
 
 impl From<AllocError> for CfgRefusal {

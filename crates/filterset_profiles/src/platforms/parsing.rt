@@ -3,7 +3,8 @@ ghost use Rattle.std.specs.Prelude.{◌≡◌, ◌<◌, ◌≤◌, length, codes
 ghost use Rattle.std.specs.Str.{trim_start};
 ghost use Rattle.filterset_profiles.specs.PlatformGrammar.{Expression, GoesOn, Inside, IsKey, IsNamed, Sign};
 ghost use Rattle.filterset_profiles.specs.PlatformReading.{Gives, IsPlaced, IsTrueOf, Lacks};
-ghost use Rattle.filterset_profiles.specs.PlatformTrees.{Text, Expr, Exprs, expr_of, exprs_of, key_value, negated, set};
+ghost use Rattle.filterset_profiles.specs.PlatformTrees.{Expr, Exprs, expr_of, exprs_of, key_value, negated, set};
+ghost use Rattle.filterset_json.specs.Shape.{Text};
 
 pub(crate) mod words;
 

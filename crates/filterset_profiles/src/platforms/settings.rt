@@ -1,7 +1,7 @@
 //! What `rustc` sets for a platform.
 ghost use Rattle.std.specs.Prelude.{◌≡◌};
 ghost use Rattle.filterset_profiles.specs.PlatformTrees.{setting_of};
-ghost use Rattle.filterset_profiles.specs.PlatformValues.{same_setting};
+ghost use Rattle.filterset_profiles.specs.PlatformValues.{same_setting, word_of};
 
 /// Something that `rustc --print cfg` writes of a platform, and that an expression asks for.
 #[derive(Debug, Drop)]
@@ -23,6 +23,16 @@ impl Cfg {
                 key.as_str() == other_key.as_str() && value.as_str() == other_value.as_str()
             }
             _ => false,
+        }
+    }
+
+    /// Returns its name or its key.
+    pub(crate) fn word(&self) -> &str
+        ensures { result.now ≡ word_of (setting_of self.now) }
+    {
+        match self {
+            Cfg::Name(name) => name.as_str(),
+            Cfg::KeyValue(key, _) => key.as_str(),
         }
     }
 }

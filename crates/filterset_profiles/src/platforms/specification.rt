@@ -2,7 +2,8 @@
 ghost use Rattle.std.specs.Prelude.{◌≡◌, ◌≢◌, ◌<◌, ◌≤◌, ◌++◌, ℕ, codes, length, slice_index, false, Some, IfErr, IfOk, IfSome, IsSome, IsTrue};
 ghost use Rattle.filterset_profiles.specs.PlatformGrammar.{IsWhole, Spells, is_triple_byte};
 ghost use Rattle.filterset_profiles.specs.PlatformReading.{FaultStands, IsTrueOf, Returns};
-ghost use Rattle.filterset_profiles.specs.PlatformTrees.{Expr, Facts, Spec, Text, expr_of, facts_of, spec_of};
+ghost use Rattle.filterset_profiles.specs.PlatformTrees.{Expr, Facts, Spec, expr_of, facts_of, spec_of};
+ghost use Rattle.filterset_json.specs.Shape.{Text};
 ghost use Rattle.filterset_profiles.specs.PlatformValues.{Extends, IsKnown, spec_value};
 
 use crate::platforms::evaluating::value_of;

@@ -14,7 +14,7 @@ rows-more values i value lt is =
 
 pub loop-at-preserved : goal.loop-at-preserved
 loop-at-preserved c =
-    let text = c.args.text.now in
+    let text = c.args.file.now.text.now in
     let file = view c.args.file.now.file.now in
     let values = c.args.values.now in
     let i = c.loop-at.at in

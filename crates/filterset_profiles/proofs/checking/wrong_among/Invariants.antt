@@ -5,4 +5,4 @@ use Rattle.filterset_profiles.proofs.checking.wrong_among.Given as goal
 
 -- the values so far were checked
 abbrev pub invariant-loop-at : goal.invariant-loop-at
-invariant-loop-at l = FindsWrong l.text (view l.file.file.now) 0 (value_rows (take l.at l.values)) l.found.items
+invariant-loop-at l = FindsWrong l.file.text.now (view l.file.file.now) 0 (value_rows (take l.at l.values)) l.found.items

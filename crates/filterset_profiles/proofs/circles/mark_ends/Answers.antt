@@ -1,4 +1,4 @@
-use Rattle.std.proofs.Common.{rules, ◌≡◌, ◌<◌, ◌+◌, ◌++◌, Bool, List, None, Option, Some, ℕ, ap, arith, drop, false, get_or, length, replicate, subst, sym, take, true, ◌∙◌}
+use Rattle.std.proofs.Common.{rules, ◌≡◌, ◌<◌, ◌+◌, Bool, List, None, Option, Some, ℕ, ap, arith, drop, false, get_or, length, replicate, subst, sym, true}
 use Rattle.std.specs.Prelude.{option_and_then, slice_get}
 use Rattle.std.proofs.lemmas.Option.{slice_get-get_or}
 use Rattle.filterset_profiles.specs.Leads.{IsMarked, lead}

@@ -1,7 +1,7 @@
-use Rattle.std.proofs.Common.{◌≡◌, Err, List, Ok, Option, Result, ℕ, ap, map, subst, sym, ◌∙◌}
+use Rattle.std.proofs.Common.{◌≡◌, Err, List, Ok, Option, Result, ℕ, ap, map, subst, ◌∙◌}
 use Rattle.std.specs.Prelude.{IfOk, option_and_then, option_copied}
 use Rattle.toml.specs.View.{table_view}
-use Rattle.filterset_profiles.specs.PlatformTrees.{Text}
+use Rattle.filterset_json.specs.Shape.{Text}
 use Rattle.filterset_profiles.specs.Circles.{IsIndex, links_of, position_of}
 use Rattle.filterset_profiles.specs.Leads.{AreFar, MarksEnds}
 use Rattle.filterset_sources.specs.Configurations.{keys_of}

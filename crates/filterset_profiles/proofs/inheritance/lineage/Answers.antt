@@ -1,10 +1,11 @@
 use Rattle.std.proofs.Common.{◌≡◌, ◌<◌, true, false, List, ◌∷◌, [], ◌++◌, Option, Some, None, Bor, length, get_or, map, set, arith, ap, refl, subst, sym, ◌∙◌}
-use Rattle.std.specs.Prelude.{codes, option_copied}
-use Rattle.std.proofs.lemmas.Bool.{false≢true}
+use Rattle.std.specs.Prelude.{option_copied}
 use Rattle.std.proofs.lemmas.List.{length-set, map-append}
-use Rattle.std.proofs.lemmas.Slice.Eq.{bytes_eq-Decides}
-use Rattle.filterset_profiles.specs.PlatformTrees.{Text}
+use Rattle.filterset_json.specs.Shape.{Text}
+use Rattle.filterset_profiles.specs.Names.{is_built_in}
 use Rattle.filterset_profiles.specs.Lineages.{IsMissing, Leads, named, parent}
+use Rattle.filterset_profiles.specs.Paths.{profile_path}
+use Rattle.filterset_profiles.specs.declared.fault.LineageFault.TheVariants.{Cycle}
 use Rattle.filterset_profiles.specs.declared.profiles.Profile.{Profile}
 use Rattle.filterset_profiles.proofs.Chains.{IsPassed, cycle_found, leads_push, lineage_once, mark_read, missing_found, no_fault, one_more_passed}
 use Rattle.filterset_profiles.proofs.inheritance.lineage.Goals as goal
@@ -14,16 +15,16 @@ leads_to : (ps : List Profile) (name : Text) (chain : List Profile) (next found 
     → Leads ps (Some name) chain (option_copied next) → Leads ps (Some name) chain (option_copied found)
 leads_to ps name chain next found is h = subst (λ (o : Option (Bor Text)). Leads ps (Some name) chain (option_copied o)) is h
 
-pub returns-then-eq-clause-only : goal.returns-then-eq-clause-only
-returns-then-eq-clause-only c = λ other h.
+pub returns-then-is_built_in-clause-only : goal.returns-then-is_built_in-clause-only
+returns-then-is_built_in-clause-only c = λ other h.
     let ps = c.args.profiles.now in
     let name = c.args.name.now in
     let chain = map (λ p. p.now) c.loop-next.chain.items in
     let wanted = c.in-Some.wanted.now in
     let leads = leads_to ps name chain c.loop-next.next (Some c.in-Some.wanted) c.in-Some.is c.loop-next.invariant.leads in
     let none : named ps wanted ≡ None = sym c.in_default-find_profile.ensures.found in
-    let is_default : wanted ≡ codes "default" = (bytes_eq-Decides wanted (codes "default")).0 (sym c.eq.ensures ∙ c.if-eq.true) in
-    lineage_once ps name chain other (Some wanted, leads, none, is_default) h
+    let built_in : is_built_in wanted ≡ true = sym c.is_built_in.ensures ∙ c.if-is_built_in.true in
+    lineage_once ps name chain other (Some wanted, leads, none, built_in) h
 
 pub returns-in_default-find_profile-clause-refused : goal.returns-in_default-find_profile-clause-refused
 returns-in_default-find_profile-clause-refused c =
@@ -34,7 +35,7 @@ returns-in_default-find_profile-clause-refused c =
     let fault = c.in_ok-missing.field-0 in
     let leads = leads_to ps name chain c.loop-next.next (Some c.in-Some.wanted) c.in-Some.is c.loop-next.invariant.leads in
     let none : named ps wanted ≡ None = sym c.in_default-find_profile.ensures.found in
-    let other : wanted ≡ codes "default" → ⊥ = λ e. false≢true (sym c.if-eq.false ∙ c.eq.ensures ∙ (bytes_eq-Decides wanted (codes "default")).1 e) in
+    let other : is_built_in wanted ≡ false = sym c.is_built_in.ensures ∙ c.if-is_built_in.false in
     let is : IsMissing chain wanted fault = subst (λ (xs : List (Bor Profile)). IsMissing (map (λ p. p.now) xs) wanted fault) c.deref.ensures.value c.in_ok-missing.ensures in
     missing_found ps name chain wanted fault leads none other is
 
@@ -56,11 +57,12 @@ returns-then-index-clause-refused c =
     let many = c.loop-next.invariant.many in
     let within : i < length ps = found.position.0 in
     let mark : get_or marks i false ≡ true = mark_read marks i c.index.result.now true (omega arith) c.index.ensures c.if-index.true in
-    cycle_found ps name chain (Some wanted) p c.in_ok-cycle.field-0 leads (sym found.found) (c.loop-next.invariant.passed i p mark found.position.1) c.in_ok-cycle.ensures
+    cycle_found ps name chain (Some wanted) p c.in_ok-path.path leads (sym found.found) (c.loop-next.invariant.passed i p mark found.position.1)
+    (c.in_ok-path.ensures ∙ ap profile_path c.as_str.ensures.value)
 
 pub returns-then-index-clause-only : goal.returns-then-index-clause-only
 returns-then-index-clause-only c = λ other h.
-    no_fault c.args.profiles.now c.args.name.now other c.in_ok-cycle.field-0 h (returns-then-index-clause-refused c)
+    no_fault c.args.profiles.now c.args.name.now other (Cycle c.in_ok-path.path) h (returns-then-index-clause-refused c)
 
 pub loop-next-preserved : goal.loop-next-preserved
 loop-next-preserved c =

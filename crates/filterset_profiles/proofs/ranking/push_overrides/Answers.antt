@@ -1,12 +1,22 @@
-use Rattle.std.proofs.Common.{◌≡◌, ◌<◌, List, ◌∷◌, [], ◌++◌, length, get_or, take, string_bytes, ap, append_assoc, arith, subst, ◌∙◌}
+use Rattle.std.proofs.Common.{◌≡◌, ◌<◌, List, ◌∷◌, [], ◌++◌, length, get_or, take, string_bytes, refl, ap, append_assoc, arith, subst, ◌∙◌}
 use Rattle.std.proofs.lemmas.List.{take_all}
+use Rattle.std.specs.List.{AllZip}
 use Rattle.filterset_profiles.specs.PlatformTrees.{facts_of}
+use Rattle.filterset_json.specs.Shape.{Text}
 use Rattle.filterset_profiles.specs.Paths.{override_path, profile_path}
 use Rattle.filterset_profiles.specs.Ranking.{IsRanked, placed}
 use Rattle.filterset_profiles.specs.declared.overrides.Override.{Override}
+use Rattle.filterset_profiles.specs.declared.ranking.RankedOverride.{RankedOverride}
 use Rattle.filterset_profiles.proofs.Ranks.{length-placed, placed_more}
 use Rattle.filterset_profiles.proofs.Zips.{zip_push}
 use Rattle.filterset_profiles.proofs.ranking.push_overrides.Goals as goal
+
+-- one more override is ranked
+one_more : (Is : Text × Override → RankedOverride → Type 0) (all : List (Text × Override)) (x : Text × Override) (first old new more : List RankedOverride)
+    (one : RankedOverride) → new ≡ old ++ one ∷ [] → old ≡ first ++ more → AllZip Is all more → Is x one
+    → (rest : List RankedOverride) × (new ≡ first ++ rest) × AllZip Is (all ++ x ∷ []) rest
+one_more Is all x first old new more one pushed was are is =
+    (more ++ one ∷ [], pushed ∙ ap (λ xs. xs ++ one ∷ []) was ∙ append_assoc first more (one ∷ []), zip_push Is all more x one are is)
 
 pub loop-at-preserved : goal.loop-at-preserved
 loop-at-preserved c =
@@ -17,17 +27,12 @@ loop-at-preserved c =
     let lt : i < length profile.overrides.items = subst (λ (os : List Override). i < length os) items c.loop-at-test.true in
     let is : read ≡ get_or profile.overrides.items i read = subst (λ (os : List Override). read ≡ get_or os i read) items c.read-item.is in
     let inv = c.loop-at.invariant in
-    let one = c.in_ok-rank.field-0 in
-    let ranks = c.in_ok-rank.ensures in
     let is_ranked = IsRanked (facts_of c.args.host.now) (facts_of c.args.target.now) in
     let path : c.as_str-in-loop-at.result.now ≡ profile_path (string_bytes profile.name) =
-    c.as_str-in-loop-at.ensures.value ∙ c.in_ok-path.ensures ∙ ap profile_path c.as_str.ensures.value in (
-      inv.0 ++ one ∷ [],
-      c.in_ok-push.ensures.items ∙ ap (λ xs. xs ++ one ∷ []) inv.1 ∙ append_assoc c.args.ranked.now.items inv.0 (one ∷ []),
-      rw (placed_more profile i read lt is)
-          (zip_push is_ranked (take i (placed profile)) inv.0 (override_path (profile_path (string_bytes profile.name)) i, read) one inv.2
-          (ranks.0 ∙ ap (λ t. override_path t i) path, ranks.1, ranks.2, ranks.3)),
-    )
+    c.as_str-in-loop-at.ensures.value ∙ c.in_ok-path.ensures ∙ ap profile_path c.as_str.ensures.value in
+    rw (placed_more profile i read lt is)
+    (one_more is_ranked (take i (placed profile)) (override_path (profile_path (string_bytes profile.name)) i, read) c.args.ranked.now.items _ _ inv.0 _
+    c.in_ok-push.ensures.items inv.1 inv.2 (c.in_ok-override_path.ensures ∙ ap (λ t. override_path t i) path, refl, c.applies.ensures.value, c.applies-in-loop-at.ensures.value))
 
 pub returns : goal.returns
 returns c =

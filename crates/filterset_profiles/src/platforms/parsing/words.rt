@@ -3,7 +3,7 @@ ghost use Rattle.std.specs.Prelude.{◌≡◌, ◌<◌, ◌≤◌, false, length
 ghost use Rattle.std.specs.Option.{option_map_or};
 ghost use Rattle.filterset_profiles.specs.PlatformGrammar.{BeginsWithWord, Quoted, Sign, Word, is_letter, is_word_byte, word_len};
 ghost use Rattle.filterset_profiles.specs.PlatformReading.{IsRest};
-ghost use Rattle.filterset_profiles.specs.PlatformTrees.{Text};
+ghost use Rattle.filterset_json.specs.Shape.{Text};
 
 /// Returns what follows an ASCII sign, if the text begins with it after white space.
 pub(crate) fn after(text: &str, sign: char) -> Option<&str>

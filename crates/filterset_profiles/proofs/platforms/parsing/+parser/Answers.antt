@@ -1,7 +1,8 @@
 use Rattle.std.proofs.Common.{rules, ◌≡◌, inl, inr, refl, sym, ap, subst, ◌∙◌, Vec, Global}
 use Rattle.std.specs.Prelude.{codes}
 use Rattle.filterset_profiles.specs.declared.platforms.expressions.CfgExpr.{CfgExpr}
-use Rattle.filterset_profiles.specs.PlatformTrees.{Text, Expr, Exprs, all, any, negated, none, more, expr_of, exprs_of}
+use Rattle.filterset_profiles.specs.PlatformTrees.{Expr, Exprs, all, any, negated, none, more, expr_of, exprs_of}
+use Rattle.filterset_json.specs.Shape.{Text}
 use Rattle.filterset_profiles.specs.PlatformGrammar.{Expression, GoesOn, Inside, Sign}
 use Rattle.filterset_profiles.proofs.PlatformFaults.{gives_error, placed_along, placed_error, true_along}
 use Rattle.filterset_profiles.proofs.PlatformLists.{◌⊕◌, Tail, after_comma, append_none, append_one, closes_read, ended, exprs_of_append, goes_on, no_comma, sign_same}

@@ -3,7 +3,8 @@ use denote.Text.{Utf8}
 use denote.Shadow.{shadow}
 use Rattle.filterset_profiles.specs.PlatformGrammar.{Inside}
 use Rattle.filterset_profiles.specs.PlatformReading.{IsRest}
-use Rattle.filterset_profiles.specs.PlatformTrees.{Text, Exprs, exprs_of}
+use Rattle.filterset_profiles.specs.PlatformTrees.{Exprs, exprs_of}
+use Rattle.filterset_json.specs.Shape.{Text}
 use Rattle.filterset_profiles.proofs.PlatformLists.{◌⊕◌}
 use Rattle.filterset_profiles.proofs.platforms.parsing.+parser.Given as goal
 

@@ -1,6 +1,7 @@
 use Rattle.std.proofs.Common.{◌++◌, sym, ap, ◌∙◌}
 use Rattle.std.specs.Prelude.{codes}
-use Rattle.filterset_profiles.specs.PlatformTrees.{Text, satisfies, spec_of}
+use Rattle.filterset_profiles.specs.PlatformTrees.{satisfies, spec_of}
+use Rattle.filterset_json.specs.Shape.{Text}
 use Rattle.filterset_profiles.proofs.PlatformFaults.{returns_error, true_along, true_error}
 use Rattle.filterset_profiles.proofs.PlatformPhrases.{cfg_only}
 use Rattle.filterset_profiles.proofs.platforms.specification.read_platform.Goals as goal

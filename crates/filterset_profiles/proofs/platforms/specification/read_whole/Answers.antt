@@ -1,6 +1,7 @@
 use Rattle.std.proofs.Common.{arith, ◌≡◌, [], length, refl, sym, ap, subst}
 use Rattle.std.proofs.lemmas.Bool.Decides.{nat_tests}
-use Rattle.filterset_profiles.specs.PlatformTrees.{Text, expr_of}
+use Rattle.filterset_profiles.specs.PlatformTrees.{expr_of}
+use Rattle.filterset_json.specs.Shape.{Text}
 use Rattle.filterset_profiles.specs.PlatformGrammar.{Sign}
 use Rattle.filterset_profiles.proofs.PlatformFaults.{returns_error, true_along}
 use Rattle.filterset_profiles.proofs.PlatformLists.{sign_same}

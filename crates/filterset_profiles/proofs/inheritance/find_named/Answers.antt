@@ -3,7 +3,7 @@ use Rattle.std.specs.Prelude.{bytes_eq}
 use Rattle.std.proofs.lemmas.Option.{slice_get-get_or}
 use Rattle.filterset_profiles.specs.declared.profiles.Profile.{Profile}
 use Rattle.filterset_profiles.proofs.Finds.{find_here, find_later, find_none}
-use Rattle.filterset_profiles.proofs.inheritance.find_profile.Goals as goal
+use Rattle.filterset_profiles.proofs.inheritance.find_named.Goals as goal
 
 abbrev has_name : List ℕ → Profile → Bool
 has_name name p = bytes_eq (string_bytes p.name) name

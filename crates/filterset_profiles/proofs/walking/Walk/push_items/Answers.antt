@@ -3,12 +3,12 @@ use Rattle.std.proofs.lemmas.List.{drop_all, drop_more}
 use Rattle.toml.specs.View.{items_view, view}
 use Rattle.filterset_profiles.specs.Paths.{override_path}
 use Rattle.filterset_profiles.specs.Wrong.{item_values, override_values, value_rows}
-use Rattle.filterset_profiles.proofs.walking.push_items.Goals as goal
+use Rattle.filterset_profiles.proofs.walking.Walk.push_items.Goals as goal
 
 pub returns : goal.returns
 returns c =
     let values = c.args.values.now in
-    let rows = value_rows c.loop-at.output.items in
+    let rows = value_rows c.loop-at.self.values.items in
     sym (append-nil rows)
     ∙ ap (λ vs. rows ++ item_values c.args.path.now c.loop-at.at (items_view vs)) (sym (drop_all c.loop-at.at values c.loop-at-test.false))
     ∙ c.loop-at.invariant
@@ -19,7 +19,7 @@ loop-at-preserved c =
     let values = c.args.values.now in
     let i = c.loop-at.at in
     let item = c.index-values-at.result in
-    let old = value_rows c.loop-at.output.items in
+    let old = value_rows c.loop-at.self.values.items in
     let is : item ≡ get_or values i item = c.index-values-at.is in
     let rest : drop i values ≡ item ∷ drop (i + 1) values =
     drop_more values i item c.loop-at-test.true ∙ ap (λ x. x ∷ drop (i + 1) values) (sym is) in

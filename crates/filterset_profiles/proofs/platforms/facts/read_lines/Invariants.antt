@@ -2,7 +2,7 @@ use Rattle.std.proofs.Common.{map}
 use Rattle.std.specs.List.{AllZip}
 use Rattle.filterset_profiles.specs.PlatformTrees.{setting_of}
 use Rattle.filterset_profiles.specs.PlatformGrammar.{IsLine}
-use Rattle.filterset_profiles.proofs.platforms.facts.read_cfg.Given as goal
+use Rattle.filterset_profiles.proofs.platforms.facts.read_lines.Given as goal
 
 -- the lines so far are those of the settings
 abbrev pub invariant-loop-line : goal.invariant-loop-line
