@@ -2,3 +2,4 @@ pub mod Calls
 pub mod Fronts
 pub mod Links
 pub mod Showing
+pub mod Spelling

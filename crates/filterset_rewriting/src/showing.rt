@@ -60,7 +60,7 @@ fn is_joined_otherwise<S>(operator: Joiner, expr: &ParsedExpr<S>) -> bool
 }
 
 /// Encloses a tree in parentheses, or leaves it as it is.
-fn enclose_if<S: Drop>(
+pub fn enclose_if<S: Drop>(
     alloc: Global,
     encloses: bool,
     expr: Box<ParsedExpr<S>>,
@@ -93,7 +93,7 @@ fn unite<S: Drop>(
 }
 
 /// Joins two trees by an operator of the level of `and`.
-fn join<S: Drop>(
+pub fn join<S: Drop>(
     alloc: Global,
     operator: Joiner,
     left: Box<ParsedExpr<S>>,

@@ -7,7 +7,8 @@ use Rattle.std.specs.List.{prefix_len, take_while}
 use Rattle.filterset_faults.specs.declared.span.SourceSpan.{SourceSpan}
 use Rattle.filterset_grammar.specs.Text.{is_word_byte}
 use Rattle.filterset_grammar.specs.Tree.{Leaf}
-use Rattle.filterset_tokens.specs.Tokens.{Advances, AdvancesTo, AreTokensFrom, PlainTokens, Text, argument_of, argument_tokens, gap_len, is_sign, nothing, other, own_len, sign, token, word, word_kind}
+use Rattle.filterset_tokens.specs.Tokens.{Advances, AdvancesTo, AreTokensFrom, PlainTokens, argument_of, argument_tokens, gap_len, is_sign, nothing, other, own_len, sign, token, word, word_kind}
+use Rattle.filterset_graph.specs.Packages.{Text}
 use Rattle.filterset_tokens.specs.declared.arguments.Argument.{Argument}
 use Rattle.filterset_tokens.specs.declared.tokens.Token.{Token}
 use Rattle.filterset_tokens.specs.declared.tokens.TokenKind.TheVariants as kinds

@@ -1,12 +1,16 @@
 -- The tokens of filtersets: their words, operators and arguments.
-use Rattle.std.specs.Prelude.{◌≡◌, ◌+◌, ◌-◌, ◌++◌, ◌<◌, ◌||◌, ℕ, Bool, List, [], ◌∷◌, MatchOption, None, Option, Some, codes, drop, false, length, min, take, true, if◌then◌else◌}
-use Rattle.std.specs.List.{take_while}
+use Rattle.std.specs.Prelude.{◌≡◌, ◌≢◌, ◌⊎◌, ◌==◌, ◌+◌, ◌-◌, ◌++◌, ◌<◌, ◌&&◌, ◌||◌, ℕ, All, Bool, List, [], ◌∷◌, MatchBool, MatchOption, None, Option, Some, codes, drop, false, length, map, min, slice_index, take, true, if◌then◌else◌}
+use Rattle.std.specs.List.{filter, list_any, take_while}
 use Rattle.std.specs.Str.{bytes_eq}
 use Rattle.filterset_faults.specs.Span.{length_of, offset_of, span}
 use Rattle.filterset_faults.specs.declared.span.SourceSpan.{SourceSpan}
 use Rattle.filterset_glob.specs.Signs.{◌∈◌}
+use Rattle.filterset_graph.specs.Packages.{Text}
+use Rattle.filterset_faults.specs.declared.error.ParseSingleError.{ParseSingleError}
 use Rattle.filterset_grammar.specs.Text.{is_word_byte}
 use Rattle.filterset_grammar.specs.Tree.{Leaf, Matching, Platform, Tree, tree_leaves}
+use Rattle.filterset_language.specs.Faults.{FaultStands}
+use Rattle.filterset_language.specs.Parsed.{Reads}
 use Rattle.filterset_matchers.specs.Matcher.{Matcher, Equal, Contains, Glob, Regex}
 use Rattle.filterset_tokens.specs.declared.arguments.Argument.{Argument}
 use Rattle.filterset_tokens.specs.declared.arguments.ArgumentForm.{ArgumentForm}
@@ -14,9 +18,6 @@ use Rattle.filterset_tokens.specs.declared.arguments.ArgumentForm.TheVariants as
 use Rattle.filterset_tokens.specs.declared.tokens.Token.{Token}
 use Rattle.filterset_tokens.specs.declared.tokens.TokenKind.{TokenKind}
 use Rattle.filterset_tokens.specs.declared.tokens.TokenKind.TheVariants as kinds
-
-abbrev pub Text : Type 0
-Text = List ℕ
 
 abbrev pub token : ℕ → ℕ → TokenKind → Token
 token offset len kind = record { span = span offset len; kind = kind }
@@ -114,3 +115,29 @@ AdvancesTo text leaves at rest tokens = (more : List Token) → AreTokensFrom at
 -- the tokens of a text that reads as this tree
 abbrev pub AreTokens : Text → Tree SourceSpan → List Token → Type 0
 AreTokens text e = AreTokensFrom 0 text (tree_leaves e)
+
+-- ---- the operators `^`
+
+-- the token is a sign, of an operator or of a matcher
+abbrev pub is_operator : TokenKind → Bool
+is_operator kinds.Operator = true
+is_operator _ = false
+
+-- the token is an operator `^` of the text
+abbrev pub is_caret : Text → Token → Bool
+is_caret text t = is_operator t.kind && (slice_index text (offset_of t.span) ∈ "^")
+
+-- the spans of the operators `^` of a text that reads as this tree, in their order
+abbrev pub AreCarets : Text → Tree SourceSpan → List SourceSpan → Type 0
+AreCarets text e spans =
+    (tokens : List Token) × AreTokens text e tokens × (spans ≡ map (λ t. t.span) (filter (is_caret text) tokens))
+
+abbrev pub has_caret : Text → Bool
+has_caret text = list_any (λ b. b == 94) text
+
+-- the spans of the operators `^` of a text: of one that reads as a tree; one with faults has none
+abbrev pub HasCarets : Text → List SourceSpan → Type 0
+HasCarets text spans = MatchBool (has_caret text)
+    (((e : Tree SourceSpan) × Reads text e × AreCarets text e spans)
+    ⊎ ((faults : List ParseSingleError) × (faults ≢ []) × All (FaultStands text) faults × (spans ≡ [])))
+    (spans ≡ [])

@@ -2,8 +2,10 @@
 #![tactic(auto)]
 
 mod arguments;
+mod carets;
 mod leaves;
 mod tokens;
 
+pub use carets::carets_in;
 pub use leaves::tokens_of;
 pub use tokens::{Token, TokenKind};

@@ -1,8 +1,7 @@
-use Rattle.std.proofs.Common.{arith, rules, ◌≡◌, ◌<◌, ◌≤◌, ◌+◌, ◌∷◌, drop, get_or, length, map, subst, sym}
+use Rattle.std.proofs.Common.{arith, rules, ◌≡◌, ◌<◌, ◌+◌, ◌∷◌, drop, get_or, length, map, subst}
 use Rattle.std.specs.Prelude.{None, Some}
 use Rattle.filterset_language.specs.Views.{leaf_of}
 use Rattle.filterset_tokens.specs.Tokens.{AdvancesTo, argument_of}
-use Rattle.filterset_tokens.specs.declared.tokens.Token.{Token}
 use Rattle.filterset_tokens.proofs.TokenLemmas.{Leaves, next_leaf, over_argument, over_none}
 use Rattle.filterset_tokens.proofs.leaves.tokens_among.Goals as goal
 use Rattle.filterset_tokens.proofs.leaves.tokens_among.Goals.{in-Some+in_ok-taken, in_default}

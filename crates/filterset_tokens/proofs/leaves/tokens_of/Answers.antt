@@ -3,7 +3,8 @@ use Rattle.std.proofs.lemmas.Result.{IfOk-weaker}
 use Rattle.filterset_faults.specs.declared.span.SourceSpan.{SourceSpan}
 use Rattle.filterset_grammar.specs.Tree.{Leaf, tree_leaves}
 use Rattle.filterset_language.specs.Views.{leaf_of, tree_of}
-use Rattle.filterset_tokens.specs.Tokens.{AreTokensFrom, Text}
+use Rattle.filterset_tokens.specs.Tokens.{AreTokensFrom}
+use Rattle.filterset_graph.specs.Packages.{Text}
 use Rattle.filterset_tokens.proofs.leaves.tokens_of.Goals as goal
 
 pub returns : goal.returns

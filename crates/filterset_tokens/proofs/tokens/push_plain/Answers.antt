@@ -1,5 +1,6 @@
 use Rattle.std.proofs.Common.{arith, ◌+◌, subst}
-use Rattle.filterset_tokens.specs.Tokens.{Advances, Text}
+use Rattle.filterset_tokens.specs.Tokens.{Advances}
+use Rattle.filterset_graph.specs.Packages.{Text}
 use Rattle.filterset_tokens.proofs.TokenLemmas.{at_end, at_start, one_more}
 use Rattle.filterset_tokens.proofs.tokens.push_plain.Goals as goal
 

@@ -1,4 +1,4 @@
-use Rattle.std.proofs.Common.{◌≡◌, ◌∙◌, ◌∷◌, ◌++◌, [], List, ap, subst, sym}
+use Rattle.std.proofs.Common.{◌∙◌, ◌∷◌, ◌++◌, [], List, ap, subst, sym}
 use Rattle.filterset_tokens.specs.Tokens.{Advances, token, word_kind}
 use Rattle.filterset_tokens.specs.declared.tokens.Token.{Token}
 use Rattle.filterset_tokens.specs.declared.tokens.TokenKind.{TokenKind}
