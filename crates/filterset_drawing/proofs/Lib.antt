@@ -1,5 +1,3 @@
 pub mod ColumnLemmas
-pub mod JsonLemmas
 pub mod LineLemmas
 pub mod MetLemmas
-mod WarningLemmas

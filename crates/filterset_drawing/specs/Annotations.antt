@@ -1,9 +1,13 @@
 -- Annotations of a GitHub workflow.
-use Rattle.std.specs.Prelude.{ℕ, ◌++◌, ◌==◌, [], Option, Some, None, chars, codes, decimal, encode_utf8, if◌then◌else◌}
+use Rattle.std.specs.Prelude.{◌≡◌, ℕ, ◌++◌, ◌==◌, [], Option, Some, None, chars, codes, decimal, encode_utf8, if◌then◌else◌}
 use Rattle.std.specs.List.{flat_map}
 use Rattle.filterset_drawing.specs.Columns.{Text}
 use Rattle.filterset_drawing.specs.declared.annotation.Region.{Region}
 use Rattle.filterset_drawing.specs.declared.escaping.Part.{Part}
+use Rattle.filterset_drawing.specs.declared.source.FileSpan.{FileSpan}
+use Rattle.filterset_drawing.specs.Lines.{from_of, to_of}
+use Rattle.filterset_drawing.specs.Locations.{EndsAt, StandsAt}
+use Rattle.filterset_drawing.specs.Remarks.{RemarkRow, word_of}
 use Rattle.filterset_drawing.specs.declared.escaping.Part.TheVariants.{Message, Property}
 
 -- what a character of a message is written as: 37 is '%', 13 a carriage return and 10 a line feed
@@ -27,11 +31,25 @@ region_text (Some region) =
     ++ (codes ",endLine=" ++ (decimal region.end.line ++ (codes ",col=" ++ (decimal region.start.column
     ++ (codes ",endColumn=" ++ (decimal region.end.column ++ codes ",")))))))))
 
--- an error, as a line of a workflow's output
-abbrev pub annotation : Option Region → Text → Text → Text
-annotation region title message =
-    codes "::error " ++ (region_text region ++ (codes "title=" ++ (escaped property_char title
-    ++ (codes "::" ++ (escaped message_char message ++ codes "\n")))))
+-- the region begins where the span begins, and ends where it ends
+abbrev pub IsRegionOf : FileSpan → Region → Type 0
+IsRegionOf part region =
+    let text = part.file.now.text.now in
+    (region.file.now ≡ part.file.now.origin.now) × StandsAt text (from_of text part.span) region.start
+    × EndsAt text (from_of text part.span) (to_of text part.span) region.end
+
+-- a line of a workflow's output
+abbrev pub command : Option Region → RemarkRow → Text → Text
+command region remark message =
+    codes "::" ++ (word_of remark.severity ++ (codes " " ++ (region_text region ++ (codes "title="
+    ++ (escaped property_char remark.code ++ (codes "::" ++ (escaped message_char message ++ codes "\n")))))))
+
+-- a remark as such a line: in its region, or, if it is in no file, with the name of its text, if that has one
+abbrev pub Annotation : Option FileSpan → Option Text → RemarkRow → Text → Type 0
+Annotation (Some part) name remark line =
+    (region : Region) × IsRegionOf part region × (line ≡ command (Some region) remark remark.message)
+Annotation None (Some name) remark line = line ≡ command None remark (name ++ (codes ": " ++ remark.message))
+Annotation None None remark line = line ≡ command None remark remark.message
 
 -- what a character is written as in a part of a command
 abbrev pub written_in : Part → ℕ → Text

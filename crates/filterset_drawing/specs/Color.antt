@@ -1,16 +1,29 @@
 -- Which sequences begin and end a colour.
-use Rattle.std.specs.Prelude.{ℕ, List, [], ◌∷◌, codes}
+use Rattle.std.specs.Prelude.{[], ◌∷◌, codes}
 use Rattle.filterset_drawing.specs.declared.color.Color.{Color}
 use Rattle.filterset_drawing.specs.declared.color.Color.TheVariants.{Never, Always}
+use Rattle.filterset_drawing.specs.declared.remark.Severity.{Severity}
+use Rattle.filterset_drawing.specs.declared.remark.Severity.TheVariants.{Error, Warning}
+use Rattle.filterset_drawing.specs.Columns.{Text}
 
-abbrev pub red_of : Color → List ℕ
-red_of Never = []
-red_of Always = 27 ∷ codes "[1;31m"
+abbrev pub red : Text
+red = 27 ∷ codes "[1;31m"
 
-abbrev pub blue_of : Color → List ℕ
-blue_of Never = []
-blue_of Always = 27 ∷ codes "[1;34m"
+abbrev pub yellow : Text
+yellow = 27 ∷ codes "[1;33m"
 
-abbrev pub plain_of : Color → List ℕ
-plain_of Never = []
-plain_of Always = 27 ∷ codes "[0m"
+abbrev pub blue : Text
+blue = 27 ∷ codes "[1;34m"
+
+abbrev pub plain : Text
+plain = 27 ∷ codes "[0m"
+
+-- a sequence where drawings have colours, and nothing where they have none
+abbrev pub painted : Color → Text → Text
+painted Never sequence = []
+painted Always sequence = sequence
+
+-- the colour of errors, and that of warnings
+abbrev pub mark_of : Severity → Text
+mark_of Error = red
+mark_of Warning = yellow

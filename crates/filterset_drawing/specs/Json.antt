@@ -1,16 +1,15 @@
--- What `fault_json` returns about a fault.
+-- What is written of a remark as JSON.
 use Rattle.std.specs.Prelude.{◌≡◌, ℕ, Option, Some, None, codes, option_map}
 use Rattle.serde_json.specs.Data.{Data, Members, null, number, unsigned, string, object, member, no_members, put}
-use Rattle.filterset_faults.specs.Faults.{code_of, span_of, label_of, help_of}
 use Rattle.filterset_faults.specs.Span.{offset_of, length_of}
 use Rattle.filterset_faults.specs.declared.span.SourceSpan.{SourceSpan}
-use Rattle.filterset_faults.specs.declared.error.ParseSingleError.{ParseSingleError}
 use Rattle.filterset_drawing.specs.declared.json.Spot.{Spot}
 use Rattle.filterset_drawing.specs.declared.source.FileSpan.{FileSpan}
 use Rattle.filterset_drawing.specs.declared.source.Location.{Location}
 use Rattle.filterset_drawing.specs.Columns.{Text}
 use Rattle.filterset_drawing.specs.Lines.{from_of}
 use Rattle.filterset_drawing.specs.Locations.{StandsAt}
+use Rattle.filterset_drawing.specs.Remarks.{RemarkRow, word_of}
 
 abbrev pub text_data : Option Text → Data
 text_data None = null
@@ -40,37 +39,41 @@ IsSpotOf Begins span spot =
     × (spot.line ≡ option_map (λ p. p.line) location)
     × (spot.column ≡ option_map (λ p. p.column) location)
 
--- the object of a fault that begins at `here` in the text with this number, and at `there` in its file
-abbrev pub fault_object :
-    Text → ℕ → ParseSingleError → Option FileSpan → Option Location → Option Location → Data
-fault_object origin index fault part here there =
-    object (member (codes "code") (string (code_of fault))
+-- the object of a remark that begins at `here` in the text with this number, and at `there` in its file
+abbrev pub remark_object :
+    Text → Option ℕ → RemarkRow → Option FileSpan → Option Location → Option Location → Data
+remark_object origin index remark part here there =
+    let span = option_map (λ p. p.span) part in
+    object (member (codes "code") (string remark.code)
     (member (codes "column") (number_data (option_map (λ p. p.column) here))
     (member (codes "file") (text_data (option_map (λ p. p.file.now.origin.now) part))
     (member (codes "file_column") (number_data (option_map (λ p. p.column) there))
-    (member (codes "file_length") (number_data (option_map length_of (option_map (λ p. p.span) part)))
+    (member (codes "file_length") (number_data (option_map length_of span))
     (member (codes "file_line") (number_data (option_map (λ p. p.line) there))
-    (member (codes "file_offset") (number_data (option_map offset_of (option_map (λ p. p.span) part)))
-    (member (codes "help") (text_data (help_of fault))
-    (member (codes "label") (text_data (label_of fault))
-    (member (codes "length") (number_data (option_map length_of (span_of fault)))
+    (member (codes "file_offset") (number_data (option_map offset_of span))
+    (member (codes "help") (text_data remark.help)
+    (member (codes "label") (text_data remark.label)
+    (member (codes "length") (number_data (option_map length_of remark.span))
     (member (codes "line") (number_data (option_map (λ p. p.line) here))
-    (member (codes "offset") (number_data (option_map offset_of (span_of fault)))
+    (member (codes "message") (string remark.message)
+    (member (codes "offset") (number_data (option_map offset_of remark.span))
     (member (codes "origin") (string origin)
-    (member (codes "text") (number (unsigned index)) no_members))))))))))))))
+    (member (codes "severity") (string (word_of remark.severity))
+    (member (codes "text") (number_data index) no_members))))))))))))))))
 
--- The value says what there is to say of the fault, which is in this part of a file, if there is one.
-abbrev pub FaultData : Text → Text → Option FileSpan → ℕ → ParseSingleError → Data → Type 0
-FaultData origin text part index fault d =
-    (here : Option Location) × (there : Option Location) × BeginsAt text (span_of fault) here × BeginsIn part there
-    × (d ≡ fault_object origin index fault part here there)
+-- the value says what there is to say of the remark, which is in this part of a file, if there is one
+abbrev pub RemarkData : Text → Text → Option FileSpan → Option ℕ → RemarkRow → Data → Type 0
+RemarkData origin text part index remark d =
+    (here : Option Location) × (there : Option Location) × BeginsAt text remark.span here × BeginsIn part there
+    × (d ≡ remark_object origin index remark part here there)
 
 -- ---- what the code adds to an object, member by member
 
-abbrev pub with_fault : ParseSingleError → Members → Members
-with_fault fault ms =
-    put (codes "label") (text_data (label_of fault))
-    (put (codes "help") (text_data (help_of fault)) (put (codes "code") (string (code_of fault)) ms))
+abbrev pub with_remark : RemarkRow → Members → Members
+with_remark remark ms =
+    put (codes "severity") (string (word_of remark.severity)) (put (codes "message") (string remark.message)
+    (put (codes "label") (text_data remark.label)
+    (put (codes "help") (text_data remark.help) (put (codes "code") (string remark.code) ms))))
 
 abbrev pub with_spot : Spot → Members → Members
 with_spot spot ms =

@@ -6,5 +6,4 @@ pub mod Locations
 pub mod Drawings
 pub mod Json
 pub mod Annotations
-pub mod Errors
-pub mod Warnings
+pub mod Remarks

@@ -1,15 +1,17 @@
-//! Annotations of errors.
-ghost use Rattle.std.specs.Prelude.{◌≡◌, ◌++◌, OnOk, codes, option_map, string_bytes};
-ghost use Rattle.filterset_drawing.specs.Annotations.{annotation, escaped, message_char, property_char, region_text};
-ghost use Rattle.filterset_drawing.specs.Warnings.{warning_annotation};
+//! Annotations of a GitHub workflow.
+ghost use Rattle.std.specs.Prelude.{◌≡◌, ◌++◌, OnOk, option_map, string_bytes};
+ghost use Rattle.filterset_drawing.specs.Annotations.{Annotation, IsRegionOf, command, region_text};
+ghost use Rattle.filterset_drawing.specs.Columns.{Text};
+ghost use Rattle.filterset_drawing.specs.Remarks.{remark_row};
 
 use crate::escaping::{Part, push_escaped};
-use crate::source::Location;
-use std::alloc::AllocError;
+use crate::remark::Remark;
+use crate::source::{FileSpan, Location};
+use std::alloc::{AllocError, Global};
 use std::fmt::Write;
 
 /// A region of a file.
-#[derive(Clone, Copy, Debug)]
+#[derive(Clone, Copy)]
 pub struct Region<'t> {
     /// The path of the file, from the top of the repository.
     pub file: &'t str,
@@ -37,54 +39,59 @@ fn push_region(output: &mut String, region: Option<&Region<'_>>) -> Result<(), A
     )
 }
 
-/// Writes a workflow command that begins so.
+/// Returns the region of a part of a file.
+fn region_of(part: FileSpan<'_>) -> Region<'_>
+    ensures { IsRegionOf part.entry result }
+{
+    let FileSpan { file, span } = part;
+    Region {
+        file: file.origin,
+        start: file.location(span),
+        end: file.end_location(span),
+    }
+}
+
+/// Writes a workflow command.
 fn push_command(
     output: &mut String,
-    start: &str,
     region: Option<&Region<'_>>,
-    title: &str,
+    remark: &Remark,
     message: &str,
 ) -> Result<(), AllocError>
-    ensures { OnOk result (string_bytes output.new
-        ≡ string_bytes output.old ++ (start.now ++ (region_text (option_map (λ r. r.now) region.entry)
-        ++ (codes "title=" ++ (escaped property_char title.now ++ (codes "::" ++ (escaped message_char message.now ++ codes "\n"))))))) }
+    ensures { OnOk result (string_bytes output.new ≡ string_bytes output.old
+        ++ command (option_map (λ r. r.now) region.entry) (remark_row remark.now) message.now) }
 {
-    output.push_str(start)?;
+    let word = remark.severity.word();
+    write!(output, "::{word} ")?;
     push_region(output, region)?;
     output.push_str("title=")?;
-    push_escaped(output, Part::Property, title)?;
+    push_escaped(output, Part::Property, remark.code)?;
     output.push_str("::")?;
     push_escaped(output, Part::Message, message)?;
     output.push_str("\n")
 }
 
-/// Writes an error as a workflow command in a line of its own: with its title, its message, and its region, if it is in
-/// a file.
+/// Writes a remark as a workflow command in a line of its own: with its region, or, if it is in no file, with the name
+/// of its text, if that has one.
 ///
 /// Returns an error only if out of memory.
 pub fn push_annotation(
     output: &mut String,
-    region: Option<&Region<'_>>,
-    title: &str,
-    message: &str,
+    alloc: Global,
+    part: Option<FileSpan<'_>>,
+    name: Option<&str>,
+    remark: &Remark,
 ) -> Result<(), AllocError>
-    ensures { OnOk result (string_bytes output.new
-        ≡ string_bytes output.old ++ annotation (option_map (λ r. r.now) region.entry) title.now message.now) }
+    ensures { OnOk result ((line : Text) × (string_bytes output.new ≡ string_bytes output.old ++ line)
+        × Annotation part.entry (option_map (λ n. n.now) name.entry) (remark_row remark.now) line) }
 {
-    push_command(output, "::error ", region, title, message)
-}
-
-/// Writes a warning as [`push_annotation`] writes an error.
-///
-/// Returns an error only if out of memory.
-pub fn push_warning(
-    output: &mut String,
-    region: Option<&Region<'_>>,
-    title: &str,
-    message: &str,
-) -> Result<(), AllocError>
-    ensures { OnOk result (string_bytes output.new
-        ≡ string_bytes output.old ++ warning_annotation (option_map (λ r. r.now) region.entry) title.now message.now) }
-{
-    push_command(output, "::warning ", region, title, message)
+    let message = remark.message.as_str();
+    match (part, name) {
+        (Some(part), _) => push_command(output, Some(&region_of(part)), remark, message),
+        (None, Some(name)) => {
+            let named = format!(in alloc; "{name}: {message}")?;
+            push_command(output, None, remark, named.as_str())
+        }
+        (None, None) => push_command(output, None, remark, message),
+    }
 }

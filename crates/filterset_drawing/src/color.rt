@@ -1,6 +1,20 @@
 //! The colours of drawings.
 ghost use Rattle.std.specs.Prelude.{◌≡◌};
-ghost use Rattle.filterset_drawing.specs.Color.{red_of, blue_of, plain_of};
+ghost use Rattle.filterset_drawing.specs.Color.{mark_of, painted};
+
+use crate::remark::Severity;
+
+/// The sequence that begins red, the colour of errors, carets and labels.
+pub const RED: &str = "\u{1b}[1;31m";
+
+/// The sequence that begins yellow, the colour of warnings.
+const YELLOW: &str = "\u{1b}[1;33m";
+
+/// The sequence that begins blue, the colour of the margin.
+pub const BLUE: &str = "\u{1b}[1;34m";
+
+/// The sequence that ends a colour.
+pub const PLAIN: &str = "\u{1b}[0m";
 
 /// Whether drawings have colours.
 #[derive(Clone, Copy, Debug, PartialEq, Eq)]
@@ -12,33 +26,23 @@ pub enum Color {
 }
 
 impl Color {
-    /// Returns the sequence that begins red, the colour of errors.
-    pub fn red(self) -> &'static str
-        ensures { result.now ≡ red_of self }
+    /// Returns a sequence if drawings have colours, and otherwise nothing.
+    pub fn paint(self, sequence: &'static str) -> &'static str
+        ensures { result.now ≡ painted self sequence.now }
     {
         match self {
             Color::Never => "",
-            Color::Always => "\u{1b}[1;31m",
+            Color::Always => sequence,
         }
     }
+}
 
-    /// Returns the sequence that begins blue, the colour of the margin.
-    pub fn blue(self) -> &'static str
-        ensures { result.now ≡ blue_of self }
-    {
-        match self {
-            Color::Never => "",
-            Color::Always => "\u{1b}[1;34m",
-        }
-    }
-
-    /// Returns the sequence that ends a colour.
-    pub fn plain(self) -> &'static str
-        ensures { result.now ≡ plain_of self }
-    {
-        match self {
-            Color::Never => "",
-            Color::Always => "\u{1b}[0m",
-        }
+/// Returns the sequence that begins the colour of remarks.
+pub fn mark_of(severity: Severity) -> &'static str
+    ensures { result.now ≡ mark_of severity }
+{
+    match severity {
+        Severity::Error => RED,
+        Severity::Warning => YELLOW,
     }
 }

@@ -1,72 +1,63 @@
-//! Faults drawn under their text.
-ghost use Rattle.std.specs.Prelude.{◌≡◌, ◌++◌, IfOk, OnOk, None, codes, map, option_map, string_bytes};
-ghost use Rattle.filterset_faults.specs.Faults.{span_of};
-ghost use Rattle.filterset_faults.specs.Label.{label_text, help_text};
+//! Remarks drawn under a text.
+ghost use Rattle.std.specs.Prelude.{◌≡◌, ◌++◌, IfOk, OnOk, map, option_map, string_bytes};
 ghost use Rattle.filterset_drawing.specs.Columns.{Text};
-ghost use Rattle.filterset_drawing.specs.Drawings.{Drawing, DrawnSpan, bar, caret_line, header, label_part, location_part, margin_line, margin_of, marked_lines, remark_part, text_line};
+ghost use Rattle.filterset_drawing.specs.Drawings.{Drawing, DrawnSpan, addition_part, bar, caret_line, label_part, location_part, margin_line, margin_of, marked_lines, text_line, title};
 ghost use Rattle.filterset_drawing.specs.Cutting.{line_row};
+ghost use Rattle.filterset_drawing.specs.Remarks.{remark_row};
 
-use crate::color::Color;
+use crate::color::{BLUE, Color, PLAIN, RED, mark_of};
 use crate::column::{push_drawn, push_repeated};
 use crate::line::{Line, Stretch};
+use crate::remark::Remark;
 use crate::source::{Location, Source};
-use filterset_faults::{Help, Label, ParseSingleError, SourceSpan};
+use filterset_faults::SourceSpan;
 use std::alloc::{AllocError, Global};
 use std::fmt::Write;
 
 /// The margin left of a text: the columns of its line numbers, and its colour.
-#[derive(Clone, Copy, Debug)]
-pub struct Margin {
+#[derive(Clone, Copy)]
+struct Margin {
     width: usize,
     color: Color,
 }
 
-/// Draws a fault under its text: its code and message, its location, each line of its span with carets under the
-/// characters of the span, its label after the last carets, and its help. The drawing ends in a line feed.
-///
-/// Returns an error only if out of memory.
-pub fn draw(
-    drawing: &mut String,
-    alloc: Global,
-    color: Color,
-    source: &Source<'_>,
-    fault: &ParseSingleError,
-) -> Result<(), AllocError>
-    ensures { let source = source.now in OnOk result ((piece : Text)
-        × (string_bytes drawing.new ≡ string_bytes drawing.old ++ piece)
-        × Drawing color source.origin.now source.text.now (span_of fault.now) None fault.now piece) }
-{
-    draw_at(drawing, alloc, color, source, fault.span(), None, fault)
+/// The text that a remark is drawn under, and at which span. If it is another text than that of the remark, such as the
+/// file that this was read from, a note may say the name of the remark's text.
+#[derive(Clone, Copy)]
+pub struct Canvas<'c> {
+    pub source: &'c Source<'c>,
+    pub span: Option<SourceSpan>,
+    pub name: Option<&'c str>,
 }
 
-/// Draws a fault as [`draw`] does, but under another text, such as the file that the fault's text was read from: at this
-/// span of it, and with a note before the help.
+/// Draws a remark under a text: its code and message, the location of the span, each line of the span with carets under
+/// the characters of the span, its label after the last carets, a note, and its help. At the end is an empty line.
 ///
 /// Returns an error only if out of memory.
-pub fn draw_at(
+pub fn draw_remark(
     drawing: &mut String,
     alloc: Global,
     color: Color,
-    source: &Source<'_>,
-    span: Option<SourceSpan>,
-    note: Option<&str>,
-    fault: &ParseSingleError,
+    canvas: Canvas<'_>,
+    remark: &Remark,
 ) -> Result<(), AllocError>
-    ensures { let source = source.now in OnOk result ((piece : Text)
+    ensures { let source = canvas.entry.source.now in OnOk result ((piece : Text)
         × (string_bytes drawing.new ≡ string_bytes drawing.old ++ piece)
-        × Drawing color source.origin.now source.text.now span (option_map (λ n. n.now) note.entry) fault.now piece) }
+        × Drawing color source.origin.now source.text.now canvas.entry.span (option_map (λ n. n.now) canvas.entry.name)
+        (remark_row remark.now) piece) }
 {
+    let Canvas { source, span, name } = canvas;
     let margin = margin_of(alloc, color, source)?;
-    push_header(drawing, alloc, color, fault)?;
+    push_title(drawing, color, remark)?;
     push_span(drawing, alloc, margin, source, span)?;
-    push_label(drawing, alloc, color, fault.label())?;
-    push_remark(drawing, margin, "note", note)?;
-    push_help(drawing, alloc, margin, fault.help())?;
-    drawing.push_str("\n")
+    push_label(drawing, color, remark.label.as_deref())?;
+    push_addition(drawing, margin, "note: in ", name)?;
+    push_addition(drawing, margin, "help: ", remark.help.as_deref())?;
+    drawing.push_str("\n\n")
 }
 
 /// Returns the margin of a text. Its last line has the longest number.
-pub fn margin_of(alloc: Global, color: Color, source: &Source<'_>) -> Result<Margin, AllocError>
+fn margin_of(alloc: Global, color: Color, source: &Source<'_>) -> Result<Margin, AllocError>
     ensures { IfOk result (λ margin. margin ≡ margin_of color source.now.text.now) }
 {
     let count = source.lines.len();
@@ -74,19 +65,15 @@ pub fn margin_of(alloc: Global, color: Color, source: &Source<'_>) -> Result<Mar
     Ok(Margin { width, color })
 }
 
-/// Writes the code and the message of a fault, on one line.
-fn push_header(
-    drawing: &mut String,
-    alloc: Global,
-    color: Color,
-    fault: &ParseSingleError,
-) -> Result<(), AllocError>
-    ensures { OnOk result (string_bytes drawing.new ≡ string_bytes drawing.old ++ header color fault.now) }
+/// Writes the code and the message of a remark, on one line.
+fn push_title(drawing: &mut String, color: Color, remark: &Remark) -> Result<(), AllocError>
+    ensures { OnOk result (string_bytes drawing.new
+        ≡ string_bytes drawing.old ++ title color (remark_row remark.now)) }
 {
-    let (red, plain, code) = (color.red(), color.plain(), fault.code());
-    let message = format!(in alloc; "{fault}")?;
-    write!(drawing, "{red}error{plain}: {code}: ")?;
-    push_drawn(drawing, message.as_str())
+    let (mark, plain) = (color.paint(mark_of(remark.severity)), color.paint(PLAIN));
+    let (word, code) = (remark.severity.word(), remark.code);
+    write!(drawing, "{mark}{word}{plain}: {code}: ")?;
+    push_drawn(drawing, remark.message.as_str())
 }
 
 /// Begins a line, with blanks in place of a line number.
@@ -95,7 +82,7 @@ fn push_margin(drawing: &mut String, margin: Margin) -> Result<(), AllocError>
 {
     drawing.push_str("\n")?;
     push_repeated(drawing, ' ', margin.width)?;
-    drawing.push_str(margin.color.blue())
+    drawing.push_str(margin.color.paint(BLUE))
 }
 
 /// Writes the location where a span begins.
@@ -108,7 +95,7 @@ fn push_location(
     ensures { OnOk result (string_bytes drawing.new
         ≡ string_bytes drawing.old ++ location_part margin source.now.origin.now location) }
 {
-    let (line, column, plain) = (location.line, location.column, margin.color.plain());
+    let (line, column, plain) = (location.line, location.column, margin.color.paint(PLAIN));
     push_margin(drawing, margin)?;
     write!(drawing, "-->{plain} ")?;
     push_drawn(drawing, source.origin)?;
@@ -120,12 +107,12 @@ fn push_bar(drawing: &mut String, margin: Margin) -> Result<(), AllocError>
     ensures { OnOk result (string_bytes drawing.new ≡ string_bytes drawing.old ++ bar margin) }
 {
     push_margin(drawing, margin)?;
-    let plain = margin.color.plain();
+    let plain = margin.color.paint(PLAIN);
     write!(drawing, " |{plain}")
 }
 
 /// Writes the location where a span begins, and its lines.
-pub fn push_span(
+fn push_span(
     drawing: &mut String,
     alloc: Global,
     margin: Margin,
@@ -172,7 +159,11 @@ fn push_text(
 ) -> Result<(), AllocError>
     ensures { OnOk result (string_bytes drawing.new ≡ string_bytes drawing.old ++ text_line margin (line_row line.now)) }
 {
-    let (blue, plain, number) = (margin.color.blue(), margin.color.plain(), line.number);
+    let (blue, plain, number) = (
+        margin.color.paint(BLUE),
+        margin.color.paint(PLAIN),
+        line.number,
+    );
     let number = format!(in alloc; "{number}")?;
     let number = number.as_str();
     drawing.push_str("\n")?;
@@ -194,63 +185,40 @@ fn push_marks(
     push_bar(drawing, margin)?;
     drawing.push_str(" ")?;
     push_repeated(drawing, ' ', line.column(stretch.from))?;
-    drawing.push_str(margin.color.red())?;
+    drawing.push_str(margin.color.paint(RED))?;
     push_repeated(drawing, '^', line.caret_count(stretch))?;
-    drawing.push_str(margin.color.plain())
+    drawing.push_str(margin.color.paint(PLAIN))
 }
 
 /// Writes a label after the carets.
-fn push_label(
-    drawing: &mut String,
-    alloc: Global,
-    color: Color,
-    label: Option<Label<'_>>,
-) -> Result<(), AllocError>
+fn push_label(drawing: &mut String, color: Color, label: Option<&str>) -> Result<(), AllocError>
     ensures { OnOk result (string_bytes drawing.new
-        ≡ string_bytes drawing.old ++ label_part color (option_map label_text label.entry)) }
+        ≡ string_bytes drawing.old ++ label_part color (option_map (λ l. l.now) label.entry)) }
 {
     let Some(label) = label else {
         return Ok(());
     };
-    let label = format!(in alloc; "{label}")?;
     drawing.push_str(" ")?;
-    drawing.push_str(color.red())?;
-    push_drawn(drawing, label.as_str())?;
-    drawing.push_str(color.plain())
+    drawing.push_str(color.paint(RED))?;
+    push_drawn(drawing, label)?;
+    drawing.push_str(color.paint(PLAIN))
 }
 
-/// Writes a remark below the lines, after the word for its kind.
-pub fn push_remark(
+/// Writes a line below those of the text, which begins so.
+fn push_addition(
     drawing: &mut String,
     margin: Margin,
-    word: &str,
-    remark: Option<&str>,
+    begin: &str,
+    addition: Option<&str>,
 ) -> Result<(), AllocError>
     ensures { OnOk result (string_bytes drawing.new
-        ≡ string_bytes drawing.old ++ remark_part margin word.now (option_map (λ r. r.now) remark.entry)) }
+        ≡ string_bytes drawing.old ++ addition_part margin begin.now (option_map (λ a. a.now) addition.entry)) }
 {
-    let Some(remark) = remark else {
+    let Some(addition) = addition else {
         return Ok(());
     };
-    let plain = margin.color.plain();
+    let plain = margin.color.paint(PLAIN);
     push_margin(drawing, margin)?;
-    write!(drawing, " ={plain} {word}: ")?;
-    push_drawn(drawing, remark)
-}
-
-/// Writes a help.
-fn push_help(
-    drawing: &mut String,
-    alloc: Global,
-    margin: Margin,
-    help: Option<Help>,
-) -> Result<(), AllocError>
-    ensures { OnOk result (string_bytes drawing.new
-        ≡ string_bytes drawing.old ++ remark_part margin (codes "help") (option_map help_text help)) }
-{
-    let Some(help) = help else {
-        return Ok(());
-    };
-    let help = format!(in alloc; "{help}")?;
-    push_remark(drawing, margin, "help", Some(help.as_str()))
+    write!(drawing, " ={plain} {begin}")?;
+    push_drawn(drawing, addition)
 }

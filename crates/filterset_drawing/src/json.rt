@@ -1,60 +1,77 @@
-//! Faults as JSON, for editors.
+//! Remarks as JSON, for editors.
 ghost use Rattle.std.specs.Prelude.{◌≡◌, IfOk, OnOk, option_map};
+ghost use Rattle.serde_json.specs.Data.{put};
 ghost use Rattle.serde_json.specs.View.{members_view, view};
-ghost use Rattle.filterset_faults.specs.Faults.{label_of, help_of};
-ghost use Rattle.filterset_drawing.specs.Json.{BeginsAt, BeginsIn, FaultData, IsSpotOf, number_data, text_data};
-ghost use Rattle.filterset_drawing.specs.Json.{with_fault, with_file_spot, with_spot};
+ghost use Rattle.filterset_drawing.specs.Json.{BeginsAt, BeginsIn, IsSpotOf, RemarkData, number_data, text_data};
+ghost use Rattle.filterset_drawing.specs.Json.{with_file_spot, with_remark, with_spot};
+ghost use Rattle.filterset_drawing.specs.Remarks.{remark_row};
 
+use crate::remark::Remark;
 use crate::source::{FileSpan, Source};
-use filterset_faults::{ParseSingleError, SourceSpan};
+use filterset_faults::SourceSpan;
 use serde_json::{Map, Value, put};
 use std::alloc::{AllocError, Global};
 
-/// Returns a fault of the text with this number as a JSON object. Offset and length are in bytes of the text, line and
-/// column are those of the drawing, the same of the file that the text was read from, and what the fault lacks is `null`.
+/// Returns a remark on the text with this number, if it has one, as a JSON object. Offset and length are in bytes of
+/// the text, line and column are those of a drawing, the same of the file that the text was read from, and what the
+/// remark lacks is `null`.
 ///
 /// Returns an error only if out of memory.
-pub fn fault_json(
+pub fn remark_json(
     alloc: Global,
     source: &Source<'_>,
-    number: usize,
-    fault: &ParseSingleError,
+    number: Option<usize>,
+    remark: &Remark,
     file: Option<FileSpan<'_>>,
 ) -> Result<Value, AllocError>
-    ensures { let source = source.now in IfOk result (λ value. FaultData source.origin.now source.text.now
-        file.entry number fault.now (view value)) }
+    ensures { let source = source.now in IfOk result (λ value. RemarkData source.origin.now source.text.now
+        file.entry number (remark_row remark.now) (view value)) }
 {
     let mut members = Map::new(alloc);
-    let origin = Value::String(String::from_str(alloc, source.origin)?);
-    put(&mut members, alloc, "origin", origin)?;
-    put(&mut members, alloc, "text", Value::from(number))?;
-    put_fault(&mut members, alloc, fault)?;
-    put_spot(&mut members, alloc, spot_of(source, fault.span()))?;
-    put(&mut members, alloc, "file", file_value(alloc, file)?)?;
+    put_text(&mut members, alloc, "origin", Some(source.origin))?;
+    put(&mut members, alloc, "text", number_value(number))?;
+    put_remark(&mut members, alloc, remark)?;
+    put_spot(&mut members, alloc, spot_of(source, remark.span))?;
+    put_text(&mut members, alloc, "file", file_name(file))?;
     put_file_spot(&mut members, alloc, file_spot(file))?;
     Ok(Value::Object(members))
 }
 
-/// Adds what is said of a fault to the members of an object.
-fn put_fault(
+/// Adds a text, or `null` if there is none.
+fn put_text(
     members: &mut Map<String, Value>,
     alloc: Global,
-    fault: &ParseSingleError,
+    key: &str,
+    text: Option<&str>,
 ) -> Result<(), AllocError>
-    ensures { OnOk result (members_view members.new.entries ≡ with_fault fault.now (members_view members.old.entries)) }
+    ensures { OnOk result (members_view members.new.entries
+        ≡ put key.now (text_data (option_map (λ t. t.now) text.entry)) (members_view members.old.entries)) }
 {
-    let code = Value::String(String::from_str(alloc, fault.code())?);
-    put(members, alloc, "code", code)?;
-    put(members, alloc, "help", help_value(alloc, fault)?)?;
-    put(members, alloc, "label", label_value(alloc, fault)?)
+    let value = match text {
+        Some(text) => Value::String(String::from_str(alloc, text)?),
+        None => Value::Null,
+    };
+    put(members, alloc, key, value)
 }
 
-/// Adds the position of a fault in its text.
-pub fn put_spot(
+/// Adds what a remark says.
+fn put_remark(
     members: &mut Map<String, Value>,
     alloc: Global,
-    spot: Spot,
+    remark: &Remark,
 ) -> Result<(), AllocError>
+    ensures { OnOk result (members_view members.new.entries
+        ≡ with_remark (remark_row remark.now) (members_view members.old.entries)) }
+{
+    put_text(members, alloc, "code", Some(remark.code))?;
+    put_text(members, alloc, "help", remark.help.as_deref())?;
+    put_text(members, alloc, "label", remark.label.as_deref())?;
+    put_text(members, alloc, "message", Some(remark.message.as_str()))?;
+    put_text(members, alloc, "severity", Some(remark.severity.word()))
+}
+
+/// Adds the position of a remark in its text.
+fn put_spot(members: &mut Map<String, Value>, alloc: Global, spot: Spot) -> Result<(), AllocError>
     ensures { OnOk result (members_view members.new.entries ≡ with_spot spot (members_view members.old.entries)) }
 {
     put(members, alloc, "column", number_value(spot.column))?;
@@ -63,8 +80,8 @@ pub fn put_spot(
     put(members, alloc, "offset", number_value(spot.offset))
 }
 
-/// Adds the position of a fault in a file.
-pub fn put_file_spot(
+/// Adds the position of a remark in a file.
+fn put_file_spot(
     members: &mut Map<String, Value>,
     alloc: Global,
     spot: Spot,
@@ -87,7 +104,7 @@ fn number_value(number: Option<usize>) -> Value
     }
 }
 
-/// The position of a fault, if it has a span.
+/// The position of a remark, if it has a span.
 #[derive(Clone, Copy)]
 pub struct Spot {
     offset: Option<usize>,
@@ -105,7 +122,7 @@ const NOWHERE: Spot = Spot {
 };
 
 /// Returns the position of a span.
-pub fn spot_of(source: &Source<'_>, span: Option<SourceSpan>) -> Spot
+fn spot_of(source: &Source<'_>, span: Option<SourceSpan>) -> Spot
     ensures { IsSpotOf (BeginsAt source.now.text.now span) span result }
 {
     match span {
@@ -123,7 +140,7 @@ pub fn spot_of(source: &Source<'_>, span: Option<SourceSpan>) -> Spot
 }
 
 /// Returns the position of a span of a file.
-pub fn file_spot(file: Option<FileSpan<'_>>) -> Spot
+fn file_spot(file: Option<FileSpan<'_>>) -> Spot
     ensures { IsSpotOf (BeginsIn file.entry) (option_map (λ p. p.span) file.entry) result }
 {
     match file {
@@ -133,31 +150,11 @@ pub fn file_spot(file: Option<FileSpan<'_>>) -> Spot
 }
 
 /// Returns the name of a file.
-pub fn file_value(alloc: Global, file: Option<FileSpan<'_>>) -> Result<Value, AllocError>
-    ensures { IfOk result (λ value. view value ≡ text_data (option_map (λ p. p.file.now.origin.now) file.entry)) }
+fn file_name<'s>(file: Option<FileSpan<'s>>) -> Option<&'s str>
+    ensures { option_map (λ n. n.now) result ≡ option_map (λ p. p.file.now.origin.now) file.entry }
 {
     match file {
-        Some(part) => Ok(Value::String(String::from_str(alloc, part.file.origin)?)),
-        None => Ok(Value::Null),
-    }
-}
-
-/// Returns the label of a fault.
-fn label_value(alloc: Global, fault: &ParseSingleError) -> Result<Value, AllocError>
-    ensures { IfOk result (λ value. view value ≡ text_data (label_of fault.now)) }
-{
-    match fault.label() {
-        Some(label) => Ok(Value::String(format!(in alloc; "{label}")?)),
-        None => Ok(Value::Null),
-    }
-}
-
-/// Returns the help of a fault.
-fn help_value(alloc: Global, fault: &ParseSingleError) -> Result<Value, AllocError>
-    ensures { IfOk result (λ value. view value ≡ text_data (help_of fault.now)) }
-{
-    match fault.help() {
-        Some(help) => Ok(Value::String(format!(in alloc; "{help}")?)),
-        None => Ok(Value::Null),
+        Some(part) => Some(part.file.origin),
+        None => None,
     }
 }
