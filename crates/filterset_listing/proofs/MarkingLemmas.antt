@@ -1,18 +1,19 @@
 -- The steps in which a map is made of the members of another one.
-use Rattle.std.proofs.Common.{◌≡◌, ℕ, ◌+◌, ◌<◌, Bool, true, false, IsTrue, cond, length, get_or, map, take, is_eq, inl, inr, List, None, Some, Result, Ok, Err, IfOk, ◌≤◌, BTreeMap, [], ◌∷◌, ◌++◌, String, Global, string_bytes, string_cmp, nat_cmp, Less, Greater, refl, sym, ap, ◌∙◌, subst}
+use Rattle.std.proofs.Common.{◌≡◌, ℕ, ◌+◌, ◌<◌, Bool, true, false, cond, length, get_or, map, take, inl, inr, List, None, Some, Result, Ok, Err, IfOk, ◌≤◌, BTreeMap, [], ◌∷◌, ◌++◌, String, Global, string_bytes, string_cmp, nat_cmp, Less, Greater, refl, sym, ap, ◌∙◌, subst, arith, codes}
 use Rattle.std.proofs.lemmas.List.{take_more, map-append}
 use Rattle.std.proofs.lemmas.List.Elements.{Contains-append_left, Contains-push, Contains-push_cases}
-use Rattle.std.proofs.lemmas.Map.Text.{is_eq-slice_cmp}
 use Rattle.std.proofs.lemmas.Slice.Eq.{bytes_eq-Decides}
-use Rattle.std.specs.Prelude.{◌≢◌, ◌↔◌, Contains, MatchOption, Option}
+use Rattle.std.specs.Prelude.{◌≢◌, Contains, Option, unwrap_or}
 use Rattle.std.specs.Bool.{Decides}
 use Rattle.std.specs.Borrow.{Bor}
-use Rattle.std.specs.BTreeSet.{BTreeSet, contains}
 use Rattle.std.specs.Str.{bytes_eq}
 use Rattle.filterset_graph.specs.declared.binary.TestCaseName.{TestCaseName}
 use Rattle.filterset_listing.specs.Asking.{Text}
-use Rattle.filterset_listing.specs.ListJson.{AreNames, ArePaths, IsCompactJson, MarksObject, an_object, no_object}
+use Rattle.filterset_listing.specs.ListJson.{AreAnswers, IsCompactJson, IsMarked, MarksEach, MarksObject, MarksSuite, MarksTest, MarksUnder, an_object, answer_in, next_member, no_member, no_object}
+use Rattle.filterset_listing.specs.declared.groups.TestAnswer.{TestAnswer}
+use Rattle.filterset_listing.specs.declared.groups.TestAnswer.TheVariants.{Known, Unknown}
 use Rattle.filterset_listing.specs.declared.listing.UnknownTest.{UnknownTest}
+use Rattle.filterset_listing.proofs.ListingLemmas.{one_more}
 use Rattle.std.proofs.lemmas.Cmp.{nat_list_cmp_total}
 use Rattle.std.specs.BTreeMap.{get_by, insert_entry}
 use Rattle.std.specs.Cmp.Lexicographic.{slice_cmp}
@@ -85,57 +86,112 @@ pub made_all : (Before After : Members → Members → Type 0) (whole : Members)
     → Before whole (members_view made)
 made_all Before After whole made left (made_of sorted marks) end ends = subst (Before whole) (followed-none (members_view made)) (marks no_members (rw end ends))
 
--- one name more is in a list
-one_more : (names : List Text) (added name : Text) (same known : Bool) → Decides same (added ≡ name) → (IsTrue known ↔ Contains names name)
-    → IsTrue (cond same true known) ↔ Contains (names ++ added ∷ []) name
-one_more names added name true known decides is =
-    (λ yes. subst (Contains (names ++ added ∷ [])) (decides.0 refl) (Contains-push names added), λ there. refl)
-one_more names added name false known decides is = (
-  λ yes. Contains-append_left names (added ∷ []) name (is.0 yes),
-  λ there. elim (Contains-push_cases names added name there) [
-    | inl before ↦ is.1 before
-    | inr last ↦ (let e : false ≡ true = decides.1 last in cc)
-  ],
+-- ---- the answers about tests
+
+-- what is looked up after an insertion
+put_in : {X : Type 0} (same : Bool) (answer : X) (known : Option X) (other : X) → unwrap_or (cond same (Some answer) known) other ≡ cond same answer (unwrap_or known other)
+put_in true answer known other = refl
+put_in false answer known other = refl
+
+contains_none : {X : Type 0} (x : X) → ¬ Contains [] x
+contains_none x there = absurd (omega (arith, there.1))
+
+passed : {X : Type 0} (xs : List X) (y x : X) → ¬ Contains xs x → (y ≡ x → ⊥) → ¬ Contains (xs ++ y ∷ []) x
+passed xs y x none apart there = elim (Contains-push_cases xs y x there) [ inl before ↦ none before | inr last ↦ apart last ]
+
+-- one more test is picked
+picked_more : (picked : List Text) (added name : Text) (same : Bool) (answer : Option TestAnswer) → Decides same (added ≡ name) → IsMarked [] picked [] name answer
+    → IsMarked [] (picked ++ added ∷ []) [] name (cond same (Some (Known true)) answer)
+picked_more picked added name true answer decides is =
+    (contains_none name, (λ path. contains_none (name, path)), (λ yes. subst (Contains (picked ++ added ∷ [])) (decides.0 refl) (Contains-push picked added), λ there. refl))
+picked_more picked added name false None decides is = is
+picked_more picked added name false (Some (Unknown path)) decides is = is
+picked_more picked added name false (Some (Known answer)) decides is = (
+  is.0,
+  is.1,
+  (
+    λ yes. Contains-append_left picked (added ∷ []) name (is.2.0 yes),
+    λ there. elim (Contains-push_cases picked added name there) [ inl before ↦ is.2.1 before | inr last ↦ (let e : false ≡ true = decides.1 last in cc) ],
+  ),
 )
 
--- a name is put into the set
-pub names_one : (tests : List (Bor TestCaseName)) (i : ℕ) (test : Bor TestCaseName) (key : Bor Text) (old new : BTreeSet (Bor Text)) → i < length tests → get_or tests i test ≡ test → key.now ≡ test.now
-    → ((name : Bor Text) → contains (λ a b. slice_cmp nat_cmp a.now b.now) new name ≡ cond (is_eq (slice_cmp nat_cmp key.now name.now)) true (contains (λ a b. slice_cmp nat_cmp a.now b.now) old name))
-    → AreNames (map (λ t. t.now) (take i tests)) old → AreNames (map (λ t. t.now) (take (i + 1) tests)) new
-names_one tests i test key old new lt at same updates are name =
-    let more : map (λ t. t.now) (take (i + 1) tests) ≡ map (λ t. t.now) (take i tests) ++ test.now ∷ [] =
-    ap (map (λ t. t.now)) (take_more tests i test lt ∙ ap (λ t. take i tests ++ t ∷ []) at) ∙ map-append (λ t. t.now) (take i tests) (test ∷ []) in
-    rw (updates name, more, is_eq-slice_cmp key.now name.now, same) (one_more (map (λ t. t.now) (take i tests)) test.now name.now (bytes_eq test.now name.now) _ (bytes_eq-Decides test.now name.now) (are name))
+-- one more test is unknown
+unknown_more : (picked : List Text) (unknown : List (Text × Text)) (added name : Text) (path : Bor Text) (same : Bool) (answer : Option TestAnswer) → Decides same (added ≡ name) → IsMarked [] picked unknown name answer
+    → IsMarked [] picked (unknown ++ (added, path.now) ∷ []) name (cond same (Some (Unknown path)) answer)
+unknown_more picked unknown added name path true answer decides is =
+    (contains_none name, subst (λ n. Contains (unknown ++ (added, path.now) ∷ []) (n, path.now)) (decides.0 refl) (Contains-push unknown (added, path.now)))
+unknown_more picked unknown added name path false None decides is = is
+unknown_more picked unknown added name path false (Some (Unknown other)) decides is =
+    (is.0, Contains-append_left unknown ((added, path.now) ∷ []) (name, other.now) is.1)
+unknown_more picked unknown added name path false (Some (Known answer)) decides is = (
+  is.0,
+  λ other. passed unknown (added, path.now) (name, other) (is.1 other)
+      (λ last. let e : false ≡ true = decides.1 (ap (λ (t : Text × Text). t.0) last) in cc),
+  is.2,
+)
 
-abbrev pub test_path : UnknownTest → Text × Text
-test_path unknown = (unknown.test.now, unknown.path.now)
+-- one more test does not count
+uncounted_more : (uncounted picked : List Text) (unknown : List (Text × Text)) (added name : Text) (same : Bool) (answer : Option TestAnswer) → Decides same (added ≡ name) → IsMarked uncounted picked unknown name answer
+    → IsMarked (uncounted ++ added ∷ []) picked unknown name (cond same None answer)
+uncounted_more uncounted picked unknown added name true answer decides is =
+    subst (Contains (uncounted ++ added ∷ [])) (decides.0 refl) (Contains-push uncounted added)
+uncounted_more uncounted picked unknown added name false None decides is = Contains-append_left uncounted (added ∷ []) name is
+uncounted_more uncounted picked unknown added name false (Some (Unknown path)) decides is =
+    (passed uncounted added name is.0 (λ last. let e : false ≡ true = decides.1 last in cc), is.1)
+uncounted_more uncounted picked unknown added name false (Some (Known answer)) decides is =
+    (passed uncounted added name is.0 (λ last. let e : false ≡ true = decides.1 last in cc), is.1, is.2)
 
--- one path more is in a list, under a name
-one_path : (tests : List (Text × Text)) (added name : Text) (path : Bor Text) (same : Bool) (known : Option (Bor Text)) → Decides same (added ≡ name)
-    → MatchOption known ((p : Text) → ¬ Contains tests (name, p)) (λ p. Contains tests (name, p.now))
-    → MatchOption (cond same (Some path) known) ((p : Text) → ¬ Contains (tests ++ (added, path.now) ∷ []) (name, p)) (λ p. Contains (tests ++ (added, path.now) ∷ []) (name, p.now))
-one_path tests added name path true known decides is =
-    subst (λ n. Contains (tests ++ (added, path.now) ∷ []) (n, path.now)) (decides.0 refl) (Contains-push tests (added, path.now))
-one_path tests added name path false None decides is = λ p there. elim (Contains-push_cases tests (added, path.now) (name, p) there) [
-  | inl before ↦ is p before
-  | inr last ↦ (let e : false ≡ true = decides.1 (ap (λ (t : Text × Text). t.0) last) in cc)
-]
-one_path tests added name path false (Some known) decides is = Contains-append_left tests ((added, path.now) ∷ []) (name, known.now) is
+-- one more element of a list is put into the map
+module _ (i : ℕ) (key : Text) (answer : Option TestAnswer) (old new : BTreeMap (Bor Text) (Option TestAnswer))
+    (updates : (name : Text) → get_by (λ k. slice_cmp nat_cmp name k.now) new ≡ cond (bytes_eq key name) (Some answer) (get_by (λ k. slice_cmp nat_cmp name k.now) old)) where
+  answer_after : (name : Text) → answer_in new name ≡ cond (bytes_eq key name) answer (answer_in old name)
+  answer_after name = ap (λ found. unwrap_or found (Some (Known false))) (updates name) ∙ put_in (bytes_eq key name) answer _ (Some (Known false))
 
--- a path is put into the map
-pub paths_one : (tests : List UnknownTest) (i : ℕ) (test : UnknownTest) (key : Bor Text) (old new : BTreeMap (Bor Text) (Bor Text)) → i < length tests → get_or tests i test ≡ test → key.now ≡ test.test.now
-    → ((name : Text) → get_by (λ k. slice_cmp nat_cmp name k.now) new ≡ cond (bytes_eq key.now name) (Some test.path) (get_by (λ k. slice_cmp nat_cmp name k.now) old))
-    → ArePaths (map test_path (take i tests)) old → ArePaths (map test_path (take (i + 1) tests)) new
-paths_one tests i test key old new lt at same updates are name =
-    let more : map test_path (take (i + 1) tests) ≡ map test_path (take i tests) ++ test_path test ∷ [] =
-    ap (map test_path) (take_more tests i test lt ∙ ap (λ t. take i tests ++ t ∷ []) at) ∙ map-append test_path (take i tests) (test ∷ []) in
-    rw (updates name, more, same) (one_path (map test_path (take i tests)) test.test.now name test.path (bytes_eq test.test.now name) _ (bytes_eq-Decides test.test.now name) (are name))
+  mapped_more : {A X : Type 0} (f : A → X) (xs : List A) (x : A) → i < length xs → get_or xs i x ≡ x → map f (take (i + 1) xs) ≡ map f (take i xs) ++ f x ∷ []
+  mapped_more f xs x lt at = ap (map f) (take_more xs i x lt ∙ ap (λ y. take i xs ++ y ∷ []) at) ∙ map-append f (take i xs) (x ∷ [])
 
--- what stands under one more name
-pub at_one : (Marks : Data → Data → Type 0) {key name : Text} {before after : Data} (is_there : Bool) → Decides is_there (name ≡ key)
-    → (IsTrue is_there → Marks before after) → (is_there ≡ false → after ≡ before) → (name ≡ key → Marks before after) × (name ≢ key → after ≡ before)
-at_one Marks true decides changed same = (λ e. changed refl, λ apart. absurd (apart (decides.0 refl)))
-at_one Marks false decides changed same = (λ e. absurd (let t : false ≡ true = decides.1 e in cc), λ apart. same refl)
+  pub picked_one : (tests : List (Bor TestCaseName)) (test : Bor TestCaseName) → i < length tests → get_or tests i test ≡ test → key ≡ test.now → answer ≡ Some (Known true)
+      → AreAnswers [] (map (λ t. t.now) (take i tests)) [] old → AreAnswers [] (map (λ t. t.now) (take (i + 1) tests)) [] new
+  picked_one tests test lt at of is are name =
+      rw (answer_after name, mapped_more (λ (t : Bor TestCaseName). t.now) tests test lt at, of, is) (picked_more _ test.now name (bytes_eq test.now name) _ (bytes_eq-Decides test.now name) (are name))
+
+  pub unknown_one : (picked : List Text) (tests : List UnknownTest) (test : UnknownTest) → i < length tests → get_or tests i test ≡ test → key ≡ test.test.now → answer ≡ Some (Unknown test.path)
+      → AreAnswers [] picked (map (λ (u : UnknownTest). (u.test.now, u.path.now)) (take i tests)) old
+      → AreAnswers [] picked (map (λ (u : UnknownTest). (u.test.now, u.path.now)) (take (i + 1) tests)) new
+  unknown_one picked tests test lt at of is are name =
+      rw (answer_after name, mapped_more {X = Text × Text} (λ (u : UnknownTest). (u.test.now, u.path.now)) tests test lt at, of, is)
+      (unknown_more picked _ test.test.now name test.path (bytes_eq test.test.now name) _ (bytes_eq-Decides test.test.now name) (are name))
+
+  pub uncounted_one : (picked : List Text) (unknown : List (Text × Text)) (tests : List Text) (test : Text) → i < length tests → get_or tests i test ≡ test → key ≡ test → answer ≡ None
+      → AreAnswers (take i tests) picked unknown old → AreAnswers (take (i + 1) tests) picked unknown new
+  uncounted_one picked unknown tests test lt at of is are name =
+      rw (answer_after name, one_more tests i test lt at, of, is) (uncounted_more _ picked unknown test name (bytes_eq test name) _ (bytes_eq-Decides test name) (are name))
+
+-- ---- changes
+
+-- members that change as the first say change as the others do
+weaker_each : {One Other : Text → Data → Data → Type 0} → ((name : Text) (before after : Data) → One name before after → Other name before after) → {members marked : Members}
+    → MarksEach One members marked → MarksEach Other members marked
+weaker_each weaker no_member = no_member
+weaker_each weaker (next_member is others) = next_member (weaker _ _ _ is) (weaker_each weaker others)
+
+weaker_object : {One Other : Members → Members → Type 0} → ((before after : Members) → One before after → Other before after) → {value marked : Data} → MarksObject One value marked → MarksObject Other value marked
+weaker_object weaker (an_object is) = an_object (weaker _ _ is)
+weaker_object weaker (no_object none) = no_object none
+
+-- a suite is marked by the answers about its tests
+pub suite_marked : (uncounted picked : List Text) (unknown : List (Text × Text)) (answers : BTreeMap (Bor Text) (Option TestAnswer)) → AreAnswers uncounted picked unknown answers → {before after : Data}
+    → MarksObject (MarksEach (MarksUnder (codes "testcases") (MarksObject (MarksEach (λ name. MarksTest (answer_in answers name)))))) before after
+    → MarksSuite uncounted picked unknown before after
+suite_marked uncounted picked unknown answers are = weaker_object (λ _ _. weaker_each (λ name before after m.
+    ((λ is. weaker_object (λ _ _. weaker_each (λ test _ _ marks. (answer_in answers test, are test, marks))) (m.0 is)), m.1)))
+
+-- what stands under a name that is the key, or another one
+pub under : (Marks : Data → Data → Type 0) (key name : Text) (before after : Data) → name ≡ key → Marks before after → MarksUnder key Marks name before after
+under Marks key name before after is marks = (λ e. marks, λ apart. absurd (apart is))
+
+pub under_other : (Marks : Data → Data → Type 0) (key name : Text) (before : Data) → name ≢ key → MarksUnder key Marks name before before
+under_other Marks key name before apart = (λ e. absurd (apart e), λ apart. refl)
 
 -- an object became another one
 pub marked_object : {Marks : Members → Members → Type 0} (value : Data) (before : Members) (marked : BTreeMap (String Global) Value) → value ≡ object before

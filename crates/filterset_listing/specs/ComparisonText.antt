@@ -3,6 +3,7 @@ use Rattle.std.specs.Prelude.{◌==◌, ◌&&◌, ◌||◌, ℕ, Bool, not, List
 use Rattle.std.specs.List.{count_by, flat_map, list_any, sum_by}
 use Rattle.filterset_listing.specs.Asking.{Text}
 use Rattle.filterset_listing.specs.Comparing.{is_of, tests_in}
+use Rattle.filterset_listing.specs.ListText.{some_text}
 use Rattle.filterset_listing.specs.declared.comparing.BinaryDifference.{BinaryDifference}
 use Rattle.filterset_listing.specs.declared.comparing.Part.{Part}
 use Rattle.filterset_listing.specs.declared.comparing.Part.TheVariants.{OnlyFirst, OnlySecond, Both, Unknown}
@@ -28,10 +29,6 @@ part_text has_names heading part all =
 abbrev pub has_unknown : BinaryDifference → Bool
 has_unknown difference = not (length difference.unknown.items == 0)
 
--- the tests that are unknown to a filterset, if there are any
-abbrev pub unknown_text : Bool → List BinaryDifference → Text
-unknown_text has_names all = if list_any has_unknown all then part_text has_names (codes "unknown") Unknown all else []
-
 -- nextest skipped the binary, and the filtersets' answers about it are of this part
 abbrev pub is_skipped_in : Part → BinaryDifference → Bool
 is_skipped_in part difference = difference.binary.is_skipped && is_of part difference.first_answer difference.second_answer
@@ -45,14 +42,16 @@ abbrev pub skipped_text : Bool → Text → Part → List BinaryDifference → T
 skipped_text has_names heading part all = if count_by (is_skipped_in part) all == 0 then [] else
     counted_text has_names heading (count_by (is_skipped_in part) all) (flat_map (id_line part) all)
 
--- the tests, and below them the binaries that nextest skipped
+-- the tests, and below them the binaries that nextest skipped, and how many tests do not count
 abbrev pub comparison_text : Bool → List BinaryDifference → Text
 comparison_text has_names all =
     part_text has_names (codes "only A") OnlyFirst all ++ (part_text has_names (codes "only B") OnlySecond all
-    ++ (part_text has_names (codes "both") Both all ++ (unknown_text has_names all
+    ++ (part_text has_names (codes "both") Both all ++ ((if list_any has_unknown all then part_text has_names (codes "unknown") Unknown all else [])
     ++ (skipped_text has_names (codes "skipped binaries that only A picks") OnlyFirst all
     ++ (skipped_text has_names (codes "skipped binaries that only B picks") OnlySecond all
-    ++ skipped_text has_names (codes "skipped binaries that were not compared") Unknown all)))))
+    ++ (skipped_text has_names (codes "skipped binaries that were not compared") Unknown all
+    ++ some_text (codes "left out by --run-ignored: ") (sum_by (λ (d : BinaryDifference). length d.binary.uncounted.now) all)
+    (codes "\n")))))))
 
 -- one filterset picks a test of the binary that the other does not, or may pick one that nextest did not list
 abbrev pub differs : BinaryDifference → Bool

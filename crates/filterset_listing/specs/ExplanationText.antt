@@ -6,7 +6,7 @@ use Rattle.filterset_grammar.specs.Grammar.{not_text, or_text, join_text}
 use Rattle.filterset_grammar.specs.Printing.{printed_leaf}
 use Rattle.filterset_grammar.specs.Tree.{Tree, Not, Union, Join, Parens, Set}
 use Rattle.filterset_language.specs.Views.{tree_of}
-use Rattle.filterset_listing.specs.ListText.{reason}
+use Rattle.filterset_listing.specs.ListText.{reason, some_text}
 use Rattle.filterset_listing.specs.declared.explaining.ExplainedNode.{ExplainedNode}
 use Rattle.filterset_listing.specs.declared.explaining.Explanation.{Explanation}
 use Rattle.filterset_listing.specs.declared.explaining.packages.NamedPackages.{NamedPackages}
@@ -24,16 +24,11 @@ head (Join op a b) = join_text op
 head (Parens e) = head e
 head (Set leaf) = printed_leaf leaf
 
--- how many packages are not named, if there are any
-abbrev pub others_text : ℕ → Text
-others_text zero = []
-others_text (suc n) = codes " and " ++ (decimal (suc n) ++ codes " more")
-
 -- the packages that a predicate stands for
 abbrev pub packages_part : Option NamedPackages → Text
 packages_part None = []
 packages_part (Some packages) =
-    codes " (packages: " ++ (join_by (λ n. n.now) (codes ", ") packages.names.items ++ (others_text packages.others ++ codes ")"))
+    codes " (packages: " ++ (join_by (λ n. n.now) (codes ", ") packages.names.items ++ (some_text (codes " and ") packages.others (codes " more") ++ codes ")"))
 
 -- What stands before a node of this depth, which is that much deeper than can be shown by blanks alone: two blanks for
 -- each operator above it, and in brackets how many operators there are where there are more than 32.

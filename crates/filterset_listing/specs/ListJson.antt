@@ -1,8 +1,7 @@
 -- nextest's list as JSON, with what is picked of it.
-use Rattle.std.specs.Prelude.{◌≡◌, ◌≢◌, ◌≤◌, ◌↔◌, true, false, IsTrue, List, Some, None, Contains, MatchOption, codes, drop, take}
+use Rattle.std.specs.Prelude.{◌≡◌, ◌≢◌, ◌≤◌, ◌↔◌, true, false, IsTrue, List, Option, Some, None, Contains, codes, drop, take, unwrap_or}
 use Rattle.std.specs.Borrow.{Bor}
 use Rattle.std.specs.BTreeMap.{BTreeMap, get_by}
-use Rattle.std.specs.BTreeSet.{BTreeSet, contains}
 use Rattle.std.specs.Cmp.Lexicographic.{slice_cmp}
 use Rattle.std.specs.List.{flat_map}
 use Rattle.std.specs.Ordering.{nat_cmp}
@@ -11,7 +10,7 @@ use Rattle.serde_json.specs.Find.{as_object}
 use Rattle.serde_json.specs.Read.{read, max_depth}
 use Rattle.serde_json.specs.Written.{IsInOrder, compact_text, has_float}
 use Rattle.filterset_listing.specs.Asking.{Text}
-use Rattle.filterset_listing.specs.Listing.{tests_of, unknown_of}
+use Rattle.filterset_listing.specs.Listing.{tests_of, uncounted_of, unknown_of}
 use Rattle.filterset_listing.specs.ListText.{reason}
 use Rattle.filterset_listing.specs.declared.groups.TestAnswer.{TestAnswer}
 use Rattle.filterset_listing.specs.declared.groups.TestAnswer.TheVariants.{Known, Unknown}
@@ -21,11 +20,12 @@ use Rattle.filterset_listing.specs.declared.listing.BinaryPicks.{BinaryPicks}
 abbrev pub reasoned : Text → Text → Data
 reasoned why status = object (member (codes "reason") (string why) (member (codes "status") (string status) no_members))
 
--- whether a test is picked, as nextest writes it
-abbrev pub match_data : TestAnswer → Data
-match_data (Known true) = object (member (codes "status") (string (codes "matches")) no_members)
-match_data (Known false) = reasoned (codes "expression") (codes "mismatch")
-match_data (Unknown path) = reasoned (reason path.now) (codes "unknown")
+-- that a test does not count, or the answer about it, as nextest writes it
+abbrev pub match_data : Option TestAnswer → Data
+match_data None = reasoned (codes "ignored") (codes "mismatch")
+match_data (Some (Known true)) = object (member (codes "status") (string (codes "matches")) no_members)
+match_data (Some (Known false)) = reasoned (codes "expression") (codes "mismatch")
+match_data (Some (Unknown path)) = reasoned (reason path.now) (codes "unknown")
 
 -- an object became another one, and any other value stays as it is
 pub data MarksObject (Marks : Members → Members → Type 0) : Data → Data → Type 0 where
@@ -38,46 +38,50 @@ pub data MarksEach (Marks : Text → Data → Data → Type 0) : Members → Mem
   next_member : {name : Text} {before after : Data} {members others : Members} → Marks name before after
       → MarksEach Marks members others → MarksEach Marks (member name before members) (member name after others)
 
--- what stands under the key became another value, and all else stays as it is
-abbrev pub MarksAt : Text → (Data → Data → Type 0) → Members → Members → Type 0
-MarksAt key Marks = MarksEach (λ name before after. (name ≡ key → Marks before after) × (name ≢ key → after ≡ before))
+-- the value under the key becomes another one, and that under any other name stays as it is
+abbrev pub MarksUnder : Text → (Data → Data → Type 0) → Text → Data → Data → Type 0
+MarksUnder key Marks name before after = (name ≡ key → Marks before after) × (name ≢ key → after ≡ before)
 
--- the set has these names
-abbrev pub AreNames : List Text → BTreeSet (Bor Text) → Type 0
-AreNames tests names = (name : Bor Text) → IsTrue (contains (λ a b. slice_cmp nat_cmp a.now b.now) names name) ↔ Contains tests name.now
+-- What is said of the test of this name: that it does not count, if it is one of the first tests, whatever a filterset
+-- answers; or else that it is unknown, if it is one of those; or else whether it is picked.
+abbrev pub IsMarked : List Text → List Text → List (Text × Text) → Text → Option TestAnswer → Type 0
+IsMarked uncounted picked unknown name None = Contains uncounted name
+IsMarked uncounted picked unknown name (Some (Unknown path)) =
+    ¬ Contains uncounted name × Contains unknown (name, path.now)
+IsMarked uncounted picked unknown name (Some (Known answer)) = ¬ Contains uncounted name
+    × ((path : Text) → ¬ Contains unknown (name, path)) × (IsTrue answer ↔ Contains picked name)
 
--- the map has the paths of these tests, by their names
-abbrev pub ArePaths : List (Text × Text) → BTreeMap (Bor Text) (Bor Text) → Type 0
-ArePaths tests paths = (name : Text) → MatchOption (get_by (λ key. slice_cmp nat_cmp name key.now) paths)
-    ((path : Text) → ¬ Contains tests (name, path)) (λ path. Contains tests (name, path.now))
+-- the answer in the map about the test of this name; a test that has none is not picked
+abbrev pub answer_in : BTreeMap (Bor Text) (Option TestAnswer) → Text → Option TestAnswer
+answer_in answers name = unwrap_or (get_by (λ key. slice_cmp nat_cmp name key.now) answers) (Some (Known false))
 
--- the answer about the test of this name: that it is unknown, if it is one of those, and else whether it is picked
-abbrev pub IsMarked : List Text → List (Text × Text) → Text → TestAnswer → Type 0
-IsMarked picked unknown name (Unknown path) = Contains unknown (name, path.now)
-IsMarked picked unknown name (Known answer) =
-    ((path : Text) → ¬ Contains unknown (name, path)) × (IsTrue answer ↔ Contains picked name)
+-- the map has the answers about these tests
+abbrev pub AreAnswers : List Text → List Text → List (Text × Text) → BTreeMap (Bor Text) (Option TestAnswer) → Type 0
+AreAnswers uncounted picked unknown answers = (name : Text) → IsMarked uncounted picked unknown name (answer_in answers name)
 
--- each test says whether it is picked
-abbrev pub MarksTests : List Text → List (Text × Text) → Members → Members → Type 0
-MarksTests picked unknown = MarksEach (λ name before after. (answer : TestAnswer) × IsMarked picked unknown name answer
-    × MarksObject (λ old new. new ≡ put (codes "filter-match") (match_data answer) old) before after)
+-- a test says the answer about it
+abbrev pub MarksTest : Option TestAnswer → Data → Data → Type 0
+MarksTest answer = MarksObject (λ old new. new ≡ put (codes "filter-match") (match_data answer) old)
 
--- each test of a suite says whether it is picked
-abbrev pub MarksSuite : List Text → List (Text × Text) → Data → Data → Type 0
-MarksSuite picked unknown = MarksObject (MarksAt (codes "testcases") (MarksObject (MarksTests picked unknown)))
+-- each test of a suite says so
+abbrev pub MarksSuite : List Text → List Text → List (Text × Text) → Data → Data → Type 0
+MarksSuite uncounted picked unknown =
+    MarksObject (MarksEach (MarksUnder (codes "testcases") (MarksObject (MarksEach (λ name before after.
+    (answer : Option TestAnswer) × IsMarked uncounted picked unknown name answer × MarksTest answer before after)))))
 
--- each test of the suites says whether it is picked, where the first picks are those of the first suite; no test of a
--- suite without picks is picked
+-- each test of the suites says so, where the first picks are those of the first suite; no test of a suite without picks is
+-- picked
 pub data MarksSuites : List BinaryPicks → Members → Members → Type 0 where
   no_suites : {all : List BinaryPicks} → MarksSuites all no_members no_members
   next_suite : {all : List BinaryPicks} {id : Text} {before after : Data} {members others : Members}
-      → MarksSuite (flat_map tests_of (take 1 all)) (flat_map unknown_of (take 1 all)) before after
+      → MarksSuite (flat_map uncounted_of (take 1 all)) (flat_map tests_of (take 1 all)) (flat_map unknown_of (take 1 all))
+      before after
       → MarksSuites (drop 1 all) members others
       → MarksSuites all (member id before members) (member id after others)
 
--- each test of a list says whether it is picked, and all else stays as nextest wrote it
+-- each test of a list says so, and all else stays as nextest wrote it
 abbrev pub MarksList : List BinaryPicks → Data → Data → Type 0
-MarksList all = MarksObject (MarksAt (codes "rust-suites") (MarksObject (MarksSuites all)))
+MarksList all = MarksObject (MarksEach (MarksUnder (codes "rust-suites") (MarksObject (MarksSuites all))))
 
 -- The text is compact JSON of the value: members in their order and no white space. If the value has floats, whose digits
 -- are not known, its members stand in their order and the text reads back.

@@ -27,6 +27,10 @@ pub data Picked (Says : Text → TestAnswer → Type 0) : List Text → List Tex
 abbrev pub tests_of : BinaryPicks → List Text
 tests_of picks = map (λ t. t.now) picks.tests.items
 
+-- the tests that do not count
+abbrev pub uncounted_of : BinaryPicks → List Text
+uncounted_of picks = picks.binary.uncounted.now
+
 -- the unknown tests, each with the path of the override that it hangs on
 abbrev pub unknown_of : BinaryPicks → List (Text × Text)
 unknown_of picks = map (λ u. (u.test.now, u.path.now)) picks.unknown.items

@@ -6,7 +6,10 @@ use filterset_graph::TestCaseName;
 #[derive(Clone, Copy, Debug)]
 pub struct AskedBinary<'s> {
     pub query: BinaryQuery<'s>,
+    /// The tests that count.
     pub tests: &'s [TestCaseName],
+    /// The tests that nextest's option `--run-ignored` leaves out. No filterset is asked about them.
+    pub uncounted: &'s [TestCaseName],
     /// Whether nextest skipped the binary when it listed tests. Its tests are then unknown, and there are none here.
     pub is_skipped: bool,
 }

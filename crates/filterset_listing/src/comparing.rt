@@ -10,7 +10,7 @@ ghost use Rattle.filterset_graph.specs.declared.package.PackageMetadata.{Package
 ghost use Rattle.filterset_grammar.specs.Tree.{Tree};
 ghost use Rattle.filterset_listing.specs.Comparing.{IsBinaryDifference, is_of, tests_in};
 ghost use Rattle.filterset_listing.specs.Listing.{one_of};
-ghost use Rattle.filterset_listing.specs.Overrides.{AreFor, AreLaid, AreTold, all_tests};
+ghost use Rattle.filterset_listing.specs.Overrides.{AreFor, AreLaid, all_tests};
 ghost use Rattle.filterset_listing.specs.Pickers.{expr_picker, tree_picker};
 ghost use Rattle.filterset_listing.specs.declared.comparing.Part as parts;
 ghost use Rattle.filterset_listing.specs.declared.groups.GroupOverride as declared;
@@ -18,10 +18,9 @@ ghost use Rattle.filterset_listing.specs.declared.groups.GroupOverride as declar
 mod skipped;
 pub mod text;
 
-use crate::asking::query_of;
 use crate::binary::AskedBinary;
-use crate::groups::{FlatOverride, GroupOverride, ToldOverride, answer, lay_out, told_overrides};
-use filterset_expression::{CompiledExpr, EvalContext, FlatExpr};
+use crate::groups::{FlatOverride, GroupOverride, answer, lay_out, told_overrides};
+use filterset_expression::{CompiledExpr, EvalContext, FlatExpr, TestQuery};
 use filterset_graph::TestCaseName;
 use std::alloc::{AllocError, Global};
 
@@ -113,18 +112,16 @@ fn overrides_for_both<'o, 'g>(
     }
 }
 
-/// Divides the tests of a binary by the answers of two filtersets, where `rows` are the overrides that may apply to tests of
-/// the binary.
-fn divide<'s>(
+/// Returns how two filtersets differ on a binary.
+fn difference_of<'s>(
     alloc: Global,
     first: &FlatExpr<'_>,
     second: &FlatExpr<'_>,
-    rows: &[ToldOverride<'_, '_, '_>],
+    overrides: &[FlatOverride<'_, '_>],
     binary: &AskedBinary<'s>,
 ) -> Result<BinaryDifference<'s>, AllocError>
     ensures { IfOk result (λ difference. (one other default : CompiledExpr) (given : List declared.GroupOverride)
-        → IsFlat first.now one default → IsFlat second.now other default
-        → AreTold default given binary.now.query rows.now
+        → IsFlat first.now one default → IsFlat second.now other default → AreLaid default given overrides.now
         → IsBinaryDifference (expr_picker default given one) (expr_picker default given other) binary.now difference) }
 {
     let first_answer = first.matches_binary(alloc, &binary.query)?;
@@ -138,49 +135,17 @@ fn divide<'s>(
         both: Vec::new(alloc),
         unknown: Vec::new(alloc),
     };
+    let rows = told_overrides(alloc, overrides, &binary.query)?;
     for test in binary.tests {
-        let query = query_of(&binary.query, test);
-        let by_first = answer(alloc, first, rows, first_answer, &query)?;
-        let by_second = answer(alloc, second, rows, second_answer, &query)?;
+        let query = TestQuery {
+            binary_query: binary.query,
+            test_name: test,
+        };
+        let by_first = answer(alloc, first, &rows, first_answer, &query)?;
+        let by_second = answer(alloc, second, &rows, second_answer, &query)?;
         difference.push(test, by_first.known(), by_second.known())?;
     }
     Ok(difference)
-}
-
-/// Returns how two filtersets differ on a binary.
-fn difference_of<'s>(
-    alloc: Global,
-    first: &FlatExpr<'_>,
-    second: &FlatExpr<'_>,
-    overrides: &[FlatOverride<'_, '_>],
-    binary: &AskedBinary<'s>,
-) -> Result<BinaryDifference<'s>, AllocError>
-    ensures { IfOk result (λ difference. (one other default : CompiledExpr) (given : List declared.GroupOverride)
-        → IsFlat first.now one default → IsFlat second.now other default → AreLaid default given overrides.now
-        → IsBinaryDifference (expr_picker default given one) (expr_picker default given other) binary.now difference) }
-{
-    let rows = told_overrides(alloc, overrides, &binary.query)?;
-    divide(alloc, first, second, &rows, binary)
-}
-
-/// Returns how two filtersets differ on each binary.
-fn differences_of<'s>(
-    alloc: Global,
-    first: &FlatExpr<'_>,
-    second: &FlatExpr<'_>,
-    overrides: &[FlatOverride<'_, '_>],
-    binaries: &[AskedBinary<'s>],
-) -> Result<Vec<BinaryDifference<'s>>, AllocError>
-    ensures { IfOk result (λ all. (one other default : CompiledExpr) (given : List declared.GroupOverride)
-        → IsFlat first.now one default → IsFlat second.now other default → AreLaid default given overrides.now
-        → AllZip (IsBinaryDifference (expr_picker default given one) (expr_picker default given other))
-        binaries.now all.items) }
-{
-    let mut all = Vec::with_capacity(alloc, binaries.len())?;
-    for binary in binaries {
-        all.push(difference_of(alloc, first, second, overrides, binary)?)?;
-    }
-    Ok(all)
 }
 
 /// Compares two filtersets on each binary, also if nextest skipped it: then by their answers about the binary. The
@@ -214,5 +179,9 @@ pub fn compare<'s, 'e>(
         &everything,
         context,
     )?;
-    differences_of(alloc, &first, &second, &laid, binaries)
+    let mut all = Vec::with_capacity(alloc, binaries.len())?;
+    for binary in binaries {
+        all.push(difference_of(alloc, &first, &second, &laid, binary)?)?;
+    }
+    Ok(all)
 }

@@ -1,5 +1,5 @@
 //! Why a filterset picks a test or not: the value of each node of its tree.
-ghost use Rattle.std.specs.Prelude.{◌≡◌, ◌+◌, IfOk, List, is_some};
+ghost use Rattle.std.specs.Prelude.{◌≡◌, IfOk, List, is_some};
 ghost use Rattle.std.specs.List.{AllZip};
 ghost use Rattle.filterset_faults.specs.declared.span.SourceSpan.{SourceSpan};
 ghost use Rattle.filterset_grammar.specs.Tree.{Leaf, Set};
@@ -21,6 +21,7 @@ mod possible;
 pub mod text;
 mod values;
 
+use crate::counting::add_count;
 use crate::explaining::candidate::Candidate;
 use crate::explaining::joining::join_nodes;
 use crate::explaining::operands::{negated_by, operands_of};
@@ -109,13 +110,6 @@ fn push_predicate<'t>(
     Ok(value)
 }
 
-/// Returns the depth of an operator's operands. A depth that a `usize` cannot hold counts as out of memory.
-fn one_deeper(depth: usize) -> Result<usize, AllocError>
-    ensures { IfOk result (λ below. below ≡ depth + 1) }
-{
-    depth.checked_add(1).ok_or(AllocError)
-}
-
 /// Adds the nodes of a tree from the end, each operator after its operands, and returns the value of the tree.
 ///
 /// An operator's value is computed from the values of its operands, so each predicate is evaluated once.
@@ -130,7 +124,7 @@ fn push_nodes<'t>(
     ensures { IfOk result (λ value.
         Explains inquiry.now depth (tree_of node.now) compiled.now value nodes.old.items nodes.new.items) }
 {
-    let below = one_deeper(depth)?;
+    let below = add_count(depth, 1)?;
     match node {
         ParsedExpr::Not(_, operand) => {
             let value = push_nodes(alloc, inquiry, below, operand, negated_by(compiled), nodes)?;

@@ -4,12 +4,11 @@ ghost use Rattle.filterset_expression.specs.Contexts.{default_of};
 ghost use Rattle.filterset_expression.specs.Expression.{Holds};
 ghost use Rattle.filterset_expression.specs.FlatExpressions.{IsFlat, IsTold};
 ghost use Rattle.filterset_expression.specs.declared.expression.CompiledExpr as compiled;
-ghost use Rattle.filterset_listing.specs.Asking.{ExprPicks, in_group};
+ghost use Rattle.filterset_listing.specs.Asking.{ExprPicks, in_group, is_no};
 ghost use Rattle.filterset_listing.specs.Groups.{Covers, IsAnswer, applies, known_of};
 ghost use Rattle.filterset_listing.specs.Overrides.{AreFor, AreLaid, AreTold, IsLaid, Joins, MayApply, NeverApplies, StepsOn, all_tests, given_of};
 ghost use Rattle.filterset_listing.specs.declared.groups.GroupOverride as declared;
 
-use crate::asking::is_no;
 use crate::lookup::OneGroup;
 use filterset_expression::{BinaryQuery, CompiledExpr, EvalContext, FlatExpr, TestQuery};
 use filterset_graph::{BuildPlatform, GLOBAL_TEST_GROUP};
@@ -39,6 +38,16 @@ impl GroupOverride<'_> {
             BuildPlatform::Target => self.for_target,
             BuildPlatform::Host => self.for_host,
         }
+    }
+}
+
+/// Returns whether an answer is no.
+pub fn is_no(answer: Option<bool>) -> bool
+    ensures { result ≡ is_no answer }
+{
+    match answer {
+        Some(answer) => !answer,
+        None => false,
     }
 }
 

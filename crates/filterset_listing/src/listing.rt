@@ -1,8 +1,8 @@
 //! Which tests of a list a filterset picks.
-ghost use Rattle.std.specs.Prelude.{◌≡◌, ◌++◌, IfOk, List, OnOk, false};
+ghost use Rattle.std.specs.Prelude.{◌≡◌, ◌++◌, IfOk, List, OnOk};
 ghost use Rattle.std.specs.List.{AllZip, list_any};
 ghost use Rattle.filterset_expression.specs.Contexts.{default_of};
-ghost use Rattle.filterset_expression.specs.FlatExpressions.{IsFlat, IsTold};
+ghost use Rattle.filterset_expression.specs.FlatExpressions.{IsFlat};
 ghost use Rattle.filterset_expression.specs.Meaning.{IsCompiled};
 ghost use Rattle.filterset_expression.specs.declared.expression.CompiledExpr.{CompiledExpr};
 ghost use Rattle.filterset_faults.specs.declared.span.SourceSpan.{SourceSpan};
@@ -11,20 +11,18 @@ ghost use Rattle.filterset_grammar.specs.Tree.{Tree};
 ghost use Rattle.filterset_listing.specs.Asking.{ExprCanPick, ExprPicks, TreeCanPick, TreePicks};
 ghost use Rattle.filterset_listing.specs.Groups.{Says};
 ghost use Rattle.filterset_listing.specs.ListText.{has_unknown};
-ghost use Rattle.filterset_listing.specs.Listing.{IsBinaryPicks, Picked, picked_by, tests_of, unknown_by, unknown_of};
-ghost use Rattle.filterset_listing.specs.Overrides.{AreLaid, AreTold};
+ghost use Rattle.filterset_listing.specs.Listing.{IsBinaryPicks, picked_by, tests_of, unknown_by, unknown_of};
+ghost use Rattle.filterset_listing.specs.Overrides.{AreLaid};
 ghost use Rattle.filterset_listing.specs.declared.groups.GroupOverride as declared;
 
 pub mod json;
 pub mod text;
 
-use crate::asking::{is_no, query_of};
 use crate::binary::AskedBinary;
 use crate::groups::{
-    FlatOverride, GroupOverride, TestAnswer, ToldOverride, answer, lay_out, overrides_for,
-    told_overrides,
+    FlatOverride, GroupOverride, TestAnswer, answer, is_no, lay_out, overrides_for, told_overrides,
 };
-use filterset_expression::{CompiledExpr, EvalContext, FlatExpr};
+use filterset_expression::{CompiledExpr, EvalContext, FlatExpr, TestQuery};
 use filterset_graph::TestCaseName;
 use std::alloc::{AllocError, Global};
 
@@ -67,36 +65,6 @@ impl<'s, 'g> BinaryPicks<'s, 'g> {
     }
 }
 
-/// Returns the tests of a binary that the filterset picks, where `binary_answer` is its answer about the binary, and `rows`
-/// are the overrides that may apply to tests of it.
-fn pick_tests<'s, 'g>(
-    alloc: Global,
-    flat: &FlatExpr<'_>,
-    rows: &[ToldOverride<'_, 'g, '_>],
-    binary_answer: Option<bool>,
-    binary: &AskedBinary<'s>,
-) -> Result<BinaryPicks<'s, 'g>, AllocError>
-    requires { IsTold flat.now binary.now.query binary_answer }
-    ensures { IfOk result (λ picks. (picks.binary ≡ binary.now) × (picks.is_left_out ≡ false)
-        × ((expr default : CompiledExpr) (overrides : List declared.GroupOverride)
-        → IsFlat flat.now expr default → AreTold default overrides binary.now.query rows.now
-        → Picked (Says default overrides (ExprPicks default expr) binary.now.query) binary.now.tests.now
-        (tests_of picks) (unknown_of picks))) }
-{
-    let mut picks = BinaryPicks {
-        binary: *binary,
-        is_left_out: false,
-        tests: Vec::new(alloc),
-        unknown: Vec::new(alloc),
-    };
-    for test in binary.tests {
-        let query = query_of(&binary.query, test);
-        let answer = answer(alloc, flat, rows, binary_answer, &query)?;
-        picks.push(test, answer)?;
-    }
-    Ok(picks)
-}
-
 /// Returns the tests of a binary that the filterset picks.
 fn picks_of<'s, 'g>(
     alloc: Global,
@@ -108,36 +76,26 @@ fn picks_of<'s, 'g>(
         → IsFlat flat.now expr default → AreLaid default given overrides.now
         → IsBinaryPicks (Says default given (ExprPicks default expr)) (ExprCanPick default expr) binary.now picks) }
 {
-    let binary_answer = flat.matches_binary(alloc, &binary.query)?;
-    if is_no(binary_answer) {
-        return Ok(BinaryPicks {
-            binary: *binary,
-            is_left_out: true,
-            tests: Vec::new(alloc),
-            unknown: Vec::new(alloc),
-        });
+    let told = flat.matches_binary(alloc, &binary.query)?;
+    let mut picks = BinaryPicks {
+        binary: *binary,
+        is_left_out: is_no(told),
+        tests: Vec::new(alloc),
+        unknown: Vec::new(alloc),
+    };
+    if picks.is_left_out {
+        return Ok(picks);
     }
     let rows = told_overrides(alloc, overrides, &binary.query)?;
-    pick_tests(alloc, flat, &rows, binary_answer, binary)
-}
-
-/// Returns the tests of each binary that the filterset picks.
-fn all_picks_of<'s, 'g>(
-    alloc: Global,
-    flat: &FlatExpr<'_>,
-    overrides: &[FlatOverride<'g, '_>],
-    binaries: &[AskedBinary<'s>],
-) -> Result<Vec<BinaryPicks<'s, 'g>>, AllocError>
-    ensures { IfOk result (λ all. (expr default : CompiledExpr) (given : List declared.GroupOverride)
-        → IsFlat flat.now expr default → AreLaid default given overrides.now
-        → AllZip (IsBinaryPicks (Says default given (ExprPicks default expr)) (ExprCanPick default expr))
-        binaries.now all.items) }
-{
-    let mut all = Vec::with_capacity(alloc, binaries.len())?;
-    for binary in binaries {
-        all.push(picks_of(alloc, flat, overrides, binary)?)?;
+    for test in binary.tests {
+        let query = TestQuery {
+            binary_query: binary.query,
+            test_name: test,
+        };
+        let answer = answer(alloc, flat, &rows, told, &query)?;
+        picks.push(test, answer)?;
     }
-    Ok(all)
+    Ok(picks)
 }
 
 /// Returns the tests of each binary that the filterset picks, and the tests whose answer is unknown, in the order of the
@@ -167,7 +125,11 @@ pub fn list<'s, 'g>(
     let flat = FlatExpr::new(alloc, expr, context)?;
     let everything = CompiledExpr::ALL;
     let laid = lay_out(alloc, overrides_for(&flat, overrides), &everything, context)?;
-    all_picks_of(alloc, &flat, &laid, binaries)
+    let mut all = Vec::with_capacity(alloc, binaries.len())?;
+    for binary in binaries {
+        all.push(picks_of(alloc, &flat, &laid, binary)?)?;
+    }
+    Ok(all)
 }
 
 /// Returns whether the answer about a test is unknown.

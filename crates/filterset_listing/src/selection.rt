@@ -1,21 +1,43 @@
 //! The tests that a runner runs, given filtersets and the default filter.
-ghost use Rattle.std.specs.Prelude.{◌≡◌, IfOk};
-ghost use Rattle.filterset_expression.specs.declared.logic.Connective.TheVariants.{Conjunction};
-ghost use Rattle.filterset_expression.specs.Expression.{Default, formula};
-ghost use Rattle.filterset_expression.specs.Formula.{Compound, Leaf};
+ghost use Rattle.std.specs.Prelude.{◌≡◌, IfOk, MatchOption};
+ghost use Rattle.filterset_expression.specs.declared.logic.Connective.TheVariants.{Disjunction};
+ghost use Rattle.filterset_expression.specs.Expression.{formula};
+ghost use Rattle.filterset_expression.specs.Formula.{Compound};
+ghost use Rattle.filterset_listing.specs.Union.{union_formula};
 ghost use Rattle.filterset_listing.specs.Selection.{IsSelection, MeansSelection};
 
-use crate::union::union_of;
 use filterset_expression::nodes::combine;
 use filterset_expression::{CompiledExpr, Connective, FiltersetLeaf};
 use std::alloc::{AllocError, Global};
 
-/// Returns the set of the tests that the default filter picks too.
-fn within_default(alloc: Global, expr: Box<CompiledExpr>) -> Result<Box<CompiledExpr>, AllocError>
-    ensures { IfOk result (λ made. formula made.value ≡ Compound Conjunction (Leaf Default) (formula expr.value)) }
+/// Returns the union of the sets before a set, if there are any, and the set.
+fn union_with(
+    alloc: Global,
+    before: Option<Box<CompiledExpr>>,
+    expr: CompiledExpr,
+) -> Result<Box<CompiledExpr>, AllocError>
+    ensures { IfOk result (λ union. MatchOption before (formula union.value ≡ formula expr)
+        (λ b. formula union.value ≡ Compound Disjunction (formula b.value) (formula expr))) }
 {
-    let default = Box::new(alloc, CompiledExpr::Set(FiltersetLeaf::Default))?;
-    combine(alloc, Connective::Conjunction, default, expr)
+    let expr = Box::new(alloc, expr)?;
+    match before {
+        Some(before) => combine(alloc, Connective::Disjunction, before, expr),
+        None => Ok(expr),
+    }
+}
+
+/// Returns the union of the sets, or the set of all tests if there are none.
+fn union_of(alloc: Global, exprs: Vec<CompiledExpr>) -> Result<Box<CompiledExpr>, AllocError>
+    ensures { IfOk result (λ union. formula union.value ≡ union_formula exprs.items) }
+{
+    let mut union = None;
+    for expr in exprs {
+        union = Some(union_with(alloc, union, expr)?);
+    }
+    match union {
+        Some(union) => Ok(union),
+        None => Ok(Box::new(alloc, CompiledExpr::ALL)?),
+    }
 }
 
 /// Returns the set of the tests that a runner runs: those that at least one of the filtersets picks, or all tests if
@@ -34,5 +56,7 @@ pub fn selection_of(
     if ignores_default {
         return Ok(Box::into_inner(union));
     }
-    Ok(Box::into_inner(within_default(alloc, union)?))
+    let default = Box::new(alloc, CompiledExpr::Set(FiltersetLeaf::Default))?;
+    let within = combine(alloc, Connective::Conjunction, default, union)?;
+    Ok(Box::into_inner(within))
 }

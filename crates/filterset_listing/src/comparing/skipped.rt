@@ -25,28 +25,16 @@ fn skipped_count(all: &[BinaryDifference<'_>], part: Part) -> usize
         .count()
 }
 
-/// Writes the id of a binary if it is skipped and of the part.
-fn push_id(
-    output: &mut String,
-    difference: &BinaryDifference<'_>,
-    part: Part,
-) -> Result<(), AllocError>
-    ensures { OnOk result (string_bytes output.new ≡ string_bytes output.old ++ id_line part difference.now) }
-{
-    if difference.is_skipped_in(part) {
-        let id = difference.binary.query.binary_id.as_str();
-        writeln!(output, "    {id}")?;
-    }
-    Ok(())
-}
-
 /// Writes the ids of the skipped binaries of a part, a line each.
 fn push_ids(output: &mut String, all: &[BinaryDifference<'_>], part: Part) -> Result<(), AllocError>
     ensures { OnOk result (string_bytes output.new
         ≡ string_bytes output.old ++ flat_map (id_line part) all.now) }
 {
     for difference in all {
-        push_id(output, difference, part)?;
+        if difference.is_skipped_in(part) {
+            let id = difference.binary.query.binary_id.as_str();
+            writeln!(output, "    {id}")?;
+        }
     }
     Ok(())
 }

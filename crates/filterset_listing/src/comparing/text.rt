@@ -6,14 +6,14 @@ ghost use Rattle.filterset_faults.specs.declared.span.SourceSpan.{SourceSpan};
 ghost use Rattle.filterset_graph.specs.declared.package.PackageMetadata.{PackageMetadata};
 ghost use Rattle.filterset_grammar.specs.Tree.{Tree};
 ghost use Rattle.filterset_listing.specs.Comparing.{IsBinaryDifference, TellsDifference, TellsUnknown, tests_in};
-ghost use Rattle.filterset_listing.specs.ComparisonText.{comparison_text, differs, has_unknown, named_line, named_lines, part_text, unknown_text};
+ghost use Rattle.filterset_listing.specs.ComparisonText.{comparison_text, differs, has_unknown, named_line, named_lines, part_text};
 ghost use Rattle.filterset_listing.specs.Pickers.{expr_picker, tree_picker};
 ghost use Rattle.filterset_listing.specs.declared.binary.AskedBinary.{AskedBinary};
 ghost use Rattle.filterset_listing.specs.declared.groups.GroupOverride.{GroupOverride};
 
 use crate::comparing::skipped::push_skipped;
 use crate::comparing::{BinaryDifference, Part};
-use crate::counting::add_count;
+use crate::counting::{add_count, push_some};
 use filterset_graph::{RustBinaryId, TestCaseName};
 use std::alloc::{AllocError, Global};
 use std::fmt::Write;
@@ -116,19 +116,15 @@ fn push_part(
     Ok(())
 }
 
-/// Writes the number of the tests that are unknown to one of the filtersets, and with `has_names` the tests, unless there
-/// are none.
-fn push_unknown(
-    output: &mut String,
-    all: &[BinaryDifference<'_>],
-    has_names: bool,
-) -> Result<(), AllocError>
-    ensures { OnOk result (string_bytes output.new ≡ string_bytes output.old ++ unknown_text has_names all.now) }
+/// Counts the tests that do not count.
+fn uncounted_count(all: &[BinaryDifference<'_>]) -> Result<usize, AllocError>
+    ensures { IfOk result (λ count. count ≡ sum_by (λ d. length d.binary.uncounted.now) all.now) }
 {
-    if has_any_unknown(all) {
-        push_part(output, all, "unknown", Part::Unknown, has_names)?;
+    let mut count = 0;
+    for difference in all {
+        count = add_count(count, difference.binary.uncounted.len())?;
     }
-    Ok(())
+    Ok(count)
 }
 
 /// Writes how many tests only the first filterset picks, how many only the second, and how many both, and how many are
@@ -137,7 +133,8 @@ fn push_unknown(
 ///
 /// Below this it writes how many binaries that nextest skipped only the first filterset picks, how many only the second,
 /// and how many were not compared, because one of the filtersets does not decide them. It leaves out a number that is 0.
-/// With `has_names` it writes the ids of the binaries under each number.
+/// With `has_names` it writes the ids of the binaries under each number. Last it writes how many tests do not count, if there
+/// are any.
 ///
 /// Returns an error only if out of memory.
 pub fn comparison_text(
@@ -151,7 +148,9 @@ pub fn comparison_text(
     push_part(&mut text, all, "only A", Part::OnlyFirst, has_names)?;
     push_part(&mut text, all, "only B", Part::OnlySecond, has_names)?;
     push_part(&mut text, all, "both", Part::Both, has_names)?;
-    push_unknown(&mut text, all, has_names)?;
+    if has_any_unknown(all) {
+        push_part(&mut text, all, "unknown", Part::Unknown, has_names)?;
+    }
     push_skipped(
         &mut text,
         all,
@@ -173,6 +172,8 @@ pub fn comparison_text(
         Part::Unknown,
         has_names,
     )?;
+    let uncounted = uncounted_count(all)?;
+    push_some(&mut text, "left out by --run-ignored: ", uncounted, "\n")?;
     Ok(text)
 }
 

@@ -1,12 +1,11 @@
 //! The groups that a test may be in.
-ghost use Rattle.std.specs.Prelude.{◌≡◌, All, IfOk, List, map};
+ghost use Rattle.std.specs.Prelude.{◌≡◌, IfOk};
 ghost use Rattle.filterset_expression.specs.Contexts.{default_of};
 ghost use Rattle.filterset_expression.specs.declared.expression.CompiledExpr as compiled;
-ghost use Rattle.filterset_listing.specs.Overrides.{AreLaid, MayApply, all_tests, given_of};
+ghost use Rattle.filterset_listing.specs.Overrides.{MayApply, all_tests, given_of};
 ghost use Rattle.filterset_listing.specs.Possible.{ArePossible, Walks, path_if};
-ghost use Rattle.filterset_listing.specs.declared.groups.GroupOverride as declared;
 
-use crate::groups::{FlatOverride, GroupOverride, ToldOverride, lay_out, told_overrides};
+use crate::groups::{GroupOverride, ToldOverride, lay_out, told_overrides};
 use filterset_expression::{CompiledExpr, EvalContext, TestQuery};
 use filterset_graph::GLOBAL_TEST_GROUP;
 use std::alloc::{AllocError, Global};
@@ -56,41 +55,6 @@ impl<'g> PossibleGroups<'g> {
     }
 }
 
-/// Returns the groups that a test may be in, where `rows` are the overrides that may apply to tests of its binary.
-fn possible_groups<'g>(
-    alloc: Global,
-    rows: &[ToldOverride<'_, 'g, '_>],
-    query: &TestQuery<'_>,
-) -> Result<PossibleGroups<'g>, AllocError>
-    ensures { IfOk result (λ possible. (default : compiled.CompiledExpr)
-        → All (MayApply default query.now.binary_query) rows.now
-        → ArePossible default (map given_of rows.now) query.now possible) }
-{
-    let mut possible = PossibleGroups {
-        undecided: Vec::new(alloc),
-        last: GLOBAL_TEST_GROUP,
-    };
-    for row in rows {
-        if possible.push(alloc, row, query)? {
-            return Ok(possible);
-        }
-    }
-    Ok(possible)
-}
-
-/// Returns the groups that a test may be in, by overrides that are laid out.
-fn groups_by<'g>(
-    alloc: Global,
-    overrides: &[FlatOverride<'g, '_>],
-    query: &TestQuery<'_>,
-) -> Result<PossibleGroups<'g>, AllocError>
-    ensures { IfOk result (λ possible. (default : compiled.CompiledExpr) (given : List declared.GroupOverride)
-        → AreLaid default given overrides.now → ArePossible default given query.now possible) }
-{
-    let rows = told_overrides(alloc, overrides, &query.binary_query)?;
-    possible_groups(alloc, &rows, query)
-}
-
 /// Returns the groups that a test may be in, by these overrides. `all` is the filter of one that has none.
 pub fn groups_of<'g, 'f>(
     alloc: Global,
@@ -103,5 +67,15 @@ pub fn groups_of<'g, 'f>(
     ensures { IfOk result (ArePossible (default_of context.now) overrides.now query.now) }
 {
     let laid = lay_out(alloc, overrides, all, context)?;
-    groups_by(alloc, &laid, query)
+    let rows = told_overrides(alloc, &laid, &query.binary_query)?;
+    let mut possible = PossibleGroups {
+        undecided: Vec::new(alloc),
+        last: GLOBAL_TEST_GROUP,
+    };
+    for row in &rows {
+        if possible.push(alloc, row, query)? {
+            return Ok(possible);
+        }
+    }
+    Ok(possible)
 }

@@ -1,9 +1,10 @@
 //! Explanations as text.
-ghost use Rattle.std.specs.Prelude.{◌≡◌, ◌++◌, ◌-◌, IfOk, OnOk, Some, codes, string_bytes};
-ghost use Rattle.std.specs.List.{flat_map, join_by};
+ghost use Rattle.std.specs.Prelude.{◌≡◌, ◌++◌, ◌-◌, IfOk, OnOk, string_bytes};
+ghost use Rattle.std.specs.List.{flat_map};
 ghost use Rattle.filterset_language.specs.Views.{tree_of};
-ghost use Rattle.filterset_listing.specs.ExplanationText.{explained_line, explanation_text, head, indented_by, others_text, packages_part, value_text};
+ghost use Rattle.filterset_listing.specs.ExplanationText.{explained_line, explanation_text, head, indented_by, packages_part, value_text};
 
+use crate::counting::push_some;
 use crate::explaining::packages::NamedPackages;
 use crate::explaining::{ExplainedNode, Explanation};
 use filterset_language::ParsedExpr;
@@ -36,40 +37,21 @@ fn head(alloc: Global, node: &ParsedExpr) -> Result<String, AllocError>
     }
 }
 
-/// Writes how many packages are not named, if there are any.
-fn others_text(alloc: Global, others: usize) -> Result<String, AllocError>
-    ensures { IfOk result (λ text. string_bytes text ≡ others_text others) }
+/// Writes the packages that a predicate matches, if it is one of packages.
+fn push_packages(
+    output: &mut String,
+    alloc: Global,
+    packages: &Option<NamedPackages<'_>>,
+) -> Result<(), AllocError>
+    ensures { OnOk result (string_bytes output.new ≡ string_bytes output.old ++ packages_part packages.now) }
 {
-    if others == 0 {
-        return Ok(String::new(alloc));
+    if let Some(packages) = packages {
+        let names = packages.names.join(alloc, ", ")?;
+        write!(output, " (packages: {names}")?;
+        push_some(output, " and ", packages.others, " more")?;
+        output.push_str(")")?;
     }
-    format!(in alloc; " and {others} more")
-}
-
-/// Joins names by commas.
-fn join_names(alloc: Global, names: &[&str]) -> Result<String, AllocError>
-    ensures { IfOk result (λ text. string_bytes text ≡ join_by (λ n. n.now) (codes ", ") names.now) }
-{
-    names.join(alloc, ", ")
-}
-
-/// Writes the packages that a predicate matches.
-fn packages_text(alloc: Global, packages: &NamedPackages<'_>) -> Result<String, AllocError>
-    ensures { IfOk result (λ text. string_bytes text ≡ packages_part (Some packages.now)) }
-{
-    let names = join_names(alloc, packages.names.as_slice())?;
-    let others = others_text(alloc, packages.others)?;
-    format!(in alloc; " (packages: {names}{others})")
-}
-
-/// Writes what follows the value of a node.
-fn packages_part(alloc: Global, packages: &Option<NamedPackages<'_>>) -> Result<String, AllocError>
-    ensures { IfOk result (λ text. string_bytes text ≡ packages_part packages.now) }
-{
-    match packages {
-        Some(packages) => packages_text(alloc, packages),
-        None => Ok(String::new(alloc)),
-    }
+    Ok(())
 }
 
 /// Writes what precedes a node.
@@ -96,8 +78,9 @@ fn push_explained(
     let indentation = indentation(alloc, explained.depth)?;
     let head = head(alloc, explained.node)?;
     let value = value_text(explained.value);
-    let packages = packages_part(alloc, &explained.packages)?;
-    writeln!(output, "{indentation}{head}: {value}{packages}")
+    write!(output, "{indentation}{head}: {value}")?;
+    push_packages(output, alloc, &explained.packages)?;
+    output.push('\n')
 }
 
 /// Writes the lines of nodes.

@@ -1,30 +1,29 @@
 //! The tests of a list that a filterset picks, in the shape in which nextest wrote the list.
-ghost use Rattle.std.specs.Prelude.{◌≡◌, IfErr, IfOk, IsTrue, List, None, OnOk, codes, drop, false, map, string_bytes, take};
+ghost use Rattle.std.specs.Prelude.{◌≡◌, IfErr, IfOk, None, OnOk, drop, string_bytes, take};
 ghost use Rattle.std.specs.BTreeMap.{insert_entry};
 ghost use Rattle.std.specs.List.{flat_map};
 ghost use Rattle.std.specs.String.{string_cmp};
-ghost use Rattle.serde_json.specs.Data.{Data, object, put};
+ghost use Rattle.serde_json.specs.Data.{Data, object};
 ghost use Rattle.serde_json.specs.Find.{as_object};
 ghost use Rattle.serde_json.specs.View.{members_view, view};
 ghost use Rattle.filterset_listing.specs.Asking.{Text};
-ghost use Rattle.filterset_listing.specs.ListJson.{AreNames, ArePaths, IsListJson, IsMarked, MarksAt, MarksList, MarksObject, MarksSuite, MarksSuites, MarksTests, match_data};
-ghost use Rattle.filterset_listing.specs.Listing.{tests_of, unknown_of};
+ghost use Rattle.filterset_listing.specs.ListJson.{AreAnswers, IsListJson, MarksEach, MarksObject, MarksSuites, match_data};
+ghost use Rattle.filterset_listing.specs.Listing.{tests_of, uncounted_of, unknown_of};
 
 use crate::groups::TestAnswer;
-use crate::listing::{BinaryPicks, UnknownTest};
-use filterset_graph::TestCaseName;
+use crate::listing::BinaryPicks;
 use serde_json::{Map, Value, json};
 use std::alloc::{AllocError, Global};
-use std::collections::{BTreeMap, BTreeSet};
+use std::collections::BTreeMap;
 
-/// A change of a JSON value that marks each test in it as picked or not.
+/// A change of the members of a JSON object.
 trait Mark {
-    /// Whether the first value becomes the second one.
-    ghost marks: { Self → Data → Data → Type 0 };
+    /// Whether the value under the name becomes the second one.
+    ghost marks: { Self → Text → Data → Data → Type 0 };
 
-    /// Changes the value. Returns an error only if out of memory.
-    fn mark(&self, alloc: Global, value: Value) -> Result<Value, AllocError>
-        ensures { IfOk result (λ marked. marks self.now (view value) (view marked)) };
+    /// Changes the value under the name. Returns an error only if out of memory.
+    fn mark(&self, alloc: Global, name: &str, value: Value) -> Result<Value, AllocError>
+        ensures { IfOk result (λ marked. marks self.now name.now (view value) (view marked)) };
 }
 
 /// Returns the members of an object, or any other value as it is.
@@ -50,194 +49,119 @@ fn put_in(members: &mut Map<String, Value>, key: String, value: Value) -> Result
     Ok(())
 }
 
-/// Changes the value if `is_there`.
-fn mark_if<M: Mark>(
-    alloc: Global,
-    mark: &M,
-    value: Value,
-    is_there: bool,
-) -> Result<Value, AllocError>
-    ensures changed { IfOk result (λ marked. IsTrue is_there → M.marks mark.now (view value) (view marked)) }
-    ensures same { IfOk result (λ marked. is_there ≡ false → marked ≡ value) }
+/// Changes each member of an object, and leaves any other value as it is.
+fn mark_each<M: Mark>(alloc: Global, value: Value, mark: &M) -> Result<Value, AllocError>
+    ensures { IfOk result (λ marked. MarksObject (MarksEach (M.marks mark.now)) (view value) (view marked)) }
 {
-    if is_there {
-        mark.mark(alloc, value)
-    } else {
-        Ok(value)
-    }
-}
-
-/// Changes the value under the key.
-fn mark_at<M: Mark>(
-    alloc: Global,
-    members: Map<String, Value>,
-    key: &str,
-    mark: &M,
-) -> Result<Map<String, Value>, AllocError>
-    ensures { IfOk result (λ marked. MarksAt key.now (M.marks mark.now)
-        (members_view members.entries) (members_view marked.entries)) }
-{
+    let members = match members_of(value) {
+        Ok(members) => members,
+        Err(other) => return Ok(other),
+    };
     let mut marked = Map::new(alloc);
     for (name, value) in members {
-        let is_there = name.as_str() == key;
-        let value = mark_if(alloc, mark, value, is_there)?;
+        let value = mark.mark(alloc, name.as_str(), value)?;
         put_in(&mut marked, name, value)?;
     }
-    Ok(marked)
+    Ok(Value::Object(marked))
 }
 
-/// Returns what nextest writes of a test that is picked or not.
-fn match_value(alloc: Global, answer: TestAnswer<'_>) -> Result<Value, AllocError>
+/// Returns what nextest writes of a test by the answer about it, or of one that does not count.
+fn match_value(alloc: Global, answer: Option<TestAnswer<'_>>) -> Result<Value, AllocError>
     ensures { IfOk result (λ value. view value ≡ match_data answer.entry) }
 {
     match answer {
-        TestAnswer::Known(true) => json!(in alloc; {"status": "matches"}),
-        TestAnswer::Known(false) => json!(in alloc; {"reason": "expression", "status": "mismatch"}),
-        TestAnswer::Unknown(path) => {
+        None => json!(in alloc; {"reason": "ignored", "status": "mismatch"}),
+        Some(TestAnswer::Known(true)) => json!(in alloc; {"status": "matches"}),
+        Some(TestAnswer::Known(false)) => {
+            json!(in alloc; {"reason": "expression", "status": "mismatch"})
+        }
+        Some(TestAnswer::Unknown(path)) => {
             let reason = format!(in alloc; "platform of {path}")?;
             json!(in alloc; {"reason": reason, "status": "unknown"})
         }
     }
 }
 
-/// Marks a test as picked or not.
-fn mark_test(alloc: Global, test: Value, answer: TestAnswer<'_>) -> Result<Value, AllocError>
-    ensures { IfOk result (λ marked. MarksObject (λ old new. new
-        ≡ put (codes "filter-match") (match_data answer.entry) old) (view test) (view marked)) }
-{
-    match members_of(test) {
-        Ok(mut members) => {
-            let key = String::from_str(alloc, "filter-match")?;
-            put_in(&mut members, key, match_value(alloc, answer)?)?;
-            Ok(Value::Object(members))
-        }
-        Err(other) => Ok(other),
-    }
-}
+/// The answers about the tests of a binary by their names, where `None` is a test that does not count. A test that has no
+/// answer is not picked.
+#[derive(Drop)]
+struct Answers<'s, 'g>(BTreeMap<&'s str, Option<TestAnswer<'g>>>);
 
-/// Returns the answer about the test with a name, by the names of the picked tests and the paths of the unknown ones.
-fn answer_of<'p>(
-    picked: &BTreeSet<&str>,
-    unknown: &BTreeMap<&str, &'p str>,
-    name: &str,
-) -> TestAnswer<'p>
-    ensures { (tests : List Text) (others : List (Text × Text)) → AreNames tests picked.now → ArePaths others unknown.now
-        → IsMarked tests others name.now result }
-{
-    match unknown.get(name) {
-        Some(path) => TestAnswer::Unknown(*path),
-        None => TestAnswer::Known(picked.contains(name)),
-    }
-}
-
-/// Marks each test by its name.
-fn mark_tests(
+/// Returns the answers about the tests of a binary.
+fn answers_of<'s, 'g>(
     alloc: Global,
-    tests: Map<String, Value>,
-    picked: &BTreeSet<&str>,
-    unknown: &BTreeMap<&str, &str>,
-) -> Result<Map<String, Value>, AllocError>
-    ensures { IfOk result (λ marked. (names : List Text) (paths : List (Text × Text)) → AreNames names picked.now
-        → ArePaths paths unknown.now
-        → MarksTests names paths (members_view tests.entries) (members_view marked.entries)) }
+    picks: &BinaryPicks<'s, 'g>,
+) -> Result<Answers<'s, 'g>, AllocError>
+    ensures { IfOk result (λ answers.
+        AreAnswers (uncounted_of picks.now) (tests_of picks.now) (unknown_of picks.now) answers.0) }
 {
-    let mut marked = Map::new(alloc);
-    for (name, test) in tests {
-        let answer = answer_of(picked, unknown, name.as_str());
-        let test = mark_test(alloc, test, answer)?;
-        put_in(&mut marked, name, test)?;
+    let mut answers = BTreeMap::new(alloc);
+    for picked in &picks.tests {
+        answers.insert(picked.as_str(), Some(TestAnswer::Known(true)))?;
     }
-    Ok(marked)
+    for unknown in &picks.unknown {
+        let answer = TestAnswer::Unknown(unknown.path);
+        answers.insert(unknown.test.as_str(), Some(answer))?;
+    }
+    for uncounted in picks.binary.uncounted {
+        answers.insert(uncounted.as_str(), None)?;
+    }
+    Ok(Answers(answers))
 }
 
-/// Collects the names of tests.
-fn names_of<'s>(alloc: Global, tests: &[&'s TestCaseName]) -> Result<BTreeSet<&'s str>, AllocError>
-    ensures { IfOk result (λ names. AreNames (map (λ t. t.now) tests.now) names) }
-{
-    let mut names = BTreeSet::new(alloc);
-    for test in tests {
-        names.insert(test.as_str())?;
-    }
-    Ok(names)
-}
-
-/// Collects the paths that unknown tests hang on, by the names of the tests.
-fn paths_of<'s, 'g>(
+/// Returns the answers about the tests of the first binary, or none without binaries.
+fn first_answers<'s, 'g>(
     alloc: Global,
-    tests: &[UnknownTest<'s, 'g>],
-) -> Result<BTreeMap<&'s str, &'g str>, AllocError>
-    ensures { IfOk result (ArePaths (map (λ u. (u.test.now, u.path.now)) tests.now)) }
+    all: &[BinaryPicks<'s, 'g>],
+) -> Result<Answers<'s, 'g>, AllocError>
+    ensures { IfOk result (λ answers. let first = take 1 all.now in
+        AreAnswers (flat_map uncounted_of first) (flat_map tests_of first) (flat_map unknown_of first) answers.0) }
 {
-    let mut paths = BTreeMap::new(alloc);
-    for unknown in tests {
-        let UnknownTest { test, path } = *unknown;
-        paths.insert(test.as_str(), path)?;
+    match all {
+        [] => Ok(Answers(BTreeMap::new(alloc))),
+        [picks, ..] => answers_of(alloc, picks),
     }
-    Ok(paths)
 }
 
-/// The change that marks the tests of a binary: these are picked, and these are unknown.
-#[derive(Clone, Copy)]
-struct PickedTests<'p, 's, 'g> {
-    tests: &'p [&'s TestCaseName],
-    unknown: &'p [UnknownTest<'s, 'g>],
-}
+/// Marks a test by the answer about it.
+impl Mark for Answers<'_, '_> {
+    ghost use Rattle.filterset_listing.specs.ListJson.{MarksTest, answer_in};
 
-impl Mark for PickedTests<'_, '_, '_> {
-    ghost use Rattle.std.specs.Prelude.{map};
-    ghost use Rattle.filterset_listing.specs.ListJson.{MarksObject, MarksTests};
+    ghost marks = { λ answers name. MarksTest (answer_in answers.0 name) };
 
-    ghost marks = { λ m. MarksObject (MarksTests (map (λ t. t.now) m.tests.now)
-        (map (λ u. (u.test.now, u.path.now)) m.unknown.now)) };
-
-    fn mark(&self, alloc: Global, value: Value) -> Result<Value, AllocError> {
-        match members_of(value) {
-            Ok(tests) => {
-                let picked = names_of(alloc, self.tests)?;
-                let unknown = paths_of(alloc, self.unknown)?;
-                Ok(Value::Object(mark_tests(alloc, tests, &picked, &unknown)?))
+    fn mark(&self, alloc: Global, name: &str, test: Value) -> Result<Value, AllocError> {
+        match members_of(test) {
+            Ok(mut members) => {
+                let answer = self.0.get(name).copied();
+                let answer = answer.unwrap_or(Some(TestAnswer::Known(false)));
+                let key = String::from_str(alloc, "filter-match")?;
+                put_in(&mut members, key, match_value(alloc, answer)?)?;
+                Ok(Value::Object(members))
             }
             Err(other) => Ok(other),
         }
     }
 }
 
-/// Marks the tests of a suite: those in `tests` are picked, and those in `unknown` are unknown.
-fn mark_suite(
-    alloc: Global,
-    suite: Value,
-    tests: &[&TestCaseName],
-    unknown: &[UnknownTest<'_, '_>],
-) -> Result<Value, AllocError>
-    ensures { IfOk result (λ marked. MarksSuite (map (λ t. t.now) tests.now)
-        (map (λ u. (u.test.now, u.path.now)) unknown.now) (view suite) (view marked)) }
-{
-    match members_of(suite) {
-        Ok(members) => {
-            let mark = PickedTests { tests, unknown };
-            Ok(Value::Object(mark_at(alloc, members, "testcases", &mark)?))
+/// The change of a suite: these are the answers about its tests.
+#[derive(Drop)]
+struct SuiteMark<'s, 'g> {
+    answers: Answers<'s, 'g>,
+}
+
+impl Mark for SuiteMark<'_, '_> {
+    ghost use Rattle.std.specs.Prelude.{codes};
+    ghost use Rattle.filterset_listing.specs.ListJson.{MarksEach, MarksObject, MarksTest, MarksUnder, answer_in};
+
+    ghost marks = { λ m. MarksUnder (codes "testcases")
+        (MarksObject (MarksEach (λ name. MarksTest (answer_in m.answers.0 name)))) };
+
+    fn mark(&self, alloc: Global, name: &str, value: Value) -> Result<Value, AllocError> {
+        if name == "testcases" {
+            mark_each(alloc, value, &self.answers)
+        } else {
+            Ok(value)
         }
-        Err(other) => Ok(other),
-    }
-}
-
-/// Returns the tests that are picked of the first binary.
-fn first_tests<'p, 's>(all: &'p [BinaryPicks<'s, '_>]) -> &'p [&'s TestCaseName]
-    ensures { map (λ t. t.now) result.now ≡ flat_map tests_of (take 1 all.now) }
-{
-    match all {
-        [] => &[],
-        [picks, ..] => picks.tests.as_slice(),
-    }
-}
-
-/// Returns the unknown tests of the first binary.
-fn first_unknown<'p, 's, 'g>(all: &'p [BinaryPicks<'s, 'g>]) -> &'p [UnknownTest<'s, 'g>]
-    ensures { map (λ u. (u.test.now, u.path.now)) result.now ≡ flat_map unknown_of (take 1 all.now) }
-{
-    match all {
-        [] => &[],
-        [picks, ..] => picks.unknown.as_slice(),
     }
 }
 
@@ -251,59 +175,53 @@ fn other_picks<'p, 's, 'g>(all: &'p [BinaryPicks<'s, 'g>]) -> &'p [BinaryPicks<'
     }
 }
 
-/// Marks the tests of suites.
+/// Marks the tests of suites, where the first picks are those of the first suite.
 fn mark_suites(
     alloc: Global,
-    suites: Map<String, Value>,
+    suites: Value,
     all: &[BinaryPicks<'_, '_>],
-) -> Result<Map<String, Value>, AllocError>
-    ensures { IfOk result (λ marked. MarksSuites all.now
-        (members_view suites.entries) (members_view marked.entries)) }
+) -> Result<Value, AllocError>
+    ensures { IfOk result (λ marked. MarksObject (MarksSuites all.now) (view suites) (view marked)) }
 {
+    let suites = match members_of(suites) {
+        Ok(suites) => suites,
+        Err(other) => return Ok(other),
+    };
     let mut marked = Map::new(alloc);
     let mut left = all;
     for (id, suite) in suites {
-        let suite = mark_suite(alloc, suite, first_tests(left), first_unknown(left))?;
+        let answers = first_answers(alloc, left)?;
+        let suite = mark_each(alloc, suite, &SuiteMark { answers })?;
         put_in(&mut marked, id, suite)?;
         left = other_picks(left);
     }
-    Ok(marked)
+    Ok(Value::Object(marked))
 }
 
-/// The change that marks the tests of a list's suites: these are picked.
+/// The change of a list: these tests of its suites are picked.
 #[derive(Clone, Copy)]
-struct PickedSuites<'p, 's, 'g> {
+struct ListMark<'p, 's, 'g> {
     all: &'p [BinaryPicks<'s, 'g>],
 }
 
-impl Mark for PickedSuites<'_, '_, '_> {
-    ghost use Rattle.filterset_listing.specs.ListJson.{MarksObject, MarksSuites};
+impl Mark for ListMark<'_, '_, '_> {
+    ghost use Rattle.std.specs.Prelude.{codes};
+    ghost use Rattle.filterset_listing.specs.ListJson.{MarksObject, MarksSuites, MarksUnder};
 
-    ghost marks = { λ m. MarksObject (MarksSuites m.all.now) };
+    ghost marks = { λ m. MarksUnder (codes "rust-suites") (MarksObject (MarksSuites m.all.now)) };
 
-    fn mark(&self, alloc: Global, value: Value) -> Result<Value, AllocError> {
-        match members_of(value) {
-            Ok(suites) => Ok(Value::Object(mark_suites(alloc, suites, self.all)?)),
-            Err(other) => Ok(other),
+    fn mark(&self, alloc: Global, name: &str, value: Value) -> Result<Value, AllocError> {
+        if name == "rust-suites" {
+            mark_suites(alloc, value, self.all)
+        } else {
+            Ok(value)
         }
-    }
-}
-
-/// Marks the tests of a list.
-fn mark_list(alloc: Global, list: Value, all: &[BinaryPicks<'_, '_>]) -> Result<Value, AllocError>
-    ensures { IfOk result (λ marked. MarksList all.now (view list) (view marked)) }
-{
-    match members_of(list) {
-        Ok(members) => {
-            let mark = PickedSuites { all };
-            Ok(Value::Object(mark_at(alloc, members, "rust-suites", &mark)?))
-        }
-        Err(other) => Ok(other),
     }
 }
 
 /// Writes nextest's list as JSON, where each test has under `filter-match` whether it is picked:
-/// `{"status":"matches"}` or `{"reason":"expression","status":"mismatch"}`. If that is unknown, it is for example
+/// `{"status":"matches"}` or `{"reason":"expression","status":"mismatch"}`. A test that does not count has the reason
+/// `ignored`, whatever the filterset is. If it is unknown whether a test is picked, it has for example
 /// `{"reason":"platform of profile.ci.overrides[1]","status":"unknown"}`. All else is as nextest wrote it. The picks are
 /// those of the suites of the list, in the order of their ids.
 ///
@@ -315,5 +233,5 @@ pub fn list_json(
 ) -> Result<String, AllocError>
     ensures { IfOk result (λ text. IsListJson all.now (view list) (string_bytes text)) }
 {
-    mark_list(alloc, list, all)?.to_string(alloc)
+    mark_each(alloc, list, &ListMark { all })?.to_string(alloc)
 }

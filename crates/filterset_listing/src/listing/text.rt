@@ -1,11 +1,11 @@
 //! The tests of a list that a filterset picks, as text.
 ghost use Rattle.std.specs.Prelude.{◌≡◌, ◌++◌, IfOk, OnOk, codes, if◌then◌else◌, length, string_bytes, []};
 ghost use Rattle.std.specs.List.{count_by, flat_map, sum_by};
-ghost use Rattle.filterset_listing.specs.ListText.{counts_line, has_tests, has_unknown, is_open, list_text, picks_text, unknown_line, unknown_part};
+ghost use Rattle.filterset_listing.specs.ListText.{counts_line, has_tests, has_unknown, is_open, list_text, picks_text, shown_text};
+ghost use Rattle.filterset_listing.specs.Listing.{uncounted_of};
 
-use crate::counting::add_count;
-use crate::listing::{BinaryPicks, UnknownTest};
-use filterset_graph::TestCaseName;
+use crate::counting::{add_count, push_some};
+use crate::listing::BinaryPicks;
 use std::alloc::{AllocError, Global};
 use std::fmt::Write;
 
@@ -26,35 +26,11 @@ impl BinaryPicks<'_, '_> {
 
     /// Returns whether the filterset may pick tests that the list does not have: nextest skipped the binary, and the
     /// filterset does not leave it out.
-    fn is_open(&self) -> bool
+    pub fn is_open(&self) -> bool
         ensures { result ≡ is_open self.now }
     {
         self.binary.is_skipped && !self.is_left_out
     }
-}
-
-/// Writes tests, a line each.
-fn push_tests(output: &mut String, tests: &[&TestCaseName]) -> Result<(), AllocError>
-    ensures { OnOk result (string_bytes output.new
-        ≡ string_bytes output.old ++ flat_map (λ t. codes "    " ++ (t.now ++ codes "\n")) tests.now) }
-{
-    for test in tests {
-        let test = test.as_str();
-        writeln!(output, "    {test}")?;
-    }
-    Ok(())
-}
-
-/// Writes unknown tests, a line each.
-fn push_unknown(output: &mut String, tests: &[UnknownTest<'_, '_>]) -> Result<(), AllocError>
-    ensures { OnOk result (string_bytes output.new ≡ string_bytes output.old ++ flat_map unknown_line tests.now) }
-{
-    for unknown in tests {
-        let test = unknown.test.as_str();
-        let path = unknown.path;
-        writeln!(output, "    {test} (unknown: platform of {path})")?;
-    }
-    Ok(())
 }
 
 /// Returns what the text writes in place of tests that the list does not have.
@@ -66,16 +42,21 @@ fn skipped_line(is_open: bool) -> &'static str
 
 /// Writes the id of a binary, and under it the tests that the filterset picks, and those that are unknown.
 fn push_shown(output: &mut String, picks: &BinaryPicks<'_, '_>) -> Result<(), AllocError>
-    ensures { OnOk result (string_bytes output.new ≡ string_bytes output.old ++ ((picks.now.binary.query.binary_id.now
-        ++ (codes ":\n" ++ (if is_open picks.now then codes "    (skipped)\n" else [])))
-        ++ (flat_map (λ t. codes "    " ++ (t.now ++ codes "\n")) picks.now.tests.items
-        ++ flat_map unknown_line picks.now.unknown.items))) }
+    ensures { OnOk result (string_bytes output.new ≡ string_bytes output.old ++ shown_text picks.now) }
 {
     let id = picks.binary.query.binary_id.as_str();
     let skipped = skipped_line(picks.is_open());
     write!(output, "{id}:\n{skipped}")?;
-    push_tests(output, picks.tests.as_slice())?;
-    push_unknown(output, picks.unknown.as_slice())
+    for test in &picks.tests {
+        let test = test.as_str();
+        writeln!(output, "    {test}")?;
+    }
+    for unknown in &picks.unknown {
+        let test = unknown.test.as_str();
+        let path = unknown.path;
+        writeln!(output, "    {test} (unknown: platform of {path})")?;
+    }
+    Ok(())
 }
 
 /// Writes what is picked of a binary, if tests are picked or unknown or nextest skipped the binary.
@@ -111,7 +92,7 @@ fn test_count(all: &[BinaryPicks<'_, '_>]) -> Result<usize, AllocError>
 }
 
 /// Counts the unknown tests.
-fn unknown_count(all: &[BinaryPicks<'_, '_>]) -> Result<usize, AllocError>
+pub fn unknown_count(all: &[BinaryPicks<'_, '_>]) -> Result<usize, AllocError>
     ensures { IfOk result (λ count. count ≡ sum_by (λ s. length s.unknown.items) all.now) }
 {
     let mut count = 0;
@@ -121,14 +102,15 @@ fn unknown_count(all: &[BinaryPicks<'_, '_>]) -> Result<usize, AllocError>
     Ok(count)
 }
 
-/// Writes how many tests are unknown, if there are any, and ends the line.
-fn push_unknown_count(output: &mut String, count: usize) -> Result<(), AllocError>
-    ensures { OnOk result (string_bytes output.new ≡ string_bytes output.old ++ (unknown_part count ++ codes "\n")) }
+/// Counts the tests that do not count.
+pub fn uncounted_count(all: &[BinaryPicks<'_, '_>]) -> Result<usize, AllocError>
+    ensures { IfOk result (λ count. count ≡ sum_by (λ s. length (uncounted_of s)) all.now) }
 {
-    if count == 0 {
-        return writeln!(output);
+    let mut count = 0;
+    for picks in all {
+        count = add_count(count, picks.binary.uncounted.len())?;
     }
-    writeln!(output, ", unknown: {count}")
+    Ok(count)
 }
 
 /// Counts the binaries with tests that the filterset picks.
@@ -145,26 +127,27 @@ fn left_out_count(all: &[BinaryPicks<'_, '_>]) -> usize
     all.iter().filter(|picks| picks.is_left_out).count()
 }
 
-/// Writes how many tests of how many binaries the filterset picks, how many binaries it leaves out, and how many tests are
-/// unknown.
+/// Writes how many tests of how many binaries the filterset picks, how many binaries it leaves out, how many tests are
+/// unknown, and how many do not count.
 fn push_counts(output: &mut String, all: &[BinaryPicks<'_, '_>]) -> Result<(), AllocError>
     ensures { OnOk result (string_bytes output.new ≡ string_bytes output.old ++ counts_line all.now) }
 {
     let tests = test_count(all)?;
-    let binaries = binary_count(all);
-    let left_out = left_out_count(all);
-    let unknown = unknown_count(all)?;
+    let (binaries, left_out) = (binary_count(all), left_out_count(all));
     write!(
         output,
         "tests: {tests}, in binaries: {binaries}, binaries left out without asking: {left_out}"
     )?;
-    push_unknown_count(output, unknown)
+    push_some(output, ", unknown: ", unknown_count(all)?, "")?;
+    let uncounted = uncounted_count(all)?;
+    push_some(output, ", left out by --run-ignored: ", uncounted, "")?;
+    writeln!(output)
 }
 
 /// Writes the tests that a filterset picks, a line each, under the ids of their binaries, and below them those that are
 /// unknown. A binary that nextest skipped is written as skipped, unless it is left out. The last line says how many tests
-/// of how many binaries there are, how many binaries were left out without asking about their tests, and how many tests are
-/// unknown, if there are any.
+/// of how many binaries there are, how many binaries were left out without asking about their tests, and, if there are any,
+/// how many tests are unknown and how many do not count.
 ///
 /// Returns an error only if out of memory.
 pub fn list_text(alloc: Global, all: &[BinaryPicks<'_, '_>]) -> Result<String, AllocError>

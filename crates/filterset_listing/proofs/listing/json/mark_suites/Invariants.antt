@@ -3,7 +3,7 @@ use Rattle.filterset_listing.specs.ListJson.{MarksSuites}
 use Rattle.filterset_listing.proofs.MarkingLemmas.{Made}
 use Rattle.filterset_listing.proofs.listing.json.mark_suites.Given as goal
 
--- the tests of the suites so far say whether they are picked, and the all of the others are left
+-- the tests of the suites so far say whether they are picked, and the picks of the others are left
 abbrev pub invariant-loop-id : goal.invariant-loop-id
 invariant-loop-id l =
-    Made (MarksSuites l.initial.left) (MarksSuites l.left) (members_view l.fn.suites.entries) l.marked.entries l.id-iterator
+    Made (MarksSuites l.initial.left) (MarksSuites l.left) (members_view l.initial.id-iterator) l.marked.entries l.id-iterator
