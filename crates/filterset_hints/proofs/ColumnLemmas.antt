@@ -21,8 +21,8 @@ use Rattle.filterset_grammar.specs.declared.operators.SymmetricDifferenceOperato
 use Rattle.filterset_graph.specs.declared.package.PackageMetadata.{PackageMetadata}
 use Rattle.filterset_listing.specs.Operands.{left_of, negated_by, right_of}
 use Rattle.filterset_listing.proofs.ValueLemmas.{compound_value, negated_alike, negation_value, operands_alike, parens_value}
-use Rattle.filterset_hints.specs.Columns.{values_of, first_of, second_of, HasColumn, Fits}
-use Rattle.filterset_hints.specs.Subjects.{Basis}
+use Rattle.filterset_hints.specs.Columns.{values_of, first_of, second_of, Fits}
+use Rattle.filterset_hints.specs.Subjects.{Basis, HasColumn}
 use Rattle.filterset_hints.specs.declared.columns.Columns.{Columns}
 use Rattle.filterset_hints.specs.declared.subject.Subject.{Subject}
 

@@ -7,10 +7,9 @@ use Rattle.std.proofs.lemmas.Bool.{false≢true, and_parts, and_from}
 use Rattle.std.proofs.lemmas.List.Elements.{All-nil, All-cons, All-head, All-tail}
 use Rattle.filterset_faults.specs.declared.span.SourceSpan.{SourceSpan}
 use Rattle.filterset_grammar.specs.Tree.{Tree}
-use Rattle.filterset_hints.specs.Columns.{HasColumn}
-use Rattle.filterset_hints.specs.Finding.{never, needless_by, may_still, matches_none, AreDeciding}
-use Rattle.filterset_hints.specs.Needless.{Frame, MayDecide, IsNeedless, MatchesNone}
-use Rattle.filterset_hints.specs.Subjects.{Basis, may_be, MaySay}
+use Rattle.filterset_hints.specs.Finding.{never, needless_by, may_still, AreDeciding}
+use Rattle.filterset_hints.specs.Needless.{Frame, MayDecide, IsNeedless}
+use Rattle.filterset_hints.specs.Subjects.{Basis, HasColumn, may_be, MaySay}
 use Rattle.filterset_hints.specs.declared.subject.Subject.{Subject}
 use Rattle.filterset_hints.proofs.Values.{may_say}
 
@@ -83,29 +82,3 @@ module _ (basis : Basis) where
       judged_by subjects frames e (never values deciding true) (never values deciding false)
       (never_is frames e true subjects deciding values are all, is_never frames e true subjects deciding values are all)
       (never_is frames e false subjects deciding values are all, is_never frames e false subjects deciding values are all)
-
-  -- ---- predicates that match nothing
-
-  not_true : (m : Bool) → not m ≡ true → m ≡ true → ⊥
-  not_true true e h = false≢true e
-  not_true false e h = false≢true h
-
-  true_not : (m : Bool) → (m ≡ true → ⊥) → not m ≡ true
-  true_not true f = absurd (f refl)
-  true_not false f = refl
-
-  pub none_is : (e : Tree SourceSpan) (subjects : List Subject) (values : List (Option Bool)) → HasColumn basis subjects e values → matches_none values ≡ true → MatchesNone basis subjects e
-  none_is e [] values all h = All-nil _
-  none_is e (s ∷ subjects) [] all h = absurd all
-  none_is e (s ∷ subjects) (x ∷ values) all h =
-      let parts = and_parts (not (may_be x true)) (matches_none values) h in
-      All-cons (λ t. ¬ MaySay basis t e true) s subjects (λ says. not_true (may_be x true) parts.0 ((may_say basis s e x true all.0).1 says)) (none_is e subjects values all.1 parts.1)
-
-  pub is_none : (e : Tree SourceSpan) (subjects : List Subject) (values : List (Option Bool)) → HasColumn basis subjects e values → MatchesNone basis subjects e → matches_none values ≡ true
-  is_none e [] [] all h = refl
-  is_none e [] (x ∷ values) all h = absurd all
-  is_none e (s ∷ subjects) [] all h = absurd all
-  is_none e (s ∷ subjects) (x ∷ values) all h =
-      and_from (not (may_be x true)) (matches_none values)
-      (true_not (may_be x true) (λ may. All-head (λ t. ¬ MaySay basis t e true) s subjects h ((may_say basis s e x true all.0).0 may)))
-      (is_none e subjects values all.1 (All-tail (λ t. ¬ MaySay basis t e true) s subjects h))

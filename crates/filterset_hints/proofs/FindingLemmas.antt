@@ -1,5 +1,5 @@
 -- What is found of a tree from what is found of its operands.
-use Rattle.std.proofs.Common.{◌≡◌, Bool, true, false, List, [], ◌∷◌, ◌++◌, refl, sym, ◌∙◌, ap, subst, append_assoc, inl, inr, Option, Some, None}
+use Rattle.std.proofs.Common.{◌≡◌, Bool, true, false, List, [], ◌∷◌, ◌++◌, refl, sym, ◌∙◌, ap, subst, append_assoc, Option, Some, None}
 use Rattle.std.specs.Prelude.{cond}
 use Rattle.std.specs.Bool.{IsTrue}
 use Rattle.std.proofs.lemmas.Bool.{false≢true}
@@ -8,19 +8,19 @@ use Rattle.filterset_faults.specs.declared.span.SourceSpan.{SourceSpan}
 use Rattle.filterset_grammar.specs.Tree.{Leaf, Tree, Not, Union, Join, Parens, Set}
 use Rattle.filterset_grammar.specs.declared.operators.AndOperator.{AndOperator}
 use Rattle.filterset_grammar.specs.declared.operators.DifferenceOperator.{DifferenceOperator}
-use Rattle.filterset_grammar.specs.declared.operators.Joiner.{Joiner}
 use Rattle.filterset_grammar.specs.declared.operators.Joiner.TheVariants.{Both, Without, ExactlyOne}
 use Rattle.filterset_grammar.specs.declared.operators.NotOperator.{NotOperator}
 use Rattle.filterset_grammar.specs.declared.operators.OrOperator.{OrOperator}
 use Rattle.filterset_grammar.specs.declared.operators.SymmetricDifferenceOperator.{SymmetricDifferenceOperator}
 use Rattle.filterset_hints.specs.Columns.{values_of, first_of, second_of, Fits}
-use Rattle.filterset_hints.specs.Finding.{constant_for, needless_by, may_still, matches_none, AreDeciding, FindsFor, FindsUnmatched}
+use Rattle.filterset_hints.specs.Finding.{constant_for, needless_by, may_still, unmatched_by, AreDeciding, FindsFor}
 use Rattle.filterset_hints.specs.Needless.{Frame, Negated, UnionLeft, UnionRight, JoinLeft, JoinRight, Enclosed, IsNeedless, Found, IsFound, by_none, by_all, within}
 use Rattle.filterset_hints.specs.Subjects.{Basis}
+use Rattle.filterset_hints.specs.Unmatched.{AreUnmatched}
 use Rattle.filterset_hints.specs.declared.columns.Columns.{Columns}
 use Rattle.filterset_hints.specs.declared.subject.Subject.{Subject}
 use Rattle.filterset_hints.proofs.ColumnLemmas.{own_column}
-use Rattle.filterset_hints.proofs.DecidingLemmas.{beside_decides, Judged, judged, none_is, is_none}
+use Rattle.filterset_hints.proofs.DecidingLemmas.{beside_decides, Judged, judged}
 
 -- ---- constants
 
@@ -137,34 +137,22 @@ finds_set leaf columns deciding is_operand before none basis subjects frames fit
 
 -- ---- predicates that match nothing
 
-pub unmatched_not : (op : NotOperator) (a : Tree SourceSpan) (columns first : Columns) (before after : List (Tree SourceSpan)) → first ≡ first_of columns
-    → FindsUnmatched a first before after → FindsUnmatched (Not op a) columns before after
-unmatched_not op a columns first before after at_first finds basis subjects fits = finds basis subjects (subst (Fits basis subjects a) (sym at_first) fits.1)
-
-pub unmatched_parens : (a : Tree SourceSpan) (columns : Columns) (before after : List (Tree SourceSpan)) → FindsUnmatched a columns before after → FindsUnmatched (Parens a) columns before after
-unmatched_parens a columns before after finds basis subjects fits = finds basis subjects fits
-
-module _ (l r : Tree SourceSpan) (columns first second : Columns) (before mid after : List (Tree SourceSpan))
-    (at_first : first ≡ first_of columns) (at_second : second ≡ second_of columns)
-    (one : FindsUnmatched l first before mid) (two : FindsUnmatched r second mid after) where
-  pub unmatched_union : (op : OrOperator) → FindsUnmatched (Union op l r) columns before after
-  unmatched_union op basis subjects fits =
-      let left = one basis subjects (subst (Fits basis subjects l) (sym at_first) fits.1) in
-      let right = two basis subjects (subst (Fits basis subjects r) (sym at_second) fits.2) in
-      (left.0 ++ right.0, right.1 ∙ ap (λ x. x ++ right.0) left.1 ∙ append_assoc before left.0 right.0, (left.0, right.0, refl, left.2, right.2))
-
-  pub unmatched_join : (op : Joiner) → FindsUnmatched (Join op l r) columns before after
-  unmatched_join op basis subjects fits =
-      let left = one basis subjects (subst (Fits basis subjects l) (sym at_first) fits.1) in
-      let right = two basis subjects (subst (Fits basis subjects r) (sym at_second) fits.2) in
-      (left.0 ++ right.0, right.1 ∙ ap (λ x. x ++ right.0) left.1 ∙ append_assoc before left.0 right.0, (left.0, right.0, refl, left.2, right.2))
-
-pub unmatched_one : (leaf : Leaf SourceSpan) (columns : Columns) (before after : List (Tree SourceSpan)) → matches_none (values_of columns) ≡ true → after ≡ before ++ Set leaf ∷ []
-    → FindsUnmatched (Set leaf) columns before after
-unmatched_one leaf columns before after is_so same basis subjects fits =
-    (Set leaf ∷ [], same, inl (none_is basis (Set leaf) subjects (values_of columns) fits is_so, refl))
-
-pub matched_one : (leaf : Leaf SourceSpan) (columns : Columns) (before : List (Tree SourceSpan)) → matches_none (values_of columns) ≡ false
-    → FindsUnmatched (Set leaf) columns before before
-matched_one leaf columns before is_not basis subjects fits =
-    ([], sym (append-nil before), inr ((λ none. false≢true (sym is_not ∙ is_none basis (Set leaf) subjects (values_of columns) fits none)), refl))
+pub unmatched_are : (basis : Basis) (subjects : List Subject) (e : Tree SourceSpan) (columns : Columns) → Fits basis subjects e columns
+    → AreUnmatched basis subjects e (unmatched_by e columns)
+unmatched_are basis subjects (Not op e) columns fits = unmatched_are basis subjects e (first_of columns) fits.1
+unmatched_are basis subjects (Union op l r) columns fits = (
+  unmatched_by l (first_of columns),
+  unmatched_by r (second_of columns),
+  refl,
+  unmatched_are basis subjects l (first_of columns) fits.1,
+  unmatched_are basis subjects r (second_of columns) fits.2,
+)
+unmatched_are basis subjects (Join op l r) columns fits = (
+  unmatched_by l (first_of columns),
+  unmatched_by r (second_of columns),
+  refl,
+  unmatched_are basis subjects l (first_of columns) fits.1,
+  unmatched_are basis subjects r (second_of columns) fits.2,
+)
+unmatched_are basis subjects (Parens e) columns fits = unmatched_are basis subjects e columns fits
+unmatched_are basis subjects (Set leaf) columns fits = (values_of columns, fits, refl)

@@ -1,9 +1,8 @@
 -- The values of a tree's nodes for each subject, as they are kept. Only contracts of private functions cite this.
 use Rattle.std.specs.Prelude.{Bool, List, Option}
-use Rattle.std.specs.List.{AllZip}
 use Rattle.filterset_faults.specs.declared.span.SourceSpan.{SourceSpan}
 use Rattle.filterset_grammar.specs.Tree.{Tree, Not, Union, Join, Parens, Set}
-use Rattle.filterset_hints.specs.Subjects.{Basis, HasValue}
+use Rattle.filterset_hints.specs.Subjects.{Basis, HasColumn}
 use Rattle.filterset_hints.specs.declared.columns.Columns.{Columns}
 use Rattle.filterset_hints.specs.declared.columns.Columns.TheVariants.{Leaf, One', Two'}
 use Rattle.filterset_hints.specs.declared.subject.Subject.{Subject}
@@ -23,11 +22,7 @@ second_of (Leaf values) = Leaf values
 second_of (One' values p operand) = One' values p operand
 second_of (Two' values p left q right) = right
 
--- the values are those of the tree, one for each subject
-abbrev pub HasColumn : Basis → List Subject → Tree SourceSpan → List (Option Bool) → Type 0
-HasColumn basis subjects e values = AllZip (λ subject value. HasValue basis subject e value) subjects values
-
--- so are those of each operand
+-- the values are those of the tree, and so are those of each operand
 abbrev pub Fits : Basis → List Subject → Tree SourceSpan → Columns → Type 0
 Fits basis subjects (Not op e) columns =
     HasColumn basis subjects (Not op e) (values_of columns) × Fits basis subjects e (first_of columns)

@@ -1,25 +1,25 @@
 -- How hints are found. But for `found_of` and `unmatched_of`, only contracts of private functions cite this.
 use Rattle.std.specs.Prelude.{◌≡◌, ◌↔◌, ◌++◌, ◌&&◌, Bool, true, false, not, cond, IsTrue, List, Option, Some, None, map, zip}
 use Rattle.std.specs.List.{AllZip, list_all}
-use Rattle.std.specs.Borrow.{Bor}
 use Rattle.filterset_faults.specs.declared.span.SourceSpan.{SourceSpan}
-use Rattle.filterset_grammar.specs.Tree.{Tree, Parens}
-use Rattle.filterset_language.specs.Views.{tree_of}
-use Rattle.filterset_language.specs.declared.tree.ParsedExpr.{ParsedExpr}
-use Rattle.filterset_hints.specs.Columns.{Fits}
-use Rattle.filterset_hints.specs.Needless.{Frame, MayDecide, Found, AreFound, AreUnmatched}
+use Rattle.filterset_grammar.specs.Tree.{Tree, Not, Union, Join, Parens, Set}
+use Rattle.filterset_language.specs.Views.{leaf_of, tree_of}
+use Rattle.filterset_hints.specs.Columns.{Fits, first_of, second_of, values_of}
+use Rattle.filterset_hints.specs.Needless.{Frame, MayDecide, Found, AreFound}
 use Rattle.filterset_hints.specs.Subjects.{Basis, may_be}
+use Rattle.filterset_hints.specs.Unmatched.{Unmatched, unmatched_in}
 use Rattle.filterset_hints.specs.declared.columns.Columns.{Columns}
 use Rattle.filterset_hints.specs.declared.needless.NeedlessOperand.{NeedlessOperand}
 use Rattle.filterset_hints.specs.declared.subject.Subject.{Subject}
+use Rattle.filterset_hints.specs.declared.unmatched.UnmatchedPredicate.{UnmatchedPredicate}
 
 -- the operands that are found, each with its constant
 abbrev pub found_of : List NeedlessOperand → List Found
 found_of operands = map (λ o. (tree_of o.node.now, o.is_all)) operands
 
 -- the predicates that are found
-abbrev pub unmatched_of : List (Bor (ParsedExpr SourceSpan)) → List (Tree SourceSpan)
-unmatched_of nodes = map (λ n. tree_of n.now) nodes
+abbrev pub unmatched_of : List UnmatchedPredicate → List Unmatched
+unmatched_of predicates = map (λ p. (leaf_of p.leaf.now, p.skipped)) predicates
 
 -- no value of a deciding subject may be this one
 abbrev pub never : List (Option Bool) → List Bool → Bool → Bool
@@ -38,9 +38,6 @@ constant_for e values deciding is_operand = cond is_operand (needless_by values 
 abbrev pub may_still : List Bool → List (Option Bool) → Bool → List Bool
 may_still deciding others value = map (λ p. p.0 && may_be p.1 value) (zip deciding others)
 
-abbrev pub matches_none : List (Option Bool) → Bool
-matches_none values = list_all (λ v. not (may_be v true)) values
-
 -- for each subject, whether an operand there may decide
 abbrev pub AreDeciding : Basis → List Subject → List Frame → List Bool → Type 0
 AreDeciding basis subjects frames deciding =
@@ -53,7 +50,10 @@ FindsFor e columns deciding is_operand before after =
     → Fits basis subjects e columns → AreDeciding basis subjects frames deciding
     → (added : List Found) × (after ≡ before ++ added) × AreFound basis subjects is_operand frames e added
 
-abbrev pub FindsUnmatched : Tree SourceSpan → Columns → List (Tree SourceSpan) → List (Tree SourceSpan) → Type 0
-FindsUnmatched e columns before after =
-    (basis : Basis) (subjects : List Subject) → Fits basis subjects e columns
-    → (added : List (Tree SourceSpan)) × (after ≡ before ++ added) × AreUnmatched basis subjects e added
+-- the predicates that match no test, by the values that are kept
+abbrev pub unmatched_by : Tree SourceSpan → Columns → List Unmatched
+unmatched_by (Not op e) columns = unmatched_by e (first_of columns)
+unmatched_by (Union op l r) columns = unmatched_by l (first_of columns) ++ unmatched_by r (second_of columns)
+unmatched_by (Join op l r) columns = unmatched_by l (first_of columns) ++ unmatched_by r (second_of columns)
+unmatched_by (Parens e) columns = unmatched_by e columns
+unmatched_by (Set leaf) columns = unmatched_in leaf (values_of columns)

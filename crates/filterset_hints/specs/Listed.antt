@@ -1,5 +1,5 @@
 -- What filtersets are asked about for a list of tests.
-use Rattle.std.specs.Prelude.{◌≡◌, ◌≢◌, Bool, true, false, ℕ, List, [], ◌∷◌, ◌++◌, All, Contains, Option, Some, None, map}
+use Rattle.std.specs.Prelude.{◌≡◌, Bool, true, false, List, [], ◌∷◌, ◌++◌, All, Contains, Option, Some, None, map}
 use Rattle.std.specs.Borrow.{Bor}
 use Rattle.filterset_expression.specs.FlatExpressions.{IsFlat}
 use Rattle.filterset_expression.specs.declared.expression.CompiledExpr.{CompiledExpr}

@@ -1,5 +1,6 @@
--- Operands that change nothing, and predicates that match nothing.
-use Rattle.std.specs.Prelude.{◌≡◌, ◌⊎◌, Bool, true, false, not, List, [], ◌∷◌, ◌++◌, All, IsTrue}
+-- Operands that change nothing.
+use Rattle.std.specs.Prelude.{◌≡◌, ◌==◌, ◌&&◌, Bool, true, false, not, List, [], ◌∷◌, ◌++◌, All, IsTrue, MatchBool, Option, length}
+use Rattle.std.specs.List.{list_any}
 use Rattle.filterset_faults.specs.declared.span.SourceSpan.{SourceSpan}
 use Rattle.filterset_grammar.specs.Tree as tree
 use Rattle.filterset_grammar.specs.Tree.{Tree, Not, Union, Join, Parens, Set}
@@ -7,7 +8,8 @@ use Rattle.filterset_grammar.specs.declared.operators.Joiner.{Joiner}
 use Rattle.filterset_grammar.specs.declared.operators.Joiner.TheVariants.{Both, Without, ExactlyOne}
 use Rattle.filterset_grammar.specs.declared.operators.NotOperator.{NotOperator}
 use Rattle.filterset_grammar.specs.declared.operators.OrOperator.{OrOperator}
-use Rattle.filterset_hints.specs.Subjects.{Basis, MaySay}
+use Rattle.filterset_hints.specs.Subjects.{Basis, HasColumn, MaySay}
+use Rattle.filterset_hints.specs.Unmatched.{Unmatched, is_yes}
 use Rattle.filterset_hints.specs.declared.subject.Subject.{Subject}
 
 -- an operator over an operand, with its other operand; or parentheses
@@ -94,18 +96,11 @@ AreFound basis subjects is_operand frames (Parens e) found = AreFound basis subj
 AreFound basis subjects is_operand frames (Set leaf) found =
     IsFound basis subjects is_operand frames (Set leaf) found (found ≡ [])
 
--- the predicate surely matches no subject
-abbrev pub MatchesNone : Basis → List Subject → Tree SourceSpan → Type 0
-MatchesNone basis subjects e = All (λ subject. ¬ MaySay basis subject e true) subjects
+-- each predicate matches a test, and so does the filterset, which has these values
+abbrev pub picks_by_all : List Unmatched → List (Option Bool) → Bool
+picks_by_all unmatched values = length unmatched == 0 && list_any is_yes values
 
--- the predicates of a tree that surely match no subject, from left to right
-abbrev pub AreUnmatched : Basis → List Subject → Tree SourceSpan → List (Tree SourceSpan) → Type 0
-AreUnmatched basis subjects (Not op e) found = AreUnmatched basis subjects e found
-AreUnmatched basis subjects (Union op l r) found = (left : List (Tree SourceSpan)) × (right : List (Tree SourceSpan))
-    × (found ≡ left ++ right) × AreUnmatched basis subjects l left × AreUnmatched basis subjects r right
-AreUnmatched basis subjects (Join op l r) found = (left : List (Tree SourceSpan)) × (right : List (Tree SourceSpan))
-    × (found ≡ left ++ right) × AreUnmatched basis subjects l left × AreUnmatched basis subjects r right
-AreUnmatched basis subjects (Parens e) found = AreUnmatched basis subjects e found
-AreUnmatched basis subjects (Set leaf) found =
-    (MatchesNone basis subjects (Set leaf) × (found ≡ Set leaf ∷ []))
-    ⊎ ((¬ MatchesNone basis subjects (Set leaf)) × (found ≡ []))
+-- The needless operands of a filterset. If one of its predicates matches no test, or if it picks no test, there are none.
+abbrev pub AreNeedless : Basis → List Subject → Tree SourceSpan → List Unmatched → List Found → Type 0
+AreNeedless basis subjects e unmatched needless = (values : List (Option Bool)) × HasColumn basis subjects e values
+    × MatchBool (picks_by_all unmatched values) (AreFound basis subjects false [] e needless) (needless ≡ [])

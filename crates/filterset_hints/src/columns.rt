@@ -8,7 +8,8 @@ ghost use Rattle.filterset_faults.specs.declared.span.SourceSpan.{SourceSpan};
 ghost use Rattle.filterset_grammar.specs.Tree.{Tree};
 ghost use Rattle.filterset_graph.specs.declared.package.PackageMetadata.{PackageMetadata};
 ghost use Rattle.filterset_language.specs.Views.{tree_of};
-ghost use Rattle.filterset_hints.specs.Columns.{first_of, second_of, values_of, Fits, HasColumn};
+ghost use Rattle.filterset_hints.specs.Columns.{first_of, second_of, values_of, Fits};
+ghost use Rattle.filterset_hints.specs.Subjects.{HasColumn};
 
 use crate::operands::{negated_by, operands_of};
 use crate::subject::Subject;

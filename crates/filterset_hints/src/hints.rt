@@ -4,13 +4,16 @@ ghost use Rattle.filterset_expression.specs.Contexts.{default_of};
 ghost use Rattle.filterset_expression.specs.Meaning.{IsCompiled};
 ghost use Rattle.filterset_graph.specs.declared.package.PackageMetadata.{PackageMetadata};
 ghost use Rattle.filterset_language.specs.Views.{tree_of};
+ghost use Rattle.filterset_hints.specs.Columns.{Fits, values_of};
 ghost use Rattle.filterset_hints.specs.Finding.{found_of, unmatched_of};
-ghost use Rattle.filterset_hints.specs.Needless.{AreFound, AreUnmatched};
+ghost use Rattle.filterset_hints.specs.Needless.{AreNeedless, picks_by_all};
+ghost use Rattle.filterset_hints.specs.Subjects.{Basis};
+ghost use Rattle.filterset_hints.specs.Unmatched.{AreUnmatched};
 
-use crate::columns::{Asked, columns_of};
+use crate::columns::{Asked, Columns, columns_of};
 use crate::needless::{NeedlessOperand, find_needless};
 use crate::subject::Subject;
-use crate::unmatched::find_unmatched;
+use crate::unmatched::{UnmatchedPredicate, any_yes, find_unmatched};
 use filterset_expression::{CompiledExpr, EvalContext};
 use filterset_language::ParsedExpr;
 use std::alloc::{AllocError, Global};
@@ -19,8 +22,9 @@ use std::alloc::{AllocError, Global};
 #[derive(Debug, Drop)]
 pub struct Hints<'t> {
     /// The predicates that match no test, from left to right.
-    pub unmatched: Vec<&'t ParsedExpr>,
+    pub unmatched: Vec<UnmatchedPredicate<'t>>,
     /// The operands in whose place `all()` or `none()` picks the same tests, from left to right; of such an operand no part.
+    /// There are none if a predicate matches no test, or if the filterset picks none.
     pub needless: Vec<NeedlessOperand<'t>>,
 }
 
@@ -31,13 +35,40 @@ fn all_deciding(alloc: Global, subjects: &[Subject<'_>]) -> Result<Vec<bool>, Al
     subjects.iter().map(|_subject| true).collect(alloc)
 }
 
-/// Returns the predicates of a tree that match no subject, and the operands that change nothing for any subject.
-/// `compiled` is what the tree is compiled to.
+/// Returns whether each predicate of a filterset matches a test, and so does the filterset.
+fn picks_by_all(unmatched: &[UnmatchedPredicate<'_>], columns: &Columns) -> bool
+    ensures { result ≡ picks_by_all (unmatched_of unmatched.now) (values_of columns.now) }
+{
+    unmatched.is_empty() && any_yes(columns.values())
+}
+
+/// Returns the needless operands of a filterset, of whose predicates these match no test.
+fn needless_of<'t>(
+    alloc: Global,
+    tree: &'t ParsedExpr,
+    columns: &Columns,
+    subjects: &[Subject<'_>],
+    unmatched: &[UnmatchedPredicate<'_>],
+) -> Result<Vec<NeedlessOperand<'t>>, AllocError>
+    ensures { IfOk result (λ found. (basis : Basis) → Fits basis subjects.now (tree_of tree.now) columns.now
+        → AreNeedless basis subjects.now (tree_of tree.now) (unmatched_of unmatched.now) (found_of found.items)) }
+{
+    let mut found = Vec::new(alloc);
+    if picks_by_all(unmatched, columns) {
+        let deciding = all_deciding(alloc, subjects)?;
+        find_needless(alloc, tree, columns, &deciding, false, &mut found)?;
+        return Ok(found);
+    }
+    Ok(found)
+}
+
+/// Returns the predicates of a tree that match no test of a list, and the operands that change nothing. `compiled` is what
+/// the tree is compiled to.
 ///
-/// What a binary whose tests are unknown would say hangs on the answers of its `test` and `group` predicates. A predicate
-/// that may match a test of it is not listed, nor an operand on which hangs what is said of such a test. Without subjects
-/// all predicates and operands are listed. Each predicate is evaluated once for each subject. The only error is out of
-/// memory.
+/// A predicate is listed if it is true of no test that is a subject, and of no skipped binary whatever its tests are; with it
+/// goes the number of skipped binaries that may have a test that it matches. An operand is not listed if it may decide about
+/// a test of a skipped binary, nor if the filterset picks no test, nor beside a predicate that is listed. Each predicate is
+/// evaluated once for each subject. The only error is out of memory.
 pub fn find_hints<'t>(
     alloc: Global,
     tree: &'t ParsedExpr,
@@ -51,8 +82,8 @@ pub fn find_hints<'t>(
         (tree_of tree.now) (unmatched_of hints.unmatched.items)) }
     ensures needless { IfOk result (λ hints. (packages : List PackageMetadata)
         → IsCompiled packages (tree_of tree.now) compiled.now
-        → AreFound (record { packages = packages; default = default_of context.now }) subjects.now false []
-        (tree_of tree.now) (found_of hints.needless.items)) }
+        → AreNeedless (record { packages = packages; default = default_of context.now }) subjects.now
+        (tree_of tree.now) (unmatched_of hints.unmatched.items) (found_of hints.needless.items)) }
 {
     let asked = Asked {
         context: *context,
@@ -61,9 +92,7 @@ pub fn find_hints<'t>(
     let columns = columns_of(alloc, &asked, tree, compiled)?;
     let mut unmatched = Vec::new(alloc);
     find_unmatched(tree, &columns, &mut unmatched)?;
-    let mut needless = Vec::new(alloc);
-    let deciding = all_deciding(alloc, subjects)?;
-    find_needless(alloc, tree, &columns, &deciding, false, &mut needless)?;
+    let needless = needless_of(alloc, tree, &columns, subjects, &unmatched)?;
     Ok(Hints {
         unmatched,
         needless,

@@ -14,3 +14,4 @@ pub use hints::{Hints, find_hints};
 pub use listed::subjects_of;
 pub use needless::NeedlessOperand;
 pub use subject::Subject;
+pub use unmatched::UnmatchedPredicate;

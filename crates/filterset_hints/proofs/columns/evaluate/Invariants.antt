@@ -4,7 +4,7 @@ use Rattle.filterset_expression.specs.Meaning.{IsCompiled}
 use Rattle.filterset_faults.specs.declared.span.SourceSpan.{SourceSpan}
 use Rattle.filterset_grammar.specs.Tree.{Tree}
 use Rattle.filterset_graph.specs.declared.package.PackageMetadata.{PackageMetadata}
-use Rattle.filterset_hints.specs.Columns.{HasColumn}
+use Rattle.filterset_hints.specs.Subjects.{HasColumn}
 use Rattle.filterset_hints.proofs.columns.evaluate.Given as goal
 
 -- the subjects so far have their values

@@ -2,7 +2,7 @@ use Rattle.std.proofs.Common.{arith, ◌≡◌, ◌<◌, ◌∙◌, ◌+◌, ℕ
 use Rattle.std.proofs.lemmas.List.{drop_all, map-append}
 use Rattle.std.specs.Borrow.{Bor}
 use Rattle.filterset_hints.specs.Listed.{AreGroupsOf, Puts, given_of}
-use Rattle.filterset_hints.proofs.ListedLemmas.{Walks, laid_at, overrides_from, walk_begins, walk_ends, walk_goes_on, walk_over, walk_passes}
+use Rattle.filterset_hints.proofs.ListedLemmas.{Walks, laid_at, overrides_from, walk_ends, walk_goes_on, walk_over, walk_passes}
 use Rattle.filterset_hints.proofs.listed.groups_of.Goals.{in-Some-false, in-None+in_ok-push-in-None}
 use Rattle.filterset_hints.proofs.listed.groups_of.Goals as goal
 
