@@ -7,7 +7,8 @@ use Rattle.filterset_json.proofs.PieceLemmas.{Pieces-push}
 use Rattle.serde_json.specs.Data.{Data}
 use Rattle.serde_json.specs.Written.{has_float}
 use Rattle.filterset_drawing.specs.Columns.{Text}
-use Rattle.filterset_drawing.specs.Json.{number_data, text_data, FaultData}
+use Rattle.filterset_drawing.specs.Json.{number_data, text_data, RemarkData}
+use Rattle.filterset_drawing.specs.Remarks.{RemarkRow}
 use Rattle.filterset_drawing.specs.declared.source.FileSpan.{FileSpan}
 use Rattle.std.specs.Prelude.{Option, Some, None, ◌==◌, if◌then◌else◌}
 use Rattle.std.specs.List.{AllZip}
@@ -64,7 +65,7 @@ rows_more f xs i x lt at =
 pub one_more : {A : Type 0} (xs : List A) (i : ℕ) (x : A) → i < length xs → get_or xs i x ≡ x → take (i + 1) xs ≡ take i xs ++ x ∷ []
 one_more xs i x lt at = take_more xs i x lt ∙ ap (λ y. take i xs ++ y ∷ []) at
 
--- the object of a fault has no number with a fraction
+-- the object of a remark has no number with a fraction
 number_data-has_float : (n : Option ℕ) → has_float (number_data n) ≡ false
 number_data-has_float None = refl
 number_data-has_float (Some n) = refl
@@ -73,21 +74,15 @@ text_data-has_float : (t : Option Text) → has_float (text_data t) ≡ false
 text_data-has_float None = refl
 text_data-has_float (Some t) = refl
 
-pub fault_has_no_float : (origin text : Text) (part : Option FileSpan) (number : ℕ) (fault : ParseSingleError) (d : Data)
-    → FaultData origin text part number fault d → has_float d ≡ false
-fault_has_no_float origin text part number fault d (here, there, at, in_file, is) =
+pub remark_has_no_float : (origin text : Text) (part : Option FileSpan) (number : Option ℕ) (remark : RemarkRow) (d : Data)
+    → RemarkData origin text part number remark d → has_float d ≡ false
+remark_has_no_float origin text part number remark d (here, there, at, in_file, is) =
     ap has_float is
     ∙ simp (number_data-has_float, text_data-has_float) refl
 
 -- the number of the next text
 pub next_number : {A B : Type 0} (f : A → B) (xs : List A) (i : ℕ) → i < length xs → 1 + length (map f (take i xs)) ≡ i + 1
 next_number f xs i lt = omega (arith, length-map (take i xs) f, length-take-le i xs (omega arith))
-
--- what is written of the next fault
-pub Pieces-next : (Writes : ParseSingleError → Text → Type 0) (faults : List ParseSingleError) (i : ℕ) (d : ParseSingleError) (pieces piece : Text)
-    → i < length faults → Pieces Writes (take i faults) pieces → Writes (get_or faults i d) piece → Pieces Writes (take (i + 1) faults) (pieces ++ piece)
-Pieces-next Writes faults i d pieces piece lt are is =
-    rw (take_more faults i d lt) (Pieces-push Writes (take i faults) (get_or faults i d) pieces piece are is)
 
 -- the line of the next text, as long as none has faults
 pub FormattedLines-next : (rewriting : Rewriting) (rows : List TextRow) (row : TextRow) (lines line : Text) (faulty : ℕ) (has : Bool)

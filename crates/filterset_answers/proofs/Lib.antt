@@ -11,3 +11,4 @@ pub mod VerdictJsonLemmas
 pub mod ReasonLemmas
 pub mod VerdictTextLemmas
 pub mod TreeLemmas
+pub mod UnreadLemmas

@@ -1,8 +1,10 @@
 -- The rows of texts that are numbered one after the other.
-use Rattle.std.proofs.Common.{◌≡◌, ℕ, ◌+◌, ◌<◌, arith, List, [], ◌∷◌, ◌++◌, length, map, take, get_or, ◌∙◌, sym, ap}
+use Rattle.std.proofs.Common.{◌≡◌, ℕ, ◌+◌, ◌<◌, arith, List, [], ◌∷◌, ◌++◌, length, map, take, get_or, ◌∙◌, sym, ap, refl, Option, None, Some}
 use Rattle.std.proofs.lemmas.List.{map-append, length-map, length-take-le, take_more}
+use Rattle.std.proofs.lemmas.List.Elements.{filter_map-append}
 use Rattle.std.proofs.lemmas.List.FromFn.{length-enumerate_from}
-use Rattle.std.specs.List.{enumerate_from}
+use Rattle.std.specs.List.{enumerate_from, filter_map}
+use Rattle.std.specs.Prelude.{option_map, option_to_list}
 use Rattle.std.specs.Borrow.{Bor}
 use Rattle.filterset_drawing.specs.Columns.{Text}
 use Rattle.filterset_faults.specs.declared.kind.FiltersetKind.{FiltersetKind}
@@ -59,8 +61,27 @@ next_entry {A} row xs i x entries entry lt at are is =
     ∙ sym (ap (map row) (enumerate_from-push 0 before x) ∙ map-append row (enumerate_from 0 before) ((0 + length before, x) ∷ []))
     ∙ ap (λ ys. map row (enumerate_from 0 ys)) (sym (take_more xs i x lt ∙ ap (λ y. before ++ y ∷ []) at))
 
--- there is an entry for each element
-pub entries_long : {A : Type 0} (row : ℕ × A → TextRow) (xs : List A) (entries : List TextEntry)
-    → map text_row entries ≡ map row (enumerate_from 0 xs) → length entries ≡ length xs
-entries_long row xs entries are =
-    sym (length-map entries text_row) ∙ ap length are ∙ length-map (enumerate_from 0 xs) row ∙ length-enumerate_from 0 xs
+-- the row of one element, if it has one
+one_row : {X : Type 0} (row : X → Option TextRow) (x : X) (o : Option TextEntry) → option_map text_row o ≡ row x
+    → map text_row (option_to_list o) ≡ filter_map row (x ∷ [])
+one_row row x None is = rw (sym is) refl
+one_row row x (Some entry) is = rw (sym is) refl
+
+-- the rows of elements with the next one, of which there may be a row
+pub next_row : {A : Type 0} (row : ℕ × A → Option TextRow) (xs : List A) (i : ℕ) (x : A) → i < length xs → get_or xs i x ≡ x
+    → filter_map row (enumerate_from 0 (take i xs)) ++ filter_map row ((i, x) ∷ []) ≡ filter_map row (enumerate_from 0 (take (i + 1) xs))
+next_row {A} row xs i x lt at =
+    let before = take i xs in
+    let count : i ≡ 0 + length before = omega (arith, length-take-le i xs (omega arith)) in
+    ap (λ n. filter_map row (enumerate_from 0 before) ++ filter_map row ((n, x) ∷ [])) count
+    ∙ sym (filter_map-append row (enumerate_from 0 before) ((0 + length before, x) ∷ []))
+    ∙ sym (ap (filter_map row) (enumerate_from-push 0 before x))
+    ∙ ap (λ ys. filter_map row (enumerate_from 0 ys)) (sym (take_more xs i x lt ∙ ap (λ y. before ++ y ∷ []) at))
+
+-- the entries with that of the next element, of which there may be a row
+pub next_entries : {A : Type 0} (row : ℕ × A → Option TextRow) (xs : List A) (i : ℕ) (x : A) (entries new : List TextEntry) (o : Option TextEntry)
+    → i < length xs → get_or xs i x ≡ x → map text_row entries ≡ filter_map row (enumerate_from 0 (take i xs)) → option_map text_row o ≡ row (i, x)
+    → new ≡ entries ++ option_to_list o → map text_row new ≡ filter_map row (enumerate_from 0 (take (i + 1) xs))
+next_entries row xs i x entries new o lt at are is made =
+    ap (map text_row) made ∙ map-append text_row entries (option_to_list o) ∙ ap (λ rows. rows ++ map text_row (option_to_list o)) are
+    ∙ ap (λ rows. filter_map row (enumerate_from 0 (take i xs)) ++ rows) (one_row row (i, x) o is) ∙ next_row row xs i x lt at

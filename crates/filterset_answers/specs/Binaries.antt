@@ -18,4 +18,5 @@ IsAsked suite binary =
     × (binary.query.kind.now ≡ suite.kind)
     × (binary.query.platform ≡ suite.platform)
     × (binary.tests.now ≡ suite.tests.items)
+    × (binary.uncounted.now ≡ suite.uncounted.items)
     × (binary.is_skipped ≡ is_skipped suite.status)

@@ -1,7 +1,8 @@
 -- Which texts commands check, format or ask, as rows: where a text comes from, what it has to be, and the text.
-use Rattle.std.specs.Prelude.{ℕ, ◌+◌, ◌++◌, List, [], ◌∷◌, Option, Some, codes, decimal, filter_map, length, map, option_map, string_bytes, sum_by, take}
+use Rattle.std.specs.Prelude.{ℕ, ◌+◌, ◌-◌, ◌==◌, ◌&&◌, ◌||◌, ◌++◌, Bool, false, true, not, List, [], ◌∷◌, None, Option, Some, codes, decimal, drop, filter_map, if◌then◌else◌, length, map, option_map, string_bytes, sum_by, take}
 use Rattle.std.specs.Borrow.{Bor}
 use Rattle.std.specs.List.{enumerate_from}
+use Rattle.std.specs.Str.{bytes_eq, trim_start}
 use Rattle.std.specs.Str.Lines.{lines}
 use Rattle.filterset_drawing.specs.Columns.{Text}
 use Rattle.filterset_drawing.specs.Lines.{pieces}
@@ -10,7 +11,6 @@ use Rattle.filterset_faults.specs.declared.kind.FiltersetKind.{FiltersetKind}
 use Rattle.filterset_faults.specs.declared.kind.FiltersetKind.TheVariants as kinds
 use Rattle.filterset_sources.specs.declared.configuration.ConfiguredFilterset.{ConfiguredFilterset}
 use Rattle.filterset_places.specs.Places.{place_at}
-use Rattle.filterset_places.specs.declared.stretch.Stretch.{Stretch}
 use Rattle.filterset_answers.specs.Checked.{TextRow, row_of, text_row}
 use Rattle.filterset_answers.specs.Placements.{Placement, line, literal}
 use Rattle.filterset_answers.specs.declared.entries.ConfiguredTexts.{ConfiguredTexts}
@@ -32,20 +32,39 @@ numbered_rows word kind texts =
 abbrev pub line_start : Text → ℕ → ℕ
 line_start text feeds = sum_by (λ piece. length piece + 1) (take feeds (pieces text))
 
--- the row of a line that is at this stretch of a file
-abbrev pub stretch_row : Bor Source → FiltersetKind → ℕ → Stretch → Text → TextRow
-stretch_row file kind number stretch text =
-    record (numbered_row (codes "line") kind number text) { place = Some (record { file = file; spot = line stretch }) }
+-- the line without the byte-order mark that it may begin with
+abbrev pub unmarked : Text → Text
+unmarked text = if bytes_eq (take 3 text) (239 ∷ 187 ∷ 191 ∷ []) then drop 3 text else text
 
--- the row of a line of a file, by how many lines come before it
-abbrev pub line_row : Bor Source → FiltersetKind → ℕ × Text → TextRow
-line_row file kind numbered =
-    let from = line_start file.now.text.now numbered.0 in
-    stretch_row file kind (numbered.0 + 1) (record { from = from; to = from + length numbered.1 }) numbered.1
+-- the line is a comment, or blank, and blank lines are not kept
+abbrev pub is_passed_over : Bool → Text → Bool
+is_passed_over keeps_blank text = bytes_eq (take 1 text) (codes "#") || (not keeps_blank && length (trim_start text) == 0)
 
--- the rows of the lines of a file, which are called `line` and numbered from 1
+-- the row of a text that ends at this offset of a file
+abbrev pub stretch_row : Bor Source → FiltersetKind → ℕ → ℕ → Text → TextRow
+stretch_row file kind number to text = record (numbered_row (codes "line") kind number text)
+    { place = Some (record { file = file; spot = line (record { from = to - length text; to = to }) }) }
+
+-- the row of a line that ends at this offset, if it is not passed over
+abbrev pub listed_row : Bool → Bor Source → FiltersetKind → ℕ → ℕ → Text → Option TextRow
+listed_row keeps_blank file kind number to text =
+    if is_passed_over keeps_blank (unmarked text) then None else Some (stretch_row file kind number to (unmarked text))
+
+-- the same, by how many lines come before it
+abbrev pub line_row : Bool → Bor Source → FiltersetKind → ℕ × Text → Option TextRow
+line_row keeps_blank file kind numbered =
+    listed_row keeps_blank file kind (numbered.0 + 1) (line_start file.now.text.now numbered.0 + length numbered.1) numbered.1
+
+-- the rows of the lines of a file that are not passed over, which are called `line` and numbered from 1
+abbrev pub rows_among : Bool → Bor Source → FiltersetKind → List TextRow
+rows_among keeps_blank file kind = filter_map (line_row keeps_blank file kind) (enumerate_from 0 (lines file.now.text.now))
+
+-- of a list in an editor blank lines are kept, and of standard input they are not
 abbrev pub line_rows : Bor Source → FiltersetKind → List TextRow
-line_rows file kind = map (line_row file kind) (enumerate_from 0 (lines file.now.text.now))
+line_rows file kind = rows_among true file kind
+
+abbrev pub input_rows : Bor Source → FiltersetKind → List TextRow
+input_rows file kind = rows_among false file kind
 
 -- a filterset of a configuration is called by its path
 abbrev pub file_row : Option Placement → ConfiguredFilterset → TextRow

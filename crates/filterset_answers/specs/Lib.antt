@@ -15,6 +15,7 @@ pub mod Explained
 pub mod Profile
 pub mod ListedTests
 pub mod Reasons
+pub mod Unread
 pub mod VerdictForm
 pub mod VerdictJson
 pub mod VerdictText

@@ -8,36 +8,19 @@ use Rattle.filterset_sources.specs.declared.list.Suite.{Suite}
 use Rattle.filterset_sources.specs.declared.list.SuiteStatus.{SuiteStatus}
 use Rattle.filterset_sources.specs.declared.list.SuiteStatus.TheVariants.{Listed, Skipped}
 
--- a test, and the binary that contains it
-pub record ListedTest : Type 0 where
-  pub package_id : Text
-  pub binary_id : Text
-  pub binary_name : Text
-  pub kind : Text
-  pub platform : BuildPlatform
-  pub name : Text
+-- the package, id, name, kind and platform of the binary that contains a test, and the test's name
+abbrev pub ListedTest : Type 0
+ListedTest = Text × Text × Text × Text × BuildPlatform × Text
 
 -- the test that a query is about
 abbrev pub listed_test : TestQuery → ListedTest
-listed_test query = record {
-  package_id = query.binary_query.package_id.now;
-  binary_id = query.binary_query.binary_id.now;
-  binary_name = query.binary_query.binary_name.now;
-  kind = query.binary_query.kind.now;
-  platform = query.binary_query.platform;
-  name = query.test_name.now;
-}
+listed_test query = let binary = query.binary_query in
+    (binary.package_id.now, binary.binary_id.now, binary.binary_name.now, binary.kind.now, binary.platform, query.test_name.now)
 
 -- the test of the suite with this name
 abbrev pub test_in : Suite → Text → ListedTest
-test_in suite name = record {
-  package_id = suite.package_id;
-  binary_id = suite.binary_id;
-  binary_name = string_bytes suite.binary_name;
-  kind = suite.kind;
-  platform = suite.platform;
-  name = name;
-}
+test_in suite name =
+    (suite.package_id, suite.binary_id, string_bytes suite.binary_name, suite.kind, suite.platform, name)
 
 -- these tests, unless nextest skipped the binary, whose tests are then unknown
 abbrev pub tests_by : SuiteStatus → List ListedTest → List ListedTest

@@ -1,5 +1,5 @@
 -- What `overrides` writes.
-use Rattle.std.specs.Prelude.{◌≡◌, ◌==◌, ◌||◌, ℕ, zero, suc, Bool, true, List, [], ◌++◌, Option, Some, None, codes, decimal, is_none, length, not}
+use Rattle.std.specs.Prelude.{◌≡◌, ◌==◌, ◌||◌, Bool, true, List, [], ◌++◌, Option, Some, None, codes, is_none, length, not}
 use Rattle.std.specs.List.{AllZip, count_by, list_any, sum_by}
 use Rattle.filterset_drawing.specs.Columns.{Text}
 use Rattle.filterset_expression.specs.declared.expression.CompiledExpr.{CompiledExpr}
@@ -9,7 +9,8 @@ use Rattle.filterset_grammar.specs.Tree.{Tree}
 use Rattle.filterset_graph.specs.declared.package.PackageMetadata.{PackageMetadata}
 use Rattle.filterset_listing.specs.Explaining.{IsExplanation}
 use Rattle.filterset_listing.specs.ExplanationText.{explanation_text}
-use Rattle.filterset_listing.specs.ListText.{has_unknown, is_open}
+use Rattle.filterset_listing.specs.ListText.{has_unknown, is_open, some_text}
+use Rattle.filterset_listing.specs.Listing.{uncounted_of}
 use Rattle.filterset_listing.specs.declared.binary.AskedBinary.{AskedBinary}
 use Rattle.filterset_listing.specs.declared.explaining.Explanation.{Explanation}
 use Rattle.filterset_listing.specs.declared.explaining.candidate.Candidate.TheVariants.{Test}
@@ -42,20 +43,14 @@ use Rattle.filterset_answers.specs.declared.text.TextEntry.{TextEntry}
 abbrev pub IsListed : BinaryPicks → ListedBinary → Type 0
 IsListed picks listed = (listed.query ≡ picks.binary.query) × (listed.tests.now ≡ picks.tests.items)
 
--- of how many tests it is unknown whether they are picked, if there are any
-abbrev pub unknown_line : ℕ → Text
-unknown_line zero = []
-unknown_line (suc n) = codes "not counted: " ++ (decimal (suc n) ++ codes " tests that -E may pick\n")
-
--- how many binaries nextest did not ask for their tests, if there are any
-abbrev pub skipped_line : ℕ → Text
-skipped_line zero = []
-skipped_line (suc n) = codes "not counted: tests of " ++ (decimal (suc n) ++ codes " skipped binaries\n")
-
 -- the tests that are not counted, though they may be picked
 abbrev pub uncounted_text : List BinaryPicks → Text
 uncounted_text all =
-    unknown_line (sum_by (λ (s : BinaryPicks). length s.unknown.items) all) ++ skipped_line (count_by is_open all)
+    some_text (codes "not counted: ") (sum_by (λ (s : BinaryPicks). length s.unknown.items) all)
+    (codes " tests that -E may pick\n")
+    ++ (some_text (codes "not counted: tests of ") (count_by is_open all) (codes " skipped binaries\n")
+    ++ some_text (codes "not counted: ") (sum_by (λ s. length (uncounted_of s)) all)
+    (codes " tests left out by --run-ignored\n"))
 
 -- it is unknown of a test whether one of the overrides applies to it, or whether it is picked
 abbrev pub is_unknown : OverrideTable → List BinaryPicks → Bool

@@ -1,10 +1,6 @@
 -- Where texts are in files.
-use Rattle.std.specs.Prelude.{◌≡◌, ◌+◌, ◌-◌, ◌++◌, Option, Some, None, codes, min}
+use Rattle.std.specs.Prelude.{◌+◌, ◌-◌, Option, Some, None, min}
 use Rattle.std.specs.Borrow.{Bor}
-use Rattle.filterset_drawing.specs.Columns.{Text}
-use Rattle.filterset_drawing.specs.declared.annotation.Region.{Region}
-use Rattle.filterset_drawing.specs.Lines.{from_of, to_of}
-use Rattle.filterset_drawing.specs.Locations.{EndsAt, StandsAt}
 use Rattle.filterset_drawing.specs.declared.source.FileSpan.{FileSpan}
 use Rattle.filterset_drawing.specs.declared.source.Source.{Source}
 use Rattle.filterset_faults.specs.Span.{length_of, offset_of, span}
@@ -48,19 +44,3 @@ span_in (line stretch) s = line_span stretch s
 abbrev pub file_part : Option Placement → Option SourceSpan → Option FileSpan
 file_part (Some at) (Some s) = Some (record { file = at.file; span = span_in at.spot s })
 file_part at s = None
-
--- the note of a drawing in a file: the name of a text that a string is read as, and none of a line, whose number is drawn
-abbrev pub spot_note : TextSpot → Text → Option Text
-spot_note (literal place) name = Some (codes "in " ++ name)
-spot_note (line stretch) name = None
-
-abbrev pub note_of : Option Placement → Text → Option Text
-note_of (Some at) name = spot_note at.spot name
-note_of None name = None
-
--- the region begins where the span begins, and ends where it ends
-abbrev pub IsRegionOf : FileSpan → Region → Type 0
-IsRegionOf part region =
-    let text = part.file.now.text.now in
-    (region.file.now ≡ part.file.now.origin.now) × StandsAt text (from_of text part.span) region.start
-    × EndsAt text (from_of text part.span) (to_of text part.span) region.end

@@ -21,6 +21,7 @@ fn asked_binary(suite: &Suite) -> AskedBinary<'_>
             platform: suite.platform,
         },
         tests: suite.tests.as_slice(),
+        uncounted: suite.uncounted.as_slice(),
         is_skipped: suite.status == SuiteStatus::Skipped,
     }
 }

@@ -1,8 +1,8 @@
 //! The texts that commands are about, each with where it comes from.
-ghost use Rattle.std.specs.Prelude.{◌≡◌, ◌∷◌, [], IfOk, codes, map, option_map};
+ghost use Rattle.std.specs.Prelude.{◌≡◌, ◌≤◌, IfOk, length, map, option_map};
 ghost use Rattle.filterset_answers.specs.Checked.{row_of, text_row};
-ghost use Rattle.filterset_answers.specs.Entries.{default_row, file_row, line_rows, numbered_row, numbered_rows};
-ghost use Rattle.filterset_answers.specs.Entries.{placement_at, question_rows, rows_in, stretch_row, test_row};
+ghost use Rattle.filterset_answers.specs.Entries.{default_row, file_row, input_rows, is_passed_over, line_rows, listed_row, numbered_row, numbered_rows};
+ghost use Rattle.filterset_answers.specs.Entries.{placement_at, question_rows, rows_among, rows_in, unmarked};
 ghost use Rattle.filterset_answers.specs.Placements.{placement_of};
 
 use crate::place::{FilePlace, Spot};
@@ -49,33 +49,79 @@ pub fn given_entries<'t>(
     Ok(entries)
 }
 
-/// What the entries of a file's lines share: the file, and what their texts have to be.
+/// What the entries of a file's lines share: the file, what their texts have to be, and whether blank lines have entries.
 #[derive(Clone, Copy)]
 struct Lines<'t> {
     file: &'t Source<'t>,
     kind: FiltersetKind,
+    keeps_blank: bool,
 }
 
-/// Makes the entry of a line that is at this stretch of its file, called `line` and its number.
+/// Returns a line without the byte-order mark that it may begin with.
+fn unmarked(line: &str) -> &str
+    ensures value { result.now ≡ unmarked line.now }
+    ensures bound { length result.now ≤ length line.now }
+{
+    match line.strip_prefix("\u{feff}") {
+        Some(rest) => rest,
+        None => line,
+    }
+}
+
+/// Returns whether a line has no entry: it is a comment, or blank.
+fn is_passed_over(keeps_blank: bool, line: &str) -> bool
+    ensures { result ≡ is_passed_over keeps_blank line.now }
+{
+    line.starts_with("#") || (!keeps_blank && line.trim_start().is_empty())
+}
+
+/// Makes the entry of a line that ends at an offset of its file, called `line` and its number, if it is a filterset.
 fn line_entry<'t>(
     alloc: Global,
     lines: Lines<'t>,
     number: usize,
-    stretch: Stretch,
-    text: &'t str,
-) -> Result<TextEntry<'t>, AllocError>
+    to: usize,
+    line: &'t str,
+) -> Result<Option<TextEntry<'t>>, AllocError>
+    requires { length line.now ≤ to }
     ensures { IfOk result (λ entry.
-        text_row entry ≡ stretch_row lines.entry.file lines.entry.kind number stretch text.entry.now) }
+        option_map text_row entry ≡ listed_row lines.entry.keeps_blank lines.entry.file lines.entry.kind number to line.entry.now) }
 {
+    let text = unmarked(line);
+    if is_passed_over(lines.keeps_blank, text) {
+        return Ok(None);
+    }
     let mut entry = numbered_entry(alloc, "line", number, lines.kind, text)?;
+    let from = to - text.len();
     entry.place = Some(FilePlace {
         file: lines.file,
-        spot: Spot::Line(stretch),
+        spot: Spot::Line(Stretch { from, to }),
     });
-    Ok(entry)
+    Ok(Some(entry))
 }
 
-/// Makes an entry of each line of a file, called `line` and its number, with its place in the file.
+/// Makes an entry of each line, called `line` and its number, with its place in the file. Lines that begin with `#`, and a
+/// byte-order mark are passed over.
+fn entries_among<'t>(alloc: Global, lines: Lines<'t>) -> Result<Vec<TextEntry<'t>>, AllocError>
+    ensures { IfOk result (λ entries.
+        map text_row entries.items ≡ rows_among lines.entry.keeps_blank lines.entry.file lines.entry.kind) }
+{
+    let file = lines.file;
+    let mut entries = Vec::new(alloc);
+    let (mut number, mut from) = (0, 0);
+    // What `split` returns has the carriage return of the line break too, and `lines` has not.
+    for (line, piece) in file.text.lines().zip(file.text.split('\n')) {
+        number += 1;
+        if let Some(entry) = line_entry(alloc, lines, number, from + line.len(), line)? {
+            entries.push(entry)?;
+        }
+        from += piece.len() + 1;
+    }
+    Ok(entries)
+}
+
+/// Makes an entry of each line of a file, called `line` and its number, with its place in the file. Lines that begin with `#`,
+/// and a byte-order mark are passed over.
 pub fn line_entries<'t>(
     alloc: Global,
     kind: FiltersetKind,
@@ -83,17 +129,34 @@ pub fn line_entries<'t>(
 ) -> Result<Vec<TextEntry<'t>>, AllocError>
     ensures { IfOk result (λ entries. map text_row entries.items ≡ line_rows file.entry kind) }
 {
-    let lines = Lines { file, kind };
-    let mut entries = Vec::new(alloc);
-    let mut from = 0;
-    // What `split` returns has the carriage return of the line break too, and `lines` has not.
-    for (line, piece) in file.text.lines().zip(file.text.split('\n')) {
-        let number = entries.len() + 1;
-        let to = from + line.len();
-        entries.push(line_entry(alloc, lines, number, Stretch { from, to }, line)?)?;
-        from += piece.len() + 1;
-    }
-    Ok(entries)
+    let keeps_blank = true;
+    entries_among(
+        alloc,
+        Lines {
+            file,
+            kind,
+            keeps_blank,
+        },
+    )
+}
+
+/// Makes an entry of each line of standard input, as [`line_entries`] does, but of blank lines.
+pub fn input_entries<'t>(
+    alloc: Global,
+    kind: FiltersetKind,
+    file: &'t Source<'t>,
+) -> Result<Vec<TextEntry<'t>>, AllocError>
+    ensures { IfOk result (λ entries. map text_row entries.items ≡ input_rows file.entry kind) }
+{
+    let keeps_blank = false;
+    entries_among(
+        alloc,
+        Lines {
+            file,
+            kind,
+            keeps_blank,
+        },
+    )
 }
 
 /// Makes an entry of a text.
@@ -169,21 +232,6 @@ pub fn configured_entries<'t>(
     Ok(entries)
 }
 
-/// Makes the entries of two filtersets that are compared.
-fn pair_entries<'t>(
-    alloc: Global,
-    first: &'t str,
-    second: &'t str,
-) -> Result<Vec<TextEntry<'t>>, AllocError>
-    ensures { IfOk result (λ entries. map text_row entries.items
-        ≡ test_row (codes "A") first.now ∷ test_row (codes "B") second.now ∷ []) }
-{
-    let mut entries = Vec::with_capacity(alloc, 2)?;
-    entries.push(entry_of(alloc, "A", FiltersetKind::Test, first)?)?;
-    entries.push(entry_of(alloc, "B", FiltersetKind::Test, second)?)?;
-    Ok(entries)
-}
-
 /// Makes an entry of each filterset of a question.
 pub fn question_entries<'t>(
     alloc: Global,
@@ -195,7 +243,12 @@ pub fn question_entries<'t>(
         Question::List { filters, .. } | Question::Overrides { filters } => {
             given_entries(alloc, "-E", FiltersetKind::Test, filters)
         }
-        Question::Compare { first, second, .. } => pair_entries(alloc, first, second),
+        Question::Compare { first, second, .. } => {
+            let mut entries = Vec::with_capacity(alloc, 2)?;
+            entries.push(entry_of(alloc, "A", FiltersetKind::Test, first)?)?;
+            entries.push(entry_of(alloc, "B", FiltersetKind::Test, second)?)?;
+            Ok(entries)
+        }
     }
 }
 

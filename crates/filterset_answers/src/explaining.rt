@@ -10,7 +10,7 @@ ghost use Rattle.filterset_language.specs.Views.{tree_of};
 ghost use Rattle.nextest_filtering.specs.Groups.{IsKnown};
 ghost use Rattle.filterset_answers.specs.Checked.{TextRow};
 ghost use Rattle.filterset_answers.specs.Compiled.{AreFiltersets, Basis, IsTreeOf};
-ghost use Rattle.filterset_answers.specs.Explained.{AnswersExplanation, Explains};
+ghost use Rattle.filterset_answers.specs.Explained.{AnswersExplanation, Explains, ExplainsTree, ignored_line};
 
 use crate::compiling::{CompiledTexts, QuestionFiltersets, compile_texts};
 use crate::entries::entry_of;
@@ -36,7 +36,7 @@ fn explain_parsed(
     requires no_group { has_leaf is_group default.now.compiled ≡ false }
     requires compiled { IsCompiled setting.now.graph.now (tree_of filter.now.parsed) filter.now.compiled }
     ensures { IfOk result (λ answer. (basis : Basis setting.now) → basis.default ≡ default.now.compiled
-        → basis.overrides ≡ overrides.now → Explains candidate.entry setting.now basis (tree_of filter.now.parsed ∷ [])
+        → basis.overrides ≡ overrides.now → ExplainsTree candidate.entry setting.now basis (tree_of filter.now.parsed)
         answer.ending (string_bytes answer.text)) }
 {
     let context = EvalContext::new(&default.compiled);
@@ -55,12 +55,24 @@ fn explain_parsed(
     })
 }
 
+/// Returns what is written below an explanation for a test that is ignored or not.
+fn ignored_line(is_ignored: bool) -> &'static str
+    ensures { result.now ≡ ignored_line is_ignored }
+{
+    if is_ignored {
+        "ignored: not run without --run-ignored\n"
+    } else {
+        ""
+    }
+}
+
 /// Explains the one filterset of these.
 fn explain_compiled(
     alloc: Global,
     setting: &Setting<'_>,
     filtersets: &QuestionFiltersets,
     candidate: Candidate<'_>,
+    is_ignored: bool,
 ) -> Result<Answer, AllocError>
     requires kind { setting.now.default.now.kind ≡ kinds.DefaultFilter }
     requires filtersets { (row : TextRow) × AreFiltersets setting.now.graph.now setting.now.groups.now setting.now
@@ -68,22 +80,25 @@ fn explain_compiled(
     ensures { IfOk result (λ answer. (row : TextRow) → AreFiltersets setting.now.graph.now setting.now.groups.now
         setting.now (row ∷ []) filtersets.now → (basis : Basis setting.now) × (trees : List (Tree SourceSpan))
         × AllZip (IsTreeOf setting.now) (row ∷ []) trees
-        × Explains candidate.entry setting.now basis trees answer.ending (string_bytes answer.text)) }
+        × Explains candidate.entry is_ignored setting.now basis trees answer.ending (string_bytes answer.text)) }
 {
     let compiled = &filtersets.setting;
     let filter = &filtersets.filters[0];
     let overrides = group_overrides(alloc, setting.overrides, compiled.overrides.as_slice())?;
-    explain_parsed(
+    let mut answer = explain_parsed(
         alloc,
         setting,
         &compiled.default,
         filter,
         overrides.as_slice(),
         candidate,
-    )
+    )?;
+    answer.text.push_str(ignored_line(is_ignored))?;
+    Ok(answer)
 }
 
-/// Explains a filterset for a binary or a test, or writes the faults of its text and of those of the setting.
+/// Explains a filterset for a binary or a test, or writes the faults of its text and of those of the setting. Below the
+/// explanation it says so if the test `is_ignored`.
 ///
 /// Returns an error only if out of memory.
 pub fn explain_filterset(
@@ -92,16 +107,17 @@ pub fn explain_filterset(
     setting: &Setting<'_>,
     filter: &str,
     candidate: Candidate<'_>,
+    is_ignored: bool,
 ) -> Result<Answer, AllocError>
     requires default { setting.now.default.now.kind ≡ kinds.DefaultFilter }
     requires groups { IsKnown setting.now.groups.now }
-    ensures { IfOk result (λ answer. AnswersExplanation form setting.now filter.now candidate.entry
+    ensures { IfOk result (λ answer. AnswersExplanation form setting.now filter.now candidate.entry is_ignored
         answer.ending (string_bytes answer.text)) }
 {
     let entry = entry_of(alloc, "-E", FiltersetKind::Test, filter)?;
     match compile_texts(alloc, form, setting, slice::from_ref(&entry))? {
         CompiledTexts::Filtersets(filtersets) => {
-            explain_compiled(alloc, setting, &filtersets, candidate)
+            explain_compiled(alloc, setting, &filtersets, candidate, is_ignored)
         }
         CompiledTexts::Faults(text) => Ok(Answer {
             text,

@@ -22,24 +22,6 @@ fn expression_of(made: &Option<Filterset>) -> Option<&CompiledExpr>
     }
 }
 
-/// Returns an override, whose filter this filterset is.
-fn asked_override<'a>(
-    entry: &'a OverrideEntry<'_>,
-    made: &'a Option<Filterset>,
-) -> AskedOverride<'a>
-    ensures { (setting : settings.Setting)
-        → IsFilterFor setting.graph.now setting.groups.now entry.entry.now made.entry.now
-        → IsAskedFor setting entry.entry.now result }
-{
-    AskedOverride {
-        path: entry.path,
-        filter: expression_of(made),
-        for_target: entry.for_target,
-        for_host: entry.for_host,
-        settings: entry.settings,
-    }
-}
-
 /// Returns the overrides, whose filters these filtersets are.
 pub fn asked_overrides<'a>(
     alloc: Global,
@@ -52,7 +34,13 @@ pub fn asked_overrides<'a>(
 {
     let mut asked = Vec::with_capacity(alloc, entries.len())?;
     for (entry, made) in entries.iter().zip(filters) {
-        asked.push(asked_override(entry, made))?;
+        asked.push(AskedOverride {
+            path: entry.path,
+            filter: expression_of(made),
+            for_target: entry.for_target,
+            for_host: entry.for_host,
+            settings: entry.settings,
+        })?;
     }
     Ok(asked)
 }

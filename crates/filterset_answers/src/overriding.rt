@@ -18,7 +18,7 @@ ghost use Rattle.filterset_overrides.specs.Applying.{IsCompiledOf};
 ghost use Rattle.nextest_filtering.specs.Groups.{IsKnown};
 ghost use Rattle.filterset_answers.specs.Compiled.{AreFiltersets, Basis, IsAskedFor, IsTreeOf};
 ghost use Rattle.filterset_answers.specs.Overriding.{AnswersOverrides, Counts, CountsOverrides, IsListed, IsReasonFor, TellsOverrides};
-ghost use Rattle.filterset_answers.specs.Overriding.{is_unknown, skipped_line, uncounted_text, unknown_line};
+ghost use Rattle.filterset_answers.specs.Overriding.{is_unknown, uncounted_text};
 ghost use Rattle.filterset_answers.specs.Picking.{compiled_of};
 ghost use Rattle.filterset_answers.specs.declared.setting.Setting as settings;
 
@@ -30,24 +30,14 @@ use crate::setting::Setting;
 use crate::text::{Answer, Ending, unknown_ending};
 use filterset_listing::{
     AskedBinary, BinaryPicks, Candidate, GroupOverride, explain, explain_text, lists_unknown,
+    push_some, uncounted_count, unknown_count,
 };
 use filterset_overrides::{
     AskedOverride, ListedBinary, OverrideTable, any_unknown, any_unknown_test, count_overrides,
     explain_overrides, override_table_text, test_overrides_text,
 };
-use nextest_filtering::{EvalContext, Filterset, PackageGraph, TestQuery};
+use nextest_filtering::{EvalContext, Filterset, TestQuery};
 use std::alloc::{AllocError, Global};
-use std::fmt::Write;
-
-/// Returns a binary with the tests that are picked of it.
-fn listed_binary<'a>(picks: &'a BinaryPicks<'_, '_>) -> ListedBinary<'a>
-    ensures { IsListed picks.entry.now result }
-{
-    ListedBinary {
-        query: picks.binary.query,
-        tests: picks.tests.as_slice(),
-    }
-}
 
 /// Returns each binary with the tests that are picked of it.
 fn listed_binaries<'a>(
@@ -58,58 +48,47 @@ fn listed_binaries<'a>(
 {
     let mut listed = Vec::with_capacity(alloc, all.len())?;
     for picks in all {
-        listed.push(listed_binary(picks))?;
+        listed.push(ListedBinary {
+            query: picks.binary.query,
+            tests: picks.tests.as_slice(),
+        })?;
     }
     Ok(listed)
-}
-
-/// Counts the tests of which it is unknown whether they are picked. A sum that a `usize` cannot hold counts as out of
-/// memory: memory cannot hold so many tests.
-fn unknown_count(all: &[BinaryPicks<'_, '_>]) -> Result<usize, AllocError>
-    ensures { IfOk result (λ count. count ≡ sum_by (λ s. length s.unknown.items) all.now) }
-{
-    let mut count = 0usize;
-    for picks in all {
-        count = count.checked_add(picks.unknown.len()).ok_or(AllocError)?;
-    }
-    Ok(count)
 }
 
 /// Counts the binaries that nextest skipped, and that are not left out.
 fn skipped_count(all: &[BinaryPicks<'_, '_>]) -> usize
     ensures { result ≡ count_by is_open all.now }
 {
-    all.iter()
-        .filter(|picks| picks.binary.is_skipped && !picks.is_left_out)
-        .count()
-}
-
-/// Writes how many tests may be picked, and are not counted, if there are any.
-fn push_unknown(output: &mut String, count: usize) -> Result<(), AllocError>
-    ensures { OnOk result (string_bytes output.new ≡ string_bytes output.old ++ unknown_line count) }
-{
-    if count == 0 {
-        return Ok(());
-    }
-    writeln!(output, "not counted: {count} tests that -E may pick")
-}
-
-/// Writes of how many skipped binaries the tests are not counted, if there are any.
-fn push_skipped(output: &mut String, count: usize) -> Result<(), AllocError>
-    ensures { OnOk result (string_bytes output.new ≡ string_bytes output.old ++ skipped_line count) }
-{
-    if count == 0 {
-        return Ok(());
-    }
-    writeln!(output, "not counted: tests of {count} skipped binaries")
+    all.iter().filter(|picks| picks.is_open()).count()
 }
 
 /// Writes which tests are not counted, though they may be picked.
 fn push_uncounted(output: &mut String, all: &[BinaryPicks<'_, '_>]) -> Result<(), AllocError>
     ensures { OnOk result (string_bytes output.new ≡ string_bytes output.old ++ uncounted_text all.now) }
 {
-    push_unknown(output, unknown_count(all)?)?;
-    push_skipped(output, skipped_count(all))
+    let unknown = unknown_count(all)?;
+    let skipped = skipped_count(all);
+    let uncounted = uncounted_count(all)?;
+    push_some(
+        output,
+        "not counted: ",
+        unknown,
+        " tests that -E may pick\n",
+    )?;
+    push_some(
+        output,
+        "not counted: tests of ",
+        skipped,
+        " skipped binaries\n",
+    )?;
+    push_some(
+        output,
+        "not counted: ",
+        uncounted,
+        " tests left out by --run-ignored\n",
+    )?;
+    Ok(())
 }
 
 /// Returns whether it is unknown of a test whether one of the overrides applies to it, or whether it is picked.
@@ -117,26 +96,6 @@ fn is_unknown(table: &OverrideTable<'_>, all: &[BinaryPicks<'_, '_>]) -> bool
     ensures { result ≡ is_unknown table.now all.now }
 {
     any_unknown_test(table) || lists_unknown(all)
-}
-
-/// Answers how overrides apply to the tests that are picked.
-fn answer_picked(
-    alloc: Global,
-    asked: &[AskedOverride<'_>],
-    context: &EvalContext<'_>,
-    all: &[BinaryPicks<'_, '_>],
-) -> Result<Answer, AllocError>
-    ensures { IfOk result (λ answer. (packages : List PackageMetadata) → All (IsCompiledOf packages) asked.now
-        → Counts packages (default_of context.now) asked.now all.now answer.ending (string_bytes answer.text)) }
-{
-    let listed = listed_binaries(alloc, all)?;
-    let table = count_overrides(alloc, asked, context, listed.as_slice())?;
-    let mut text = override_table_text(alloc, &table)?;
-    push_uncounted(&mut text, all)?;
-    Ok(Answer {
-        text,
-        ending: unknown_ending(is_unknown(&table, all)),
-    })
 }
 
 /// Answers how overrides apply to the tests that at least one of these filtersets picks, or to all tests if there is no
@@ -157,25 +116,15 @@ pub fn answer_overrides(
         → CountsOverrides setting binaries.now basis trees answer.ending (string_bytes answer.text)) }
 {
     let all = picks_of(alloc, filters, true, context, groups, binaries)?;
-    answer_picked(alloc, asked, context, all.as_slice())
-}
-
-/// Explains the filter of an override for a test.
-fn explain_filter(
-    alloc: Global,
-    graph: &PackageGraph,
-    filter: &Filterset,
-    context: &EvalContext<'_>,
-    query: &TestQuery<'_>,
-) -> Result<String, AllocError>
-    ensures { IfOk result (λ reason. IsCompiled graph.now (tree_of filter.now.parsed) filter.now.compiled
-        → (explanation : explanations.Explanation) × IsExplanation (Test query.now) [] graph.now (default_of context.now)
-        (tree_of filter.now.parsed) explanation × (string_bytes reason ≡ explanation_text explanation)) }
-{
-    let candidate = Candidate::Test(*query);
-    let (tree, compiled) = (&filter.parsed, &filter.compiled);
-    let explanation = explain(alloc, graph, tree, compiled, context, &[], candidate)?;
-    explain_text(alloc, &explanation)
+    let all = all.as_slice();
+    let listed = listed_binaries(alloc, all)?;
+    let table = count_overrides(alloc, asked, context, listed.as_slice())?;
+    let mut text = override_table_text(alloc, &table)?;
+    push_uncounted(&mut text, all)?;
+    Ok(Answer {
+        text,
+        ending: unknown_ending(is_unknown(&table, all)),
+    })
 }
 
 /// Explains the filter of an override for a test, if it has one.
@@ -190,7 +139,20 @@ fn reason_of(
         IsReasonFor query.now setting.now (default_of context.now) made.now (string_bytes reason)) }
 {
     match made {
-        Some(filter) => explain_filter(alloc, setting.graph, filter, context, query),
+        Some(filter) => {
+            let (tree, compiled) = (&filter.parsed, &filter.compiled);
+            let candidate = Candidate::Test(*query);
+            let explanation = explain(
+                alloc,
+                setting.graph,
+                tree,
+                compiled,
+                context,
+                &[],
+                candidate,
+            )?;
+            explain_text(alloc, &explanation)
+        }
         None => Ok(String::new(alloc)),
     }
 }

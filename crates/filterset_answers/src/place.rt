@@ -1,8 +1,8 @@
 //! Places of texts in files.
 ghost use Rattle.std.specs.Prelude.{◌≡◌, option_map};
-ghost use Rattle.filterset_answers.specs.Placements.{IsRegionOf, file_part, line_span, placement_of, span_in, spot_of};
+ghost use Rattle.filterset_answers.specs.Placements.{file_part, line_span, placement_of, span_in, spot_of};
 
-use filterset_drawing::{FileSpan, Region, Source};
+use filterset_drawing::{FileSpan, Source};
 use filterset_places::{Place, Stretch};
 use nextest_filtering::SourceSpan;
 
@@ -51,17 +51,5 @@ pub fn file_part<'t>(place: Option<FilePlace<'t>>, span: Option<SourceSpan>) -> 
             span: span_in(at.spot, span),
         }),
         _ => None,
-    }
-}
-
-/// Returns the region of a span of a file.
-pub fn region_of<'t>(part: FileSpan<'t>) -> Region<'t>
-    ensures { IsRegionOf part.entry result }
-{
-    let FileSpan { file, span } = part;
-    Region {
-        file: file.origin,
-        start: file.location(span),
-        end: file.end_location(span),
     }
 }

@@ -108,16 +108,6 @@ pub fn override_entries<'t>(
     Ok(entries)
 }
 
-/// Returns a profile with the keys that it sets.
-fn asked_profile(profile: &Profile) -> AskedProfile<'_>
-    ensures { IsProfileOf profile.now result }
-{
-    AskedProfile {
-        name: profile.name.as_str(),
-        settings: profile.settings.as_slice(),
-    }
-}
-
 /// Returns each profile with the keys that it sets.
 pub fn asked_profiles<'t>(
     alloc: Global,
@@ -127,7 +117,10 @@ pub fn asked_profiles<'t>(
 {
     let mut asked = Vec::with_capacity(alloc, profiles.len())?;
     for profile in profiles {
-        asked.push(asked_profile(profile))?;
+        asked.push(AskedProfile {
+            name: profile.name.as_str(),
+            settings: profile.settings.as_slice(),
+        })?;
     }
     Ok(asked)
 }

@@ -1,7 +1,7 @@
 //! Answers to questions about filtersets that are given as texts.
 ghost use Rattle.std.specs.Prelude.{◌≡◌, ◌<◌, [], IfOk, List, length, map, string_bytes};
 ghost use Rattle.std.specs.List.{AllZip};
-ghost use Rattle.filterset_answers.specs.Compiled.{AreFiltersets, Basis, IsTreeOf};
+ghost use Rattle.filterset_answers.specs.Compiled.{Basis};
 ghost use Rattle.filterset_answers.specs.Picking.{compiled_of, parsed_of};
 ghost use Rattle.filterset_answers.specs.declared.setting.Setting as settings;
 ghost use Rattle.filterset_expression.specs.Contexts.{default_of};
@@ -14,14 +14,12 @@ ghost use Rattle.nextest_filtering.specs.Groups.{IsKnown};
 ghost use Rattle.filterset_answers.specs.ListedTests.{AreTestsOf};
 ghost use Rattle.filterset_answers.specs.VerdictForm.{IsExplainedIn};
 ghost use Rattle.filterset_answers.specs.VerdictText.{ending_of};
-ghost use Rattle.filterset_answers.specs.Verdicts.{AnswersQuestion, Decides, IsShown, question_rows};
+ghost use Rattle.filterset_answers.specs.Verdicts.{AnswersQuestion, Decides, IsShown};
 
 use crate::verdicts::listed::{group_names, listed_tests};
 use crate::verdicts::reasons::push_reasons_of;
 use crate::verdicts::text::{answer_text, ending_of};
-use crate::{
-    Answer, CompiledTexts, Ending, Form, QuestionFiltersets, Setting, TextEntry, compile_texts,
-};
+use crate::{Answer, CompiledTexts, Ending, Form, Setting, TextEntry, compile_texts};
 use filterset_deciding::{Question, Verdict, Witness, decide, find_listed};
 use filterset_sources::Suite;
 use nextest_filtering::{CompiledExpr, EvalContext, Filterset, KnownGroups, PackageGraph};
@@ -144,34 +142,6 @@ fn decide_filtersets<'x>(
     }
 }
 
-/// Answers a question by its filtersets.
-fn answer_compiled(
-    alloc: Global,
-    form: Form,
-    setting: &Setting<'_>,
-    asked: &TextQuestion<'_>,
-    compiled: &QuestionFiltersets,
-) -> Result<Answer, AllocError>
-    requires some { 0 < length asked.now.entries.now }
-    requires kind { setting.now.default.now.kind ≡ kinds.DefaultFilter }
-    requires plain { setting.now.overrides.now ≡ [] }
-    requires filtersets { AreFiltersets setting.now.graph.now setting.now.groups.now setting.now
-        (question_rows asked.now) compiled.now }
-    ensures { IfOk result (λ answer. (basis : Basis setting.now) × (trees : List (Tree SourceSpan))
-        × AllZip (IsTreeOf setting.now) (question_rows asked.now) trees
-        × Decides form asked.now setting.now basis trees answer.ending (string_bytes answer.text)) }
-{
-    let context = EvalContext::new(&compiled.setting.default.compiled);
-    decide_filtersets(
-        alloc,
-        form,
-        setting,
-        asked,
-        &context,
-        compiled.filters.as_slice(),
-    )
-}
-
 /// Answers a question about filtersets and every possible test, or writes the faults of their texts and of the default
 /// filter. If the answer is no for a test of the list in a known group, the first such test is shown, and else a possible test.
 ///
@@ -191,7 +161,9 @@ pub fn answer_texts(
 {
     match compile_texts(alloc, form, setting, asked.entries)? {
         CompiledTexts::Filtersets(compiled) => {
-            answer_compiled(alloc, form, setting, asked, &compiled)
+            let context = EvalContext::new(&compiled.setting.default.compiled);
+            let filters = compiled.filters.as_slice();
+            decide_filtersets(alloc, form, setting, asked, &context, filters)
         }
         CompiledTexts::Faults(text) => Ok(Answer {
             text,

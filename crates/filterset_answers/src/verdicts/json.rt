@@ -3,7 +3,7 @@ ghost use Rattle.std.specs.Prelude.{◌≡◌, ◌++◌, IfOk, codes, false, map
 ghost use Rattle.serde_json.specs.Data.{Data, null};
 ghost use Rattle.serde_json.specs.View.{view};
 ghost use Rattle.serde_json.specs.Written.{compact_text};
-ghost use Rattle.filterset_answers.specs.VerdictJson.{IsVerdictData, demand_item, doubt_data, number_item, picked_numbers, picks_data, question_word, test_data, verdict_data};
+ghost use Rattle.filterset_answers.specs.VerdictJson.{IsVerdictData, demand_item, doubt_data, number_item, picked_numbers, question_word, test_data, verdict_data};
 
 use crate::verdicts::text::{demand_text, package_text, platform_word};
 use filterset_deciding::{Demand, Doubt, PossibleTest, Question, TestField, Verdict, Witness};
@@ -34,13 +34,6 @@ fn pick_values(alloc: Global, picks: &[bool]) -> Result<Vec<Value>, AllocError>
         }
     }
     Ok(values)
-}
-
-/// Makes the value of the numbers of the filtersets that pick the test.
-fn picks_value(alloc: Global, picks: &[bool]) -> Result<Value, AllocError>
-    ensures { IfOk result (λ value. view value ≡ picks_data picks.now) }
-{
-    Ok(Value::Array(pick_values(alloc, picks)?))
 }
 
 /// Makes the value of a possible test, of the package with this name.
@@ -118,14 +111,14 @@ fn witness_value(
     ensures { IfOk result (λ value. IsVerdictData question is_listed graph.now (Verdict.Fails witness.now) (view value)) }
 {
     let name = package_text(graph, &witness.test.package_id);
-    let picks = picks_value(alloc, witness.picks.as_slice())?;
+    let picks = pick_values(alloc, witness.picks.as_slice())?;
     let test = test_value(alloc, name, &witness.test)?;
     let parts = Parts {
         answer: "no",
         is_spent: false,
         doubt: Value::Null,
         listed: Value::Bool(is_listed),
-        picks,
+        picks: Value::Array(picks),
         test,
     };
     answer_value(alloc, question, parts)

@@ -33,16 +33,6 @@ fn push_tests<'s>(tests: &mut Vec<TestQuery<'s>>, suite: &'s Suite) -> Result<()
     Ok(())
 }
 
-/// Appends the tests of a suite, if nextest listed them.
-fn push_suite<'s>(tests: &mut Vec<TestQuery<'s>>, suite: &'s Suite) -> Result<(), AllocError>
-    ensures { OnOk result (map listed_test tests.new.items ≡ map listed_test tests.old.items ++ suite_tests suite.now) }
-{
-    match suite.status {
-        SuiteStatus::Listed => push_tests(tests, suite),
-        SuiteStatus::Skipped => Ok(()),
-    }
-}
-
 /// Returns the tests of suites, in their order.
 pub(crate) fn listed_tests(
     alloc: Global,
@@ -52,7 +42,9 @@ pub(crate) fn listed_tests(
 {
     let mut tests = Vec::new(alloc);
     for suite in suites {
-        push_suite(&mut tests, suite)?;
+        if suite.status == SuiteStatus::Listed {
+            push_tests(&mut tests, suite)?;
+        }
     }
     Ok(tests)
 }

@@ -6,7 +6,7 @@ ghost use Rattle.filterset_answers.specs.Picking.{compiled_of, parsed_of};
 ghost use Rattle.filterset_drawing.specs.Columns.{Text};
 ghost use Rattle.filterset_expression.specs.Contexts.{default_of};
 ghost use Rattle.filterset_expression.specs.Meaning.{IsCompiled};
-ghost use Rattle.filterset_answers.specs.Reasons.{AreReasons, IsReasonOf, PutsAll, indented_line, numbered_reason, reason_lines};
+ghost use Rattle.filterset_answers.specs.Reasons.{AreReasons, IsReasonOf, PutsAll, indented_line, reason_lines};
 
 use filterset_deciding::Verdict;
 use filterset_graph::PackageGraph;
@@ -92,16 +92,9 @@ fn push_reasons(output: &mut String, reasons: &[String]) -> Result<(), AllocErro
         ≡ string_bytes output.old ++ reason_lines 1 (map (λ s. string_bytes s) reasons.now)) }
 {
     for (i, reason) in reasons.iter().enumerate() {
-        push_reason(output, i + 1, reason.as_str())?;
+        let (number, reason) = (i + 1, reason.as_str());
+        write!(output, "argument {number}:\n{reason}")?;
     }
-    Ok(())
-}
-
-/// Writes the reasons of the filterset with this number.
-fn push_reason(output: &mut String, number: usize, reason: &str) -> Result<(), AllocError>
-    ensures { OnOk result (string_bytes output.new ≡ string_bytes output.old ++ numbered_reason number reason.now) }
-{
-    write!(output, "argument {number}:\n{reason}")?;
     Ok(())
 }
 

@@ -2,8 +2,8 @@
 ghost use Rattle.std.specs.Prelude.{◌≡◌, ◌++◌, IfOk, OnOk, string_bytes};
 ghost use Rattle.filterset_graph.specs.Platforms.{platform_text};
 ghost use Rattle.filterset_answers.specs.VerdictForm.{IsVerdictIn};
-ghost use Rattle.filterset_answers.specs.VerdictText.{IsPackageText, IsVerdictText, IsWitnessText, demand_line, demand_text, doubt_text, ending_of, failed_text, field_word, field_line, held_text, open_text, origin_line, picked_line, picked_lines, picked_text, sign_of, test_text};
-ghost use Rattle.std.specs.List.{count_by, flat_map};
+ghost use Rattle.filterset_answers.specs.VerdictText.{IsPackageText, IsVerdictText, IsWitnessText, demand_line, demand_text, doubt_text, ending_of, failed_text, field_word, field_line, held_text, open_text, origin_line, picked_line, picked_lines, picked_text, test_text};
+ghost use Rattle.std.specs.List.{flat_map};
 
 use crate::verdicts::json::verdict_line;
 use crate::{Ending, Form};
@@ -131,18 +131,11 @@ fn push_picks(output: &mut String, picks: &[bool]) -> Result<(), AllocError>
     Ok(())
 }
 
-/// Counts the filtersets that pick the test.
-fn count_picks(picks: &[bool]) -> usize
-    ensures { result ≡ count_by (λ x. x) picks.now }
-{
-    picks.iter().filter(|is_picked| **is_picked).count()
-}
-
 /// Writes which filtersets pick the test.
 fn push_all_picks(output: &mut String, picks: &[bool]) -> Result<(), AllocError>
     ensures { OnOk result (string_bytes output.new ≡ string_bytes output.old ++ picked_text picks.now) }
 {
-    if count_picks(picks) == 0 {
+    if picks.iter().filter(|is_picked| **is_picked).count() == 0 {
         output.push_str("picked by none\n")?;
     } else {
         push_picks(output, picks)?;
@@ -180,13 +173,6 @@ fn field_word(field: TestField) -> &'static str
     }
 }
 
-/// Returns what stands before a predicate that has to be true, or to be false.
-fn sign_of(is_matched: bool) -> &'static str
-    ensures { result.now ≡ sign_of is_matched }
-{
-    if is_matched { "" } else { "not " }
-}
-
 /// Writes what is demanded of a text as a predicate.
 pub(crate) fn demand_text(
     alloc: Global,
@@ -195,7 +181,7 @@ pub(crate) fn demand_text(
 ) -> Result<String, AllocError>
     ensures { IfOk result (λ text. string_bytes text ≡ demand_text field demand.now) }
 {
-    let sign = sign_of(demand.is_matched);
+    let sign = if demand.is_matched { "" } else { "not " };
     let word = field_word(field);
     let matcher = demand.matcher;
     format!(in alloc; "{sign}{word}({matcher})")

@@ -1,5 +1,4 @@
-use Rattle.std.proofs.Common.{◌∷◌, [], refl, sym}
-use Rattle.std.proofs.lemmas.Result.{IfOk-weaker}
+use Rattle.std.proofs.Common.{rules, ◌∷◌, [], refl, string_bytes, sym}
 use Rattle.filterset_answers.specs.Picking.{parsed_of}
 use Rattle.filterset_answers.proofs.PickingLemmas.{basis_of, one_of}
 use Rattle.filterset_answers.proofs.explaining.explain_compiled.Goals as goal
@@ -9,8 +8,12 @@ returns c =
     let setting = c.args.setting.now in
     let made = c.args.filtersets.now in
     let filter = c.index-filter.result.now in
-    IfOk-weaker c.explain_parsed.result _ _ (λ answer explains row are.
+    λ row are.
     let is = one_of setting.graph.now setting.groups.now row made.filters.items filter are.filters (sym c.index-filter.ensures) in
     let grouped = rw c.as_slice.ensures.value at c.in_ok-overrides.ensures in
-    let basis = basis_of setting (row ∷ []) made c.in_ok-overrides.overrides.items are (grouped setting are.overrides) in
-    (basis, parsed_of filter ∷ [], (is.accepted, tt), explains basis refl (sym c.as_slice-2.ensures.value))) c.explain_parsed.ensures
+    let basis = basis_of setting (row ∷ []) made c.in_ok-overrides.overrides.items are (grouped setting are.overrides) in (
+      basis,
+      parsed_of filter ∷ [],
+      (is.accepted, tt),
+      (string_bytes c.in_ok-answer.answer.text, c.in_ok-answer.ensures basis refl (sym c.as_slice-2.ensures.value), search rules),
+    )

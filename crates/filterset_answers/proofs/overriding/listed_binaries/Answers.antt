@@ -1,4 +1,4 @@
-use Rattle.std.proofs.Common.{rules, arith, ◌≡◌, ◌<◌, length, get_or, take}
+use Rattle.std.proofs.Common.{rules, arith, ◌≡◌, ◌<◌, length, get_or, refl, take}
 use Rattle.std.proofs.lemmas.List.{take_all}
 use Rattle.filterset_answers.specs.Overriding.{IsListed}
 use Rattle.filterset_answers.proofs.AnswersLemmas.{AllZip-push, one_more}
@@ -16,4 +16,4 @@ loop-picks-preserved c =
     let picks = c.picks-item.result in
     let lt : i < length all = omega (arith, c.loop-picks-test.true) in
     let at : get_or all i picks ≡ picks = search (rules, c.picks-item.is) in
-    rw (c.in_ok-push.ensures.items, one_more all i picks lt at) (AllZip-push IsListed (take i all) _ picks _ c.loop-picks.invariant c.listed_binary.ensures)
+    rw (c.in_ok-push.ensures.items, one_more all i picks lt at) (AllZip-push IsListed (take i all) _ picks _ c.loop-picks.invariant (refl, c.as_slice.ensures.value))

@@ -18,4 +18,4 @@ loop-profile-preserved c =
     let lt : i < length profiles = omega (arith, c.loop-profile-test.true) in
     let f = λ (p : Bor Profile). p.now in
     rw (c.in_ok-push.ensures.items, rows_more f profiles i profile lt (sym c.profile-item.is))
-    (AllZip-push IsProfileOf (map f (take i profiles)) _ profile.now _ c.loop-profile.invariant c.asked_profile.ensures)
+    (AllZip-push IsProfileOf (map f (take i profiles)) _ profile.now _ c.loop-profile.invariant (c.as_str.ensures.value, c.as_slice.ensures.value))

@@ -1,4 +1,4 @@
-use Rattle.std.proofs.Common.{ap, ◌≡◌, ◌∙◌, ◌<◌, ◌+◌, ◌*◌, ◌^◌, ◌⊎◌, true, false, List, Some, None, drop, inl, inr, length, map, string_bytes, subst, sym}
+use Rattle.std.proofs.Common.{ap, ◌≡◌, ◌∙◌, ◌<◌, ◌+◌, ◌*◌, ◌^◌, ◌⊎◌, true, false, List, Some, None, drop, length, map, string_bytes, subst, sym}
 use Rattle.std.specs.List.{AllZip}
 use Rattle.filterset_answers.specs.Picking.{compiled_of, parsed_of}
 use Rattle.filterset_answers.specs.declared.text.Answer.{Answer}
@@ -17,7 +17,7 @@ use Rattle.filterset_answers.specs.VerdictForm.{IsExplainedIn}
 use Rattle.filterset_answers.specs.VerdictText.{ending_of}
 use Rattle.filterset_answers.specs.Verdicts.{Decides, IsShown}
 use Rattle.filterset_answers.proofs.VerdictLemmas.{both_ok}
-use Rattle.filterset_answers.proofs.TreeLemmas.{first_and_others, first_of_trees, others_whole, right_of_trees, tests_of_trees}
+use Rattle.filterset_answers.proofs.TreeLemmas.{first_and_others, others_whole, right_of}
 use Rattle.filterset_answers.proofs.verdicts.answering.decide_filtersets.Goals as goal
 
 pub returns-in-Some : goal.returns-in-Some
@@ -45,11 +45,9 @@ returns-in-Some c =
     let compiled = subst (λ fs. AllZip (IsCompiled packages) (map parsed_of fs) (map compiled_of fs)) whole are in
     let others_compiled = subst (AllZip (IsCompiled packages) (map parsed_of others)) (sym (c.in_ok-exprs.ensures ∙ ap (map compiled_of) (others_whole filters))) compiled.1 in
     let told = subst (Shown first) (sym is) (subst (λ f. Shown f default) at shown) in
-    let found = first_of_trees packages basis.default question (parsed_of first) (compiled_of first) (map parsed_of others) exprs groups told.2.0 told.0 witness.test witness.picks.items
-    compiled.0 others_compiled told.2.1 told.2.2 in
     let explained = subst (λ (d : CompiledExpr). IsExplainedIn c.args.form question true packages d (map parsed_of others) (verdicts.Fails witness) (string_bytes answer.text)) (sym is) (written compiled.1) in
     subst (λ fs. Decides c.args.form asked setting basis (map parsed_of fs) answer.ending (string_bytes answer.text)) (sym whole)
-    (told.0, told.1, inl (witness, found, explained, ends)))
+    (compiled_of first, exprs, told.0, Some witness, compiled.0, others_compiled, told.1, told.2, (explained, ends)))
     (rw (others_whole filters) at c.answer_verdict.ensures.text) c.answer_verdict.ensures.ending
 
 pub returns : goal.returns
@@ -86,8 +84,7 @@ returns c =
     let compiled = subst (λ fs. AllZip (IsCompiled packages) (map parsed_of fs) (map compiled_of fs)) whole are in
     let others_compiled = subst (AllZip (IsCompiled packages) (map parsed_of others)) (sym (c.in_ok-exprs.ensures ∙ ap (map compiled_of) (others_whole filters))) compiled.1 in
     let told = subst (Shown first) (sym is) (subst (λ f. Shown f default) at shown) in
-    let holds = tests_of_trees packages basis.default question (parsed_of first) (compiled_of first) (map parsed_of others) exprs groups told.2.0 told.0 compiled.0 others_compiled told.2.1 told.2.2 in
-    let right = right_of_trees packages basis.default question (parsed_of first) (compiled_of first) (map parsed_of others) exprs asked.budget verdict compiled.0 others_compiled
+    let right = right_of basis.default question (compiled_of first) exprs asked.budget verdict
     (λ e. subst (Always first) (sym is) (subst (λ f. Always f default) at (always e)))
     (λ witness e. subst (Fails witness first) (sym is) (subst (λ f. Fails witness f default) at (fails witness e)))
     (λ doubt e. subst (Unknown doubt first) (sym is) (subst (λ f. Unknown doubt f default) at (unknown doubt e)))
@@ -95,5 +92,5 @@ returns c =
     (λ e. subst (Stopped first) (sym is) (subst (λ f. Stopped f default) at (stopped e))) in
     let explained = subst (λ (d : CompiledExpr). IsExplainedIn c.args.form question false packages d (map parsed_of others) verdict (string_bytes answer.text)) (sym is) (written compiled.1) in
     subst (λ fs. Decides c.args.form asked setting basis (map parsed_of fs) answer.ending (string_bytes answer.text)) (sym whole)
-    (told.0, told.1, inr (holds, verdict, right, explained, ends)))
+    (compiled_of first, exprs, told.0, None, compiled.0, others_compiled, told.1, told.2, (verdict, right, explained, ends)))
     (rw (others_whole filters) at c.answer_verdict-in-None.ensures.text) c.answer_verdict-in-None.ensures.ending
