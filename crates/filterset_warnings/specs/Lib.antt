@@ -1,5 +1,5 @@
+pub mod Configured
 pub mod Spans
-pub mod Forms
 pub mod Warnings
 pub mod Contexts
 pub mod Values

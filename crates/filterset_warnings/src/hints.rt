@@ -1,45 +1,28 @@
 //! The warnings of a filterset.
-ghost use Rattle.std.specs.Prelude.{◌≡◌, ◌+◌, ◌++◌, IfOk, OnOk, length, option_map, string_bytes};
-ghost use Rattle.filterset_answers.specs.Placements.{placement_of};
-ghost use Rattle.filterset_drawing.specs.Columns.{Text};
+ghost use Rattle.std.specs.Prelude.{◌≡◌, ◌++◌, IfOk, OnOk, map};
+ghost use Rattle.filterset_drawing.specs.Remarks.{remark_row};
 ghost use Rattle.filterset_hints.specs.Finding.{found_of, unmatched_of};
-ghost use Rattle.filterset_json.specs.Pieces.{Pieces};
-ghost use Rattle.filterset_language.specs.Views.{tree_of};
-ghost use Rattle.filterset_warnings.specs.Forms.{IsRemarkIn};
+ghost use Rattle.filterset_language.specs.Views.{leaf_of, tree_of};
 ghost use Rattle.filterset_warnings.specs.Warnings.{constant_text, needless_remark, remarks_of, unmatched_remark};
 
-use crate::form::WarningWriter;
-use crate::span::span_of;
-use filterset_drawing::Warning;
-use filterset_hints::{Hints, NeedlessOperand};
-use filterset_language::ParsedExpr;
+use crate::span::{leaf_span, span_of};
+use filterset_drawing::{Remark, Severity};
+use filterset_hints::{Hints, NeedlessOperand, UnmatchedPredicate};
 use std::alloc::{AllocError, Global};
 
-/// The code of a predicate that matches no test.
-const NO_TEST_MATCH: &str = "NoTestMatch";
-
-/// The code of an operand that changes nothing.
-const NEEDLESS_OPERAND: &str = "NeedlessOperand";
-
-/// Writes that a predicate matches no test.
-fn push_unmatched(
-    output: &mut String,
-    alloc: Global,
-    writer: &WarningWriter<'_>,
-    node: &ParsedExpr,
-) -> Result<(), AllocError>
-    ensures { let w = writer.now in OnOk result ((piece : Text)
-        × (string_bytes output.new ≡ string_bytes output.old ++ piece)
-        × IsRemarkIn (option_map placement_of w.place) w.form w.source.now.origin.now w.source.now.text.now w.number
-        (unmatched_remark (tree_of node.now)) piece) }
+/// Returns what there is to say of a predicate that matches no test.
+fn unmatched_remark(alloc: Global, predicate: &UnmatchedPredicate<'_>) -> Result<Remark, AllocError>
+    ensures { IfOk result (λ remark.
+        remark_row remark ≡ unmatched_remark (leaf_of predicate.now.leaf.now, predicate.now.skipped)) }
 {
-    let message = format!(in alloc; "`{node}` matches no test")?;
-    let warning = Warning {
-        span: span_of(node),
-        code: NO_TEST_MATCH,
-        message: message.as_str(),
-    };
-    writer.push(output, alloc, &warning)
+    Ok(Remark {
+        severity: Severity::Warning,
+        code: "NoTestMatch",
+        message: format!(in alloc; "{predicate}")?,
+        label: None,
+        help: None,
+        span: leaf_span(predicate.leaf),
+    })
 }
 
 /// Returns a constant as it is written.
@@ -49,89 +32,61 @@ fn constant_text(is_all: bool) -> &'static str
     if is_all { "all()" } else { "none()" }
 }
 
-/// Writes that an operand changes nothing.
-fn push_needless(
-    output: &mut String,
-    alloc: Global,
-    writer: &WarningWriter<'_>,
-    operand: &NeedlessOperand<'_>,
-) -> Result<(), AllocError>
-    ensures { let w = writer.now in OnOk result ((piece : Text)
-        × (string_bytes output.new ≡ string_bytes output.old ++ piece)
-        × IsRemarkIn (option_map placement_of w.place) w.form w.source.now.origin.now w.source.now.text.now w.number
-        (needless_remark (tree_of operand.now.node.now, operand.now.is_all)) piece) }
+/// Returns what there is to say of an operand that changes nothing.
+fn needless_remark(alloc: Global, operand: &NeedlessOperand<'_>) -> Result<Remark, AllocError>
+    ensures { IfOk result (λ remark.
+        remark_row remark ≡ needless_remark (tree_of operand.now.node.now, operand.now.is_all)) }
 {
     let (node, constant) = (operand.node, constant_text(operand.is_all));
-    let message = format!(in alloc;
-        "`{node}` changes nothing: `{constant}` in its place picks the same tests"
-    )?;
-    let warning = Warning {
+    Ok(Remark {
+        severity: Severity::Warning,
+        code: "NeedlessOperand",
+        message: format!(in alloc;
+            "`{node}` changes nothing: `{constant}` in its place picks the same tests"
+        )?,
+        label: None,
+        help: None,
         span: span_of(node),
-        code: NEEDLESS_OPERAND,
-        message: message.as_str(),
-    };
-    writer.push(output, alloc, &warning)
+    })
 }
 
-/// Writes of each of these predicates that it matches no test.
-fn push_all_unmatched(
-    output: &mut String,
+/// Adds what there is to say of these predicates.
+fn add_unmatched(
+    remarks: &mut Vec<Remark>,
     alloc: Global,
-    writer: &WarningWriter<'_>,
-    nodes: &[&ParsedExpr],
+    predicates: &[UnmatchedPredicate<'_>],
 ) -> Result<(), AllocError>
-    ensures { let w = writer.now in OnOk result ((piece : Text)
-        × (string_bytes output.new ≡ string_bytes output.old ++ piece)
-        × Pieces (λ n. IsRemarkIn (option_map placement_of w.place) w.form w.source.now.origin.now w.source.now.text.now
-        w.number (unmatched_remark (tree_of n.now))) nodes.now piece) }
+    ensures { OnOk result (map remark_row remarks.new.items
+        ≡ map remark_row remarks.old.items ++ map unmatched_remark (unmatched_of predicates.now)) }
 {
-    for node in nodes {
-        push_unmatched(output, alloc, writer, node)?;
+    for predicate in predicates {
+        remarks.push(unmatched_remark(alloc, predicate)?)?;
     }
     Ok(())
 }
 
-/// Writes of each of these operands that it changes nothing.
-fn push_all_needless(
-    output: &mut String,
+/// Adds what there is to say of these operands.
+fn add_needless(
+    remarks: &mut Vec<Remark>,
     alloc: Global,
-    writer: &WarningWriter<'_>,
     operands: &[NeedlessOperand<'_>],
 ) -> Result<(), AllocError>
-    ensures { let w = writer.now in OnOk result ((piece : Text)
-        × (string_bytes output.new ≡ string_bytes output.old ++ piece)
-        × Pieces (λ o. IsRemarkIn (option_map placement_of w.place) w.form w.source.now.origin.now w.source.now.text.now
-        w.number (needless_remark (tree_of o.node.now, o.is_all))) operands.now piece) }
+    ensures { OnOk result (map remark_row remarks.new.items
+        ≡ map remark_row remarks.old.items ++ map needless_remark (found_of operands.now)) }
 {
     for operand in operands {
-        push_needless(output, alloc, writer, operand)?;
+        remarks.push(needless_remark(alloc, operand)?)?;
     }
     Ok(())
 }
 
-/// Returns a sum. One that a `usize` cannot hold counts as out of memory.
-pub fn sum_of(count: usize, more: usize) -> Result<usize, AllocError>
-    ensures { IfOk result (λ sum. sum ≡ count + more) }
+/// Returns what there is to say of a filterset.
+pub fn remarks_of(alloc: Global, hints: &Hints<'_>) -> Result<Vec<Remark>, AllocError>
+    ensures { IfOk result (λ remarks. map remark_row remarks.items
+        ≡ remarks_of (unmatched_of hints.now.unmatched.items) (found_of hints.now.needless.items)) }
 {
-    count.checked_add(more).ok_or(AllocError)
-}
-
-/// Writes what there is to say of a filterset, and returns how many warnings that are.
-pub fn push_hints(
-    output: &mut String,
-    alloc: Global,
-    writer: &WarningWriter<'_>,
-    hints: &Hints<'_>,
-) -> Result<usize, AllocError>
-    ensures { let w = writer.now in
-        let unmatched = unmatched_of hints.now.unmatched.items in
-        let needless = found_of hints.now.needless.items in IfOk result (λ count. (piece : Text)
-        × (string_bytes output.new ≡ string_bytes output.old ++ piece)
-        × (count ≡ length unmatched + length needless)
-        × Pieces (IsRemarkIn (option_map placement_of w.place) w.form w.source.now.origin.now w.source.now.text.now w.number)
-        (remarks_of unmatched needless) piece) }
-{
-    push_all_unmatched(output, alloc, writer, hints.unmatched.as_slice())?;
-    push_all_needless(output, alloc, writer, hints.needless.as_slice())?;
-    sum_of(hints.unmatched.len(), hints.needless.len())
+    let mut remarks = Vec::new(alloc);
+    add_unmatched(&mut remarks, alloc, hints.unmatched.as_slice())?;
+    add_needless(&mut remarks, alloc, hints.needless.as_slice())?;
+    Ok(remarks)
 }

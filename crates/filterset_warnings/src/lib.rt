@@ -3,7 +3,7 @@
 //! a workflow.
 #![tactic(auto)]
 
-mod form;
+mod configured;
 mod hints;
 mod overrides;
 mod setting;
@@ -11,5 +11,6 @@ mod span;
 mod texts;
 mod values;
 
-pub use setting::warn_setting;
+pub use configured::{FileWarnings, warn_configuration};
+pub use setting::{WarningEnd, count_warnings, warn_setting};
 pub use values::add_values;

@@ -8,7 +8,7 @@ use filterset_faults::SourceSpan;
 use filterset_language::{ParsedExpr, ParsedLeaf};
 
 /// Returns the span of a predicate, if it has one.
-fn leaf_span(leaf: &ParsedLeaf) -> Option<SourceSpan>
+pub fn leaf_span(leaf: &ParsedLeaf) -> Option<SourceSpan>
     ensures { result ≡ leaf_span (leaf_of leaf.now) }
 {
     match leaf {

@@ -1,4 +1,4 @@
-use Rattle.std.proofs.Common.{◌∙◌, List, [], ◌++◌, ap, inl, map, subst, sym}
+use Rattle.std.proofs.Common.{◌∙◌, ◌+◌, List, [], ◌++◌, ap, inl, map, subst}
 use Rattle.filterset_answers.specs.Checked.{text_row}
 use Rattle.filterset_answers.proofs.PickingLemmas.{basis_of}
 use Rattle.filterset_drawing.specs.Columns.{Text}
@@ -7,7 +7,7 @@ use Rattle.filterset_expression.specs.declared.expression.CompiledExpr.{Compiled
 use Rattle.filterset_graph.specs.declared.package.PackageMetadata.{PackageMetadata}
 use Rattle.filterset_hints.specs.Listed.{AreSubjects}
 use Rattle.filterset_listing.specs.declared.groups.GroupOverride.{GroupOverride}
-use Rattle.filterset_warnings.specs.Warnings.{Warns}
+use Rattle.filterset_warnings.specs.Warnings.{WarningsOf, summary}
 use Rattle.filterset_warnings.proofs.setting.warn_by.Goals as goal
 
 pub returns : goal.returns
@@ -24,11 +24,13 @@ returns c =
     let Listed : CompiledExpr → List GroupOverride → Type 0 = λ default given. AreSubjects default given binaries subjects in
     let listed = subst (λ given. Listed basis.default given) c.as_slice-2.ensures.value (subst (λ default. Listed default c.as_slice-2.result.now) c.new-eval_context.ensures c.in_ok-subjects.ensures) in
     let Written : List PackageMetadata → CompiledExpr → Text → Type 0 =
-    λ packages default text. Warns c.args.form setting.groups.now (record { packages = packages; default = default }) subjects (map text_row c.args.texts.now) count text in
+    λ packages default text. WarningsOf c.args.form setting.groups.now (record { packages = packages; default = default }) subjects 1 (map text_row c.args.texts.now) count text in
     let wrote = c.in_ok-count.ensures in
     let packages = c.in_ok-new.ensures in
-    let is_text = wrote.1 ∙ ap (λ t. t ++ wrote.0) c.new-text.ensures.bytes in
+    let warned = wrote.1 ∙ ap (λ t. t ++ wrote.0) c.new-text.ensures.bytes in
+    let all = c.args.end.before + count in
+    let ends = rw c.in_ok-total.ensures at c.in_ok-answer.ensures.text in
+    let sums = ends ∙ ap (λ t. t ++ summary c.args.form c.count_skipped.result all) warned ∙ ap (λ k. wrote.0 ++ summary c.args.form k all) c.count_skipped.ensures in
     let over_packages = subst (λ p. Written p (default_of c.new-eval_context.result) wrote.0) packages wrote.2 in
-    let by_default = subst (λ d. Written setting.graph.now d wrote.0) c.new-eval_context.ensures over_packages in
-    let written = subst (λ t. Written setting.graph.now basis.default t) (sym is_text) by_default in
-    inl (basis, subjects, count, listed, written, c.warned_ending.ensures)
+    let written = subst (λ d. Written setting.graph.now d wrote.0) c.new-eval_context.ensures over_packages in
+    inl (basis, subjects, count, wrote.0, listed, written, sums, rw c.in_ok-total.ensures at c.in_ok-answer.ensures.ending)

@@ -3,7 +3,7 @@ use Rattle.filterset_answers.specs.Checked.{text_row}
 use Rattle.filterset_drawing.specs.Columns.{Text}
 use Rattle.filterset_warnings.specs.Contexts.{basis_of}
 use Rattle.filterset_warnings.specs.Warnings.{WarningsOf}
-use Rattle.filterset_warnings.proofs.texts.push_texts.Given as goal
+use Rattle.filterset_warnings.proofs.texts.warn_texts.Given as goal
 
 -- the warnings of the texts so far were written
 abbrev pub invariant-loop-i : goal.invariant-loop-i
