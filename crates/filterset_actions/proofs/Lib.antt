@@ -1,2 +1,1 @@
 mod ActionLemmas
-mod MendingLemmas

@@ -6,13 +6,15 @@ use Rattle.serde_json.specs.Data.{Data, array, string, object, member, no_member
 use Rattle.serde_json.specs.View.{items_of}
 use Rattle.filterset_answers.specs.Checked.{TextRow}
 use Rattle.filterset_answers.specs.Placements.{Placement}
+use Rattle.filterset_documents.specs.Contents.{ContentRow}
 use Rattle.filterset_documents.specs.Diagnostics.{IsFaultAt, fault_span}
 use Rattle.filterset_documents.specs.Edits.{edit_data}
 use Rattle.filterset_documents.specs.Filtersets.{stretch_at, stretch_span}
 use Rattle.filterset_documents.specs.Joins.{Joins}
 use Rattle.filterset_documents.specs.Ranges.{range_data}
-use Rattle.filterset_editor.specs.Positions.{Text}
+use Rattle.filterset_editor.specs.Positions.{IsOffset, Text}
 use Rattle.filterset_editor.specs.declared.edits.Change.{Change}
+use Rattle.filterset_editor.specs.declared.positions.Encoding.{Encoding}
 use Rattle.filterset_editor.specs.declared.positions.Range.{Range}
 use Rattle.filterset_faults.specs.declared.error.ParseSingleError.{ParseSingleError}
 use Rattle.filterset_faults.specs.declared.span.SourceSpan.{SourceSpan}
@@ -24,6 +26,7 @@ use Rattle.filterset_actions.specs.Changes.{IsChosen}
 use Rattle.filterset_actions.specs.Mending.{IsMending}
 use Rattle.filterset_actions.specs.Proposals.{IsRepairIn, ProposalRow, repair_proposal, rewrite_row}
 use Rattle.filterset_actions.specs.Repairs.{RepairRow}
+use Rattle.filterset_actions.specs.Spelling.{IsSpelled}
 use Rattle.filterset_actions.specs.Subjects.{SubjectRow, meets}
 
 -- ---- values
@@ -93,13 +96,15 @@ abbrev pub RewriteActions : SubjectRow → ℕ → Placement → Text → Text �
 RewriteActions subject at place text title other new ds =
     MatchBool (bytes_eq other new) (ds ≡ []) (ProposalActions subject at place text (rewrite_row title text new) ds)
 
--- The actions for a text that reads as a tree: that which writes it as it prints, unless it is so already, and that which adds
--- parentheses that show how it is read, unless it prints with them.
+-- The actions for a text that reads as a tree: that which writes it as it prints, unless it is so already, that which
+-- adds parentheses that show how it is read, unless it prints with them, and that which writes it without `^`, if it has
+-- one to eight of them.
 abbrev pub TreeActions : SubjectRow → ℕ → Placement → Text → Tree SourceSpan → List Data → Type 0
-TreeActions subject at place text e ds = (formats shows : List Data)
+TreeActions subject at place text e ds = (formats shows spells : List Data) × (spelled : Text)
     × RewriteActions subject at place text (codes "Format this filterset") text (printed e) formats
     × RewriteActions subject at place text (codes "Add parentheses") (printed e) (printed (shown e)) shows
-    × (ds ≡ formats ++ shows)
+    × IsSpelled e spelled × RewriteActions subject at place text (codes "Write without `^`") (printed e) spelled spells
+    × (ds ≡ (formats ++ shows) ++ spells)
 
 -- The actions for the text of the filterset at a position: those for its tree, or those that mend its faults, in their order.
 abbrev pub TextActions : SubjectRow → ℕ → Placement → Text → List Data → Type 0
@@ -107,20 +112,24 @@ TextActions subject at place text ds =
     ((e : Tree SourceSpan) × Reads text e × TreeActions subject at place text e ds)
     ⊎ ((faults : List ParseSingleError) × IsUnreadWith text faults × Joins (FaultActions subject at place text) faults ds)
 
--- the same if the filterset is in what is asked about
-abbrev pub PlaceActions : SubjectRow → ℕ → Placement → Text → List Data → Type 0
-PlaceActions subject at place text ds =
-    MatchBool (meets subject (stretch_span (stretch_at place.spot))) (TextActions subject at place text ds) (ds ≡ [])
-
+-- those for a filterset at a position, if it is in what is asked about
 abbrev pub RowActions : SubjectRow → ℕ → TextRow → List Data → Type 0
-RowActions subject at row ds = MatchOption row.place (ds ≡ []) (λ place. PlaceActions subject at place row.text ds)
+RowActions subject at row ds = MatchOption row.place (ds ≡ []) (λ place.
+    MatchBool (meets subject (stretch_span (stretch_at place.spot))) (TextActions subject at place row.text ds) (ds ≡ []))
 
 -- ---- documents
 
 -- the actions for the filterset at a position
 abbrev pub ActionsAt : SubjectRow → ℕ → List Data → Type 0
-ActionsAt subject at ds = (row : TextRow) × (slice_get subject.rows at ≡ Some row) × RowActions subject at row ds
+ActionsAt subject at ds = (row : TextRow) × (slice_get subject.content.rows at ≡ Some row) × RowActions subject at row ds
 
 -- the actions for a document: those for its filtersets, one after the other
 abbrev pub AreActions : SubjectRow → List Data → Type 0
-AreActions subject ds = Joins (ActionsAt subject) (range_with_len 0 (length subject.rows)) ds
+AreActions subject ds = Joins (ActionsAt subject) (range_with_len 0 (length subject.content.rows)) ds
+
+-- the actions for a range of a document with this address and content
+abbrev pub ActsOn : Encoding → Text → Text → Range → ContentRow → Data → Type 0
+ActsOn encoding uri text range content d = (from to : ℕ) × (ds : List Data)
+    × IsOffset encoding text range.start from × IsOffset encoding text range.end to
+    × AreActions (record { encoding = encoding; text = text; uri = uri; from = from; to = to; content = content }) ds
+    × (d ≡ array (items_of ds))

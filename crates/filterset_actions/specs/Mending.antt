@@ -1,5 +1,6 @@
 -- Texts with edits, and whether these mend them.
-use Rattle.std.specs.Prelude.{◌≡◌, ◌⊎◌, ◌≤◌, ◌-◌, ◌++◌, ◌&&◌, ℕ, Bool, true, false, List, Option, None, Some, drop, length, nat_le, nat_lt, take}
+use Rattle.std.specs.Prelude.{◌≡◌, ◌⊎◌, ◌≤◌, ◌-◌, ◌++◌, ◌&&◌, ℕ, Bool, true, false, List, MatchOption, Option, None, Some, drop, length, nat_le, nat_lt, not, take}
+use Rattle.std.specs.Bool.{then_some}
 use Rattle.std.specs.List.{list_any}
 use Rattle.std.specs.Str.{IsCharBoundary}
 use Rattle.filterset_documents.specs.Edits.{EditRow}
@@ -45,20 +46,12 @@ begins_at from len (Some s) = nat_le from (offset_of s) && nat_lt (offset_of s -
 abbrev pub begins_in : ℕ → ℕ → ParseSingleError → Bool
 begins_in from len fault = begins_at from len (span_of fault)
 
--- the text reads as a tree, or none of its faults begins in the stretch
-abbrev pub IsClear : Text → ℕ → ℕ → Type 0
-IsClear text from len =
-    ((e : Tree SourceSpan) × Reads text e)
-    ⊎ ((faults : List ParseSingleError) × IsUnreadWith text faults × (list_any (begins_in from len) faults ≡ false))
-
--- one of its faults does
-abbrev pub IsMarred : Text → ℕ → ℕ → Type 0
-IsMarred text from len =
-    (faults : List ParseSingleError) × IsUnreadWith text faults × (list_any (begins_in from len) faults ≡ true)
+-- whether the text reads as a tree, or none of its faults begins in the stretch
+abbrev pub IsClear : Text → ℕ → ℕ → Bool → Type 0
+IsClear text from len clear = ((e : Tree SourceSpan) × Reads text e × (clear ≡ true))
+    ⊎ ((faults : List ParseSingleError) × IsUnreadWith text faults × (clear ≡ not (list_any (begins_in from len) faults)))
 
 -- The text with the edit, in which no fault begins in what the edit wrote. None if one does, or if there is no such text.
 abbrev pub IsMending : Text → EditRow → Option Text → Type 0
-IsMending text edit (Some new) = IsApplied text edit (Some new) × IsClear new edit.at.from (length edit.text)
-IsMending text edit None =
-    IsApplied text edit None
-    ⊎ ((new : Text) × IsApplied text edit (Some new) × IsMarred new edit.at.from (length edit.text))
+IsMending text edit o = (applied : Option Text) × IsApplied text edit applied × MatchOption applied (o ≡ None)
+    (λ new. (clear : Bool) × IsClear new edit.at.from (length edit.text) clear × (o ≡ then_some clear new))

@@ -1,22 +1,20 @@
 -- The document whose filtersets may be changed.
-use Rattle.std.specs.Prelude.{◌-◌, ◌&&◌, ℕ, Bool, List, Option, map, nat_le, option_map, string_bytes}
-use Rattle.filterset_answers.specs.Checked.{TextRow, text_row}
+use Rattle.std.specs.Prelude.{◌-◌, ◌&&◌, ℕ, Bool, nat_le}
+use Rattle.filterset_documents.specs.Contents.{ContentRow, content_row}
 use Rattle.filterset_editor.specs.Positions.{Text}
 use Rattle.filterset_editor.specs.declared.positions.Encoding.{Encoding}
 use Rattle.filterset_faults.specs.Span.{length_of, offset_of}
 use Rattle.filterset_faults.specs.declared.span.SourceSpan.{SourceSpan}
 use Rattle.filterset_actions.specs.declared.subject.Subject.{Subject}
 
--- A document with its address, its filtersets and the offsets between which it is asked about. If it is nextest's configuration,
--- it has the names of the groups; if not, each of its lines is a filterset.
+-- a document with its address, what it holds, and the offsets between which it is asked about
 pub record SubjectRow : Type 0 where
   pub encoding : Encoding
   pub text : Text
   pub uri : Text
   pub from : ℕ
   pub to : ℕ
-  pub groups : Option (List Text)
-  pub rows : List TextRow
+  pub content : ContentRow
 
 abbrev pub subject_row : Subject → SubjectRow
 subject_row s = record {
@@ -25,8 +23,7 @@ subject_row s = record {
   uri = s.uri.now;
   from = s.from;
   to = s.to;
-  groups = option_map (λ g. map (λ t. string_bytes t) g.now) s.groups;
-  rows = map text_row s.entries.now;
+  content = content_row s.content;
 }
 
 -- the span is in what is asked about, or touches that

@@ -1,13 +1,12 @@
 //! The actions for the filtersets of a document.
-ghost use Rattle.std.specs.Prelude.{◌≡◌, ◌<◌, IfOk, length, map, string_bytes};
+ghost use Rattle.std.specs.Prelude.{◌<◌, IfOk, length, map, string_bytes};
 ghost use Rattle.serde_json.specs.View.{view};
 ghost use Rattle.filterset_answers.specs.Checked.{text_row};
 ghost use Rattle.filterset_answers.specs.Placements.{placement_of};
 ghost use Rattle.filterset_documents.specs.Joins.{Joins};
-ghost use Rattle.filterset_grammar.specs.Printing.{printed};
 ghost use Rattle.filterset_language.specs.Views.{tree_of};
-ghost use Rattle.filterset_rewriting.specs.Showing.{shown};
-ghost use Rattle.filterset_actions.specs.Actions.{ActionsAt, AreActions, FaultActions, NewActions, PlaceActions, ProposalActions, RangeActions, RewriteActions, RowActions, TextActions, TreeActions};
+ghost use Rattle.filterset_documents.specs.Contents.{content_row};
+ghost use Rattle.filterset_actions.specs.Actions.{ActsOn, AreActions, FaultActions, NewActions, ProposalActions, RangeActions, RewriteActions, RowActions, TextActions, TreeActions};
 ghost use Rattle.filterset_actions.specs.Proposals.{proposal_row};
 ghost use Rattle.filterset_actions.specs.Subjects.{subject_row};
 
@@ -15,11 +14,12 @@ use crate::changes::choose_change;
 use crate::mending::mend;
 use crate::proposals::{Proposal, propose_text, repair_in};
 use crate::reading::{Reading, read_text};
+use crate::spelling::spelled_text;
 use crate::subject::{Subject, meets};
 use crate::values::range_actions;
 use filterset_answers::{FilePlace, TextEntry};
-use filterset_documents::{is_same, stretch_at, stretch_span};
-use filterset_editor::Change;
+use filterset_documents::{Content, Shown, is_same, stretch_at, stretch_span};
+use filterset_editor::{Change, Range};
 use filterset_faults::ParseSingleError;
 use filterset_language::ParsedExpr;
 use filterset_rewriting::show_reading;
@@ -31,6 +31,9 @@ const FORMAT: &str = "Format this filterset";
 
 /// The title of the action that adds parentheses which show how a filterset is read.
 const ENCLOSE: &str = "Add parentheses";
+
+/// The title of the action that writes a filterset without `^`.
+const SPELL: &str = "Write without `^`";
 
 /// Makes the action that makes a change.
 fn change_actions(
@@ -61,7 +64,7 @@ fn new_actions(
     proposal: &Proposal,
     new: &str,
 ) -> Result<Vec<Value>, AllocError>
-    requires { at < length subject.now.entries.now }
+    requires { at < length subject.now.content.entries.now }
     ensures { IfOk result (λ values. NewActions (subject_row subject.now) at (placement_of place.entry)
         (proposal_row proposal.now) new.now (map view values.items)) }
 {
@@ -80,7 +83,7 @@ fn proposal_actions(
     text: &str,
     proposal: &Proposal,
 ) -> Result<Vec<Value>, AllocError>
-    requires { at < length subject.now.entries.now }
+    requires { at < length subject.now.content.entries.now }
     ensures { IfOk result (λ values. ProposalActions (subject_row subject.now) at (placement_of place.entry) text.now
         (proposal_row proposal.now) (map view values.items)) }
 {
@@ -99,7 +102,7 @@ fn fault_actions(
     text: &str,
     fault: &ParseSingleError,
 ) -> Result<Vec<Value>, AllocError>
-    requires { at < length subject.now.entries.now }
+    requires { at < length subject.now.content.entries.now }
     ensures { IfOk result (λ values. FaultActions (subject_row subject.now) at (placement_of place.entry) text.now fault.now
         (map view values.items)) }
 {
@@ -122,7 +125,7 @@ fn mending_actions(
     text: &str,
     faults: &[ParseSingleError],
 ) -> Result<Vec<Value>, AllocError>
-    requires { at < length subject.now.entries.now }
+    requires { at < length subject.now.content.entries.now }
     ensures { IfOk result (λ values. Joins (FaultActions (subject_row subject.now) at (placement_of place.entry) text.now)
         faults.now (map view values.items)) }
 {
@@ -145,7 +148,7 @@ fn rewrite_actions(
     other: &str,
     new: &str,
 ) -> Result<Vec<Value>, AllocError>
-    requires { at < length subject.now.entries.now }
+    requires { at < length subject.now.content.entries.now }
     ensures { IfOk result (λ values. RewriteActions (subject_row subject.now) at (placement_of place.entry) text.now
         title.now other.now new.now (map view values.items)) }
 {
@@ -154,14 +157,6 @@ fn rewrite_actions(
     }
     let proposal = propose_text(alloc, title, text, new)?;
     proposal_actions(alloc, subject, at, place, text, &proposal)
-}
-
-/// Makes the text of a tree with parentheses that show how it is read.
-fn shown_text(alloc: Global, tree: &ParsedExpr) -> Result<String, AllocError>
-    ensures { IfOk result (λ made. string_bytes made ≡ printed (shown (tree_of tree.now))) }
-{
-    let shown = show_reading(alloc, tree)?;
-    format!(in alloc; "{shown}")
 }
 
 /// Makes the actions for a text that reads as a tree.
@@ -173,17 +168,22 @@ fn tree_actions(
     text: &str,
     tree: &ParsedExpr,
 ) -> Result<Vec<Value>, AllocError>
-    requires { at < length subject.now.entries.now }
+    requires { at < length subject.now.content.entries.now }
     ensures { IfOk result (λ values. TreeActions (subject_row subject.now) at (placement_of place.entry) text.now
         (tree_of tree.now) (map view values.items)) }
 {
     let printed = format!(in alloc; "{tree}")?;
     let printed = printed.as_str();
-    let shown = shown_text(alloc, tree)?;
+    let shown = show_reading(alloc, tree)?;
+    let shown = format!(in alloc; "{shown}")?;
     let shown = shown.as_str();
     let mut values = rewrite_actions(alloc, subject, at, place, text, FORMAT, text, printed)?;
     let mut more = rewrite_actions(alloc, subject, at, place, text, ENCLOSE, printed, shown)?;
     values.append(&mut more)?;
+    let spelled = spelled_text(alloc, tree)?;
+    let spelled = spelled.as_str();
+    let mut last = rewrite_actions(alloc, subject, at, place, text, SPELL, printed, spelled)?;
+    values.append(&mut last)?;
     Ok(values)
 }
 
@@ -195,7 +195,7 @@ fn text_actions(
     place: FilePlace<'_>,
     text: &str,
 ) -> Result<Vec<Value>, AllocError>
-    requires { at < length subject.now.entries.now }
+    requires { at < length subject.now.content.entries.now }
     ensures { IfOk result (λ values. TextActions (subject_row subject.now) at (placement_of place.entry) text.now
         (map view values.items)) }
 {
@@ -207,57 +207,57 @@ fn text_actions(
     }
 }
 
-/// Makes the actions for the filterset at a position, if it is in what is asked about.
-fn place_actions(
-    alloc: Global,
-    subject: &Subject<'_>,
-    at: usize,
-    place: FilePlace<'_>,
-    text: &str,
-) -> Result<Vec<Value>, AllocError>
-    requires { at < length subject.now.entries.now }
-    ensures { IfOk result (λ values. PlaceActions (subject_row subject.now) at (placement_of place.entry) text.now
-        (map view values.items)) }
-{
-    if meets(subject, stretch_span(stretch_at(place.spot))) {
-        text_actions(alloc, subject, at, place, text)
-    } else {
-        Ok(Vec::new(alloc))
-    }
-}
-
-/// Makes the actions for a filterset, which has this position.
+/// Makes the actions for a filterset, which has this position, if it is in what is asked about.
 fn entry_actions(
     alloc: Global,
     subject: &Subject<'_>,
     at: usize,
     entry: &TextEntry<'_>,
 ) -> Result<Vec<Value>, AllocError>
-    requires { at < length subject.now.entries.now }
+    requires { at < length subject.now.content.entries.now }
     ensures { IfOk result (λ values. RowActions (subject_row subject.now) at (text_row entry.now) (map view values.items)) }
 {
-    match entry.place {
-        Some(place) => place_actions(alloc, subject, at, place, entry.text),
-        None => Ok(Vec::new(alloc)),
+    let Some(place) = entry.place else {
+        return Ok(Vec::new(alloc));
+    };
+    if meets(subject, stretch_span(stretch_at(place.spot))) {
+        text_actions(alloc, subject, at, place, entry.text)
+    } else {
+        Ok(Vec::new(alloc))
     }
-}
-
-/// Makes the actions for the filterset at a position.
-fn actions_at(alloc: Global, subject: &Subject<'_>, at: usize) -> Result<Vec<Value>, AllocError>
-    requires { at < length subject.now.entries.now }
-    ensures { IfOk result (λ values. ActionsAt (subject_row subject.now) at (map view values.items)) }
-{
-    entry_actions(alloc, subject, at, &subject.entries[at])
 }
 
 /// Makes the actions for the filtersets of a document, one after the other.
-pub fn actions_of(alloc: Global, subject: &Subject<'_>) -> Result<Vec<Value>, AllocError>
+fn actions_of(alloc: Global, subject: &Subject<'_>) -> Result<Vec<Value>, AllocError>
     ensures { IfOk result (λ values. AreActions (subject_row subject.now) (map view values.items)) }
 {
+    let entries = subject.content.entries;
     let mut values = Vec::new(alloc);
-    for at in 0..subject.entries.len() {
-        let mut more = actions_at(alloc, subject, at)?;
+    for at in 0..entries.len() {
+        let mut more = entry_actions(alloc, subject, at, &entries[at])?;
         values.append(&mut more)?;
     }
     Ok(values)
+}
+
+/// Makes the actions for a range of a document, which has this address and content. The only error is out of memory.
+pub fn act_on(
+    alloc: Global,
+    shown: &Shown<'_>,
+    uri: &str,
+    range: Range,
+    content: Content<'_, '_>,
+) -> Result<Value, AllocError>
+    ensures { IfOk result (λ value. ActsOn shown.now.encoding uri.now shown.now.lines.text.now range
+        (content_row content.entry) (view value)) }
+{
+    let subject = Subject {
+        shown,
+        uri,
+        from: shown.lines.offset(shown.encoding, range.start),
+        to: shown.lines.offset(shown.encoding, range.end),
+        content,
+    };
+    let actions = actions_of(alloc, &subject)?;
+    Ok(Value::Array(actions))
 }

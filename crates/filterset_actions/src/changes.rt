@@ -1,162 +1,45 @@
 //! Whether a change of a file gives a filterset a new text, and changes no other.
-ghost use Rattle.std.specs.Prelude.{◌≡◌, ◌≢◌, ◌<◌, IfOk, MatchBool, MatchOption, length, map, string_bytes};
-ghost use Rattle.std.specs.Borrow.{Bor};
+ghost use Rattle.std.specs.Prelude.{◌≡◌, ◌<◌, IfOk, length, map, slice_set};
 ghost use Rattle.filterset_answers.specs.Checked.{text_row};
-ghost use Rattle.filterset_answers.specs.Entries.{line_rows};
 ghost use Rattle.filterset_answers.specs.Placements.{spot_of};
-ghost use Rattle.filterset_drawing.specs.declared.source.Source.{Source};
-ghost use Rattle.filterset_actions.specs.Changes.{Becomes, BecomesConfiguration, BecomesList, Differs, DiffersConfiguration, DiffersList, Fails, Gets, HasFiltersets, HasPaths, IsChosen, IsLeft, IsTaken, changed_texts, texts_of};
+ghost use Rattle.filterset_actions.specs.Changes.{Gets, IsChosen, IsTried, texts_of};
 ghost use Rattle.filterset_actions.specs.Proposals.{proposal_row};
 ghost use Rattle.filterset_actions.specs.Subjects.{subject_row};
 
 use crate::edits::change_for;
 use crate::proposals::Proposal;
 use crate::subject::Subject;
-use crate::texts::{
-    are_same, list_changed, list_configured, list_origins, list_paths, list_strings, list_texts,
-};
-use filterset_answers::{FilePlace, TextEntry, line_entries};
-use filterset_drawing::Source;
+use filterset_answers::{FilePlace, TextEntry};
+use filterset_documents::becomes;
 use filterset_editor::{Change, change_text};
-use filterset_sources::{Configuration, SourceRefusal, read_configuration};
-use nextest_filtering::FiltersetKind;
 use std::alloc::{AllocError, Global};
 use std::slice;
 
-/// Returns whether filtersets have the texts of others, of which the one at a position gets another.
-fn have_texts(
-    alloc: Global,
-    subject: &Subject<'_>,
-    at: usize,
-    new: &str,
-    others: &[TextEntry<'_>],
-) -> Result<bool, AllocError>
-    requires { at < length subject.now.entries.now }
-    ensures { IfOk result (λ answer. MatchBool answer
-        (texts_of (map text_row others.now) ≡ changed_texts (subject_row subject.now) at new.now)
-        (texts_of (map text_row others.now) ≢ changed_texts (subject_row subject.now) at new.now)) }
+/// Lists the texts of filtersets.
+fn list_texts<'t>(alloc: Global, entries: &[TextEntry<'t>]) -> Result<Vec<&'t str>, AllocError>
+    ensures { IfOk result (λ texts. map (λ t. t.now) texts.items ≡ texts_of (map text_row entries.now)) }
 {
-    let found = list_texts(alloc, others)?;
-    let wanted = list_changed(alloc, subject.entries, at, new)?;
-    Ok(are_same(found.as_slice(), wanted.as_slice()))
-}
-
-/// Returns whether the lines of a file are those of the document, of which the one at a position gets another text.
-fn are_lines(
-    alloc: Global,
-    subject: &Subject<'_>,
-    at: usize,
-    new: &str,
-    file: &Source<'_>,
-) -> Result<bool, AllocError>
-    requires { at < length subject.now.entries.now }
-    ensures { IfOk result (λ answer. (listed : Bor Source) × (listed.now ≡ file.now) × MatchBool answer
-        (texts_of (line_rows listed FiltersetKind.Test) ≡ changed_texts (subject_row subject.now) at new.now)
-        (texts_of (line_rows listed FiltersetKind.Test) ≢ changed_texts (subject_row subject.now) at new.now)) }
-{
-    let entries = line_entries(alloc, FiltersetKind::Test, file)?;
-    have_texts(alloc, subject, at, new, entries.as_slice())
-}
-
-/// Returns whether a text has the lines of the document, of which the one at a position gets another text.
-fn becomes_list(
-    alloc: Global,
-    subject: &Subject<'_>,
-    at: usize,
-    new: &str,
-    after: &str,
-) -> Result<bool, AllocError>
-    requires { at < length subject.now.entries.now }
-    ensures { IfOk result (λ answer. MatchBool answer (BecomesList (subject_row subject.now) at new.now after.now)
-        (DiffersList (subject_row subject.now) at new.now after.now)) }
-{
-    let file = Source::new(alloc, "", after)?;
-    are_lines(alloc, subject, at, new, &file)
-}
-
-/// Returns whether a configuration has these groups, and filtersets at the paths of the document's.
-fn has_paths(
-    alloc: Global,
-    subject: &Subject<'_>,
-    groups: &[String],
-    other: &Configuration,
-) -> Result<bool, AllocError>
-    ensures { IfOk result (λ answer. MatchBool answer
-        (HasPaths (subject_row subject.now) (map (λ s. string_bytes s) groups.now) other.now)
-        (HasPaths (subject_row subject.now) (map (λ s. string_bytes s) groups.now) other.now → ⊥)) }
-{
-    let found = list_strings(alloc, other.groups.as_slice())?;
-    let wanted = list_strings(alloc, groups)?;
-    if !are_same(found.as_slice(), wanted.as_slice()) {
-        return Ok(false);
+    let mut texts = Vec::with_capacity(alloc, entries.len())?;
+    for entry in entries {
+        texts.push(entry.text)?;
     }
-    let found = list_paths(alloc, other.filtersets.as_slice())?;
-    let wanted = list_origins(alloc, subject.entries)?;
-    Ok(are_same(found.as_slice(), wanted.as_slice()))
+    Ok(texts)
 }
 
-/// Returns whether a configuration has these groups and the document's filtersets, of which the one at a position gets another
-/// text.
-fn has_filtersets(
+/// Lists the texts of filtersets of which the one at a position gets another.
+fn list_changed<'t>(
     alloc: Global,
-    subject: &Subject<'_>,
-    groups: &[String],
+    entries: &[TextEntry<'t>],
     at: usize,
-    new: &str,
-    other: &Configuration,
-) -> Result<bool, AllocError>
-    requires { at < length subject.now.entries.now }
-    ensures { let subject = subject_row subject.now in let groups = map (λ s. string_bytes s) groups.now in
-        IfOk result (λ answer. MatchBool answer
-        (HasFiltersets subject groups (changed_texts subject at new.now) other.now)
-        (HasFiltersets subject groups (changed_texts subject at new.now) other.now → ⊥)) }
+    new: &'t str,
+) -> Result<Vec<&'t str>, AllocError>
+    requires { at < length entries.now }
+    ensures { IfOk result (λ texts. map (λ t. t.now) texts.items
+        ≡ slice_set (texts_of (map text_row entries.now)) at new.entry.now) }
 {
-    if !has_paths(alloc, subject, groups, other)? {
-        return Ok(false);
-    }
-    let found = list_configured(alloc, other.filtersets.as_slice())?;
-    let wanted = list_changed(alloc, subject.entries, at, new)?;
-    Ok(are_same(found.as_slice(), wanted.as_slice()))
-}
-
-/// Returns whether a text is a configuration with these groups and the document's filtersets, of which the one at a position gets
-/// another text.
-fn becomes_configuration(
-    alloc: Global,
-    subject: &Subject<'_>,
-    groups: &[String],
-    at: usize,
-    new: &str,
-    after: &str,
-) -> Result<bool, AllocError>
-    requires { at < length subject.now.entries.now }
-    ensures { let subject = subject_row subject.now in let groups = map (λ s. string_bytes s) groups.now in
-        IfOk result (λ answer. MatchBool answer (BecomesConfiguration subject at new.now after.now groups)
-        (DiffersConfiguration subject at new.now after.now groups)) }
-{
-    match read_configuration(alloc, after) {
-        Ok(other) => has_filtersets(alloc, subject, groups, at, new, &other),
-        Err(SourceRefusal::OutOfMemory(refused)) => Err(refused),
-        Err(_) => Ok(false),
-    }
-}
-
-/// Returns whether a text has the document's filtersets, of which the one at a position gets another text.
-fn becomes(
-    alloc: Global,
-    subject: &Subject<'_>,
-    at: usize,
-    new: &str,
-    after: &str,
-) -> Result<bool, AllocError>
-    requires { at < length subject.now.entries.now }
-    ensures { IfOk result (λ answer. MatchBool answer (Becomes (subject_row subject.now) at new.now after.now)
-        (Differs (subject_row subject.now) at new.now after.now)) }
-{
-    match subject.groups {
-        Some(groups) => becomes_configuration(alloc, subject, groups, at, new, after),
-        None => becomes_list(alloc, subject, at, new, after),
-    }
+    let mut texts = list_texts(alloc, entries)?;
+    texts[at] = new;
+    Ok(texts)
 }
 
 /// Makes a change, and returns whether it gives the filterset at a position a text, and changes no other.
@@ -167,14 +50,14 @@ fn gives(
     new: &str,
     change: &Change,
 ) -> Result<bool, AllocError>
-    requires { at < length subject.now.entries.now }
-    ensures { IfOk result (λ answer. MatchBool answer (Gets (subject_row subject.now) at new.now change.now)
-        (Fails (subject_row subject.now) at new.now change.now)) }
+    requires { at < length subject.now.content.entries.now }
+    ensures { IfOk result (Gets (subject_row subject.now) at new.now change.now) }
 {
     let shown = subject.shown;
     let changes = slice::from_ref(change);
     let after = change_text(alloc, shown.encoding, shown.lines.text, changes)?;
-    becomes(alloc, subject, at, new, after.as_str())
+    let texts = list_changed(alloc, subject.content.entries, at, new)?;
+    becomes(alloc, subject.content, texts.as_slice(), after.as_str())
 }
 
 /// Makes the change by which the filterset at a position gets a text, if it does so and changes no other.
@@ -187,11 +70,9 @@ fn try_change(
     new: &str,
     is_basic: bool,
 ) -> Result<Option<Change>, AllocError>
-    requires { at < length subject.now.entries.now }
-    ensures { let subject = subject_row subject.now in let spot = spot_of place.entry.spot in
-        let p = proposal_row proposal.now in
-        IfOk result (λ o. MatchOption o (IsLeft subject at spot p new.now is_basic)
-        (IsTaken subject at spot p new.now is_basic)) }
+    requires { at < length subject.now.content.entries.now }
+    ensures { IfOk result (IsTried (subject_row subject.now) at (spot_of place.entry.spot) (proposal_row proposal.now) new.now
+        is_basic) }
 {
     let change = change_for(alloc, subject, place, proposal, is_basic)?;
     if gives(alloc, subject, at, new, &change)? {
@@ -210,7 +91,7 @@ pub fn choose_change(
     proposal: &Proposal,
     new: &str,
 ) -> Result<Option<Change>, AllocError>
-    requires { at < length subject.now.entries.now }
+    requires { at < length subject.now.content.entries.now }
     ensures { IfOk result (IsChosen (subject_row subject.now) at (spot_of place.entry.spot) (proposal_row proposal.now) new.now) }
 {
     match try_change(alloc, subject, at, place, proposal, new, false)? {

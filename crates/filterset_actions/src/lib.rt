@@ -5,14 +5,13 @@
 mod actions;
 mod calls;
 mod changes;
-mod documents;
 mod edits;
 mod mending;
 mod proposals;
 mod reading;
 mod repairs;
+mod spelling;
 mod subject;
-mod texts;
 mod values;
 
-pub use documents::{act_on_configuration, act_on_list};
+pub use actions::act_on;

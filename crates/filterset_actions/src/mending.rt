@@ -1,8 +1,8 @@
 //! Texts with edits, and whether these mend them.
-ghost use Rattle.std.specs.Prelude.{◌≡◌, ◌↔◌, IfOk, IsTrue, MatchBool, option_map, string_bytes};
+ghost use Rattle.std.specs.Prelude.{◌≡◌, IfOk, option_map, string_bytes};
 ghost use Rattle.std.specs.List.{list_any};
 ghost use Rattle.filterset_documents.specs.Edits.{edit_row};
-ghost use Rattle.filterset_actions.specs.Mending.{IsApplied, IsBetween, IsClear, IsMarred, IsMending, begins_in};
+ghost use Rattle.filterset_actions.specs.Mending.{IsApplied, IsBetween, IsClear, IsMending, begins_in};
 
 use crate::reading::{Reading, read_text};
 use filterset_documents::Edit;
@@ -47,7 +47,7 @@ fn any_begins(faults: &[ParseSingleError], from: usize, len: usize) -> bool
 
 /// Returns whether a text has no fault that begins in a stretch of this length from an offset on.
 fn is_clear(alloc: Global, text: &str, from: usize, len: usize) -> Result<bool, AllocError>
-    ensures { IfOk result (λ clear. MatchBool clear (IsClear text.now from len) (IsMarred text.now from len)) }
+    ensures { IfOk result (IsClear text.now from len) }
 {
     match read_text(alloc, text)? {
         Reading::Tree(_) => Ok(true),

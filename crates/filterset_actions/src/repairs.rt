@@ -1,7 +1,7 @@
 //! How what faults are about may be written instead.
 ghost use Rattle.std.specs.Prelude.{◌≡◌, IfOk, option_map, slice_index, string_bytes};
 ghost use Rattle.filterset_actions.specs.Repairs as spec;
-ghost use Rattle.filterset_actions.specs.Repairs.{IsRepairOf, gap_beside, may_touch, repair_row, spaced, stretch_in};
+ghost use Rattle.filterset_actions.specs.Repairs.{IsRepairOf, gap_beside, repair_row, spaced, stretch_in};
 
 use crate::calls::repair_call;
 use filterset_documents::Edit;
@@ -16,18 +16,14 @@ pub struct Repair {
     pub edit: Edit,
 }
 
-/// Returns whether a word may be beside this byte, which is 0 where the text ends.
-fn may_touch(byte: u8) -> bool
-    ensures { result ≡ may_touch byte }
-{
-    matches!(byte, 0 | b'\n' | b'\r' | b' ')
-}
-
-/// Returns what is put between a word and this byte.
+/// Returns what is put between a word and this byte, which is 0 where the text ends.
 fn gap_beside(byte: u8) -> &'static str
     ensures { result.now ≡ gap_beside byte }
 {
-    if may_touch(byte) { "" } else { " " }
+    match byte {
+        0 | b'\n' | b'\r' | b' ' => "",
+        _ => " ",
+    }
 }
 
 /// Returns the byte at an offset, or 0 behind the end.

@@ -2,8 +2,7 @@
 ghost use Rattle.std.specs.Prelude.{◌≡◌};
 ghost use Rattle.filterset_actions.specs.Subjects.{meets, subject_row};
 
-use filterset_answers::TextEntry;
-use filterset_documents::Shown;
+use filterset_documents::{Content, Shown};
 use filterset_faults::SourceSpan;
 
 /// A document, and the offsets between which it is asked about.
@@ -13,9 +12,7 @@ pub struct Subject<'d> {
     pub uri: &'d str,
     pub from: usize,
     pub to: usize,
-    /// The names of the test groups, if the document is nextest's configuration. If not, each line is a filterset.
-    pub groups: Option<&'d [String]>,
-    pub entries: &'d [TextEntry<'d>],
+    pub content: Content<'d, 'd>,
 }
 
 /// Returns whether a span of the file is in what is asked about, or touches that.

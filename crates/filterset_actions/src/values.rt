@@ -31,36 +31,6 @@ fn changes_value(alloc: Global, uri: &str, range: Range, text: &str) -> Result<V
     Ok(Value::Object(members))
 }
 
-/// Makes the diagnostic of a fault of a filterset at this place.
-fn diagnostic_of(
-    alloc: Global,
-    subject: &Subject<'_>,
-    place: FilePlace<'_>,
-    fault: &ParseSingleError,
-) -> Result<Value, AllocError>
-    ensures { IfOk result (λ value. spec.IsDiagnosticOf (subject_row subject.now) (placement_of place.entry) fault.now
-        (view value)) }
-{
-    let span = fault_span(Some(place), fault);
-    fault_value(alloc, subject.shown, span, fault)
-}
-
-/// Makes a list of the diagnostic of a fault of a filterset at this place.
-fn diagnostics_of(
-    alloc: Global,
-    subject: &Subject<'_>,
-    place: FilePlace<'_>,
-    fault: &ParseSingleError,
-) -> Result<Vec<Value>, AllocError>
-    ensures { IfOk result (λ values. (d : Data)
-        × spec.IsDiagnosticOf (subject_row subject.now) (placement_of place.entry) fault.now d
-        × (map view values.items ≡ d ∷ [])) }
-{
-    let mut values = Vec::with_capacity(alloc, 1)?;
-    values.push(diagnostic_of(alloc, subject, place, fault)?)?;
-    Ok(values)
-}
-
 /// Makes the diagnostics that an action mends: that of its fault.
 fn mended(
     alloc: Global,
@@ -71,9 +41,14 @@ fn mended(
     ensures { IfOk result (λ values. AreMended (subject_row subject.now) (placement_of place.entry) fault
         (map view values.items)) }
 {
+    let mut values = Vec::new(alloc);
     match fault {
-        Some(fault) => diagnostics_of(alloc, subject, place, &fault),
-        None => Ok(Vec::new(alloc)),
+        Some(fault) => {
+            let span = fault_span(Some(place), &fault);
+            values.push(fault_value(alloc, subject.shown, span, &fault)?)?;
+            Ok(values)
+        }
+        None => Ok(values),
     }
 }
 
@@ -111,22 +86,6 @@ fn action_value(
     })
 }
 
-/// Makes the action that puts a text in place of a range, for a filterset at this place.
-fn action_of(
-    alloc: Global,
-    subject: &Subject<'_>,
-    place: FilePlace<'_>,
-    proposal: &Proposal,
-    range: Range,
-    text: &str,
-) -> Result<Value, AllocError>
-    ensures { IfOk result (λ value. IsAction (subject_row subject.now) (placement_of place.entry) (proposal_row proposal.now)
-        range text.now (view value)) }
-{
-    let diagnostics = mended(alloc, subject, place, proposal.fault)?;
-    action_value(alloc, subject, proposal, diagnostics, range, text)
-}
-
 /// Makes a list of the action that puts a text in place of a range.
 pub fn range_actions(
     alloc: Global,
@@ -140,7 +99,9 @@ pub fn range_actions(
         × IsAction (subject_row subject.now) (placement_of place.entry) (proposal_row proposal.now) range text.now d
         × (map view values.items ≡ d ∷ [])) }
 {
+    let diagnostics = mended(alloc, subject, place, proposal.fault)?;
+    let action = action_value(alloc, subject, proposal, diagnostics, range, text)?;
     let mut values = Vec::with_capacity(alloc, 1)?;
-    values.push(action_of(alloc, subject, place, proposal, range, text)?)?;
+    values.push(action)?;
     Ok(values)
 }

@@ -1,18 +1,22 @@
 -- Edits of texts.
 use Rattle.std.proofs.Common.{◌≡◌, ℕ, zero, suc, Bool, true, false, refl, arith, ◌+◌, ◌-◌, ◌<◌, ◌≤◌, ◌∙◌, All, Contains, List, [], ◌∷◌, ◌++◌, append_assoc, ap, drop, get_or, length, map, subst, sym, take}
 use Rattle.std.specs.Prelude.{IsSomeAnd, None, Option, Some, if◌then◌else◌}
-use Rattle.std.proofs.lemmas.List.{append-nil, drop-drop, get_or-drop, get_or-map, length-drop, length-map}
+use Rattle.std.proofs.lemmas.List.{append-nil, drop-drop, get_or-drop, get_or-map, get_or_default, length-drop, length-map, length-take-le}
 use Rattle.std.proofs.lemmas.List.Elements.{All-append}
 use Rattle.std.proofs.lemmas.Str.{IsCharBoundary-from_rest}
 use Rattle.std.specs.List.Sorted.{IsNonDecreasingBy}
 use Rattle.std.specs.Str.{IsCharBoundary, bytes_eq}
-use Rattle.filterset_answers.specs.Checked.{TextRow}
+use Rattle.std.specs.Borrow.{Bor}
+use Rattle.filterset_answers.specs.Checked.{TextRow, text_row}
+use Rattle.filterset_answers.specs.declared.text.TextEntry.{TextEntry}
 use Rattle.filterset_answers.specs.Placements.{Placement}
 use Rattle.filterset_editor.specs.Positions.{Text}
 use Rattle.filterset_places.specs.Numbers.{AreApart}
 use Rattle.filterset_places.specs.declared.stretch.Stretch.{Stretch}
 use Rattle.filterset_documents.specs.Edits.{EditRow, IsBetween, IsWithin, ReplacesOne, edited_from, place_edits, rewrites, row_edits, written_at}
 use Rattle.filterset_documents.specs.Filtersets.{stretch_at}
+use Rattle.filterset_documents.proofs.BecomingLemmas.{now_of}
+use Rattle.filterset_documents.proofs.JoinLemmas.{rows_more}
 
 -- ---- each element of a list
 
@@ -116,6 +120,21 @@ rewrites-push (r ∷ rows) [] row new same = absurd (omega (arith, same))
 rewrites-push (r ∷ rows) (t ∷ texts) row new same =
     ap (λ es. row_edits r t ++ es) (rewrites-push rows texts row new (omega (arith, same)))
     ∙ sym (append_assoc (row_edits r t) (rewrites rows texts) (row_edits row new))
+
+-- the edits of the next filterset of a list, whose text is the next one
+pub rewrites_next : (entries : List TextEntry) (texts : List (Bor Text)) (i : ℕ) (entry : TextEntry) (d : Bor Text) (old new : List EditRow)
+    → i < length entries → i < length texts → get_or entries i entry ≡ entry
+    → old ≡ rewrites (map text_row (take i entries)) (map now_of (take i texts)) → new ≡ old ++ row_edits (text_row entry) (get_or texts i d).now
+    → new ≡ rewrites (map text_row (take (i + 1) entries)) (map now_of (take (i + 1) texts))
+rewrites_next entries texts i entry d old new lt within at are added =
+    let text : Bor Text = get_or texts i d in
+    let rows = map text_row (take i entries) in
+    let news = map now_of (take i texts) in
+    let more = row_edits (text_row entry) text.now in
+    let same : length rows ≡ length news =
+    omega (arith, length-map (take i entries) text_row, length-map (take i texts) now_of, length-take-le i entries (omega (arith, lt)), length-take-le i texts (omega (arith, within))) in
+    rw (rows_more text_row entries i entry lt at, rows_more now_of texts i text within (get_or_default texts i text d within))
+    (added ∙ ap (λ es. es ++ more) are ∙ sym (rewrites-push rows news (text_row entry) text.now same))
 
 -- the edit of a filterset replaces it
 one_edit : (b : Bool) (at : Placement) (made : Text)

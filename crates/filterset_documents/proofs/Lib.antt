@@ -1,3 +1,4 @@
+pub mod BecomingLemmas
 pub mod EditLemmas
 pub mod FindLemmas
 pub mod JoinLemmas

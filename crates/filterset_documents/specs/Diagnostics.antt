@@ -1,35 +1,29 @@
 -- The diagnostics of documents.
-use Rattle.std.specs.Prelude.{◌≡◌, ◌⊎◌, ◌++◌, ◌-◌, ℕ, List, [], ◌∷◌, Option, None, Some, MatchBool, true, false, codes, length, map, string_bytes}
-use Rattle.std.specs.Borrow.{Bor}
+use Rattle.std.specs.Prelude.{◌≡◌, ◌++◌, ◌-◌, ℕ, List, [], Option, None, Some, MatchOption, false, codes, is_some, length, string_bytes, unwrap_or}
 use Rattle.std.specs.List.{AllZip}
 use Rattle.std.specs.Option.{option_map_or}
 use Rattle.serde_json.specs.Data.{Data, number, unsigned, string, object, member, no_members}
 use Rattle.toml.specs.Errors.{span_start, span_end}
 use Rattle.filterset_answers.specs.Checked.{HasFaults, TextRow}
-use Rattle.filterset_answers.specs.Entries.{line_rows, rows_in}
 use Rattle.filterset_answers.specs.Names.{KnowsNames}
 use Rattle.filterset_answers.specs.Placements.{Placement, file_part}
-use Rattle.filterset_answers.specs.declared.entries.ConfiguredTexts.{ConfiguredTexts}
+use Rattle.filterset_answers.specs.Unread.{AreUnreadRemarks}
 use Rattle.filterset_answers.specs.declared.names.Names.{Names}
+use Rattle.filterset_drawing.specs.Remarks.{RemarkRow}
 use Rattle.filterset_drawing.specs.declared.source.FileSpan.{FileSpan}
-use Rattle.filterset_drawing.specs.declared.source.Source.{Source}
-use Rattle.filterset_editor.specs.Documents.{DocumentRow}
 use Rattle.filterset_editor.specs.Positions.{Text}
 use Rattle.filterset_editor.specs.declared.positions.Encoding.{Encoding}
 use Rattle.filterset_faults.specs.Faults.{code_of, help_of, label_of, message_of, span_of}
 use Rattle.filterset_faults.specs.Span.{span}
 use Rattle.filterset_faults.specs.declared.error.ParseSingleError.{ParseSingleError}
-use Rattle.filterset_faults.specs.declared.kind.FiltersetKind.TheVariants as kinds
 use Rattle.filterset_faults.specs.declared.span.SourceSpan.{SourceSpan}
 use Rattle.filterset_places.specs.Places.{file_span}
 use Rattle.filterset_profiles.specs.Wrong.{AreWrongValues}
 use Rattle.filterset_profiles.specs.declared.wrong.WrongValue.{WrongValue}
-use Rattle.filterset_sources.specs.Configurations.{IsConfiguration, RefusesConfiguration}
-use Rattle.filterset_sources.specs.declared.configuration.Configuration.{Configuration}
 use Rattle.filterset_sources.specs.declared.refusal.SourceRefusal.{SourceRefusal}
 use Rattle.filterset_sources.specs.declared.refusal.SourceRefusal.TheVariants as sources
 use Rattle.filterset_sources.specs.declared.refusal.SourceRefusal.TheVariants.{NotToml}
-use Rattle.filterset_documents.specs.Filtersets.{AreTextsOf, is_list}
+use Rattle.filterset_documents.specs.Contents.{ContentRow}
 use Rattle.filterset_documents.specs.Joins.{Joins}
 use Rattle.filterset_documents.specs.Ranges.{IsRange}
 use Rattle.filterset_documents.specs.declared.diagnostics.Severity.{Severity}
@@ -111,21 +105,33 @@ abbrev pub AreValueWarnings : Encoding → Text → List Data → Type 0
 AreValueWarnings encoding text ds =
     (values : List WrongValue) × AreWrongValues text values × AllZip (IsValueWarning encoding text) values ds
 
--- ---- configurations
+-- ---- what nextest does not read
 
--- The diagnostics of the filtersets of a text that is this configuration, one after the other. Its groups are known, and
--- packages are not.
-abbrev pub FiltersetDiagnostics : Encoding → Text → Configuration → List Data → Type 0
-FiltersetDiagnostics encoding text configuration ds =
-    (texts : ConfiguredTexts) × (names : Names) × AreTextsOf text configuration texts
-    × KnowsNames false [] true (map (λ s. string_bytes s) configuration.groups.items) names
-    × Joins (RowDiagnostics encoding text names) (rows_in texts) ds
+-- what a remark says: its message and its help, a line each
+abbrev pub remark_text : RemarkRow → Text
+remark_text r = r.message ++ help_line r.help
 
--- The diagnostics of a text that is this configuration: those of its filtersets, and then the warnings of its other values.
-abbrev pub ConfigurationDiagnostics : Encoding → Text → Configuration → List Data → Type 0
-ConfigurationDiagnostics encoding text configuration ds =
-    (faults : List Data) × (warnings : List Data) × FiltersetDiagnostics encoding text configuration faults
-    × AreValueWarnings encoding text warnings × (ds ≡ faults ++ warnings)
+-- the warning that says it, at its span of the file, or at the start
+abbrev pub IsUnreadWarning : Encoding → Text → RemarkRow → Data → Type 0
+IsUnreadWarning encoding text r d =
+    IsDiagnostic encoding text Warning (unwrap_or r.span (span 0 0)) r.code (remark_text r) d
+
+-- a warning for each remark on what nextest does not read of a configuration with these filtersets, in their order
+abbrev pub AreUnreadWarnings : Encoding → Text → List TextRow → List Data → Type 0
+AreUnreadWarnings encoding text rows ds = (remarks : List RemarkRow) × AreUnreadRemarks text rows remarks
+    × AllZip (IsUnreadWarning encoding text) remarks ds
+
+-- ---- documents
+
+-- The diagnostics of what a document holds: those of its filtersets, one after the other, and then the warnings of the other
+-- values of a configuration, and of what nextest does not read of it. The groups of a configuration are known, and no other
+-- names are.
+abbrev pub DiagnosesContent : Encoding → Text → ContentRow → List Data → Type 0
+DiagnosesContent encoding text content ds = (names : Names) × (faults warnings : List Data)
+    × KnowsNames false [] (is_some content.groups) (unwrap_or content.groups []) names
+    × Joins (RowDiagnostics encoding text names) content.rows faults
+    × MatchOption content.groups (warnings ≡ []) (λ _. (values unread : List Data) × AreValueWarnings encoding text values
+    × AreUnreadWarnings encoding text content.rows unread × (warnings ≡ values ++ unread)) × (ds ≡ faults ++ warnings)
 
 -- The diagnostic of a text that is no configuration: at the span of TOML's error, with its message; or of a wrong value,
 -- at the start.
@@ -135,29 +141,3 @@ IsRefusalAt encoding text (NotToml error line) d =
 IsRefusalAt encoding text (sources.WrongValue wrong) d =
     IsDiagnostic encoding text Error (span 0 0) (codes "configuration") (wrong_text (string_bytes wrong.path) wrong.expected.now) d
 IsRefusalAt encoding text refusal d = ⊥
-
--- the diagnostics of nextest's configuration with this text
-abbrev pub DiagnosesConfiguration : Encoding → Text → List Data → Type 0
-DiagnosesConfiguration encoding text ds =
-    ((configuration : Configuration) × IsConfiguration text configuration
-    × ConfigurationDiagnostics encoding text configuration ds)
-    ⊎ ((refusal : SourceRefusal) × (d : Data) × RefusesConfiguration text refusal × IsRefusalAt encoding text refusal d
-    × (ds ≡ d ∷ []))
-
--- ---- documents
-
--- The diagnostics of a text of which each line is a filterset of tests: those of its lines, one after the other. No names
--- are known.
-abbrev pub DiagnosesList : Encoding → Text → List Data → Type 0
-DiagnosesList encoding text ds =
-    (file : Bor Source) × (names : Names) × (file.now.text.now ≡ text) × KnowsNames false [] false [] names
-    × Joins (RowDiagnostics encoding text names) (line_rows file kinds.Test) ds
-
--- the diagnostics of a text in a language
-abbrev pub DiagnosesText : Encoding → Text → Text → List Data → Type 0
-DiagnosesText encoding language text ds =
-    MatchBool (is_list language) (DiagnosesList encoding text ds) (DiagnosesConfiguration encoding text ds)
-
--- the diagnostics of a document
-abbrev pub Diagnoses : Encoding → DocumentRow → List Data → Type 0
-Diagnoses encoding document = DiagnosesText encoding document.language document.text

@@ -1,3 +1,4 @@
+pub mod Contents
 pub mod Diagnostics
 pub mod Edits
 pub mod Filtersets

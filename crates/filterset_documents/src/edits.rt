@@ -6,14 +6,13 @@ ghost use Rattle.serde_json.specs.Data.{Data, array};
 ghost use Rattle.serde_json.specs.View.{items_of, view};
 ghost use Rattle.filterset_answers.specs.Checked.{text_row};
 ghost use Rattle.filterset_answers.specs.Placements.{spot_of};
-ghost use Rattle.filterset_documents.specs.Edits.{AreEditsOf, AreRewrites, IsEdit, IsWithin, ReplacesOne, edit_data, edit_row, edited, rewrites, row_edits, spot_edits, written_at};
-ghost use Rattle.filterset_documents.specs.Filtersets.{stretch_at};
+ghost use Rattle.filterset_documents.specs.Edits.{AreEditsOf, AreRewrites, IsEdit, IsWithin, ReplacesOne, edit_data, edit_row, edited, rewrites, row_edits, written_at};
 ghost use Rattle.filterset_documents.specs.Ranges.{range_data};
 
 use crate::places::{stretch_at, stretch_span};
-use crate::quoting::quote_text;
+use crate::quoting::{needs_escapes, quote};
 use crate::ranges::{Shown, range_of, range_value};
-use filterset_answers::{FilePlace, Spot, TextEntry};
+use filterset_answers::{Spot, TextEntry};
 use filterset_editor::Range;
 use filterset_places::Stretch;
 use serde_json::{Value, json};
@@ -38,46 +37,25 @@ fn written_at(alloc: Global, spot: Spot<'_>, text: &str) -> Result<String, Alloc
     ensures { IfOk result (λ made. string_bytes made ≡ written_at (spot_of spot.entry) text.now) }
 {
     match spot {
-        Spot::Literal(_) => quote_text(alloc, text),
+        Spot::Literal(_) => quote(alloc, needs_escapes(text), text),
         Spot::Line(_) => String::from_str(alloc, text),
     }
-}
-
-/// Makes the edit by which a filterset at this place gets a text.
-fn edit_at(alloc: Global, place: FilePlace<'_>, text: &str) -> Result<Edit, AllocError>
-    ensures at { IfOk result (λ edit. edit.at ≡ stretch_at (spot_of place.entry.spot)) }
-    ensures text { IfOk result (λ edit. string_bytes edit.text ≡ written_at (spot_of place.entry.spot) text.now) }
-{
-    Ok(Edit {
-        at: stretch_at(place.spot),
-        text: written_at(alloc, place.spot, text)?,
-    })
-}
-
-/// Makes the edit by which a filterset at this place gets a text, unless it has that.
-fn other_edit(
-    alloc: Global,
-    place: FilePlace<'_>,
-    old: &str,
-    text: &str,
-) -> Result<Option<Edit>, AllocError>
-    ensures { IfOk result (λ o.
-        option_to_list (option_map edit_row o) ≡ spot_edits old.now (spot_of place.entry.spot) text.now) }
-{
-    if is_same(old, text) {
-        return Ok(None);
-    }
-    Ok(Some(edit_at(alloc, place, text)?))
 }
 
 /// Makes the edit by which a filterset gets a text, unless it has that or is not found.
 fn edit_of(alloc: Global, entry: &TextEntry<'_>, text: &str) -> Result<Option<Edit>, AllocError>
     ensures { IfOk result (λ o. option_to_list (option_map edit_row o) ≡ row_edits (text_row entry.now) text.now) }
 {
-    match entry.place {
-        Some(place) => other_edit(alloc, place, entry.text, text),
-        None => Ok(None),
+    let Some(place) = entry.place else {
+        return Ok(None);
+    };
+    if is_same(entry.text, text) {
+        return Ok(None);
     }
+    Ok(Some(Edit {
+        at: stretch_at(place.spot),
+        text: written_at(alloc, place.spot, text)?,
+    }))
 }
 
 /// Adds the edit by which a filterset gets a text, unless it has that.
@@ -103,15 +81,15 @@ fn push_edit(
 fn edits_of(
     alloc: Global,
     entries: &[TextEntry<'_>],
-    texts: &[String],
+    texts: &[&str],
 ) -> Result<Vec<Edit>, AllocError>
     requires { length texts.now ≡ length entries.now }
     ensures { IfOk result (λ edits. map edit_row edits.items
-        ≡ rewrites (map text_row entries.now) (map (λ s. string_bytes s) texts.now)) }
+        ≡ rewrites (map text_row entries.now) (map (λ t. t.now) texts.now)) }
 {
     let mut edits = Vec::new(alloc);
     for (i, entry) in entries.iter().enumerate() {
-        push_edit(&mut edits, alloc, entry, texts[i].as_str())?;
+        push_edit(&mut edits, alloc, entry, texts[i])?;
     }
     Ok(edits)
 }
@@ -120,12 +98,12 @@ fn edits_of(
 pub fn ordered_edits(
     alloc: Global,
     entries: &[TextEntry<'_>],
-    texts: &[String],
+    texts: &[&str],
 ) -> Result<Vec<Edit>, AllocError>
     requires { length texts.now ≡ length entries.now }
     ensures replaces { IfOk result (λ edits. All (ReplacesOne (map text_row entries.now)) (map edit_row edits.items)) }
     ensures rewrites { IfOk result (λ edits.
-        AreRewrites (map text_row entries.now) (map (λ s. string_bytes s) texts.now) (map edit_row edits.items)) }
+        AreRewrites (map text_row entries.now) (map (λ t. t.now) texts.now) (map edit_row edits.items)) }
 {
     let mut edits = edits_of(alloc, entries, texts)?;
     edits.sort_unstable_by_key(|edit| edit.at.from);

@@ -2,27 +2,29 @@
 //! diagnostics, and changes of them.
 #![tactic(auto)]
 
-mod configuration;
+mod becoming;
+mod content;
 mod diagnostics;
 mod edits;
-mod list;
 mod message;
 mod offsets;
 mod places;
 mod quoting;
 mod ranges;
+mod refusals;
 mod rows;
 mod trees;
+mod unread;
 mod values;
 
-pub use configuration::{diagnose_configuration, diagnose_refusal};
+pub use becoming::{becomes, list_strings};
+pub use content::{Content, Filtersets, OpenDocument};
 pub use diagnostics::{Severity, diagnostic_at};
 pub use edits::{Edit, edit_text, edits_value, is_same, ordered_edits};
-pub use list::diagnose_list;
 pub use offsets::{entry_at, is_in, leaf_span};
-pub use places::{configured_texts, place_span, span_in, stretch_at, stretch_span};
+pub use places::{place_span, span_in, stretch_at, stretch_span};
 pub use quoting::{escape, quote};
 pub use ranges::{Shown, range_of, range_value, span_value};
+pub use refusals::diagnose_refusal;
 pub use rows::{diagnose_entries, fault_span, fault_value};
 pub use trees::parse_text;
-pub use values::diagnose_values;

@@ -1,28 +1,11 @@
 //! Where filtersets are.
 ghost use Rattle.std.specs.Prelude.{◌≡◌, option_map};
 ghost use Rattle.filterset_answers.specs.Placements.{placement_of, span_in, spot_of};
-ghost use Rattle.filterset_documents.specs.Filtersets.{AreTexts, place_span, stretch_at, stretch_span};
+ghost use Rattle.filterset_documents.specs.Filtersets.{place_span, stretch_at, stretch_span};
 
-use filterset_answers::{ConfiguredTexts, FilePlace, Spot, file_part};
-use filterset_drawing::Source;
+use filterset_answers::{FilePlace, Spot, file_part};
 use filterset_faults::SourceSpan;
-use filterset_places::{Places, Stretch};
-use filterset_sources::ConfiguredFilterset;
-
-/// Returns the filtersets of a configuration, with its file and their places in it.
-pub fn configured_texts<'t>(
-    file: &'t Source<'t>,
-    filtersets: &'t [ConfiguredFilterset],
-    places: &'t Places,
-) -> ConfiguredTexts<'t>
-    ensures { AreTexts file.entry.now filtersets.entry.now places.entry.now result }
-{
-    ConfiguredTexts {
-        file,
-        filtersets,
-        places,
-    }
-}
+use filterset_places::Stretch;
 
 /// Returns where the string is that is read as a filterset, or the line.
 pub fn stretch_at(spot: Spot<'_>) -> Stretch

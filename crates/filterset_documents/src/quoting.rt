@@ -50,15 +50,8 @@ pub fn quote(alloc: Global, is_basic: bool, text: &str) -> Result<String, AllocE
 }
 
 /// Returns whether a string between apostrophes can't have a text.
-fn needs_escapes(text: &str) -> bool
+pub(crate) fn needs_escapes(text: &str) -> bool
     ensures { result ≡ needs_escapes text.now }
 {
     text.contains('\'') || text.contains('\n')
-}
-
-/// Makes a string that TOML reads as a text: between apostrophes if it can be.
-pub(crate) fn quote_text(alloc: Global, text: &str) -> Result<String, AllocError>
-    ensures { IfOk result (λ made. string_bytes made ≡ quoted (needs_escapes text.now) text.now) }
-{
-    quote(alloc, needs_escapes(text), text)
 }

@@ -1,7 +1,6 @@
 //! Parts of documents, as the protocol has them.
 ghost use Rattle.std.specs.Prelude.{◌≡◌, IfOk};
 ghost use Rattle.serde_json.specs.View.{view};
-ghost use Rattle.filterset_drawing.specs.Lines.{from_of, to_of};
 ghost use Rattle.filterset_documents.specs.Ranges.{IsPositionAt, IsRange, IsRangeOf, position_data, range_data};
 
 use filterset_editor::{Encoding, Lines, Position, Range};
@@ -40,28 +39,15 @@ fn position_at(shown: &Shown<'_>, offset: usize) -> Position
     shown.lines.position(shown.encoding, at)
 }
 
-/// Returns the position where a span begins.
-fn start_of(shown: &Shown<'_>, span: SourceSpan) -> Position
-    ensures { let text = shown.now.lines.text.now in IsPositionAt shown.now.encoding text (from_of text span) result }
-{
-    position_at(shown, span.offset().min(shown.lines.text.len()))
-}
-
-/// Returns the position where a span ends.
-fn end_of(shown: &Shown<'_>, span: SourceSpan) -> Position
-    ensures { let text = shown.now.lines.text.now in IsPositionAt shown.now.encoding text (to_of text span) result }
-{
-    let end = span.offset().saturating_add(span.len());
-    position_at(shown, end.min(shown.lines.text.len()))
-}
-
 /// Returns the range of a span.
 pub fn range_of(shown: &Shown<'_>, span: SourceSpan) -> Range
     ensures { IsRangeOf shown.now.encoding shown.now.lines.text.now span result }
 {
+    let len = shown.lines.text.len();
+    let end = span.offset().saturating_add(span.len());
     Range {
-        start: start_of(shown, span),
-        end: end_of(shown, span),
+        start: position_at(shown, span.offset().min(len)),
+        end: position_at(shown, end.min(len)),
     }
 }
 

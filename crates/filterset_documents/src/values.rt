@@ -1,6 +1,5 @@
 //! The warnings of wrong values of nextest's configuration.
 ghost use Rattle.std.specs.Prelude.{◌≡◌, IfOk, map};
-ghost use Rattle.std.specs.List.{AllZip};
 ghost use Rattle.serde_json.specs.View.{view};
 ghost use Rattle.filterset_documents.specs.Diagnostics.{AreValueWarnings, IsValueWarning, value_span};
 
@@ -38,28 +37,15 @@ fn value_warning(alloc: Global, shown: &Shown<'_>, wrong: &WrongValue) -> Result
     )
 }
 
-/// Makes the warnings of wrong values, in their order.
-fn value_warnings(
-    alloc: Global,
-    shown: &Shown<'_>,
-    found: &[WrongValue],
-) -> Result<Vec<Value>, AllocError>
-    ensures { IfOk result (λ values. AllZip (IsValueWarning shown.now.encoding shown.now.lines.text.now) found.now
-        (map view values.items)) }
-{
-    let mut values = Vec::with_capacity(alloc, found.len())?;
-    for wrong in found {
-        let value = value_warning(alloc, shown, wrong)?;
-        values.push(value)?;
-    }
-    Ok(values)
-}
-
-/// Makes the warnings of the wrong values of a configuration, other than its filtersets.
-pub fn diagnose_values(alloc: Global, shown: &Shown<'_>) -> Result<Vec<Value>, AllocError>
+/// Makes the warnings of the wrong values of a configuration, other than its filtersets, in their order.
+pub(crate) fn diagnose_values(alloc: Global, shown: &Shown<'_>) -> Result<Vec<Value>, AllocError>
     ensures { IfOk result (λ values.
         AreValueWarnings shown.now.encoding shown.now.lines.text.now (map view values.items)) }
 {
     let found = find_wrong_values(alloc, shown.lines.text)?;
-    value_warnings(alloc, shown, found.as_slice())
+    let mut values = Vec::with_capacity(alloc, found.len())?;
+    for wrong in &found {
+        values.push(value_warning(alloc, shown, wrong)?)?;
+    }
+    Ok(values)
 }

@@ -24,17 +24,12 @@ mod values;
 mod written;
 
 pub use abilities::Abilities;
-pub use documents::{Document, Revision};
+pub use documents::Document;
 pub use edits::{Change, change_text};
 pub use ending::Ending;
-pub use frames::{FrameFault, Frames, push_frame};
 pub use inquiry::{Feature, Inquiry};
 pub use language::Language;
 pub use lines::Lines;
-pub use message::{Asked, Incoming, Notice, read_message};
 pub use opening::{Opening, read_opening, show_error};
-pub use phase::Phase;
 pub use positions::{Encoding, Position, Range};
-pub use server::Server;
 pub use serving::serve;
-pub use session::Session;

@@ -19,39 +19,22 @@ pub record Row : Type 0 where
   pub kind : ℕ
   pub detail : Text
 
+abbrev pub row : Text → Text → Text → Mark → ℕ → Text → Row
+row label tail sample mark kind detail =
+    record { label = label; tail = tail; sample = sample; mark = mark; kind = kind; detail = detail }
+
 abbrev pub row_of : Candidate → Row
-row_of c = record {
-  label = c.label.now;
-  tail = c.tail.now;
-  sample = c.sample.now;
-  mark = c.mark;
-  kind = c.kind;
-  detail = c.detail.now;
-}
+row_of c = row c.label.now c.tail.now c.sample.now c.mark c.kind c.detail.now
 
 -- ---- where operands may begin
 
 -- a predicate with an argument, which this one may be: a function (3), whose span begins behind its parenthesis
 abbrev pub calling : Text → Text → Text → Row
-calling label sample detail = record {
-  label = label;
-  tail = codes "(";
-  sample = sample;
-  mark = Begins (length label + 1);
-  kind = 3;
-  detail = detail;
-}
+calling label sample detail = row label (codes "(") sample (Begins (length label + 1)) 3 detail
 
 -- a predicate without an argument, behind which an operand shows that it stands where it may
 abbrev pub whole : Text → Text → Row
-whole label detail = record {
-  label = label;
-  tail = codes "()";
-  sample = codes " and default()";
-  mark = Precedes (length label + 7);
-  kind = 3;
-  detail = detail;
-}
+whole label detail = row label (codes "()") (codes " and default()") (Precedes (length label + 7)) 3 detail
 
 abbrev pub predicates : List Row
 predicates =
@@ -64,14 +47,7 @@ predicates =
     ∷ calling (codes "platform") (codes "host)") (codes "Tests of binaries, by the platform that they are built for")
     ∷ calling (codes "test") (codes "x)") (codes "Tests, by their names")
     ∷ calling (codes "group") (codes "x)") (codes "Tests, by their groups")
-    ∷ record {
-      label = codes "default";
-      tail = codes "()";
-      sample = [];
-      mark = Begins 0;
-      kind = 3;
-      detail = codes "Tests that the default filter picks";
-    }
+    ∷ row (codes "default") (codes "()") [] (Begins 0) 3 (codes "Tests that the default filter picks")
     ∷ whole (codes "all") (codes "All tests")
     ∷ whole (codes "none") (codes "No tests")
     ∷ []
@@ -80,14 +56,7 @@ predicates =
 
 -- an operator before an operand: a keyword (14) or an operator (24)
 abbrev pub operator : Text → ℕ → Text → Row
-operator label kind detail = record {
-  label = label;
-  tail = [];
-  sample = codes " default()";
-  mark = Precedes (length label + 1);
-  kind = kind;
-  detail = detail;
-}
+operator label kind detail = row label [] (codes " default()") (Precedes (length label + 1)) kind detail
 
 abbrev pub operators : List Row
 operators =
@@ -106,14 +75,7 @@ operators =
 
 -- a value of an argument: a member of an enumeration (20)
 abbrev pub value_of : Owner → Text → Text → Row
-value_of owner label detail = record {
-  label = label;
-  tail = [];
-  sample = [];
-  mark = Inside owner;
-  kind = 20;
-  detail = detail;
-}
+value_of owner label detail = row label [] [] (Inside owner) 20 detail
 
 abbrev pub values : List Row
 values =
@@ -138,14 +100,7 @@ detail_of named.Test = codes "A test"
 
 -- a name of what is named so: a value (12)
 abbrev pub naming : Named → Text → Row
-naming what name = record {
-  label = name;
-  tail = [];
-  sample = [];
-  mark = Names what;
-  kind = 12;
-  detail = detail_of what;
-}
+naming what name = row name [] [] (Names what) 12 (detail_of what)
 
 -- ---- bytes
 

@@ -4,6 +4,7 @@ use Rattle.std.specs.Str.{bytes_eq}
 use Rattle.filterset_editor.specs.Positions.{Text}
 use Rattle.filterset_faults.specs.Span.{length_of, offset_of}
 use Rattle.filterset_faults.specs.declared.kind.FiltersetKind.{FiltersetKind}
+use Rattle.filterset_faults.specs.declared.kind.FiltersetKind.TheVariants as kinds
 use Rattle.filterset_faults.specs.declared.span.SourceSpan.{SourceSpan}
 use Rattle.filterset_grammar.specs.Bans.{ban_reason}
 use Rattle.filterset_grammar.specs.Grammar.{Name}
@@ -62,6 +63,11 @@ is_about named.BinaryId predicates.BinaryId = true
 is_about named.Test predicates.Test = true
 is_about what predicate = false
 
+-- nextest reads no such operator in its configuration, where the filtersets of all kinds but one are
+abbrev pub is_foreign : FiltersetKind → Text → Bool
+is_foreign kinds.Test label = false
+is_foreign kind label = bytes_eq label (codes "^")
+
 -- the text of the matcher is the name, and it is no regular expression
 abbrev pub is_of_name : Text → Matcher → Bool
 is_of_name name (Equal value implicit) = bytes_eq value name
@@ -77,7 +83,8 @@ takes_name what name leaf = false
 -- A predicate of a text, which is to be of this kind, has this mark of a candidate with this name at an offset.
 abbrev pub has_mark : FiltersetKind → Mark → Text → ℕ → Leaf SourceSpan → Bool
 has_mark kind (Begins far) label at leaf = is_named label leaf && is_behind (leaf_span leaf) at far && not (is_banned kind leaf)
-has_mark kind (Precedes far) label at leaf = is_named (codes "default") leaf && is_behind (leaf_span leaf) at far
+has_mark kind (Precedes far) label at leaf =
+    is_named (codes "default") leaf && is_behind (leaf_span leaf) at far && not (is_foreign kind label)
 has_mark kind (Inside owner) label at leaf =
     is_named (owner_name owner) leaf && holds (leaf_span leaf) at (length label) && not (is_banned kind leaf)
 has_mark kind (Names what) label at leaf =
@@ -94,10 +101,8 @@ covers (Some s) at = nat_le (offset_of s) at && nat_lt (at - offset_of s) (lengt
 -- A candidate that precedes an operand may be taken for a part of this predicate's argument, whose parenthesis the candidate then
 -- closes.
 abbrev pub is_hiding : Mark → ℕ → Leaf SourceSpan → Bool
-is_hiding (Begins far) at leaf = false
 is_hiding (Precedes far) at leaf = covers (leaf_span leaf) at
-is_hiding (Inside owner) at leaf = false
-is_hiding (Names what) at leaf = false
+is_hiding mark at leaf = false
 
 abbrev pub has_some : (Leaf SourceSpan → Bool) → Tree SourceSpan → Bool
 has_some test e = not (length (filter test (tree_leaves e)) == 0)

@@ -62,16 +62,11 @@ text_with row gap behind = gap.before ++ (row.label ++ (tail_in row gap ++ (samp
 
 -- ---- standing
 
--- the text with the candidate in place of the word reads as a tree, which shows that the candidate stands where it may
-abbrev pub Stands : FiltersetKind → Row → GapRow → Text → Type 0
-Stands kind row gap behind =
-    (e : Tree SourceSpan) × Reads (text_with row gap behind) e × (shows kind row (offset_of gap.at) e ≡ true)
-
--- that text has faults, or its tree does not show that
-abbrev pub Falls : FiltersetKind → Row → GapRow → Text → Type 0
-Falls kind row gap behind =
-    IsUnread (text_with row gap behind)
-    ⊎ ((e : Tree SourceSpan) × Reads (text_with row gap behind) e × (shows kind row (offset_of gap.at) e ≡ false))
+-- whether the text with the candidate in place of the word reads as a tree which shows that the candidate stands where it may
+abbrev pub Stands : FiltersetKind → Row → GapRow → Text → Bool → Type 0
+Stands kind row gap behind answer =
+    ((e : Tree SourceSpan) × Reads (text_with row gap behind) e × (answer ≡ shows kind row (offset_of gap.at) e))
+    ⊎ (IsUnread (text_with row gap behind) × (answer ≡ false))
 
 -- ---- what is behind the word
 
@@ -87,21 +82,17 @@ behind_of is_closed gap = if is_closed then closing gap.before else gap.behind
 abbrev pub is_begun : Row → GapRow → Bool
 is_begun row gap = starts_with (λ a b. a == b) row.label gap.typed
 
-abbrev pub Fits : FiltersetKind → GapRows → Bool → Row → Type 0
-Fits kind gaps is_closed row =
-    (is_begun row (gap_for row gaps) ≡ true)
-    × Stands kind row (gap_for row gaps) (behind_of is_closed (gap_for row gaps))
-
-abbrev pub Misses : FiltersetKind → GapRows → Bool → Row → Type 0
-Misses kind gaps is_closed row =
-    (is_begun row (gap_for row gaps) ≡ false)
-    ⊎ Falls kind row (gap_for row gaps) (behind_of is_closed (gap_for row gaps))
+-- whether it does, and the candidate stands in its place
+abbrev pub Fits : FiltersetKind → GapRows → Bool → Row → Bool → Type 0
+Fits kind gaps is_closed row answer = let gap = gap_for row gaps in
+    MatchBool (is_begun row gap) (Stands kind row gap (behind_of is_closed gap) answer) (answer ≡ false)
 
 -- ---- offers
 
 -- the candidates that fit
 abbrev pub AreFitting : FiltersetKind → GapRows → Bool → List Row → List Row → Type 0
-AreFitting kind gaps is_closed rows found = Sieves (Fits kind gaps is_closed) (Misses kind gaps is_closed) rows found
+AreFitting kind gaps is_closed rows found =
+    Sieves (λ row. Fits kind gaps is_closed row true) (λ row. Fits kind gaps is_closed row false) rows found
 
 -- What is offered: the candidates that fit with the rest of the text. If none does, the rest has a fault of its own, and those are
 -- offered that fit without it, with the text closed behind them.

@@ -9,12 +9,12 @@ ghost use Rattle.filterset_offers.specs.Standing.{gap_rows};
 
 use crate::candidates::all_candidates;
 use crate::gaps::text_offset;
-use crate::items::{items_of, span_in};
+use crate::items::items_of;
 use crate::names::{known_candidates, may_lack};
 use crate::offering::offered;
 use crate::standing::{Gaps, gaps_at};
 use filterset_answers::{FilePlace, TextEntry};
-use filterset_documents::{Shown, entry_at, is_in};
+use filterset_documents::{Shown, entry_at, is_in, span_in};
 use filterset_editor::Position;
 use filterset_names::Workspace;
 use serde_json::{Value, json};
@@ -54,27 +54,6 @@ fn complete_gaps(
     list_value(alloc, lacks, items)
 }
 
-/// Makes what is offered at this offset of the file in place of words of a filterset at this place.
-fn complete_in(
-    alloc: Global,
-    workspace: Option<Workspace<'_>>,
-    shown: &Shown<'_>,
-    offset: usize,
-    place: FilePlace<'_>,
-    entry: &TextEntry<'_>,
-    gaps: &Gaps<'_>,
-) -> Result<Value, AllocError>
-    ensures { IfOk result (λ value. CompletesIn (known_of workspace.entry) shown.now.encoding shown.now.lines.text.now offset
-        (spot_of place.entry.spot)
-        (text_row entry.now) (gap_rows gaps.now) (view value)) }
-{
-    if is_in(span_in(place, gaps.word.at), offset) {
-        complete_gaps(alloc, workspace, shown, place, entry, gaps)
-    } else {
-        Ok(Value::Null)
-    }
-}
-
 /// Makes what is offered at this offset of the file in a filterset at this place.
 fn complete_at(
     alloc: Global,
@@ -88,9 +67,13 @@ fn complete_at(
         (spot_of place.entry.spot)
         (text_row entry.now) (view value)) }
 {
-    match gaps_at(entry.text, text_offset(place.spot, offset)) {
-        Some(gaps) => complete_in(alloc, workspace, shown, offset, place, entry, &gaps),
-        None => Ok(Value::Null),
+    let Some(gaps) = gaps_at(entry.text, text_offset(place.spot, offset)) else {
+        return Ok(Value::Null);
+    };
+    if is_in(span_in(place, gaps.word.at), offset) {
+        complete_gaps(alloc, workspace, shown, place, entry, &gaps)
+    } else {
+        Ok(Value::Null)
     }
 }
 

@@ -100,20 +100,13 @@ pub fn gap_at(word: Word, text: &str, offset: usize) -> Option<Gap<'_>>
     })
 }
 
-/// Returns whether what a byte was read from ends before an offset of the file.
-fn is_before(origin: Stretch, offset: usize) -> bool
-    ensures { result ≡ spec.is_before offset origin }
-{
-    origin.to <= offset
-}
-
 /// Returns how many bytes of a text were read from what is before an offset of the file.
 fn count_before(origins: &[Stretch], offset: usize) -> usize
     ensures { result ≡ prefix_len (spec.is_before offset) origins.now }
 {
     origins
         .iter()
-        .take_while(|origin| is_before(**origin, offset))
+        .take_while(|origin| origin.to <= offset)
         .count()
 }
 

@@ -2,7 +2,7 @@
 ghost use Rattle.std.specs.Prelude.{◌≡◌, ◌++◌, ◌∷◌, [], IfOk, List, OnOk, map};
 ghost use Rattle.std.specs.List.{AllZip};
 ghost use Rattle.serde_json.specs.View.{view};
-ghost use Rattle.filterset_answers.specs.Placements.{span_in, spot_of};
+ghost use Rattle.filterset_answers.specs.Placements.{spot_of};
 ghost use Rattle.filterset_documents.specs.Edits.{edit_data};
 ghost use Rattle.filterset_offers.specs.Candidates.{Row, row_of};
 ghost use Rattle.filterset_offers.specs.Completion.{IsItem, item_data};
@@ -12,21 +12,10 @@ ghost use Rattle.filterset_offers.specs.Standing.{gap_rows, inserted};
 use crate::candidates::Candidate;
 use crate::gaps::Gap;
 use crate::standing::{Gaps, gap_for, tail_in};
-use filterset_answers::{FilePlace, file_part};
-use filterset_documents::{Shown, span_value};
-use filterset_faults::SourceSpan;
+use filterset_answers::FilePlace;
+use filterset_documents::{Shown, span_in, span_value};
 use serde_json::{Value, json};
 use std::alloc::{AllocError, Global};
-
-/// Returns the span of the file that a span of a text at this place was read from.
-pub fn span_in(place: FilePlace<'_>, span: SourceSpan) -> SourceSpan
-    ensures { result ≡ span_in (spot_of place.entry.spot) span }
-{
-    match file_part(Some(place), Some(span)) {
-        Some(part) => part.span,
-        None => unreachable!(),
-    }
-}
 
 /// Makes the edit that puts a candidate in place of a word, which is in this range.
 fn edit_value(

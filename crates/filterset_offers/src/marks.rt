@@ -91,6 +91,16 @@ fn is_banned(kind: FiltersetKind, leaf: &ParsedLeaf) -> bool
     }
 }
 
+/// Returns whether nextest reads no such operator in its configuration, where the filtersets of all kinds but one are.
+fn is_foreign(kind: FiltersetKind, label: &str) -> bool
+    ensures { result ≡ spec.is_foreign kind label.now }
+{
+    match kind {
+        FiltersetKind::Test => false,
+        _ => is_same(label, "^"),
+    }
+}
+
 /// Returns whether the text of a matcher is a name, and no regular expression.
 fn is_of_name(name: &str, matcher: &NameMatcher) -> bool
     ensures { result ≡ spec.is_of_name name.now (matcher_of matcher.now) }
@@ -127,7 +137,11 @@ fn has_mark(kind: FiltersetKind, mark: Mark, label: &str, at: usize, leaf: &Pars
         Mark::Begins(far) => {
             is_named(label, leaf) && is_behind(leaf_span(leaf), at, far) && !is_banned(kind, leaf)
         }
-        Mark::Precedes(far) => { is_named("default", leaf) && is_behind(leaf_span(leaf), at, far) }
+        Mark::Precedes(far) => {
+            is_named("default", leaf)
+                && is_behind(leaf_span(leaf), at, far)
+                && !is_foreign(kind, label)
+        }
         Mark::Inside(owner) => {
             is_named(owner_name(owner), leaf)
                 && holds(leaf_span(leaf), at, label.len())

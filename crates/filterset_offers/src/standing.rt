@@ -1,11 +1,11 @@
 //! Which candidates stand where they are put.
-ghost use Rattle.std.specs.Prelude.{◌≡◌, ◌==◌, ◌-◌, ◌↔◌, IfOk, IfSome, IsSome, MatchBool, string_bytes};
+ghost use Rattle.std.specs.Prelude.{◌≡◌, ◌==◌, ◌-◌, ◌↔◌, IfOk, IfSome, IsSome, string_bytes};
 ghost use Rattle.std.specs.List.{count_by};
 ghost use Rattle.std.specs.Str.{IsCharBoundary};
 ghost use Rattle.filterset_offers.specs.Candidates.{row_of};
 ghost use Rattle.filterset_offers.specs.Gaps.{gap_row};
 ghost use Rattle.filterset_offers.specs.Standing as spec;
-ghost use Rattle.filterset_offers.specs.Standing.{Falls, Fits, Misses, Stands, behind_of, gap_rows, text_with};
+ghost use Rattle.filterset_offers.specs.Standing.{Fits, Stands, behind_of, gap_rows, text_with};
 
 use crate::candidates::{Candidate, Mark};
 use crate::gaps::{Gap, Word, gap_at};
@@ -89,8 +89,7 @@ fn stands(
     gap: &Gap<'_>,
     behind: &str,
 ) -> Result<bool, AllocError>
-    ensures { IfOk result (λ answer. MatchBool answer (Stands kind (row_of candidate.now) (gap_row gap.now) behind.now)
-        (Falls kind (row_of candidate.now) (gap_row gap.now) behind.now)) }
+    ensures { IfOk result (Stands kind (row_of candidate.now) (gap_row gap.now) behind.now) }
 {
     let text = text_with(alloc, candidate, gap, behind)?;
     let Some(tree) = parse_text(alloc, text.as_str())? else {
@@ -127,9 +126,7 @@ fn stands_in(
     candidate: &Candidate<'_>,
     gap: &Gap<'_>,
 ) -> Result<bool, AllocError>
-    ensures { IfOk result (λ answer. MatchBool answer
-        (Stands kind (row_of candidate.now) (gap_row gap.now) (behind_of is_closed (gap_row gap.now)))
-        (Falls kind (row_of candidate.now) (gap_row gap.now) (behind_of is_closed (gap_row gap.now)))) }
+    ensures { IfOk result (Stands kind (row_of candidate.now) (gap_row gap.now) (behind_of is_closed (gap_row gap.now))) }
 {
     if is_closed {
         let closing = closing_of(alloc, gap.before)?;
@@ -154,8 +151,7 @@ pub fn fits(
     is_closed: bool,
     candidate: &Candidate<'_>,
 ) -> Result<bool, AllocError>
-    ensures { IfOk result (λ answer. MatchBool answer (Fits kind (gap_rows gaps.now) is_closed (row_of candidate.now))
-        (Misses kind (gap_rows gaps.now) is_closed (row_of candidate.now))) }
+    ensures { IfOk result (Fits kind (gap_rows gaps.now) is_closed (row_of candidate.now)) }
 {
     let gap = gap_for(candidate, gaps);
     if is_begun(candidate, &gap) {

@@ -2,8 +2,7 @@
 ghost use Rattle.std.specs.Prelude.{◌≡◌, IfOk, map};
 ghost use Rattle.serde_json.specs.View.{view};
 ghost use Rattle.filterset_answers.specs.Checked.{text_row};
-ghost use Rattle.filterset_documents.specs.Joins.{Joins};
-ghost use Rattle.filterset_server.specs.Folding.{AreFolds, RowFolds, fold_data, folds_of};
+ghost use Rattle.filterset_server.specs.Folding.{AreFolds, fold_data, folds_of};
 
 use filterset_answers::TextEntry;
 use filterset_documents::{Shown, place_span, range_of};
@@ -29,37 +28,7 @@ fn folds_of(alloc: Global, range: Range) -> Result<Vec<Value>, AllocError>
     Ok(values)
 }
 
-/// Makes what is folded of a filterset: the lines where it is, if there are several.
-fn entry_folds(
-    alloc: Global,
-    shown: &Shown<'_>,
-    entry: &TextEntry<'_>,
-) -> Result<Vec<Value>, AllocError>
-    ensures { IfOk result (λ values.
-        RowFolds shown.now.encoding shown.now.lines.text.now (text_row entry.now) (map view values.items)) }
-{
-    let range = range_of(shown, place_span(entry.place));
-    folds_of(alloc, range)
-}
-
-/// Makes what is folded of filtersets.
-fn entries_folds(
-    alloc: Global,
-    shown: &Shown<'_>,
-    entries: &[TextEntry<'_>],
-) -> Result<Vec<Value>, AllocError>
-    ensures { IfOk result (λ values. Joins (RowFolds shown.now.encoding shown.now.lines.text.now)
-        (map text_row entries.now) (map view values.items)) }
-{
-    let mut values = Vec::new(alloc);
-    for entry in entries {
-        let mut more = entry_folds(alloc, shown, entry)?;
-        values.append(&mut more)?;
-    }
-    Ok(values)
-}
-
-/// Makes the value of what is folded of filtersets.
+/// Makes the value of what is folded of filtersets: the lines where each is, if there are several.
 pub(crate) fn folds_value(
     alloc: Global,
     shown: &Shown<'_>,
@@ -68,5 +37,11 @@ pub(crate) fn folds_value(
     ensures { IfOk result (λ value.
         AreFolds shown.now.encoding shown.now.lines.text.now (map text_row entries.now) (view value)) }
 {
-    Ok(Value::Array(entries_folds(alloc, shown, entries)?))
+    let mut values = Vec::new(alloc);
+    for entry in entries {
+        let range = range_of(shown, place_span(entry.place));
+        let mut more = folds_of(alloc, range)?;
+        values.append(&mut more)?;
+    }
+    Ok(Value::Array(values))
 }

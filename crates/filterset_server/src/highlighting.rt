@@ -89,36 +89,6 @@ fn tokens_marks(
     Ok(marks)
 }
 
-/// Makes what is shown of a filterset.
-fn entry_marks(
-    alloc: Global,
-    shown: &Shown<'_>,
-    entry: &TextEntry<'_>,
-) -> Result<Vec<Mark>, AllocError>
-    ensures { IfOk result (λ marks.
-        RowMarks shown.now.encoding shown.now.lines.text.now (text_row entry.now) marks.items) }
-{
-    let tokens = text_tokens(alloc, entry.text)?;
-    tokens_marks(alloc, shown, entry.place, tokens.as_slice())
-}
-
-/// Makes what is shown of filtersets, one after the other.
-fn entries_marks(
-    alloc: Global,
-    shown: &Shown<'_>,
-    entries: &[TextEntry<'_>],
-) -> Result<Vec<Mark>, AllocError>
-    ensures { IfOk result (λ marks. Joins (RowMarks shown.now.encoding shown.now.lines.text.now)
-        (map text_row entries.now) marks.items) }
-{
-    let mut marks = Vec::new(alloc);
-    for entry in entries {
-        let mut more = entry_marks(alloc, shown, entry)?;
-        marks.append(&mut more)?;
-    }
-    Ok(marks)
-}
-
 /// Makes what is shown of filtersets, in the order of the file.
 fn ordered_marks(
     alloc: Global,
@@ -129,7 +99,12 @@ fn ordered_marks(
         × Joins (RowMarks shown.now.encoding shown.now.lines.text.now) (map text_row entries.now) marks
         × IsPermutation marks sorted.items × IsNonDecreasingBy (λ mark. mark.from) sorted.items) }
 {
-    let mut marks = entries_marks(alloc, shown, entries)?;
+    let mut marks = Vec::new(alloc);
+    for entry in entries {
+        let tokens = text_tokens(alloc, entry.text)?;
+        let mut more = tokens_marks(alloc, shown, entry.place, tokens.as_slice())?;
+        marks.append(&mut more)?;
+    }
     marks.sort_unstable_by_key(|mark| mark.from);
     Ok(marks)
 }

@@ -1,19 +1,26 @@
 //! What the server says of documents.
-ghost use Rattle.std.specs.Prelude.{◌≡◌, IfOk, MatchBool, Some, map};
+ghost use Rattle.std.specs.Prelude.{◌≡◌, IfOk, map, string_bytes};
 ghost use Rattle.serde_json.specs.View.{view};
-ghost use Rattle.filterset_documents.specs.Diagnostics.{DiagnosesText};
+ghost use Rattle.filterset_answers.specs.Checked.{text_row};
+ghost use Rattle.filterset_documents.specs.Contents.{content_row, names_in};
 ghost use Rattle.filterset_documents.specs.Filtersets.{is_list};
-ghost use Rattle.filterset_names.specs.Workspaces.{known_of, workspace_row};
-ghost use Rattle.filterset_server.specs.Responses.{ActsTo, Formats, RespondsConfiguration, RespondsList, RespondsTo, acted_range, is_formatting};
-ghost use Rattle.filterset_server.specs.Unmatched.{DiagnosesTextIn};
+ghost use Rattle.filterset_names.specs.Workspaces.{known_of};
+ghost use Rattle.filterset_server.specs.Responses.{RespondsContent};
+ghost use Rattle.filterset_server.specs.Unmatched.{DiagnosesContentIn};
 
-use crate::formatting::{format_configuration, format_list};
-use crate::requests::{respond_configuration, respond_list};
-use crate::warnings::{diagnose_configuration_in, diagnose_list_in};
-use filterset_actions::{act_on_configuration, act_on_list};
-use filterset_documents::{Shown, diagnose_configuration, diagnose_list};
-use filterset_editor::{Abilities, Document, Encoding, Inquiry, Language, Lines, Range};
+use crate::folding::folds_value;
+use crate::formatting::format_content;
+use crate::highlighting::highlight_entries;
+use crate::hover::hover_entries;
+use crate::symbols::symbols_value;
+use crate::unmatched::warn_entries;
+use filterset_actions::act_on;
+use filterset_answers::TextEntry;
+use filterset_documents::{Content, OpenDocument, Shown, diagnose_entries, diagnose_refusal};
+use filterset_editor::{Abilities, Document, Encoding, Inquiry, Language, Lines};
 use filterset_names::Workspace;
+use filterset_offers::complete_entries;
+use filterset_sources::SourceRefusal;
 use serde_json::Value;
 use std::alloc::{AllocError, Global};
 
@@ -32,135 +39,46 @@ fn is_list(language: &str) -> bool
     language == "filterset"
 }
 
-fn is_formatting(inquiry: Inquiry) -> bool
-    ensures { result ≡ is_formatting inquiry }
-{
-    matches!(inquiry, Inquiry::Formatting)
-}
-
-/// Returns the range that actions are asked for, if they are.
-fn acted_range(inquiry: Inquiry) -> Option<Range>
-    ensures { result ≡ acted_range inquiry }
-{
-    match inquiry {
-        Inquiry::CodeActions(range) => Some(range),
-        _ => None,
-    }
-}
-
-/// Makes the diagnostics of a text.
-fn diagnose_text(alloc: Global, shown: &Shown<'_>, language: &str) -> Result<Vec<Value>, AllocError>
-    ensures { IfOk result (λ values. DiagnosesText shown.now.encoding language.now shown.now.lines.text.now
-        (map view values.items)) }
-{
-    if is_list(language) {
-        diagnose_list(alloc, shown)
-    } else {
-        diagnose_configuration(alloc, shown)
-    }
-}
-
-/// Makes the diagnostics of a text, and behind them its warnings.
-fn diagnose_with(
-    alloc: Global,
-    workspace: &Workspace<'_>,
-    shown: &Shown<'_>,
-    language: &str,
-) -> Result<Vec<Value>, AllocError>
-    ensures { IfOk result (λ values. DiagnosesTextIn (Some (workspace_row workspace.now)) shown.now.encoding language.now
-        shown.now.lines.text.now (map view values.items)) }
-{
-    if is_list(language) {
-        diagnose_list_in(alloc, workspace, shown)
-    } else {
-        diagnose_configuration_in(alloc, workspace, shown)
-    }
-}
-
-/// Makes the diagnostics of a text, and behind them its warnings, if a workspace is known.
-fn diagnose_in(
+/// Makes the diagnostics of what a document holds, and then its warnings, if a workspace is known.
+fn diagnose_content(
     alloc: Global,
     workspace: Option<Workspace<'_>>,
     shown: &Shown<'_>,
-    language: &str,
+    groups: Option<Vec<String>>,
+    entries: &[TextEntry<'_>],
 ) -> Result<Vec<Value>, AllocError>
-    ensures { IfOk result (λ values. DiagnosesTextIn (known_of workspace.entry) shown.now.encoding language.now
-        shown.now.lines.text.now (map view values.items)) }
+    ensures { IfOk result (λ values. DiagnosesContentIn (known_of workspace.entry) shown.now.encoding shown.now.lines.text.now
+        (record { groups = names_in groups; rows = map text_row entries.now }) (map view values.items)) }
 {
-    match workspace {
-        Some(workspace) => diagnose_with(alloc, &workspace, shown, language),
-        None => diagnose_text(alloc, shown, language),
-    }
+    let mut values = diagnose_entries(alloc, shown, groups, entries)?;
+    let mut warnings = warn_entries(alloc, workspace, shown, entries)?;
+    values.append(&mut warnings)?;
+    Ok(values)
 }
 
-/// Makes the edits that format a text.
-fn edits_of(alloc: Global, shown: &Shown<'_>, language: &str) -> Result<Value, AllocError>
-    ensures { IfOk result (λ value.
-        Formats shown.now.encoding language.now shown.now.lines.text.now (view value)) }
-{
-    if is_list(language) {
-        format_list(alloc, shown)
-    } else {
-        format_configuration(alloc, shown)
-    }
-}
-
-/// Makes the actions for a range of a text, which has this address.
-fn actions_of(
-    alloc: Global,
-    shown: &Shown<'_>,
-    uri: &str,
-    language: &str,
-    range: Range,
-) -> Result<Value, AllocError>
-    ensures { IfOk result (λ value.
-        ActsTo shown.now.encoding uri.now language.now shown.now.lines.text.now range (view value)) }
-{
-    if is_list(language) {
-        act_on_list(alloc, shown, uri, range)
-    } else {
-        act_on_configuration(alloc, shown, uri, range)
-    }
-}
-
-/// Makes the result of a request about the filtersets of a text.
-fn response_of(
-    alloc: Global,
-    workspace: Option<Workspace<'_>>,
-    shown: &Shown<'_>,
-    language: &str,
-    inquiry: Inquiry,
-) -> Result<Value, AllocError>
-    ensures { IfOk result (λ value. MatchBool (is_list language.now)
-        (RespondsList (known_of workspace.entry) shown.now.encoding shown.now.lines.text.now inquiry (view value))
-        (RespondsConfiguration (known_of workspace.entry) shown.now.encoding shown.now.lines.text.now inquiry (view value))) }
-{
-    if is_list(language) {
-        respond_list(alloc, workspace, shown, inquiry)
-    } else {
-        respond_configuration(alloc, workspace, shown, inquiry)
-    }
-}
-
-/// Makes the result of a request about a text, which has this address.
+/// Makes the result of a request about a document, which has this address and content.
 fn respond_to(
     alloc: Global,
     workspace: Option<Workspace<'_>>,
     shown: &Shown<'_>,
     uri: &str,
-    language: &str,
     inquiry: Inquiry,
+    content: Content<'_, '_>,
 ) -> Result<Value, AllocError>
-    ensures { IfOk result (λ value. RespondsTo (known_of workspace.entry) shown.now.encoding uri.now language.now
-        shown.now.lines.text.now inquiry
-        (view value)) }
+    ensures { IfOk result (λ value. RespondsContent (known_of workspace.entry) shown.now.encoding uri.now
+        shown.now.lines.text.now inquiry (content_row content.entry) (view value)) }
 {
-    if is_formatting(inquiry) {
-        return edits_of(alloc, shown, language);
-    }
-    match acted_range(inquiry) {
-        Some(range) => actions_of(alloc, shown, uri, language, range),
-        None => response_of(alloc, workspace, shown, language, inquiry),
+    let entries = content.entries;
+    match inquiry {
+        Inquiry::Symbols => symbols_value(alloc, shown, entries),
+        Inquiry::Hover(position) => hover_entries(alloc, workspace, shown, position, entries),
+        Inquiry::FoldingRanges => folds_value(alloc, shown, entries),
+        Inquiry::SemanticTokens => highlight_entries(alloc, shown, entries),
+        Inquiry::Completion(position) => {
+            complete_entries(alloc, workspace, shown, position, entries)
+        }
+        Inquiry::CodeActions(range) => act_on(alloc, shown, uri, range, content),
+        Inquiry::Formatting => format_content(alloc, shown, content),
     }
 }
 
@@ -193,9 +111,18 @@ impl Language for FiltersetLanguage<'_> {
         encoding: Encoding,
         document: &Document,
     ) -> Result<Vec<Value>, AllocError> {
-        let lines = Lines::of(alloc, document.text.as_str())?;
+        let text = document.text.as_str();
+        let is_list = is_list(document.language.as_str());
+        let lines = Lines::of(alloc, text)?;
         let shown = Shown { encoding, lines };
-        diagnose_in(alloc, self.workspace, &shown, document.language.as_str())
+        match OpenDocument::read(alloc, text, is_list) {
+            Ok(open) => {
+                let OpenDocument { filtersets, groups } = open;
+                let entries = filtersets.entries(alloc)?;
+                diagnose_content(alloc, self.workspace, &shown, groups, entries.as_slice())
+            }
+            Err(refusal) => diagnose_refusal(alloc, &shown, &refusal),
+        }
     }
 
     fn respond(
@@ -205,15 +132,19 @@ impl Language for FiltersetLanguage<'_> {
         document: &Document,
         inquiry: Inquiry,
     ) -> Result<Value, AllocError> {
-        let lines = Lines::of(alloc, document.text.as_str())?;
+        let text = document.text.as_str();
+        let is_list = is_list(document.language.as_str());
+        let lines = Lines::of(alloc, text)?;
         let shown = Shown { encoding, lines };
-        respond_to(
-            alloc,
-            self.workspace,
-            &shown,
-            document.uri.as_str(),
-            document.language.as_str(),
-            inquiry,
-        )
+        match OpenDocument::read(alloc, text, is_list) {
+            Ok(open) => {
+                let entries = open.filtersets.entries(alloc)?;
+                let content = open.content(entries.as_slice());
+                let uri = document.uri.as_str();
+                respond_to(alloc, self.workspace, &shown, uri, inquiry, content)
+            }
+            Err(SourceRefusal::OutOfMemory(refused)) => Err(refused),
+            Err(_) => Ok(Value::Null),
+        }
     }
 }

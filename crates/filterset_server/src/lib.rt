@@ -8,10 +8,8 @@ mod highlighting;
 mod hover;
 mod language;
 mod matches;
-mod requests;
 mod symbols;
 mod unmatched;
-mod warnings;
 mod words;
 
 pub use language::FiltersetLanguage;

@@ -1,10 +1,9 @@
 //! The symbols of filtersets.
 ghost use Rattle.std.specs.Prelude.{◌≡◌, IfOk, map};
-ghost use Rattle.std.specs.List.{AllZip};
 ghost use Rattle.serde_json.specs.View.{view};
 ghost use Rattle.filterset_answers.specs.Checked.{text_row};
 ghost use Rattle.filterset_documents.specs.Ranges.{range_data};
-ghost use Rattle.filterset_server.specs.Symbols.{AreSymbols, IsSymbol, symbol_data};
+ghost use Rattle.filterset_server.specs.Symbols.{AreSymbols, symbol_data};
 
 use filterset_answers::TextEntry;
 use filterset_documents::{Shown, place_span, range_of, range_value};
@@ -21,35 +20,6 @@ fn symbol_value(alloc: Global, name: &str, range: Range) -> Result<Value, AllocE
     json!(in alloc; { "kind": 15u8, "name": name, "range": range, "selectionRange": selection })
 }
 
-/// Makes the symbol of a filterset.
-fn entry_symbol(
-    alloc: Global,
-    shown: &Shown<'_>,
-    entry: &TextEntry<'_>,
-) -> Result<Value, AllocError>
-    ensures { IfOk result (λ value.
-        IsSymbol shown.now.encoding shown.now.lines.text.now (text_row entry.now) (view value)) }
-{
-    let range = range_of(shown, place_span(entry.place));
-    symbol_value(alloc, entry.origin.as_str(), range)
-}
-
-/// Makes the symbols of filtersets.
-fn entry_symbols(
-    alloc: Global,
-    shown: &Shown<'_>,
-    entries: &[TextEntry<'_>],
-) -> Result<Vec<Value>, AllocError>
-    ensures { IfOk result (λ values. AllZip (IsSymbol shown.now.encoding shown.now.lines.text.now)
-        (map text_row entries.now) (map view values.items)) }
-{
-    let mut values = Vec::with_capacity(alloc, entries.len())?;
-    for entry in entries {
-        values.push(entry_symbol(alloc, shown, entry)?)?;
-    }
-    Ok(values)
-}
-
 /// Makes the value of the symbols of filtersets.
 pub(crate) fn symbols_value(
     alloc: Global,
@@ -59,5 +29,10 @@ pub(crate) fn symbols_value(
     ensures { IfOk result (λ value. AreSymbols shown.now.encoding shown.now.lines.text.now (map text_row entries.now)
         (view value)) }
 {
-    Ok(Value::Array(entry_symbols(alloc, shown, entries)?))
+    let mut values = Vec::with_capacity(alloc, entries.len())?;
+    for entry in entries {
+        let range = range_of(shown, place_span(entry.place));
+        values.push(symbol_value(alloc, entry.origin.as_str(), range)?)?;
+    }
+    Ok(Value::Array(values))
 }

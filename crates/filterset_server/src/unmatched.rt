@@ -1,18 +1,19 @@
 //! Warnings of predicates that match nothing in a workspace.
-ghost use Rattle.std.specs.Prelude.{◌≡◌, ◌↔◌, IfOk, IsTrue, filter, map, option_map};
-ghost use Rattle.std.specs.List.{list_any};
+ghost use Rattle.std.specs.Prelude.{◌≡◌, IfOk, filter, map, option_map};
+ghost use Rattle.std.specs.List.{count_by};
 ghost use Rattle.serde_json.specs.View.{view};
 ghost use Rattle.filterset_answers.specs.Checked.{text_row};
 ghost use Rattle.filterset_answers.specs.Placements.{placement_of};
 ghost use Rattle.filterset_documents.specs.Joins.{Joins};
 ghost use Rattle.filterset_grammar.specs.Tree.{tree_leaves};
 ghost use Rattle.filterset_language.specs.Views.{leaf_of, tree_of};
-ghost use Rattle.filterset_names.specs.Workspaces.{workspace_row};
-ghost use Rattle.filterset_server.specs.Unmatched.{IsUnmatched, LeafWarnings, RowWarnings, RowsWarnings, TreeWarnings, WarnsOfLeaf, has_part, is_skipped, is_sure};
+ghost use Rattle.filterset_names.specs.Workspaces.{known_of, workspace_row};
+ghost use Rattle.filterset_server.specs.Unmatched.{LeafWarnings, RowWarnings, RowsWarnings, TreeWarnings, WarnsOfLeaf, has_part, is_skipped, skipped_for};
 
 use crate::hover::leaf_part;
 use filterset_answers::{FilePlace, TextEntry};
 use filterset_documents::{Severity, Shown, diagnostic_at, parse_text};
+use filterset_hints::UnmatchedPredicate;
 use filterset_language::{ParsedExpr, ParsedLeaf};
 use filterset_names::{Workspace, WorkspaceIndex};
 use filterset_sources::{Suite, SuiteStatus};
@@ -21,9 +22,6 @@ use std::alloc::{AllocError, Global};
 
 /// The code of a predicate that matches no test.
 const CODE: &str = "NoTestMatch";
-
-/// What is said of it.
-const MESSAGE: &str = "matches no test of the workspace";
 
 /// Returns whether nextest did not list the tests of a binary.
 fn is_skipped(suite: &Suite) -> bool
@@ -35,52 +33,28 @@ fn is_skipped(suite: &Suite) -> bool
     }
 }
 
-/// Returns whether nextest did not list the tests of some binary.
-fn any_skipped(suites: &[Suite]) -> bool
-    ensures { result ≡ list_any is_skipped suites.now }
+/// Returns of how many binaries nextest did not list the tests.
+fn count_skipped(suites: &[Suite]) -> usize
+    ensures { result ≡ count_by is_skipped suites.now }
 {
-    suites.iter().any(|suite| is_skipped(suite))
+    suites.iter().filter(|suite| is_skipped(suite)).count()
 }
 
-/// A workspace whose predicates are asked about, and whether nextest did not list the tests of some binary.
+/// A workspace whose predicates are asked about, and of how many binaries nextest did not list the tests.
 #[derive(Debug, Drop)]
 struct Asked<'w> {
     index: WorkspaceIndex<'w>,
-    skips: bool,
-    ghost skipped: { skips ≡ list_any is_skipped index.workspace.suites.now },
+    skipped: usize,
+    ghost counted: { skipped ≡ count_by is_skipped index.workspace.suites.now },
 }
 
-impl<'w> Asked<'w> {
-    /// Prepares a workspace. The only error is out of memory.
-    fn new(alloc: Global, workspace: Workspace<'w>) -> Result<Asked<'w>, AllocError>
-        ensures { IfOk result (λ asked. asked.index.workspace ≡ workspace.entry) }
-    {
-        let index = WorkspaceIndex::new(alloc, workspace)?;
-        let skips = any_skipped(index.workspace.suites);
-        Ok(Asked { index, skips })
-    }
-}
-
-/// Returns whether it is sure what a predicate matches. The tests of binaries that were skipped are not known.
-fn is_sure(skips: bool, leaf: &ParsedLeaf) -> bool
-    ensures { result ≡ is_sure skips (leaf_of leaf.now) }
+/// Returns how many of the skipped binaries may have a test that a predicate matches.
+fn skipped_for(skipped: usize, leaf: &ParsedLeaf) -> usize
+    ensures { result ≡ skipped_for skipped (leaf_of leaf.now) }
 {
     match leaf {
-        ParsedLeaf::Test(..) => !skips,
-        _ => true,
-    }
-}
-
-/// Returns whether a predicate surely matches nothing.
-fn is_unmatched(alloc: Global, asked: &Asked<'_>, leaf: &ParsedLeaf) -> Result<bool, AllocError>
-    ensures { IfOk result (λ unmatched. IsTrue unmatched
-        ↔ IsUnmatched (workspace_row asked.now.index.workspace) (leaf_of leaf.now)) }
-{
-    if is_sure(asked.skips, leaf) {
-        let matched = asked.index.matches_something(alloc, leaf)?;
-        Ok(!matched)
-    } else {
-        Ok(false)
+        ParsedLeaf::Test(..) => skipped,
+        _ => 0,
     }
 }
 
@@ -89,14 +63,16 @@ fn warn_leaf(
     alloc: Global,
     shown: &Shown<'_>,
     place: Option<FilePlace<'_>>,
-    leaf: &ParsedLeaf,
+    predicate: UnmatchedPredicate<'_>,
 ) -> Result<Vec<Value>, AllocError>
     ensures { IfOk result (λ values. WarnsOfLeaf shown.now.encoding shown.now.lines.text.now
-        (option_map placement_of place.entry) (leaf_of leaf.now) (map view values.items)) }
+        (option_map placement_of place.entry) (leaf_of predicate.entry.leaf.now, predicate.entry.skipped) (map view values.items)) }
 {
     let mut values = Vec::new(alloc);
-    if let Some(part) = leaf_part(place, leaf) {
-        let warning = diagnostic_at(alloc, shown, Severity::Warning, part.span, CODE, MESSAGE)?;
+    if let Some(part) = leaf_part(place, predicate.leaf) {
+        let message = format!(in alloc; "{predicate}")?;
+        let message = message.as_str();
+        let warning = diagnostic_at(alloc, shown, Severity::Warning, part.span, CODE, message)?;
         values.push(warning)?;
     }
     Ok(values)
@@ -113,11 +89,11 @@ fn leaf_warnings(
     ensures { IfOk result (λ values. LeafWarnings (workspace_row asked.now.index.workspace) shown.now.encoding shown.now.lines.text.now
         (option_map placement_of place.entry) (leaf_of leaf.now) (map view values.items)) }
 {
-    if is_unmatched(alloc, asked, leaf)? {
-        warn_leaf(alloc, shown, place, leaf)
-    } else {
-        Ok(Vec::new(alloc))
+    if asked.index.matches_something(alloc, leaf)? {
+        return Ok(Vec::new(alloc));
     }
+    let skipped = skipped_for(asked.skipped, leaf);
+    warn_leaf(alloc, shown, place, UnmatchedPredicate { leaf, skipped })
 }
 
 /// Returns whether a predicate of a text at this place has a span in the file.
@@ -197,8 +173,8 @@ fn warn_each(
     shown: &Shown<'_>,
     entries: &[TextEntry<'_>],
 ) -> Result<Vec<Value>, AllocError>
-    ensures { IfOk result (λ values. RowsWarnings (workspace_row asked.now.index.workspace) shown.now.encoding shown.now.lines.text.now
-        (map text_row entries.now) (map view values.items)) }
+    ensures { IfOk result (λ values. Joins (RowWarnings (workspace_row asked.now.index.workspace) shown.now.encoding
+        shown.now.lines.text.now) (map text_row entries.now) (map view values.items)) }
 {
     let mut values = Vec::new(alloc);
     for entry in entries {
@@ -208,16 +184,21 @@ fn warn_each(
     Ok(values)
 }
 
-/// Makes the warnings of filtersets, one after the other.
+/// Makes the warnings of filtersets, one after the other, if a workspace is known.
 pub(crate) fn warn_entries(
     alloc: Global,
-    workspace: &Workspace<'_>,
+    workspace: Option<Workspace<'_>>,
     shown: &Shown<'_>,
     entries: &[TextEntry<'_>],
 ) -> Result<Vec<Value>, AllocError>
-    ensures { IfOk result (λ values. RowsWarnings (workspace_row workspace.now) shown.now.encoding shown.now.lines.text.now
+    ensures { IfOk result (λ values. RowsWarnings (known_of workspace.entry) shown.now.encoding shown.now.lines.text.now
         (map text_row entries.now) (map view values.items)) }
 {
-    let asked = Asked::new(alloc, *workspace)?;
+    let Some(workspace) = workspace else {
+        return Ok(Vec::new(alloc));
+    };
+    let index = WorkspaceIndex::new(alloc, workspace)?;
+    let skipped = count_skipped(index.workspace.suites);
+    let asked = Asked { index, skipped };
     warn_each(alloc, &asked, shown, entries)
 }

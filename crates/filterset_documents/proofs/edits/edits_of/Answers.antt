@@ -1,14 +1,7 @@
-use Rattle.std.proofs.Common.{rules, arith, ◌≡◌, ◌<◌, ◌++◌, ◌∙◌, Global, String, ap, get_or, length, map, string_bytes, sym, take}
-use Rattle.std.proofs.lemmas.List.{length-map, length-take-le, take_all}
-use Rattle.filterset_answers.specs.Checked.{text_row}
-use Rattle.filterset_editor.specs.Positions.{Text}
-use Rattle.filterset_documents.specs.Edits.{row_edits}
-use Rattle.filterset_documents.proofs.EditLemmas.{rewrites-push}
-use Rattle.filterset_documents.proofs.JoinLemmas.{rows_more}
+use Rattle.std.proofs.Common.{rules, arith, ◌≡◌, ◌<◌, get_or, length}
+use Rattle.std.proofs.lemmas.List.{take_all}
+use Rattle.filterset_documents.proofs.EditLemmas.{rewrites_next}
 use Rattle.filterset_documents.proofs.edits.edits_of.Goals as goal
-
-abbrev bytes_of : String Global → Text
-bytes_of s = string_bytes s
 
 pub returns : goal.returns
 returns c =
@@ -24,16 +17,7 @@ loop-i-preserved c =
     let texts = c.args.texts.now in
     let i = c.loop-i.i in
     let entry = c.index-entries-i.result in
-    let text = c.index-texts-i.result in
     let lt : i < length entries = omega (arith, c.loop-i-test.true) in
     let within : i < length texts = omega (arith, c.loop-i-test.true, c.requires) in
     let at : get_or entries i entry ≡ entry = search (rules, c.index-entries-i.is) in
-    let is : get_or texts i text ≡ text = search (rules, c.index-texts-i.is) in
-    let rows = map text_row (take i entries) in
-    let news = map bytes_of (take i texts) in
-    let same : length rows ≡ length news =
-    omega (arith, length-map (take i entries) text_row, length-map (take i texts) bytes_of, length-take-le i entries (omega (arith, lt)), length-take-le i texts (omega (arith, within))) in
-    let more = row_edits (text_row entry) (string_bytes text) in
-    let added = rw c.as_str.ensures.value at c.in_ok-push_edit.ensures in
-    rw (rows_more text_row entries i entry lt at, rows_more bytes_of texts i text within is)
-    (added ∙ ap (λ es. es ++ more) c.loop-i.invariant ∙ sym (rewrites-push rows news (text_row entry) (string_bytes text) same))
+    rewrites_next entries texts i entry _ _ _ lt within at c.loop-i.invariant c.in_ok-push_edit.ensures

@@ -1,4 +1,4 @@
-use Rattle.std.proofs.Common.{◌≡◌, map, string_bytes, take}
+use Rattle.std.proofs.Common.{◌≡◌, map, take}
 use Rattle.filterset_answers.specs.Checked.{text_row}
 use Rattle.filterset_documents.specs.Edits.{edit_row, rewrites}
 use Rattle.filterset_documents.proofs.edits.edits_of.Given as goal
@@ -6,4 +6,4 @@ use Rattle.filterset_documents.proofs.edits.edits_of.Given as goal
 -- the edits of the filtersets so far
 abbrev pub invariant-loop-i : goal.invariant-loop-i
 invariant-loop-i l =
-    map edit_row l.edits.items ≡ rewrites (map text_row (take l.i l.entries)) (map (λ s. string_bytes s) (take l.i l.texts))
+    map edit_row l.edits.items ≡ rewrites (map text_row (take l.i l.entries)) (map (λ t. t.now) (take l.i l.texts))

@@ -1,4 +1,4 @@
-use Rattle.std.proofs.Common.{rules, All, List, map, string_bytes, subst, sym}
+use Rattle.std.proofs.Common.{rules, All, List, map, subst, sym}
 use Rattle.std.proofs.lemmas.List.Sorted.{IsNonDecreasingBy-from_sort_by_key, IsPermutation-map}
 use Rattle.std.proofs.lemmas.Map.Views.{All-map-IsPermutation}
 use Rattle.std.specs.List.Sorted.{IsPermutation}
@@ -11,7 +11,7 @@ use Rattle.filterset_documents.proofs.edits.ordered_edits.Goals as goal
 pub returns-clause-replaces : goal.returns-clause-replaces
 returns-clause-replaces c =
     let rows = map text_row c.args.entries.now in
-    let texts = map (λ s. string_bytes s) c.args.texts.now in
+    let texts = map (λ t. t.now) c.args.texts.now in
     let All_of : List EditRow → Type 0 = λ es. All (ReplacesOne rows) es in
     All-map-IsPermutation edit_row (ReplacesOne rows) c.in_ok-edits.edits.items c.sort_unstable_by_key.new.self.items
     c.sort_unstable_by_key.ensures.permutation (subst All_of (sym c.in_ok-edits.ensures) (rewrites-replace rows texts))

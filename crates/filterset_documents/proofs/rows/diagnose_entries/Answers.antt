@@ -1,28 +1,27 @@
-use Rattle.std.proofs.Common.{rules, arith, ◌≡◌, ◌<◌, length, get_or}
-use Rattle.std.proofs.lemmas.List.{take_all}
+use Rattle.std.proofs.Common.{◌∙◌, [], ap, map, refl, sym}
+use Rattle.std.proofs.lemmas.List.{append-nil, map-append}
 use Rattle.serde_json.specs.View.{view}
-use Rattle.filterset_answers.specs.Checked.{text_row}
-use Rattle.filterset_documents.specs.Diagnostics.{RowDiagnostics}
-use Rattle.filterset_documents.specs.Joins.{no_parts}
-use Rattle.filterset_documents.proofs.JoinLemmas.{Joins-more}
 use Rattle.filterset_documents.proofs.rows.diagnose_entries.Goals as goal
+
+pub returns-in-Some : goal.returns-in-Some
+returns-in-Some c =
+    let faults = c.in_ok-values-in-Some.values.items in
+    let warnings = c.in_ok-warnings-in-Some.warnings.items in
+    let unread = c.in_ok-unread-in-Some.unread.items in
+    let both = ap (map view) c.in_ok-append-in-Some.ensures.items ∙ map-append view warnings unread in
+    let known = rw c.empty-graph.ensures at c.in_ok-known-in-Some.ensures.names in
+    rw c.in-Some.is (
+      c.in_ok-known-in-Some.known,
+      map view faults,
+      map view c.append.new.self.items,
+      known,
+      c.in_ok-values-in-Some.ensures,
+      (map view warnings, map view unread, c.in_ok-warnings-in-Some.ensures, c.in_ok-unread-in-Some.ensures, both),
+      ap (map view) c.in_ok-append-in-Some-2.ensures.items ∙ map-append view faults c.append.new.self.items,
+    )
 
 pub returns : goal.returns
 returns c =
-    let are = c.loop-entry.invariant in
-    rw (take_all c.loop-entry.entry-index c.args.entries.now c.loop-entry-test.false) at are
-
-pub loop-entry-init : goal.loop-entry-init
-loop-entry-init c = rw c.new-values.ensures.items no_parts
-
-pub loop-entry-preserved : goal.loop-entry-preserved
-loop-entry-preserved c =
-    let shown = c.args.shown.now in
-    let entries = c.args.entries.now in
-    let i = c.loop-entry.entry-index in
-    let entry = c.entry-item.result in
-    let lt : i < length entries = omega (arith, c.loop-entry-test.true) in
-    let at : get_or entries i entry ≡ entry = search (rules, c.entry-item.is) in
-    rw c.in_ok-append.ensures.items
-    (Joins-more (RowDiagnostics shown.encoding shown.lines.text.now c.args.names.now) text_row view entries i entry
-    c.loop-entry.values.items c.in_ok-more.more.items lt at c.loop-entry.invariant c.in_ok-more.ensures)
+    let values = map view c.in_ok-diagnosed-in-None.diagnosed.items in
+    let known = rw (c.empty-graph.ensures, c.new-no_groups.ensures.items) at c.in_ok-unknown-in-None.ensures.names in
+    rw c.in-None.is (c.in_ok-unknown-in-None.unknown, values, [], known, c.in_ok-diagnosed-in-None.ensures, refl, sym (append-nil values))

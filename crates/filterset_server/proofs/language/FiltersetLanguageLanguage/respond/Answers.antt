@@ -1,19 +1,13 @@
-use Rattle.std.proofs.Common.{◌∙◌, string_bytes, subst}
-use Rattle.std.specs.Prelude.{IfOk}
-use Rattle.serde_json.specs.View.{view}
-use Rattle.filterset_editor.specs.Positions.{Text}
-use Rattle.filterset_names.specs.Workspaces.{known_of}
-use Rattle.filterset_server.specs.Responses.{RespondsTo}
+use Rattle.std.proofs.Common.{inl, inr, map}
+use Rattle.std.proofs.lemmas.Result.{IfOk-weaker}
+use Rattle.filterset_answers.specs.Checked.{text_row}
+use Rattle.filterset_documents.specs.Contents.{ContentRow, content_row, names_in}
 use Rattle.filterset_server.proofs.language.FiltersetLanguageLanguage.respond.Goals as goal
 
-pub returns : goal.returns
-returns c =
-    let document = c.args.document.now in
-    let known = known_of c.args.self.now.workspace in
-    let text = string_bytes document.text in
-    let uri = string_bytes document.uri in
-    let Reads : Text → Type 0 = λ t. IfOk c.respond_to.result (λ value. RespondsTo known c.args.encoding c.as_str-2.result.now c.as_str-3.result.now t c.args.inquiry (view value)) in
-    let At : Text → Type 0 = λ u. IfOk c.respond_to.result (λ value. RespondsTo known c.args.encoding u c.as_str-3.result.now text c.args.inquiry (view value)) in
-    let In : Text → Type 0 = λ l. IfOk c.respond_to.result (λ value. RespondsTo known c.args.encoding uri l text c.args.inquiry (view value)) in
-    subst In c.as_str-3.ensures.value
-    (subst At c.as_str-2.ensures.value (subst Reads (c.in_ok-lines.ensures ∙ c.as_str.ensures.value) c.respond_to.ensures))
+pub returns-in-Ok : goal.returns-in-Ok
+returns-in-Ok c =
+    let content : ContentRow = record { groups = names_in c.in-Ok.open.groups; rows = map text_row c.in_ok-entries-in-Ok.entries.items } in
+    let read = c.in-Ok.ensures.read content.rows c.in_ok-entries-in-Ok.ensures in
+    let holds = rw (c.is_list-is_list.ensures, c.as_str.ensures.value, c.as_str-text.ensures.value) at read in
+    let responds = rw (c.content-content.ensures, c.as_slice.ensures.value, c.as_str-uri.ensures.value, c.in_ok-lines.ensures, c.as_str-text.ensures.value) at c.respond_to.ensures in
+    IfOk-weaker c.respond_to.result _ _ (λ value is. inl (content, holds, is)) responds

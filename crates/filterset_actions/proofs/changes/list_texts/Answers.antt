@@ -1,0 +1,23 @@
+use Rattle.std.proofs.Common.{rules, arith, ◌≡◌, ◌<◌, length, get_or, refl}
+use Rattle.std.proofs.lemmas.List.{take_all}
+use Rattle.filterset_answers.specs.Checked.{text_row}
+use Rattle.filterset_actions.proofs.ActionLemmas.{now_of, row_next, text_in}
+use Rattle.filterset_actions.proofs.changes.list_texts.Goals as goal
+
+pub returns : goal.returns
+returns c =
+    let are = c.loop-entry.invariant in
+    rw (take_all c.loop-entry.entry-index c.args.entries.now c.loop-entry-test.false) at are
+
+pub loop-entry-init : goal.loop-entry-init
+loop-entry-init c = rw c.in_ok-texts.ensures.items refl
+
+pub loop-entry-preserved : goal.loop-entry-preserved
+loop-entry-preserved c =
+    let entries = c.args.entries.now in
+    let i = c.loop-entry.entry-index in
+    let entry = c.entry-item.result in
+    let lt : i < length entries = omega (arith, c.loop-entry-test.true) in
+    let at : get_or entries i entry ≡ entry = search (rules, c.entry-item.is) in
+    rw c.in_ok-push.ensures.items
+    (row_next text_row text_in now_of entries i entry c.loop-entry.texts.items _ lt at c.loop-entry.invariant refl)

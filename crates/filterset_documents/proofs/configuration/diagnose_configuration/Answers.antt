@@ -1,7 +1,0 @@
-use Rattle.std.proofs.Common.{inl}
-use Rattle.std.proofs.lemmas.Result.{IfOk-weaker}
-use Rattle.filterset_documents.proofs.configuration.diagnose_configuration.Goals as goal
-
-pub returns-in-Ok : goal.returns-in-Ok
-returns-in-Ok c =
-    IfOk-weaker c.configuration_values.result _ _ (λ values are. inl (c.in-Ok.configuration, c.in-Ok.ensures.read, are)) c.configuration_values.ensures

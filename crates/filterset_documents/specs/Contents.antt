@@ -1,0 +1,83 @@
+-- What documents hold, and whether a document holds the same as another but with other texts.
+use Rattle.std.specs.Prelude.{◌≡◌, ◌⊎◌, Bool, false, List, [], ◌∷◌, MatchBool, None, Option, Some, String, Vec, is_none, map, option_map, string_bytes, unwrap_or}
+use Rattle.std.specs.Bool.{Decides}
+use Rattle.std.specs.Borrow.{Bor}
+use Rattle.std.specs.declared.alloc.Global.{Global}
+use Rattle.filterset_answers.specs.Checked.{TextRow, text_row}
+use Rattle.filterset_answers.specs.Entries.{line_rows, rows_in}
+use Rattle.filterset_answers.specs.declared.entries.ConfiguredTexts.{ConfiguredTexts}
+use Rattle.filterset_drawing.specs.declared.source.Source.{Source}
+use Rattle.filterset_editor.specs.Positions.{Text}
+use Rattle.filterset_faults.specs.declared.kind.FiltersetKind.TheVariants as kinds
+use Rattle.filterset_sources.specs.Configurations.{IsConfiguration, RefusesConfiguration}
+use Rattle.filterset_sources.specs.declared.configuration.Configuration.{Configuration}
+use Rattle.filterset_sources.specs.declared.refusal.SourceRefusal.{SourceRefusal}
+use Rattle.filterset_documents.specs.Filtersets.{AreTexts, AreTextsOf, SaysWhy}
+use Rattle.filterset_documents.specs.declared.content.Content.{Content}
+use Rattle.filterset_documents.specs.declared.content.Filtersets.{Filtersets}
+use Rattle.filterset_documents.specs.declared.content.Filtersets.TheVariants.{Configured, Lines}
+
+-- the filtersets of a document, and the names of the groups of a configuration
+pub record ContentRow : Type 0 where
+  pub groups : Option (List Text)
+  pub rows : List TextRow
+
+-- the names of the groups of a configuration
+abbrev pub names_in : Option (Vec (String Global) Global) → Option (List Text)
+names_in groups = option_map (λ g. map (λ s. string_bytes s) g.items) groups
+
+abbrev pub content_row : Content → ContentRow
+content_row c = record {
+  groups = option_map (λ g. map (λ s. string_bytes s) g.now) c.groups;
+  rows = map text_row c.entries.now;
+}
+
+-- the lines of a text, each a filterset of tests
+abbrev pub IsOfLines : Text → ContentRow → Type 0
+IsOfLines text content = (file : Bor Source) × (file.now.text.now ≡ text) × (content.groups ≡ None)
+    × (content.rows ≡ line_rows file kinds.Test)
+
+-- the filtersets and groups of a configuration with this text
+abbrev pub IsOfConfiguration : Text → ContentRow → Type 0
+IsOfConfiguration text content = (configuration : Configuration) × (texts : ConfiguredTexts)
+    × IsConfiguration text configuration × AreTextsOf text configuration texts
+    × (content.groups ≡ Some (map (λ s. string_bytes s) configuration.groups.items)) × (content.rows ≡ rows_in texts)
+
+-- what a document with this text holds: a list, or nextest's configuration
+abbrev pub Holds : Bool → Text → ContentRow → Type 0
+Holds is_list text content = MatchBool is_list (IsOfLines text content) (IsOfConfiguration text content)
+
+-- it holds nothing, since it has to be a configuration and is none
+abbrev pub HoldsNothing : Bool → Text → Type 0
+HoldsNothing is_list text =
+    (is_list ≡ false) × ((refusal : SourceRefusal) × RefusesConfiguration text refusal × SaysWhy refusal)
+
+-- ---- other texts
+
+-- the other filterset has the path and the kind of this one, and this text
+abbrev pub IsRewritten : TextRow → Text → TextRow → Type 0
+IsRewritten row new other = (other.origin ≡ row.origin) × (other.kind ≡ row.kind) × (other.text ≡ new)
+
+-- the other filtersets are these, with these texts
+abbrev pub AreRewritten : List TextRow → List Text → List TextRow → Type 0
+AreRewritten [] [] [] = Unit {0}
+AreRewritten (row ∷ rows) (new ∷ texts) (other ∷ others) = IsRewritten row new other × AreRewritten rows texts others
+AreRewritten rows texts others = ⊥
+
+-- the other content has the same groups, and the same filtersets with these texts
+abbrev pub HasTexts : ContentRow → List Text → ContentRow → Type 0
+HasTexts content texts other =
+    (unwrap_or other.groups [] ≡ unwrap_or content.groups []) × AreRewritten content.rows texts other.rows
+
+-- whether a document of the same sort with the text `after` holds the same, but with these texts
+abbrev pub Becomes : ContentRow → List Text → Text → Bool → Type 0
+Becomes content texts after answer =
+    ((other : ContentRow) × Holds (is_none content.groups) after other × Decides answer (HasTexts content texts other))
+    ⊎ (HoldsNothing (is_none content.groups) after × (answer ≡ false))
+
+-- ---- what only contracts of functions that read documents cite
+
+abbrev pub AreRowsOf : Filtersets → List TextRow → Type 0
+AreRowsOf (Lines file) rows = (listed : Bor Source) × (listed.now ≡ file) × (rows ≡ line_rows listed kinds.Test)
+AreRowsOf (Configured file filtersets places) rows =
+    (texts : ConfiguredTexts) × AreTexts file filtersets.items places texts × (rows ≡ rows_in texts)

@@ -1,0 +1,107 @@
+//! What documents hold.
+ghost use Rattle.std.specs.Prelude.{◌≡◌, IfErr, IfOk, List, false, map};
+ghost use Rattle.filterset_answers.specs.Checked.{TextRow, text_row};
+ghost use Rattle.filterset_sources.specs.Configurations.{RefusesConfiguration};
+ghost use Rattle.filterset_documents.specs.Contents.{AreRowsOf, Holds, content_row, names_in};
+ghost use Rattle.filterset_documents.specs.Filtersets.{AreTexts, SaysWhy};
+
+use filterset_answers::{ConfiguredTexts, TextEntry, configured_entries, line_entries};
+use filterset_drawing::Source;
+use filterset_places::Places;
+use filterset_sources::{Configuration, ConfiguredFilterset, SourceRefusal, read_configuration};
+use nextest_filtering::FiltersetKind;
+use std::alloc::{AllocError, Global};
+
+/// The filtersets of a document: the lines of a file, or those of a configuration with their places in its file.
+#[derive(Debug, Drop)]
+pub enum Filtersets<'t> {
+    Lines(Source<'t>),
+    Configured(Source<'t>, Vec<ConfiguredFilterset>, Places),
+}
+
+/// Returns the filtersets of a configuration, with its file and their places in it.
+fn configured_texts<'t>(
+    file: &'t Source<'t>,
+    filtersets: &'t [ConfiguredFilterset],
+    places: &'t Places,
+) -> ConfiguredTexts<'t>
+    ensures { AreTexts file.entry.now filtersets.entry.now places.entry.now result }
+{
+    ConfiguredTexts {
+        file,
+        filtersets,
+        places,
+    }
+}
+
+impl Filtersets<'_> {
+    /// Makes the entries of the filtersets.
+    pub fn entries(&self, alloc: Global) -> Result<Vec<TextEntry<'_>>, AllocError>
+        ensures { IfOk result (λ entries. AreRowsOf self.entry.now (map text_row entries.items)) }
+    {
+        match self {
+            Filtersets::Lines(file) => line_entries(alloc, FiltersetKind::Test, file),
+            Filtersets::Configured(file, filtersets, places) => {
+                let configured = configured_texts(file, filtersets.as_slice(), places);
+                configured_entries(alloc, configured)
+            }
+        }
+    }
+}
+
+/// A document that was read: its filtersets, and the names of the test groups of a configuration.
+#[derive(Debug, Drop)]
+pub struct OpenDocument<'t> {
+    pub filtersets: Filtersets<'t>,
+    pub groups: Option<Vec<String>>,
+}
+
+impl<'t> OpenDocument<'t> {
+    /// Reads a text: a list of filtersets of tests, one a line, or nextest's configuration. Returns an error if it has to be
+    /// a configuration and is none, or if out of memory.
+    pub fn read(
+        alloc: Global,
+        text: &'t str,
+        is_list: bool,
+    ) -> Result<OpenDocument<'t>, SourceRefusal>
+        ensures read { IfOk result (λ document. (rows : List TextRow) → AreRowsOf document.filtersets rows
+            → Holds is_list text.entry.now (record { groups = names_in document.groups; rows = rows })) }
+        ensures refused { IfErr result (RefusesConfiguration text.entry.now) }
+        ensures configuration { IfErr result (λ refusal. SaysWhy refusal → is_list ≡ false) }
+    {
+        let file = Source::new(alloc, "", text)?;
+        if is_list {
+            return Ok(OpenDocument {
+                filtersets: Filtersets::Lines(file),
+                groups: None,
+            });
+        }
+        let configuration = read_configuration(alloc, text)?;
+        let places = Places::of(alloc, text, &configuration)?;
+        let Configuration { filtersets, groups } = configuration;
+        Ok(OpenDocument {
+            filtersets: Filtersets::Configured(file, filtersets, places),
+            groups: Some(groups),
+        })
+    }
+
+    /// Returns what the document holds, of which these are the entries.
+    pub fn content<'g, 'e>(&'g self, entries: &'e [TextEntry<'_>]) -> Content<'g, 'e>
+        ensures { content_row result
+            ≡ record { groups = names_in self.entry.now.groups; rows = map text_row entries.entry.now } }
+    {
+        let groups = match &self.groups {
+            Some(groups) => Some(groups.as_slice()),
+            None => None,
+        };
+        Content { groups, entries }
+    }
+}
+
+/// What a document holds: its filtersets, and the names of the test groups of a configuration. Without these, each line is a
+/// filterset.
+#[derive(Clone, Copy, Debug)]
+pub struct Content<'g, 'e> {
+    pub groups: Option<&'g [String]>,
+    pub entries: &'e [TextEntry<'e>],
+}

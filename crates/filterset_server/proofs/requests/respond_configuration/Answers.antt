@@ -1,9 +1,0 @@
-use Rattle.std.proofs.Common.{inl}
-use Rattle.std.proofs.lemmas.Result.{IfOk-weaker}
-use Rattle.filterset_server.proofs.requests.respond_configuration.Goals as goal
-
-pub returns-in-Ok : goal.returns-in-Ok
-returns-in-Ok c =
-    IfOk-weaker c.respond_filtersets.result _ _
-    (λ value is. inl (c.in-Ok.configuration, c.in-Ok.ensures.read, is))
-    c.respond_filtersets.ensures
