@@ -8,8 +8,6 @@ mod program;
 mod record;
 mod report;
 
-pub use lookup::RecordLookup;
 pub use outcome::ReportOutcome;
 pub use program::Filtersets;
 pub use record::{BinaryEntry, Command, FiltersetEntry, Record, TestEntry};
-pub use report::report_of;
