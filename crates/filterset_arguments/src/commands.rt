@@ -23,6 +23,9 @@ const CHECK_FORMATS: [&str; 3] = ["human", "json", "github"];
 /// The values of `--color`.
 const COLORS: [&str; 2] = ["never", "always"];
 
+/// The values of `--run-ignored`.
+const RUN_IGNORED: [&str; 3] = ["default", "only", "all"];
+
 /// The shells that complete command lines.
 const SHELLS: [&str; 3] = ["bash", "zsh", "fish"];
 
@@ -75,8 +78,17 @@ fn kind<'a>(alloc: Global) -> Arg<'a> {
 }
 
 /// Makes the option of the file with the configuration.
-fn config<'a>(alloc: Global) -> Arg<'a> {
-    Arg::new(alloc, "config").long("config").value_name("FILE")
+fn config<'a>(alloc: Global, help: &'a str) -> Result<Arg<'a>, AllocError> {
+    Arg::new(alloc, "config")
+        .long("config")
+        .value_name("FILE")
+        .help(help)
+        .alias("config-file")
+}
+
+/// Makes the same option where it must be given.
+fn required_config<'a>(alloc: Global, help: &'a str) -> Result<Arg<'a>, AllocError> {
+    Ok(config(alloc, help)?.required(true))
 }
 
 /// Makes the option by which warnings count as faults.
@@ -84,17 +96,19 @@ fn deny_warnings<'a>(alloc: Global) -> Arg<'a> {
     Arg::new(alloc, "deny")
         .long("deny-warnings")
         .action(ArgAction::SetTrue)
-        .help("exits with status 1 if the list gives warnings")
+        .help("exits with status 1 if there are warnings")
 }
 
 /// Makes the command `check`.
 fn check<'a>(alloc: Global) -> Result<Command<'a>, AllocError> {
     let command = Command::new(alloc, "check")
         .about("Shows the faults of filtersets, and where they are")
-        .after_help("Example: filterset check 'package(parser) and not test(~slow)'")
-        .arg(config(alloc).help(
-            "nextest's configuration, or `-` for standard input: its filtersets are checked too, and its groups are known",
-        ))?
+        .after_help("Example: filterset check 'package(parser) and not test(~slow)'");
+    let config = config(
+        alloc,
+        "nextest's configuration, or `-` for standard input: its filtersets are checked too, and its groups are known",
+    );
+    let command = with_argument(command, config)?
         .arg(metadata(alloc))?
         .arg(kind(alloc))?
         .arg(message_format(alloc, CHECK_FORMATS.as_slice()).help(
@@ -103,26 +117,28 @@ fn check<'a>(alloc: Global) -> Result<Command<'a>, AllocError> {
         .arg(color(alloc))?;
     let command = with_argument(command, nextest_list(alloc).requires_arg("metadata"))?;
     let command = with_profile(alloc, command)?;
-    let command = with_argument(command, deny_warnings(alloc).requires_arg("list"))?;
-    with_argument(command, texts(alloc).required_unless_present("config"))
+    let command = with_argument(command, run_ignored(alloc).requires_arg("list"))?;
+    with_argument(command.arg(deny_warnings(alloc))?, more_texts(alloc))?.arg(texts(alloc))
 }
 
 /// Makes the command `format`.
 fn format<'a>(alloc: Global) -> Result<Command<'a>, AllocError> {
-    Command::new(alloc, "format")
+    let command = Command::new(alloc, "format")
         .about("Prints filtersets evenly spaced")
         .after_help("Example: filterset format 'not!all()'")
-        .arg(color(alloc))?
-        .arg(texts(alloc).required(true))
+        .arg(color(alloc))?;
+    let command = with_argument(command, more_texts(alloc))?;
+    with_argument(command, texts(alloc).required_unless_present("filterset"))
 }
 
 /// Makes the command `simplify`.
 fn simplify<'a>(alloc: Global) -> Result<Command<'a>, AllocError> {
-    Command::new(alloc, "simplify")
+    let command = Command::new(alloc, "simplify")
         .about("Prints filtersets without what changes nothing for every test")
         .after_help("Example: filterset simplify 'test(a) or (test(a) and test(b))'")
-        .arg(color(alloc))?
-        .arg(texts(alloc).required(true))
+        .arg(color(alloc))?;
+    let command = with_argument(command, more_texts(alloc))?;
+    with_argument(command, texts(alloc).required_unless_present("filterset"))
 }
 
 /// Makes the option of the file with the tests.
@@ -131,6 +147,16 @@ fn nextest_list<'a>(alloc: Global) -> Arg<'a> {
         .long("nextest-list")
         .value_name("FILE")
         .help("the output of `cargo nextest list --message-format json --ignore-default-filter`")
+}
+
+/// Makes the option of the tests that count, by whether they are ignored.
+fn run_ignored<'a>(alloc: Global) -> Arg<'a> {
+    Arg::new(alloc, "run-ignored")
+        .long("run-ignored")
+        .value_name("WHICH")
+        .value_parser(RUN_IGNORED.as_slice())
+        .default_value("default")
+        .help("which listed tests count: those that are not ignored, only ignored ones, or all")
 }
 
 /// Makes the option of the default filter.
@@ -144,12 +170,14 @@ fn default_filter<'a>(alloc: Global) -> Arg<'a> {
 }
 
 /// Makes the option of the profile of the configuration.
-fn profile<'a>(alloc: Global) -> Arg<'a> {
+fn profile<'a>(alloc: Global) -> Result<Arg<'a>, AllocError> {
     Arg::new(alloc, "profile")
         .long("profile")
         .value_name("NAME")
         .default_value("default")
         .help("the profile of the configuration that nextest is to use")
+        .requires_arg("config")?
+        .short_alias('P')
 }
 
 /// Makes the option of a file with what `rustc` sets for a platform.
@@ -162,7 +190,7 @@ fn cfg<'a>(alloc: Global, name: &'a str, help: &'a str) -> Arg<'a> {
 
 /// Adds the options of the profile, and of the platforms that its overrides ask about.
 fn with_profile<'a>(alloc: Global, command: Command<'a>) -> Result<Command<'a>, AllocError> {
-    let command = with_argument(command, profile(alloc).requires_arg("config"))?;
+    let command = with_argument(command, profile(alloc))?;
     let target = cfg(
         alloc,
         "target-cfg",
@@ -187,9 +215,11 @@ fn with_workspace<'a>(alloc: Global, command: Command<'a>) -> Result<Command<'a>
 
 /// Adds the options of the workspace, its default filter and the profile.
 fn with_setting<'a>(alloc: Global, command: Command<'a>) -> Result<Command<'a>, AllocError> {
-    let command = with_workspace(alloc, command)?.arg(config(alloc).help(
+    let config = config(
+        alloc,
         "nextest's configuration, or `-` for standard input: the default filter and the groups of its profile count",
-    ))?;
+    );
+    let command = with_argument(with_workspace(alloc, command)?, config)?;
     with_profile(alloc, command)
 }
 
@@ -199,6 +229,14 @@ fn filterset<'a>(alloc: Global) -> Arg<'a> {
         .short('E')
         .long("filterset")
         .value_name("TEXT")
+}
+
+/// Makes the option by which filtersets are given as to nextest.
+fn more_texts<'a>(alloc: Global) -> Result<Arg<'a>, AllocError> {
+    filterset(alloc)
+        .action(ArgAction::Append)
+        .hide(true)
+        .conflicts_with("text")
 }
 
 /// Makes the option that ignores the default filter.
@@ -222,6 +260,7 @@ fn list<'a>(alloc: Global) -> Result<Command<'a>, AllocError> {
             ),
         )?;
     with_setting(alloc, command)?
+        .arg(run_ignored(alloc))?
         .arg(ignore_default_filter(alloc))?
         .arg(message_format(alloc, FORMATS.as_slice()).help(
             "how the tests are written; `json` is nextest's own shape",
@@ -253,6 +292,7 @@ fn compare<'a>(alloc: Global) -> Result<Command<'a>, AllocError> {
             "Example: filterset compare --cargo-metadata metadata.json --nextest-list list.json --tests 'all()' 'not test(~slow)'",
         );
     with_setting(alloc, command)?
+        .arg(run_ignored(alloc))?
         .arg(tests(alloc))?
         .arg(color(alloc))?
         .arg(required_text(alloc, "first", "A", "a filterset"))?
@@ -303,12 +343,13 @@ fn overrides<'a>(alloc: Global) -> Result<Command<'a>, AllocError> {
                 "a filterset of the tests to count; of several the union, and without any all tests",
             ),
         )?;
-    let command = with_workspace(alloc, command)?.arg(
-        config(alloc).required(true).help(
-            "nextest's configuration, or `-` for standard input: the overrides of its profile apply",
-        ),
-    )?;
+    let config = required_config(
+        alloc,
+        "nextest's configuration, or `-` for standard input: the overrides of its profile apply",
+    );
+    let command = with_argument(with_workspace(alloc, command)?, config)?;
     let command = with_profile(alloc, command)?
+        .arg(run_ignored(alloc))?
         .arg(color(alloc))?
         .arg(binary(alloc))?;
     with_argument(command, test(alloc).conflicts_with("filterset"))
@@ -351,11 +392,14 @@ fn question<'a>(
     let command = Command::new(alloc, name)
         .about(about)
         .after_help(example)
-        .arg(metadata(alloc))?
-        .arg(config(alloc).help(
-            "nextest's configuration, or `-` for standard input: `@ci` is the default filter of its profile `ci`",
-        ))?;
+        .arg(metadata(alloc))?;
+    let config = config(
+        alloc,
+        "nextest's configuration, or `-` for standard input: `@ci` is the default filter of its profile `ci`",
+    );
+    let command = with_argument(command, config)?;
     let command = with_argument(command, nextest_list(alloc).requires_arg("metadata"))?;
+    let command = with_argument(command, run_ignored(alloc).requires_arg("list"))?;
     with_profile(alloc, command)?
         .arg(default_filter(alloc))?
         .arg(within(alloc))?

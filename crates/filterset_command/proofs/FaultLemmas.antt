@@ -1,5 +1,5 @@
 -- What is known of the fault that a call returns.
-use Rattle.std.proofs.Common.{◌≡◌, Option, subst, sym}
+use Rattle.std.proofs.Common.{Option, subst, sym}
 use Rattle.std.specs.declared.io.Error.{Error}
 use Rattle.filterset_drawing.specs.Columns.{Text}
 use Rattle.filterset_json.specs.declared.fault.RunFault.TheVariants.{Memory}
@@ -19,9 +19,3 @@ pub unused_file : (content : Text → Option Text) (fails : Text → Error → T
     IsUnused (content path) (fails path) refuses own → (fault : CommandFault) → IsFaultAt role path own fault → IsFileFault content fails role refuses path fault
 unused_file content fails role refuses path own unused (File as_role at is) h = (h.0, h.1, subst (IsUnused (content path) (fails path) refuses) (sym h.2) unused)
 unused_file content fails role refuses path own unused fault h = absurd h
-
--- a file that is not used, where another function has the same content for its path
-pub file_fault_as : (content other : Text → Option Text) (fails : Text → Error → Type 0) (role : FileRole) (refuses : Text → FileFault → Type 0) (path : Text) → content path ≡ other path →
-    (fault : CommandFault) → IsFileFault content fails role refuses path fault → IsFileFault other fails role refuses path fault
-file_fault_as content other fails role refuses path same (File own at fault) h = (h.0, h.1, subst (λ c. IsUnused c (fails path) refuses fault) same h.2)
-file_fault_as content other fails role refuses path same fault h = absurd h

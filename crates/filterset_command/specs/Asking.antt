@@ -39,8 +39,8 @@ use Rattle.filterset_warnings.specs.Warnings.{AnswersWarnings}
 use Rattle.nextest_filtering.specs.Groups.{IsGlobalOnly}
 use Rattle.nextest_filtering.specs.declared.compile.context.KnownGroups.{KnownGroups}
 use Rattle.filterset_command.specs.Configurations.{AreKnown, AreProfilesIn, AreTextsOf, IsProfileFault}
-use Rattle.filterset_command.specs.Explaining.{IsCandidate, IsMissing}
-use Rattle.filterset_command.specs.Files.{content_of, name_of}
+use Rattle.filterset_command.specs.Explaining.{IsCandidate, IsMissing, is_uncounted}
+use Rattle.filterset_command.specs.Files.{name_of}
 use Rattle.filterset_command.specs.Overriding.{AnswersOverridesOf, LacksTests}
 use Rattle.filterset_command.specs.Workspaces.{IsPlatformsFault, IsWorkspaceFault, IsWorkspaceIn}
 use Rattle.filterset_command.specs.declared.asking.Asked.{Asked}
@@ -48,7 +48,6 @@ use Rattle.filterset_command.specs.declared.asking.Asked.TheVariants.{Explanatio
 use Rattle.filterset_command.specs.declared.asking.AskedWorkspace.{AskedWorkspace}
 use Rattle.filterset_command.specs.declared.asking.WorkspaceRequest.{WorkspaceRequest}
 use Rattle.filterset_command.specs.declared.fault.CommandFault.{CommandFault}
-use Rattle.filterset_command.specs.declared.fault.FileRole.TheVariants.{Configuration}
 use Rattle.filterset_command.specs.declared.profile.KnownPlatforms.{KnownPlatforms}
 use Rattle.filterset_command.specs.declared.profile.ProfileRequest.{ProfileRequest}
 use Rattle.filterset_command.specs.declared.profile.ProfilesFile.{ProfilesFile}
@@ -67,11 +66,11 @@ abbrev pub AnswersOf : Form → Asked → Setting → List AskedBinary → Optio
 AnswersOf form (Question question) setting binaries kept = AnswersQuestion form setting question kept binaries
 AnswersOf form (Explanation filter id test) setting binaries kept = λ ending text.
     (candidate : Candidate) × IsCandidate binaries id.now test candidate
-    × AnswersExplanation form setting filter.now candidate ending text
+    × AnswersExplanation form setting filter.now candidate (is_uncounted binaries id.now test) ending text
 AnswersOf form (Overrides filters binary test) setting binaries kept =
     AnswersOverridesOf form setting binaries filters binary test
 AnswersOf form (Warnings texts) setting binaries kept =
-    AnswersWarnings form texts.denies setting (map text_row texts.entries.now) binaries
+    AnswersWarnings form texts.end setting (map text_row texts.entries.now) binaries
 
 abbrev pub AnswersUnder : WorkspaceRequest → List Suite → Option Data → Setting → Ending → Text → Type 0
 AnswersUnder request suites kept setting ending text = (binaries : List AskedBinary) × AllZip IsAsked suites binaries
@@ -119,23 +118,23 @@ AnswersProfile Answers packages given name profiles groups texts known ending te
     × AnswersBy Answers packages given groups texts lineage ranked filter ending text
 
 -- under the profile that is asked for, of the configuration and for the platforms that the files describe
-abbrev pub AnswersConfigured : (Text → Option Text) → Text → (Setting → Ending → Text → Type 0) → List PackageMetadata
+abbrev pub AnswersConfigured : (Text → Option Text) → (Setting → Ending → Text → Type 0) → List PackageMetadata
     → Option TextRow → ProfileRequest → BuildPlatforms → Ending → Text → Type 0
-AnswersConfigured content input Answers packages given profile built ending text =
+AnswersConfigured content Answers packages given profile built ending text =
     (file : ProfilesFile) × (known : KnownPlatforms) × (texts : ConfiguredTexts)
-    × AreProfilesIn (content_of content input profile.configuration.now) file × AreKnown content profile built known
-    × AreTextsOf (name_of Configuration profile.configuration.now) (string_bytes file.text) file.filtersets.items file.places texts
+    × AreProfilesIn (content profile.configuration.now) file × AreKnown content profile built known
+    × AreTextsOf (name_of profile.configuration.now) (string_bytes file.text) file.filtersets.items file.places texts
     × AnswersProfile Answers packages given profile.name.now file.profiles.items file.groups texts known ending text
 
 -- what is answered of the workspace that the files describe: under no profile, or under the one that is asked for, on the
 -- platforms of the list
-abbrev pub AnswersAsked : (Text → Option Text) → Text → WorkspaceRequest → Ending → Text → Type 0
-AnswersAsked content input request ending text = (workspace : Workspace) × IsWorkspaceIn content request.paths workspace
+abbrev pub AnswersAsked : (Text → Option Text) → WorkspaceRequest → Ending → Text → Type 0
+AnswersAsked content request ending text = (workspace : Workspace) × IsWorkspaceIn content request.paths workspace
     × (let Answers = AnswersUnder request workspace.list.suites.items (kept_of request.form (view workspace.value)) in
     MatchOption request.profile
     ((setting : Setting) × IsPlain workspace.graph (given_row request.default_filter) setting × Answers setting ending text)
     (λ profile. (built : BuildPlatforms) × ArePlatforms (view workspace.value) built
-    × AnswersConfigured content input Answers workspace.graph (given_row request.default_filter) profile built ending text))
+    × AnswersConfigured content Answers workspace.graph (given_row request.default_filter) profile built ending text))
 
 -- the binaries lack the one that is asked about, or its test
 abbrev pub LacksOf : Text → Asked → List AskedBinary → CommandFault → Type 0
@@ -159,7 +158,7 @@ abbrev pub AnswersIn : AskedWorkspace → Option Data → Setting → Ending →
 AnswersIn asked kept = AnswersUnder asked.request.now asked.suites.now kept
 
 abbrev pub Lacks : AskedWorkspace → CommandFault → Type 0
-Lacks asked = LacksIn asked.request.now.paths.list.now asked.request.now.asked asked.suites.now
+Lacks asked = LacksIn (name_of asked.request.now.paths.list.now) asked.request.now.asked asked.suites.now
 
 -- the default filter that is given, or else that of the profile or all tests; or the path that says why it is not known
 abbrev pub IsChosen : ConfiguredTexts → Option TextRow → defaults.DefaultFilter → ChosenFilter → Type 0
@@ -169,9 +168,9 @@ IsChosen texts given filter (chosens.Unknown path) = chosen texts given filter �
 
 -- a file is not used, or the configuration lacks the profile, or the workspace the binary or the test; or the platforms of
 -- the list are wrong, and there is a profile
-abbrev pub IsAskedFault : (Text → Option Text) → (Text → Error → Type 0) → Text → WorkspaceRequest → CommandFault → Type 0
-IsAskedFault content fails input request fault = IsWorkspaceFault content fails request.paths fault
-    ⊎ IsSomeAnd request.profile (λ profile. IsProfileFault content fails input profile fault)
+abbrev pub IsAskedFault : (Text → Option Text) → (Text → Error → Type 0) → WorkspaceRequest → CommandFault → Type 0
+IsAskedFault content fails request fault = IsWorkspaceFault content fails request.paths fault
+    ⊎ IsSomeAnd request.profile (λ profile. IsProfileFault content fails profile fault)
     ⊎ ((workspace : Workspace) × IsWorkspaceIn content request.paths workspace
-    × (LacksIn request.paths.list.now request.asked workspace.list.suites.items fault
+    × (LacksIn (name_of request.paths.list.now) request.asked workspace.list.suites.items fault
     ⊎ IsSomeAnd request.profile (λ profile. IsPlatformsFault request.paths.list.now (view workspace.value) fault)))

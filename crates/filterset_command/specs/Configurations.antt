@@ -2,20 +2,17 @@
 use Rattle.std.specs.Prelude.{◌≡◌, ◌≢◌, ◌⊎◌, List, Option, Some, None, IsSomeAnd, Vec, alloc_error, map, string_bytes}
 use Rattle.std.specs.Borrow.{Bor}
 use Rattle.std.specs.Global.{Global}
-use Rattle.std.specs.List.{AllZip}
-use Rattle.std.specs.Str.Lines.{lines}
 use Rattle.std.specs.declared.io.Error.{Error}
 use Rattle.filterset_answers.specs.declared.entries.ConfiguredTexts.{ConfiguredTexts}
 use Rattle.filterset_drawing.specs.Columns.{Text}
 use Rattle.filterset_places.specs.Places.{ArePlaces}
 use Rattle.filterset_places.specs.declared.place.Place.{Place}
 use Rattle.filterset_places.specs.declared.places.Places.{Places}
-use Rattle.filterset_profiles.specs.PlatformGrammar.{IsLine}
-use Rattle.filterset_profiles.specs.PlatformReading.{Refuses}
+use Rattle.filterset_profiles.specs.PlatformReading as cfgs
 use Rattle.filterset_profiles.specs.PlatformTrees.{setting_of}
-use Rattle.filterset_profiles.specs.declared.platforms.fault.CfgRefusal.TheVariants.{Line}
+use Rattle.filterset_profiles.specs.declared.platforms.fault.CfgRefusal.TheVariants.{OutOfMemory}
 use Rattle.filterset_profiles.specs.declared.platforms.settings.Cfg.{Cfg}
-use Rattle.filterset_profiles.specs.Lineages.{IsLineageFault}
+use Rattle.filterset_profiles.specs.Lineages.{IsLineageFault, Lineage}
 use Rattle.filterset_profiles.specs.Profiles.{HasProfiles}
 use Rattle.filterset_profiles.specs.declared.fault.LineageFault.TheVariants as lineages
 use Rattle.filterset_profiles.specs.declared.profiles.Profile.{Profile}
@@ -25,11 +22,11 @@ use Rattle.filterset_sources.specs.declared.configuration.ConfiguredFilterset.{C
 use Rattle.filterset_sources.specs.declared.platforms.BuildPlatforms.{BuildPlatforms}
 use Rattle.filterset_sources.specs.declared.refusal.SourceRefusal.TheVariants.{WrongValue}
 use Rattle.nextest_filtering.specs.Groups.{AreGroups}
-use Rattle.filterset_command.specs.Files.{BySource, IsContent, IsFaultAt, IsFileFault, content_of, name_of}
+use Rattle.filterset_command.specs.Files.{BySource, IsContent, IsFaultAt, IsFileFault, name_of}
 use Rattle.filterset_command.specs.declared.fault.CommandFault.{CommandFault}
 use Rattle.filterset_command.specs.declared.fault.CommandFault.TheVariants as faults
 use Rattle.filterset_command.specs.declared.fault.FileFault.{FileFault}
-use Rattle.filterset_command.specs.declared.fault.FileFault.TheVariants.{Refused, WrongLine}
+use Rattle.filterset_command.specs.declared.fault.FileFault.TheVariants.{Refused, WrongCfg}
 use Rattle.filterset_command.specs.declared.fault.FileRole.{FileRole}
 use Rattle.filterset_command.specs.declared.fault.FileRole.TheVariants as roles
 use Rattle.filterset_command.specs.declared.profile.KnownPlatforms.{KnownPlatforms}
@@ -59,7 +56,7 @@ AreProfilesIn content file = let bytes = string_bytes file.text in (configuratio
 abbrev pub AreSettings : (Text → Option Text) → Option (Bor Text) → Option (Vec Cfg Global) → Type 0
 AreSettings content None settings = settings ≡ None
 AreSettings content (Some path) settings = IsSomeAnd settings (λ all. (text : Text) × IsContent (content path.now) text
-    × AllZip IsLine (lines text) (map setting_of all.items))
+    × cfgs.AreSettings text (map setting_of all.items))
 
 -- what is known of the platforms of a build
 abbrev pub AreKnown : (Text → Option Text) → ProfileRequest → BuildPlatforms → KnownPlatforms → Type 0
@@ -75,31 +72,41 @@ RefusesProfiles text fault = ⊥
 abbrev pub RefusesFile : Text → FileFault → Type 0
 RefusesFile text fault = BySource RefusesConfiguration text fault ⊎ RefusesProfiles text fault
 
--- this is the first line that is nothing that `rustc` sets
-abbrev pub RefusesLine : Text → FileFault → Type 0
-RefusesLine text (WrongLine line) = Refuses (lines text) (Line line)
-RefusesLine text fault = ⊥
+-- the text is not what `rustc` sets for a platform
+abbrev pub RefusesCfg : Text → FileFault → Type 0
+RefusesCfg text (WrongCfg refusal) = cfgs.Refuses text refusal × (refusal ≢ OutOfMemory alloc_error)
+RefusesCfg text fault = ⊥
 
 -- a file that says what `rustc` sets for a platform is not used
 abbrev pub IsSettingsFault : (Text → Option Text) → (Text → Error → Type 0) → FileRole → Option (Bor Text) → CommandFault → Type 0
 IsSettingsFault content fails role path fault =
-    IsSomeAnd path (λ p. IsFileFault content fails role RefusesLine p.now fault)
+    IsSomeAnd path (λ p. IsFileFault content fails role RefusesCfg p.now fault)
 
 -- the fault names the file, says why there is no such profile, and names the profiles that there are
 abbrev pub LacksProfile : ProfileRequest → List Profile → CommandFault → Type 0
 LacksProfile request profiles (faults.Profile file fault known) =
-    (string_bytes file ≡ name_of roles.Configuration request.configuration.now)
+    (string_bytes file ≡ name_of request.configuration.now)
     × IsLineageFault profiles request.name.now fault × (fault ≢ lineages.OutOfMemory alloc_error)
     × (map (λ s. string_bytes s) known.items ≡ map (λ p. string_bytes p.name) profiles)
 LacksProfile request profiles _ = ⊥
 
+-- the configuration at a path lacks the profile of a name
+abbrev pub LacksName : Text → List Profile → Text → CommandFault → Type 0
+LacksName configuration profiles name fault = (asked : ProfileRequest) × (asked.configuration.now ≡ configuration)
+    × (asked.name.now ≡ name) × LacksProfile asked profiles fault
+
+-- the configuration with these bytes has a profile of the name, which falls back on these
+abbrev pub HasNamed : Text → Text → Type 0
+HasNamed bytes name =
+    (profiles : List Profile) × (chain : List Profile) × HasProfiles bytes profiles × Lineage profiles name chain
+
 -- what keeps a profile from being used: a file that is not, or a configuration without the profile
-abbrev pub IsProfileFault : (Text → Option Text) → (Text → Error → Type 0) → Text → ProfileRequest → CommandFault → Type 0
-IsProfileFault content fails input request fault =
-    IsFileFault (content_of content input) fails roles.Configuration RefusesFile request.configuration.now fault
+abbrev pub IsProfileFault : (Text → Option Text) → (Text → Error → Type 0) → ProfileRequest → CommandFault → Type 0
+IsProfileFault content fails request fault =
+    IsFileFault content fails roles.Configuration RefusesFile request.configuration.now fault
     ⊎ IsSettingsFault content fails roles.HostCfg request.host_cfg fault
     ⊎ IsSettingsFault content fails roles.TargetCfg request.target_cfg fault
-    ⊎ ((file : ProfilesFile) × AreProfilesIn (content_of content input request.configuration.now) file
+    ⊎ ((file : ProfilesFile) × AreProfilesIn (content request.configuration.now) file
     × LacksProfile request file.profiles.items fault)
 
 -- the text of the file at this path has no profiles that are right

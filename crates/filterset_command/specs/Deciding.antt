@@ -29,8 +29,8 @@ use Rattle.filterset_answers.specs.Verdicts.{AnswersQuestion, question_rows}
 use Rattle.filterset_answers.specs.declared.verdicts.answering.TextQuestion.{TextQuestion}
 use Rattle.filterset_command.specs.Asking.{chosen, given_row}
 use Rattle.filterset_command.specs.Checking.{KnownPackages}
-use Rattle.filterset_command.specs.Configurations.{AreKnown, AreProfilesIn, AreTextsOf, IsSettingsFault, LacksProfile, RefusesFile}
-use Rattle.filterset_command.specs.Files.{IsFileFault, content_of, name_of}
+use Rattle.filterset_command.specs.Configurations.{AreKnown, AreProfilesIn, AreTextsOf, IsSettingsFault, LacksName, LacksProfile, RefusesFile}
+use Rattle.filterset_command.specs.Files.{IsFileFault, name_of}
 use Rattle.filterset_command.specs.Workspaces.{IsListIn, IsPlatformsFault, RefusesList, RefusesValue}
 use Rattle.filterset_command.specs.declared.deciding.DecisionRequest.{DecisionRequest}
 use Rattle.filterset_command.specs.declared.fault.CommandFault.{CommandFault}
@@ -119,14 +119,14 @@ abbrev pub nowhere : BuildPlatforms
 nowhere = record { host = None; target = None }
 
 -- the profiles of the configuration, on platforms of which the list says so much, and the files the rest
-abbrev pub AnswersProfiles : (Text → Option Text) → Text → DecisionRequest → List PackageMetadata → List Suite
+abbrev pub AnswersProfiles : (Text → Option Text) → DecisionRequest → List PackageMetadata → List Suite
     → ProfileRequest → BuildPlatforms → Ending → Text → Type 0
-AnswersProfiles content input request packages suites profile built ending text =
+AnswersProfiles content request packages suites profile built ending text =
     (file : ProfilesFile) × (named : Naming)
-    × AreProfilesIn (content_of content input profile.configuration.now) file
+    × AreProfilesIn (content profile.configuration.now) file
     × (named.profiles ≡ file.profiles.items)
     × AreKnown content profile built named.known
-    × AreTextsOf (name_of roles.Configuration profile.configuration.now) (string_bytes file.text) file.filtersets.items file.places
+    × AreTextsOf (name_of profile.configuration.now) (string_bytes file.text) file.filtersets.items file.places
     named.texts
     × AnswersNamed request packages suites file.groups named profile.name.now ending text
 
@@ -134,26 +134,26 @@ AnswersProfiles content input request packages suites profile built ending text 
 
 -- the answer to the question of the request, about these packages and test binaries: under the default filter that is given,
 -- or all tests, or under the profiles of a configuration
-abbrev pub AnswersKnown : (Text → Option Text) → Text → DecisionRequest → List PackageMetadata → List Suite → BuildPlatforms
+abbrev pub AnswersKnown : (Text → Option Text) → DecisionRequest → List PackageMetadata → List Suite → BuildPlatforms
     → Ending → Text → Type 0
-AnswersKnown content input request packages suites built ending text = MatchOption request.profile
+AnswersKnown content request packages suites built ending text = MatchOption request.profile
     ((groups : KnownGroups) × IsGlobalOnly groups × AnswersRows request packages suites groups
     (unwrap_or (given_row request.default_filter) (default_row (codes "all()"))) (request_rows request) ending text)
-    (λ profile. AnswersProfiles content input request packages suites profile built ending text)
+    (λ profile. AnswersProfiles content request packages suites profile built ending text)
 
 -- about the test binaries of the list at this path, and if there is a profile, on the platforms of the list
-abbrev pub AnswersListed : (Text → Option Text) → Text → DecisionRequest → List PackageMetadata → Text → Ending → Text → Type 0
-AnswersListed content input request packages path ending text =
-    (list : Data) × (suites : List Suite) × (built : BuildPlatforms) × IsListIn (content path) packages list suites
+abbrev pub AnswersListed : (Text → Option Text) → DecisionRequest → List PackageMetadata → Text → Ending → Text → Type 0
+AnswersListed content request packages path ending text =
+    (list : Data) × (suites : List Suite) × (built : BuildPlatforms) × IsListIn (content path) packages request.run_ignored list suites
     × IfSome request.profile (λ _. ArePlatforms list built)
-    × AnswersKnown content input request packages suites built ending text
+    × AnswersKnown content request packages suites built ending text
 
 -- about the packages of the file, or none if there is no file; and without a list about no test binaries
-abbrev pub AnswersDecision : (Text → Option Text) → Text → DecisionRequest → Ending → Text → Type 0
-AnswersDecision content input request ending text = (packages : List PackageMetadata)
+abbrev pub AnswersDecision : (Text → Option Text) → DecisionRequest → Ending → Text → Type 0
+AnswersDecision content request ending text = (packages : List PackageMetadata)
     × KnownPackages content request.metadata packages × MatchOption request.list
-    (AnswersKnown content input request packages [] nowhere ending text)
-    (λ path. AnswersListed content input request packages path.now ending text)
+    (AnswersKnown content request packages [] nowhere ending text)
+    (λ path. AnswersListed content request packages path.now ending text)
 
 -- the request names the profile
 abbrev pub NamesProfile : DecisionRequest → ProfileRequest → Text → Type 0
@@ -167,31 +167,31 @@ LacksNamed request profile profiles fault = (asked : ProfileRequest) × (asked.c
     × NamesProfile request profile asked.name.now × LacksProfile asked profiles fault
 
 -- a file of the profiles is not used, or the configuration lacks one
-abbrev pub IsNamedFault : (Text → Option Text) → (Text → Error → Type 0) → Text → DecisionRequest → ProfileRequest
+abbrev pub IsNamedFault : (Text → Option Text) → (Text → Error → Type 0) → DecisionRequest → ProfileRequest
     → CommandFault → Type 0
-IsNamedFault content fails input request profile fault =
-    IsFileFault (content_of content input) fails roles.Configuration RefusesFile profile.configuration.now fault
+IsNamedFault content fails request profile fault =
+    IsFileFault content fails roles.Configuration RefusesFile profile.configuration.now fault
     ⊎ IsSettingsFault content fails roles.HostCfg profile.host_cfg fault
     ⊎ IsSettingsFault content fails roles.TargetCfg profile.target_cfg fault
-    ⊎ ((file : ProfilesFile) × AreProfilesIn (content_of content input profile.configuration.now) file
+    ⊎ ((file : ProfilesFile) × AreProfilesIn (content profile.configuration.now) file
     × LacksNamed request profile file.profiles.items fault)
 
 -- the list at this path is not used; or its platforms are wrong, and there is a profile; or the profiles are not used
-abbrev pub IsListedFault : (Text → Option Text) → (Text → Error → Type 0) → Text → DecisionRequest → List PackageMetadata
+abbrev pub IsListedFault : (Text → Option Text) → (Text → Error → Type 0) → DecisionRequest → List PackageMetadata
     → Text → CommandFault → Type 0
-IsListedFault content fails input request packages path fault =
+IsListedFault content fails request packages path fault =
     IsFileFault content fails roles.List (RefusesValue (RefusesList packages)) path fault
-    ⊎ ((list : Data) × (suites : List Suite) × IsListIn (content path) packages list suites
+    ⊎ ((list : Data) × (suites : List Suite) × IsListIn (content path) packages request.run_ignored list suites
     × IsSomeAnd request.profile (λ profile. IsPlatformsFault path list fault
-    ⊎ IsNamedFault content fails input request profile fault))
+    ⊎ IsNamedFault content fails request profile fault))
 
 -- the file of the packages is not used, or the list is not, or the profiles are not
-abbrev pub IsDecisionFault : (Text → Option Text) → (Text → Error → Type 0) → Text → DecisionRequest → CommandFault → Type 0
-IsDecisionFault content fails input request fault = IsSomeAnd request.metadata
+abbrev pub IsDecisionFault : (Text → Option Text) → (Text → Error → Type 0) → DecisionRequest → CommandFault → Type 0
+IsDecisionFault content fails request fault = IsSomeAnd request.metadata
     (λ path. IsFileFault content fails roles.Metadata (RefusesValue RefusesMetadata) path.now fault)
     ⊎ ((packages : List PackageMetadata) × KnownPackages content request.metadata packages × MatchOption request.list
-    (IsSomeAnd request.profile (λ profile. IsNamedFault content fails input request profile fault))
-    (λ path. IsListedFault content fails input request packages path.now fault))
+    (IsSomeAnd request.profile (λ profile. IsNamedFault content fails request profile fault))
+    (λ path. IsListedFault content fails request packages path.now fault))
 
 -- ---- what only contracts of private functions cite
 
@@ -209,11 +209,6 @@ abbrev pub AreResolved : Naming → List TextRow → ResolvedEntries → Type 0
 AreResolved named rows (entries.Entries found) = AllZip (λ row own. ResolvesTo named row (Ok own)) rows (map text_row found.items)
 AreResolved named rows (entries.Unknown path) =
     (row : TextRow) × Contains rows row × ResolvesTo named row (Err (string_bytes path))
-
--- the configuration lacks the profile with this name
-abbrev pub LacksName : Text → List Profile → Text → CommandFault → Type 0
-LacksName configuration profiles name fault = (asked : ProfileRequest) × (asked.configuration.now ≡ configuration)
-    × (asked.name.now ≡ name) × LacksProfile asked profiles fault
 
 -- the configuration lacks the profile that the text names
 abbrev pub LacksOwn : Text → List Profile → TextRow → CommandFault → Type 0

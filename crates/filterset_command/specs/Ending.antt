@@ -7,7 +7,7 @@ use Rattle.filterset_editor.specs.declared.ending.Ending.TheVariants.{Exit, Inpu
 use Rattle.filterset_command.specs.declared.ending.Ended.{Ended}
 use Rattle.filterset_command.specs.declared.ending.Ended.TheVariants.{Answered, Served}
 use Rattle.filterset_command.specs.declared.fault.CommandFault.{CommandFault}
-use Rattle.filterset_command.specs.declared.fault.CommandFault.TheVariants.{File, Run}
+use Rattle.filterset_command.specs.declared.fault.CommandFault.TheVariants.{File, Run, Unwritten}
 use Rattle.filterset_command.specs.declared.fault.FileFault.{FileFault}
 use Rattle.filterset_command.specs.declared.fault.FileFault.TheVariants.{Unread}
 
@@ -36,4 +36,5 @@ status_of (Ok (Answered ending)) = answer_status ending
 status_of (Ok (Served ending)) = session_status ending
 status_of (Err (File role path fault)) = file_status fault
 status_of (Err (Run fault)) = 3
+status_of (Err (Unwritten error)) = 3
 status_of (Err _) = 2

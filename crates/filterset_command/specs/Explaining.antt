@@ -1,5 +1,6 @@
 -- Which binary or test `explain` is about.
-use Rattle.std.specs.Prelude.{◌≡◌, List, Option, Some, None, find, option_map, string_bytes}
+use Rattle.std.specs.Prelude.{◌≡◌, Bool, false, List, Option, Some, None, find, is_some, option_and_then, option_map, string_bytes}
+use Rattle.std.specs.Option.{option_or}
 use Rattle.std.specs.Borrow.{Bor}
 use Rattle.std.specs.Str.{bytes_eq}
 use Rattle.filterset_drawing.specs.Columns.{Text}
@@ -17,12 +18,22 @@ binary_called id binaries = find (λ (b : AskedBinary). bytes_eq b.query.binary_
 abbrev pub name_called : Text → List Text → Option Text
 name_called name names = find (λ n. bytes_eq n name) names
 
+-- the first test of the binary with this name, of those that count, or else of the others
+abbrev pub test_called : Text → AskedBinary → Option Text
+test_called name binary = option_or (name_called name binary.tests.now) (name_called name binary.uncounted.now)
+
+-- the binary with this id has a test with this name that does not count
+abbrev pub is_uncounted : List AskedBinary → Text → Option (Bor Text) → Bool
+is_uncounted binaries id None = false
+is_uncounted binaries id (Some test) =
+    is_some (option_and_then (λ (b : AskedBinary). name_called test.now b.uncounted.now) (binary_called id binaries))
+
 -- the candidate is the binary with this id, or its test with this name
 abbrev pub IsCandidate : List AskedBinary → Text → Option (Bor Text) → Candidate → Type 0
 IsCandidate binaries id None (Binary query) = option_map (λ b. b.query) (binary_called id binaries) ≡ Some query
 IsCandidate binaries id (Some test) (Test query) =
     (binary : AskedBinary) × (binary_called id binaries ≡ Some binary) × (query.binary_query ≡ binary.query)
-    × (name_called test.now binary.tests.now ≡ Some query.test_name.now)
+    × (test_called test.now binary ≡ Some query.test_name.now)
 IsCandidate binaries id _ _ = ⊥
 
 -- the fault names the list, and what it lacks: a binary with this id, or a test of it with this name
@@ -31,5 +42,5 @@ IsMissing list binaries id test (NoBinary at own) =
     (string_bytes at ≡ list) × (string_bytes own ≡ id) × (binary_called id binaries ≡ None)
 IsMissing list binaries id (Some test) (NoTest at own name) =
     (binary : AskedBinary) × (binary_called id binaries ≡ Some binary) × (string_bytes at ≡ list)
-    × (string_bytes own ≡ id) × (string_bytes name ≡ test.now) × (name_called test.now binary.tests.now ≡ None)
+    × (string_bytes own ≡ id) × (string_bytes name ≡ test.now) × (test_called test.now binary ≡ None)
 IsMissing list binaries id test _ = ⊥

@@ -11,9 +11,8 @@ use Rattle.filterset_command.specs.declared.fault.CommandFault.TheVariants.{File
 use Rattle.filterset_command.specs.declared.fault.FileFault.{FileFault}
 use Rattle.filterset_command.specs.declared.fault.FileFault.TheVariants.{Unread, NotText, Refused}
 use Rattle.filterset_command.specs.declared.fault.FileRole.{FileRole}
-use Rattle.filterset_command.specs.declared.fault.FileRole.TheVariants.{Configuration}
 
--- the path of a configuration that stands for standard input
+-- the path that stands for standard input
 abbrev pub is_input : Text → Bool
 is_input path = bytes_eq path (codes "-")
 
@@ -22,11 +21,10 @@ abbrev pub input_name : Text
 input_name = codes "standard input"
 
 -- what faults call the file at a path
-abbrev pub name_of : FileRole → Text → Text
-name_of Configuration path = if is_input path then input_name else path
-name_of role path = path
+abbrev pub name_of : Text → Text
+name_of path = if is_input path then input_name else path
 
--- what the configuration at a path is read from, where standard input has this text
+-- what the file at a path has, where standard input has this text
 abbrev pub content_of : (Text → Option Text) → Text → Text → Option Text
 content_of content input path = if is_input path then Some input else content path
 
@@ -41,7 +39,7 @@ OrMemory P fault = P fault
 
 -- the fault is this one of the file at this path, which is read for this
 abbrev pub IsFaultAt : FileRole → Text → FileFault → CommandFault → Type 0
-IsFaultAt role path fault (File own at is) = (own ≡ role) × (string_bytes at ≡ name_of role path) × (is ≡ fault)
+IsFaultAt role path fault (File own at is) = (own ≡ role) × (string_bytes at ≡ name_of path) × (is ≡ fault)
 IsFaultAt role path fault _ = ⊥
 
 -- why a file is not used: reading it fails so, its content is not UTF-8, or its text is refused
@@ -59,5 +57,5 @@ BySource refuses text _ = ⊥
 abbrev pub IsFileFault : (Text → Option Text) → (Text → Error → Type 0) → FileRole → (Text → FileFault → Type 0) → Text
     → CommandFault → Type 0
 IsFileFault content fails role refuses path (File own at fault) =
-    (own ≡ role) × (string_bytes at ≡ name_of role path) × IsUnused (content path) (fails path) refuses fault
+    (own ≡ role) × (string_bytes at ≡ name_of path) × IsUnused (content path) (fails path) refuses fault
 IsFileFault content fails role refuses path _ = ⊥

@@ -10,4 +10,5 @@ pub mod Checking
 pub mod Deciding
 pub mod Requests
 pub mod Words
+pub mod Written
 pub mod Serving

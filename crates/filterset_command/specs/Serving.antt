@@ -12,6 +12,7 @@ use Rattle.filterset_editor.specs.Sessions.{Served}
 use Rattle.filterset_editor.specs.Written.{Writes}
 use Rattle.filterset_editor.specs.declared.ending.Ending.{Ending}
 use Rattle.filterset_names.specs.Workspaces.{WorkspaceRow}
+use Rattle.filterset_sources.specs.declared.list.RunIgnored.TheVariants.{All}
 use Rattle.filterset_server.specs.Responses.{Responds, abilities}
 use Rattle.filterset_server.specs.Unmatched.{DiagnosesIn}
 use Rattle.filterset_command.specs.Workspaces.{IsWorkspaceFault, IsWorkspaceIn}
@@ -76,11 +77,11 @@ abbrev pub GreetsFrom : (Text → Option Text) → (Text → Error → Type 0) �
 GreetsFrom content fails paths known shown = (IsKnownIn content (Some paths) known × (shown ≡ []))
     ⊎ ((fault : CommandFault) × IsWorkspaceFault content fails paths fault × (known ≡ None) × Shows shown)
 
--- the workspace that is named, and what is written before the session's answers
+-- the workspace that is named, all of whose tests count, and what is written before the session's answers
 abbrev pub Greets : (Text → Option Text) → (Text → Error → Type 0) → NamedPaths → Option WorkspaceRow → Bytes → Type 0
 Greets content fails no_paths known shown = (known ≡ None) × (shown ≡ [])
 Greets content fails (both_paths metadata list) known shown = (paths : WorkspacePaths) × (paths.metadata.now ≡ metadata)
-    × (paths.list.now ≡ list) × GreetsFrom content fails paths known shown
+    × (paths.list.now ≡ list) × (paths.run_ignored ≡ All) × GreetsFrom content fails paths known shown
 Greets content fails wrong_paths known shown = (known ≡ None) × Shows shown
 
 -- the session in the workspace that the client's first message names, if it names one
@@ -117,4 +118,4 @@ IsServiceFault content fails paths fault = IsRunFault fault
 abbrev pub named_row : Named → NamedPaths
 named_row named.Nothing = no_paths
 named_row named.Wrong = wrong_paths
-named_row (named.Paths paths) = both_paths paths.metadata.now paths.list.now
+named_row (named.Paths metadata list) = both_paths metadata.now list.now

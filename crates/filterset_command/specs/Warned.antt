@@ -1,5 +1,5 @@
 -- What `check` warns of, by a list of tests.
-use Rattle.std.specs.Prelude.{◌≡◌, ◌⊎◌, Bool, List, [], ◌∷◌, Option, None, IfSome, IsSomeAnd, MatchOption}
+use Rattle.std.specs.Prelude.{◌≡◌, ◌⊎◌, ◌==◌, List, [], ◌∷◌, Option, None, IfSome, IsSomeAnd, MatchOption, if◌then◌else◌}
 use Rattle.std.specs.Borrow.{Bor}
 use Rattle.std.specs.List.{AllZip}
 use Rattle.std.specs.declared.io.Error.{Error}
@@ -22,7 +22,8 @@ use Rattle.filterset_sources.specs.Platforms.{ArePlatforms}
 use Rattle.filterset_sources.specs.declared.configuration.Configuration.{Configuration}
 use Rattle.filterset_sources.specs.declared.list.Suite.{Suite}
 use Rattle.filterset_sources.specs.declared.platforms.BuildPlatforms.{BuildPlatforms}
-use Rattle.filterset_warnings.specs.Warnings.{AnswersWarnings}
+use Rattle.filterset_warnings.specs.Warnings.{AnswersWarnings, summary, warned_ending}
+use Rattle.filterset_warnings.specs.declared.setting.WarningEnd.{WarningEnd}
 use Rattle.nextest_filtering.specs.declared.compile.context.KnownGroups.{KnownGroups}
 use Rattle.filterset_command.specs.Asking.{AnswersProfile, IsPlain}
 use Rattle.filterset_command.specs.Configurations.{AreKnown, IsRefusedProfile, IsSettingsFault, LacksProfile}
@@ -38,9 +39,9 @@ use Rattle.filterset_command.specs.declared.warning.WarningRequest.{WarningReque
 -- ---- what is answered
 
 -- the warnings of texts under a setting, by the binaries of the suites
-abbrev pub WarnsUnder : Form → Bool → List TextRow → List Suite → Setting → Ending → Text → Type 0
-WarnsUnder form denies rows suites setting ending text =
-    (binaries : List AskedBinary) × AllZip IsAsked suites binaries × AnswersWarnings form denies setting rows binaries ending text
+abbrev pub WarnsUnder : Form → WarningEnd → List TextRow → List Suite → Setting → Ending → Text → Type 0
+WarnsUnder form end rows suites setting ending text =
+    (binaries : List AskedBinary) × AllZip IsAsked suites binaries × AnswersWarnings form end setting rows binaries ending text
 
 -- the profile that is requested, of the configuration at this path
 abbrev pub profile_at : Bor Text → WarningRequest → ProfileRequest
@@ -60,20 +61,21 @@ WarnsBy content Answers packages groups texts profile list ending text =
     × AnswersProfile Answers packages None profile.name.now profiles groups texts known ending text
 
 -- by the list that is requested: under a profile of the configuration at this path, or without one
-abbrev pub AnswersListed : (Text → Option Text) → Form → List PackageMetadata → KnownGroups → Option (Bor Text)
+abbrev pub AnswersListed : (Text → Option Text) → Form → WarningEnd → List PackageMetadata → KnownGroups → Option (Bor Text)
     → ConfiguredTexts → List TextRow → WarningRequest → Ending → Text → Type 0
-AnswersListed content form packages groups path texts rows request ending text =
-    (list : Data) × (suites : List Suite) × IsListIn (content request.paths.list.now) packages list suites
-    × (let Answers = WarnsUnder form request.denies rows suites in MatchOption path
+AnswersListed content form end packages groups path texts rows request ending text =
+    (list : Data) × (suites : List Suite) × IsListIn (content request.paths.list.now) packages request.paths.run_ignored list suites
+    × (let Answers = WarnsUnder form end rows suites in MatchOption path
     ((setting : Setting) × IsPlain packages None setting × Answers setting ending text)
     (λ p. WarnsBy content Answers packages groups texts (profile_at p request) list ending text))
 
--- nothing, if no list is requested
-abbrev pub AnswersWarned : (Text → Option Text) → Form → List PackageMetadata → KnownGroups → Option (Bor Text)
+-- if no list is requested, how many warnings there are, if there are any
+abbrev pub AnswersWarned : (Text → Option Text) → Form → WarningEnd → List PackageMetadata → KnownGroups → Option (Bor Text)
     → ConfiguredTexts → List TextRow → Option WarningRequest → Ending → Text → Type 0
-AnswersWarned content form packages groups path texts rows request ending text =
-    MatchOption request ((ending ≡ Fine) × (text ≡ []))
-    (λ r. AnswersListed content form packages groups path texts rows r ending text)
+AnswersWarned content form end packages groups path texts rows request ending text =
+    MatchOption request
+    ((ending ≡ warned_ending end.denies end.before) × (text ≡ (if end.before == 0 then [] else summary form 0 end.before)))
+    (λ r. AnswersListed content form end packages groups path texts rows r ending text)
 
 -- the request, if the configuration has no wrong values
 abbrev pub request_after : List WrongValue → Option WarningRequest → Option WarningRequest
@@ -106,7 +108,7 @@ abbrev pub IsListedFault : (Text → Option Text) → (Text → Error → Type 0
     → WarningRequest → CommandFault → Type 0
 IsListedFault content fails packages path bytes request fault =
     IsFileFault content fails roles.List (RefusesValue (RefusesList packages)) request.paths.list.now fault
-    ⊎ ((list : Data) × (suites : List Suite) × IsListIn (content request.paths.list.now) packages list suites
+    ⊎ ((list : Data) × (suites : List Suite) × IsListIn (content request.paths.list.now) packages request.paths.run_ignored list suites
     × IsSomeAnd path (λ p. IsProfileUnused content fails bytes request.paths.list.now list (profile_at p request) fault))
 
 abbrev pub IsWarnedFault : (Text → Option Text) → (Text → Error → Type 0) → List PackageMetadata → Option (Bor Text) → Text

@@ -1,6 +1,7 @@
 -- What the words of the command line ask for, and what they lack.
-use Rattle.std.specs.Prelude.{◌≡◌, ◌≢◌, ◌<◌, ◌^◌, ℕ, Bool, true, false, List, [], ◌∷◌, Option, None, Some, codes, map, option_map, unwrap_or}
+use Rattle.std.specs.Prelude.{◌≡◌, ◌≢◌, ◌<◌, ◌≤◌, ◌^◌, ℕ, Bool, true, false, List, [], ◌∷◌, Option, None, Some, codes, map, option_map, unwrap_or}
 use Rattle.std.specs.Borrow.{Bor}
+use Rattle.std.specs.List.{list_any}
 use Rattle.std.specs.Str.Parse.{IsNumeral, digits_value, without_leading_plus}
 use Rattle.clap.specs.Simple.{subcommand_rows_of}
 use Rattle.clap.specs.Walk.{rows_of}
@@ -19,10 +20,14 @@ use Rattle.filterset_drawing.specs.declared.color.Color.{Color}
 use Rattle.filterset_drawing.specs.declared.color.Color.TheVariants.{Always, Never}
 use Rattle.filterset_faults.specs.declared.kind.FiltersetKind.{FiltersetKind}
 use Rattle.filterset_faults.specs.declared.kind.FiltersetKind.TheVariants as kinds
+use Rattle.filterset_sources.specs.declared.list.RunIgnored.{RunIgnored}
+use Rattle.filterset_sources.specs.declared.list.RunIgnored.TheVariants.{All, Default, Only}
+use Rattle.filterset_command.specs.Files.{is_input}
+use Rattle.filterset_command.specs.Requests.{input_count}
 use Rattle.filterset_command.specs.declared.fault.CommandFault.{CommandFault}
 use Rattle.filterset_command.specs.declared.asking.Asked.{Asked}
 use Rattle.filterset_command.specs.declared.asking.Asked.TheVariants.{Explanation, Overrides, Question as Asking, Warnings}
-use Rattle.filterset_command.specs.declared.fault.CommandFault.TheVariants.{Missing, TwoInputs, WrongBudget}
+use Rattle.filterset_command.specs.declared.fault.CommandFault.TheVariants.{Missing, MixedInput, TwoInputs, WrongBudget}
 use Rattle.filterset_command.specs.declared.profile.ProfileRequest.{ProfileRequest}
 use Rattle.filterset_command.specs.declared.request.Request.{Request}
 use Rattle.filterset_command.specs.declared.request.Request.TheVariants.{Ask, Check, Decide, Format, Show, Simplify}
@@ -88,17 +93,45 @@ IsKindAsked found kinds.Test =
     × (first_value found (codes "kind") ≢ Some (codes "override"))
     × (first_value found (codes "kind") ≢ Some (codes "archive"))
 
+-- the filtersets of the arguments, or else those of `-E`
+abbrev pub texts_or : List Text → List Text → List Text
+texts_or [] others = others
+texts_or (text ∷ texts) others = text ∷ texts
+
+abbrev pub given_texts : Found → List Text
+given_texts found = texts_or (values_of found (codes "text")) (values_of found (codes "filterset"))
+
+abbrev pub has_input : List (Bor Text) → Bool
+has_input texts = list_any (λ (t : Bor Text). is_input t.now) texts
+
 -- a lone `-` asks for the lines of standard input, and anything else is the filtersets
 abbrev pub AreTextsAsked : Found → Texts → Type 0
-AreTextsAsked found StandardInput = values_of found (codes "text") ≡ codes "-" ∷ []
+AreTextsAsked found StandardInput = given_texts found ≡ codes "-" ∷ []
 AreTextsAsked found (Given texts) =
-    (map (λ t. t.now) texts.now ≡ values_of found (codes "text"))
-    × (values_of found (codes "text") ≢ codes "-" ∷ [])
+    (map (λ t. t.now) texts.now ≡ given_texts found) × (has_input texts.now ≡ false)
+
+-- `-` is given beside other filtersets, or an argument is missing
+abbrev pub IsTextsFault : Found → CommandFault → Type 0
+IsTextsFault found (Missing id) = first_value found id.now ≡ None
+IsTextsFault found MixedInput = (texts : List (Bor Text)) × (map (λ t. t.now) texts ≡ given_texts found)
+    × (has_input texts ≡ true) × (given_texts found ≢ codes "-" ∷ [])
+IsTextsFault found _ = ⊥
+
+-- `--run-ignored` says which listed tests count
+abbrev pub IsRunIgnoredAsked : Found → RunIgnored → Type 0
+IsRunIgnoredAsked found Only = first_value found (codes "run-ignored") ≡ Some (codes "only")
+IsRunIgnoredAsked found All = first_value found (codes "run-ignored") ≡ Some (codes "all")
+IsRunIgnoredAsked found Default = (first_value found (codes "run-ignored") ≢ Some (codes "only"))
+    × (first_value found (codes "run-ignored") ≢ Some (codes "all"))
 
 -- the files of the workspace
-abbrev pub ArePathsAsked : Found → WorkspacePaths → Type 0
-ArePathsAsked found paths =
+abbrev pub AreFilesAsked : Found → WorkspacePaths → Type 0
+AreFilesAsked found paths =
     IsTextAsked found (codes "metadata") paths.metadata.now × IsTextAsked found (codes "list") paths.list.now
+
+-- the same, and which of its tests count
+abbrev pub ArePathsAsked : Found → WorkspacePaths → Type 0
+ArePathsAsked found paths = AreFilesAsked found paths × IsRunIgnoredAsked found paths.run_ignored
 
 -- the configuration and its profile, if there is a configuration
 abbrev pub IsProfileAsked : Found → Option ProfileRequest → Type 0
@@ -148,14 +181,14 @@ AreWarningsAsked found None = first_value found (codes "list") ≡ None
 AreWarningsAsked found (Some request) =
     ArePathsAsked found request.paths × IsTextAsked found (codes "profile") request.profile.now
     × IsOptionAsked found (codes "target-cfg") request.target_cfg × IsOptionAsked found (codes "host-cfg") request.host_cfg
-    × IsFlagAsked found (codes "deny") request.denies
 
 -- the command with this name and these arguments asks for this
 abbrev pub IsAskedBy : Text → Found → Request → Type 0
 IsAskedBy name found (Check kind form texts paths) =
     (name ≡ codes "check") × IsKindAsked found kind × IsFormAsked found form × AreTextsAsked found texts
     × IsOptionAsked found (codes "metadata") paths.metadata × IsOptionAsked found (codes "config") paths.configuration
-    × AreWarningsAsked found paths.warnings
+    × IsTextAsked found (codes "profile") paths.profile.now × AreWarningsAsked found paths.warnings
+    × IsFlagAsked found (codes "deny") paths.denies
 IsAskedBy name found (Format form texts) =
     (name ≡ codes "format") × IsDrawnAsked found form × AreTextsAsked found texts
 IsAskedBy name found (Simplify form texts) =
@@ -167,7 +200,8 @@ IsAskedBy name found (Decide asked) =
     (name ≡ decision_name asked.question) × IsFormAsked found asked.form
     × (map (λ t. t.now) asked.texts.now ≡ values_of found (codes "filterset"))
     × IsOptionAsked found (codes "within") asked.within × IsOptionAsked found (codes "metadata") asked.metadata
-    × IsOptionAsked found (codes "list") asked.list × IsOptionAsked found (codes "default") asked.default_filter × IsProfileAsked found asked.profile
+    × IsOptionAsked found (codes "list") asked.list × IsRunIgnoredAsked found asked.run_ignored
+    × IsOptionAsked found (codes "default") asked.default_filter × IsProfileAsked found asked.profile
     × IsBudgetAsked found asked.budget
 IsAskedBy name found (Show text) = ⊥
 
@@ -184,10 +218,10 @@ IsShellAsked matches shell =
     × (option_map (λ p. p.1) (subcommand_rows_of matches) ≡ Some (rows_of found))
     × IsTextAsked found (codes "shell") (name_of shell)
 
--- the files of the workspace, if there is one: both or none
+-- the files of the workspace, all of whose tests count, if there is one: both or none
 abbrev pub IsWorkspaceAsked : Found → Option WorkspacePaths → Type 0
 IsWorkspaceAsked found None = first_value found (codes "metadata") ≡ None
-IsWorkspaceAsked found (Some paths) = ArePathsAsked found paths
+IsWorkspaceAsked found (Some paths) = AreFilesAsked found paths × (paths.run_ignored ≡ All)
 
 -- `lsp` asks for an editor to be served, with a workspace or without
 abbrev pub IsServiceAsked : ArgMatches → Option WorkspacePaths → Type 0
@@ -195,21 +229,12 @@ IsServiceAsked matches paths =
     (found : Found) × (subcommand_name_of matches ≡ Some (codes "lsp"))
     × (option_map (λ p. p.1) (subcommand_rows_of matches) ≡ Some (rows_of found)) × IsWorkspaceAsked found paths
 
--- the words ask for a request, for the script of a shell, or to serve an editor
+-- the words ask for a request, in which standard input stands for one thing at most, for the script of a shell, or to serve
+-- an editor
 abbrev pub IsTask : ArgMatches → Task → Type 0
-IsTask matches (Answer request) = IsAsked matches request
+IsTask matches (Answer request) = IsAsked matches request × (input_count request ≤ 1)
 IsTask matches (Complete shell) = IsShellAsked matches shell
 IsTask matches (Serve paths) = IsServiceAsked matches paths
-
--- standard input is to be the filtersets, and the configuration too
-abbrev pub TakesTwo : Found → Type 0
-TakesTwo found = (values_of found (codes "text") ≡ codes "-" ∷ []) × (first_value found (codes "config") ≡ Some (codes "-"))
-
--- standard input is to be both, or an argument is missing
-abbrev pub IsCheckRefusal : Found → CommandFault → Type 0
-IsCheckRefusal found (Missing id) = first_value found id.now ≡ None
-IsCheckRefusal found TwoInputs = TakesTwo found
-IsCheckRefusal found _ = ⊥
 
 -- there is no budget, or it is no number
 abbrev pub IsBudgetFault : Found → CommandFault → Type 0
@@ -217,11 +242,12 @@ IsBudgetFault found (Missing id) = first_value found id.now ≡ None
 IsBudgetFault found WrongBudget = (text : Text) × IsTextAsked found (codes "budget") text × ¬ IsNumber text
 IsBudgetFault found _ = ⊥
 
--- an argument is missing, or standard input is to be two things, or the budget is no number
+-- an argument is missing, or `-` stands for two things or is beside other filtersets, or the budget is no number
 abbrev pub IsWordsFault : ArgMatches → CommandFault → Type 0
 IsWordsFault matches (Missing id) = Unit {0}
-IsWordsFault matches TwoInputs =
-    (found : Found) × (option_map (λ p. p.1) (subcommand_rows_of matches) ≡ Some (rows_of found)) × TakesTwo found
+IsWordsFault matches TwoInputs = (request : Request) × IsAsked matches request × (1 < input_count request)
+IsWordsFault matches MixedInput =
+    (found : Found) × (option_map (λ p. p.1) (subcommand_rows_of matches) ≡ Some (rows_of found)) × IsTextsFault found MixedInput
 IsWordsFault matches WrongBudget =
     (found : Found) × (option_map (λ p. p.1) (subcommand_rows_of matches) ≡ Some (rows_of found)) × IsBudgetFault found WrongBudget
 IsWordsFault matches _ = ⊥

@@ -11,6 +11,7 @@ use Rattle.filterset_sources.specs.Metadata.{IsMetadata, RefusesMetadata}
 use Rattle.filterset_sources.specs.Platforms.{WrongPlatforms}
 use Rattle.filterset_sources.specs.Refusals.{Refuses, RefusesJson}
 use Rattle.filterset_sources.specs.Suites.{IsOfPackage, IsTestList, WrongPackages, WrongTestList}
+use Rattle.filterset_sources.specs.declared.list.RunIgnored.{RunIgnored}
 use Rattle.filterset_sources.specs.declared.list.Suite.{Suite}
 use Rattle.filterset_sources.specs.declared.list.TestList.{TestList}
 use Rattle.filterset_sources.specs.declared.refusal.SourceRefusal.{SourceRefusal}
@@ -31,15 +32,15 @@ IsJsonOf content d = (bytes : Text) × IsContent content bytes × (read bytes �
 abbrev pub ArePackagesIn : Option Text → List PackageMetadata → Type 0
 ArePackagesIn content packages = (d : Data) × IsJsonOf content d × IsMetadata d packages
 
--- the file is this JSON value, which lists these suites, each of one of the packages
-abbrev pub IsListIn : Option Text → List PackageMetadata → Data → List Suite → Type 0
-IsListIn content packages d suites =
-    IsJsonOf content d × IsTestList d suites × All (IsOfPackage (ids packages)) suites
+-- the file is this JSON value, which lists these suites with the tests that count, each of one of the packages
+abbrev pub IsListIn : Option Text → List PackageMetadata → RunIgnored → Data → List Suite → Type 0
+IsListIn content packages run d suites =
+    IsJsonOf content d × IsTestList run d suites × All (IsOfPackage (ids packages)) suites
 
 -- what the files at the paths say of the workspace
 abbrev pub IsWorkspaceIn : (Text → Option Text) → WorkspacePaths → Workspace → Type 0
 IsWorkspaceIn content paths workspace = ArePackagesIn (content paths.metadata.now) workspace.graph
-    × IsListIn (content paths.list.now) workspace.graph (view workspace.value) workspace.list.suites.items
+    × IsListIn (content paths.list.now) workspace.graph paths.run_ignored (view workspace.value) workspace.list.suites.items
 
 -- the text is no JSON, or its value is refused
 abbrev pub RefusesValue : (Data → SourceRefusal → Type 0) → Text → FileFault → Type 0
@@ -49,7 +50,7 @@ RefusesValue refuses =
 -- a value of the list is wrong, the first one; or the package of a test binary, the first one that is none of the packages
 abbrev pub RefusesList : List PackageMetadata → Data → SourceRefusal → Type 0
 RefusesList packages d refusal = Refuses (WrongTestList d) refusal
-    ⊎ ((list : TestList) × IsTestList d list.suites.items × Refuses (WrongPackages (ids packages) list.suites.items) refusal)
+    ⊎ ((run : RunIgnored) × (list : TestList) × IsTestList run d list.suites.items × Refuses (WrongPackages (ids packages) list.suites.items) refusal)
 
 -- one of the files at the paths is not used: the one of the packages, or the list of their tests
 abbrev pub IsWorkspaceFault : (Text → Option Text) → (Text → Error → Type 0) → WorkspacePaths → CommandFault → Type 0

@@ -1,12 +1,12 @@
 //! The answers to requests.
-ghost use Rattle.std.specs.Prelude.{◌≡◌, IfErr, IfOk, OnOk, string_bytes, true};
+ghost use Rattle.std.specs.Prelude.{◌≡◌, ◌<◌, IfErr, IfOk, OnOk, string_bytes};
 ghost use Rattle.filterset_command.specs.Files.{OrMemory};
-ghost use Rattle.filterset_command.specs.Requests.{Answers, Faults, IsAnswered, IsFaultOf, IsInput, IsInputFault, takes_input};
+ghost use Rattle.filterset_command.specs.Requests.{Answers, Faults, IsAnswered, IsFaultOf, IsInput, IsInputFault, input_count};
 
 use crate::asking::ask;
 use crate::deciding::decide_given;
 use crate::fault::CommandFault;
-use crate::files::FileSource;
+use crate::files::{FileSource, WithInput};
 use crate::input::read_input;
 use crate::request::Request;
 use crate::texts::{check_given, format_given, input_file, simplify_given};
@@ -38,11 +38,11 @@ fn input_of<R: Source>(
     input: &mut R,
 ) -> Result<String, CommandFault>
     ensures whole { IfOk result (λ text. IsInput request.now (R.left input.old) (string_bytes text)) }
-    ensures refused { IfErr result (OrMemory (λ fault. (takes_input request.now ≡ true)
+    ensures refused { IfErr result (OrMemory (λ fault. (0 < input_count request.now)
         × IsInputFault (R.left input.old) (R.failed input.new) fault)) }
     ensures none_failed { OnOk result (R.failed input.new ≡ R.failed input.old) }
 {
-    if request.takes_input() {
+    if request.input_count() > 0 {
         read_input(alloc, input)
     } else {
         Ok(String::new(alloc))
@@ -60,6 +60,7 @@ fn answer_with<F: FileSource>(
         answer.ending (string_bytes answer.text)) }
     ensures refused { IfErr result (OrMemory (Faults (F.content files.now) (F.fails files.now) input.now request.now)) }
 {
+    let files = WithInput { files, input };
     match request {
         Request::Check {
             kind,
@@ -68,7 +69,7 @@ fn answer_with<F: FileSource>(
             paths,
         } => {
             let file = input_file(alloc, input)?;
-            check_given(alloc, files, input, *form, paths, *kind, texts, &file)
+            check_given(alloc, &files, *form, paths, *kind, texts, &file)
         }
         Request::Format { form, texts } => {
             let file = input_file(alloc, input)?;
@@ -78,8 +79,8 @@ fn answer_with<F: FileSource>(
             let file = input_file(alloc, input)?;
             Ok(simplify_given(alloc, *form, texts, &file)?)
         }
-        Request::Decide(asked) => decide_given(alloc, files, input, asked),
-        Request::Ask(asked) => ask(alloc, files, input, asked),
+        Request::Decide(asked) => decide_given(alloc, &files, asked),
+        Request::Ask(asked) => ask(alloc, &files, asked),
         Request::Show(text) => Ok(Answer {
             text: String::from_str(alloc, text)?,
             ending: Ending::Fine,

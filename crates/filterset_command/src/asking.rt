@@ -9,9 +9,10 @@ ghost use Rattle.nextest_filtering.specs.Groups.{IsKnown};
 ghost use Rattle.filterset_command.specs.Asking.{AnswersAsked, AnswersIn, AnswersOf, HasParts, IsAskedFault, IsPlain, Lacks, LacksOf, given_row, kept_of};
 ghost use Rattle.filterset_command.specs.Files.{OrMemory};
 
-use crate::explaining::candidate_of;
+use crate::explaining::{candidate_of, is_uncounted};
 use crate::fault::CommandFault;
 use crate::files::FileSource;
+use crate::input::name_of;
 use crate::overriding::ask_overrides;
 use crate::profile::ProfileRequest;
 use crate::profiled::ask_configured;
@@ -24,7 +25,7 @@ use filterset_graph::PackageGraph;
 use filterset_listing::AskedBinary;
 use filterset_overrides::AskedProfile;
 use filterset_sources::Suite;
-use filterset_warnings::warn_setting;
+use filterset_warnings::{WarningEnd, warn_setting};
 use nextest_filtering::KnownGroups;
 use serde_json::Value;
 use std::alloc::{AllocError, Global};
@@ -58,8 +59,7 @@ pub enum Asked<'w> {
 #[derive(Clone, Copy)]
 pub struct WarnedTexts<'w> {
     pub entries: &'w [TextEntry<'w>],
-    /// Whether the command fails if there are warnings.
-    pub denies: bool,
+    pub end: WarningEnd,
 }
 
 /// What is asked of the workspace that files describe.
@@ -137,7 +137,8 @@ fn answer_asked(
             test,
         } => {
             let candidate = candidate_of(alloc, list, binary, *test, binaries)?;
-            Ok(explain_filterset(alloc, form, setting, filter, candidate)?)
+            let is_ignored = is_uncounted(binaries, binary, *test);
+            Ok(explain_filterset(alloc, form, setting, filter, candidate, is_ignored)?)
         }
         Asked::Overrides {
             filters,
@@ -149,7 +150,7 @@ fn answer_asked(
         Asked::Warnings(texts) => Ok(warn_setting(
             alloc,
             form,
-            texts.denies,
+            texts.end,
             setting,
             texts.entries,
             binaries,
@@ -186,7 +187,7 @@ pub fn ask_under(
     answer_asked(
         alloc,
         request.form,
-        request.paths.list,
+        name_of(request.paths.list),
         &setting,
         &request.asked,
         kept,
@@ -231,18 +232,16 @@ pub fn ask_plainly(
     }
 }
 
-/// Answers what is asked of the workspace that files describe. Standard input has the text `input`, if that is the
-/// configuration.
+/// Answers what is asked of the workspace that files describe.
 pub fn ask<F: FileSource>(
     alloc: Global,
     files: &F,
-    input: &str,
     request: &WorkspaceRequest<'_>,
 ) -> Result<Answer, CommandFault>
-    ensures answered { IfOk result (λ answer. AnswersAsked (F.content files.now) input.now request.now
+    ensures answered { IfOk result (λ answer. AnswersAsked (F.content files.now) request.now
         answer.ending (string_bytes answer.text)) }
     ensures refused { IfErr result (OrMemory
-        (IsAskedFault (F.content files.now) (F.fails files.now) input.now request.now)) }
+        (IsAskedFault (F.content files.now) (F.fails files.now) request.now)) }
 {
     let Workspace { graph, list, value } = read_workspace(alloc, files, &request.paths)?;
     let asked = AskedWorkspace::new(request, &graph, list.suites.as_slice());
@@ -252,7 +251,7 @@ pub fn ask<F: FileSource>(
         Some(profile) => {
             let built = platforms_of(alloc, request.paths.list, &value)?;
             let kept = kept_of(request.form, value);
-            ask_configured(alloc, files, input, &asked, &profile, built, given, kept)
+            ask_configured(alloc, files, &asked, &profile, built, given, kept)
         }
     }
 }

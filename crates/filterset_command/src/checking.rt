@@ -1,19 +1,23 @@
 //! The command `check`: the faults of texts and of a configuration's filtersets, by the names that files give.
-ghost use Rattle.std.specs.Prelude.{◌≡◌, ◌++◌, IfErr, IfOk, IfSome, IsSomeAnd, map, string_bytes};
+ghost use Rattle.std.specs.Prelude.{◌≡◌, ◌++◌, IfErr, IfOk, IfSome, IsSomeAnd, OnOk, map, string_bytes};
 ghost use Rattle.filterset_answers.specs.Checked.{text_row};
 ghost use Rattle.filterset_answers.specs.Entries.{rows_in};
 ghost use Rattle.nextest_filtering.specs.Groups.{IsKnown};
 ghost use Rattle.filterset_sources.specs.Configurations.{IsConfiguration, RefusesConfiguration};
 ghost use Rattle.filterset_sources.specs.Metadata.{RefusesMetadata};
 ghost use Rattle.filterset_sources.specs.declared.configuration.Configuration as configurations;
-ghost use Rattle.filterset_command.specs.Checking.{AnswersCheck, ChecksAll, ChecksKnown, IsCheckFault, KnownConfiguration, KnownPackages, file_name};
-ghost use Rattle.filterset_command.specs.Files.{BySource, IsFileFault, OrMemory, content_of};
-ghost use Rattle.filterset_command.specs.Warned.{IsWarnedFault, request_after};
+ghost use Rattle.filterset_command.specs.Checking.{AnswersCheck, ChecksAll, ChecksKnown, HasAsked, IsCheckFault, IsUnchecked, KnownConfiguration, KnownPackages, LacksAsked, file_name};
+ghost use Rattle.filterset_command.specs.Configurations.{HasNamed};
+ghost use Rattle.filterset_command.specs.Files.{BySource, IsFileFault, OrMemory};
+ghost use Rattle.filterset_command.specs.Warned.{request_after};
 ghost use Rattle.filterset_command.specs.Workspaces.{RefusesValue};
 
 use crate::configuration::{ConfigurationFile, configured_texts, read_configuration_file};
 use crate::fault::{CommandFault, FileRole};
 use crate::files::FileSource;
+use crate::input::name_of;
+use crate::naming::request_of;
+use crate::profile::{lineage_of, profiles_in};
 use crate::warning::{CheckedTexts, WarningRequest, join_answers, warn_checked};
 use crate::workspace::read_graph;
 use filterset_answers::{
@@ -23,7 +27,7 @@ use filterset_drawing::Source;
 use filterset_graph::PackageGraph;
 use filterset_profiles::{WrongValue, find_wrong_values};
 use filterset_sources::Configuration;
-use filterset_warnings::add_values;
+use filterset_warnings::{WarningEnd, add_values, warn_configuration};
 use std::alloc::{AllocError, Global};
 
 /// The paths of the files that give the names that filtersets may use, and of the list by which there are warnings.
@@ -31,10 +35,14 @@ use std::alloc::{AllocError, Global};
 pub struct CheckPaths<'w> {
     /// What `cargo metadata` wrote.
     pub metadata: Option<&'w str>,
-    /// Nextest's configuration, whose filtersets are checked too; `-` is standard input.
+    /// Nextest's configuration, whose filtersets are checked too.
     pub configuration: Option<&'w str>,
+    /// The name of its profile that is used.
+    pub profile: &'w str,
     /// The list of tests by which there are warnings.
     pub warnings: Option<WarningRequest<'w>>,
+    /// Whether the command fails if there are warnings.
+    pub denies: bool,
 }
 
 /// Reads the packages. Without a file there are none.
@@ -57,17 +65,15 @@ pub fn known_packages<F: FileSource>(
 fn known_configuration<F: FileSource>(
     alloc: Global,
     files: &F,
-    input: &str,
     path: Option<&str>,
 ) -> Result<ConfigurationFile, CommandFault>
-    ensures known { IfOk result (λ file. KnownConfiguration (content_of (F.content files.now) input.now) path.entry
+    ensures known { IfOk result (λ file. KnownConfiguration (F.content files.now) path.entry
         (string_bytes file.text) file.configuration file.places.places.items) }
     ensures refused { IfErr result (OrMemory (λ fault. IsSomeAnd path.entry (λ path. IsFileFault
-        (content_of (F.content files.now) input.now) (F.fails files.now) FileRole.Configuration (BySource RefusesConfiguration)
-        path.now fault))) }
+        (F.content files.now) (F.fails files.now) FileRole.Configuration (BySource RefusesConfiguration) path.now fault))) }
 {
     match path {
-        Some(path) => read_configuration_file(alloc, files, input, path),
+        Some(path) => read_configuration_file(alloc, files, path),
         None => Ok(ConfigurationFile::empty(alloc)),
     }
 }
@@ -77,7 +83,7 @@ fn file_name(path: Option<&str>) -> &str
     ensures { result.now ≡ file_name path.entry }
 {
     match path {
-        Some(path) => FileRole::Configuration.name_of(path),
+        Some(path) => name_of(path),
         None => "",
     }
 }
@@ -125,7 +131,41 @@ fn request_after<'w>(
     }
 }
 
-/// Checks the values of a configuration, then its filtersets, and after them other texts; then warns of all these texts.
+/// Finds the profile of a name in the configuration at a path, which has this text.
+fn find_named(alloc: Global, path: &str, name: &str, text: &str) -> Result<(), CommandFault>
+    requires { (c : configurations.Configuration) × IsConfiguration text.now c }
+    ensures found { OnOk result (HasNamed text.now name.now) }
+    ensures refused { IfErr result (OrMemory (LacksAsked path.now name.now text.now)) }
+{
+    let profiles = profiles_in(alloc, path, text)?;
+    let request = request_of(path, name);
+    match lineage_of(alloc, &request, profiles.as_slice()) {
+        Ok(_) => Ok(()),
+        Err(fault) => Err(fault),
+    }
+}
+
+/// Finds the profile of the configuration, which has this text, if it has no wrong values.
+fn find_asked(
+    alloc: Global,
+    paths: &CheckPaths<'_>,
+    text: &str,
+    values: &[WrongValue],
+) -> Result<(), CommandFault>
+    requires { IfSome paths.now.configuration
+        (λ path. (c : configurations.Configuration) × IsConfiguration text.now c) }
+    ensures found { OnOk result (HasAsked paths.now text.now values.now) }
+    ensures refused { IfErr result (OrMemory (λ fault. IsSomeAnd paths.now.configuration
+        (λ path. LacksAsked path.now paths.now.profile.now text.now fault))) }
+{
+    match (values, paths.configuration) {
+        ([], Some(path)) => find_named(alloc, path, paths.profile, text),
+        _ => Ok(()),
+    }
+}
+
+/// Checks the values of a configuration, then its filtersets, and after them other texts; then warns of the configuration, and
+/// of all these texts.
 fn check_all<'c, F: FileSource>(
     alloc: Global,
     files: &F,
@@ -141,10 +181,11 @@ fn check_all<'c, F: FileSource>(
         × IsConfiguration configured.file.now.text.now c) }
     ensures answered { IfOk result (λ answer. ChecksAll (F.content files.now) form graph.now names.now paths.entry
         configured.entry (map text_row given.entry.items) answer.ending (string_bytes answer.text)) }
-    ensures refused { IfErr result (OrMemory (IsWarnedFault (F.content files.now) (F.fails files.now) graph.now
-        paths.entry.configuration configured.entry.file.now.text.now paths.entry.warnings)) }
+    ensures refused { IfErr result (OrMemory (IsUnchecked (F.content files.now) (F.fails files.now) graph.now
+        paths.entry configured.entry.file.now.text.now)) }
 {
     let entries = all_entries(alloc, configured, given)?;
+    let own = warn_configuration(alloc, form, configured)?;
     let texts = CheckedTexts {
         form,
         graph,
@@ -152,33 +193,37 @@ fn check_all<'c, F: FileSource>(
         path: paths.configuration,
         configured,
         entries: entries.as_slice(),
+        end: WarningEnd {
+            denies: paths.denies,
+            before: own.count,
+        },
     };
     let values = find_wrong_values(alloc, configured.file.text)?;
     let answer = check_known(alloc, names, &texts, values.as_slice())?;
     let request = request_after(values.as_slice(), paths.warnings);
+    find_asked(alloc, &paths, configured.file.text, values.as_slice())?;
     let warnings = warn_checked(alloc, files, request, &texts)?;
-    Ok(join_answers(alloc, answer, warnings)?)
+    Ok(join_answers(alloc, answer, own.text.as_str(), warnings)?)
 }
 
 /// Checks the values of the configuration, then its filtersets, and after them the texts that are given; then warns of these
-/// by the list of tests, if one is given. Standard input has the text `input`, if that is the configuration.
+/// by the list of tests, if one is given.
 pub fn check_texts<F: FileSource>(
     alloc: Global,
     files: &F,
-    input: &str,
     form: Form,
     paths: &CheckPaths<'_>,
     given: Vec<TextEntry<'_>>,
 ) -> Result<Answer, CommandFault>
-    ensures answered { IfOk result (λ answer. AnswersCheck (F.content files.now) input.now form paths.now
+    ensures answered { IfOk result (λ answer. AnswersCheck (F.content files.now) form paths.now
         (map text_row given.entry.items) answer.ending (string_bytes answer.text)) }
-    ensures refused { IfErr result (OrMemory (IsCheckFault (F.content files.now) (F.fails files.now) input.now paths.now)) }
+    ensures refused { IfErr result (OrMemory (IsCheckFault (F.content files.now) (F.fails files.now) paths.now)) }
 {
     let ConfigurationFile {
         text,
         configuration,
         places,
-    } = known_configuration(alloc, files, input, paths.configuration)?;
+    } = known_configuration(alloc, files, paths.configuration)?;
     let Configuration { filtersets, groups } = configuration;
     let graph = known_packages(alloc, files, paths.metadata)?;
     let (has_packages, has_groups) = (paths.metadata.is_some(), paths.configuration.is_some());

@@ -1,12 +1,11 @@
-//! Nextest's configuration, from a file or from standard input.
+//! Nextest's configuration.
 ghost use Rattle.std.specs.Prelude.{◌≡◌, IfErr, IfOk, [], string_bytes};
 ghost use Rattle.filterset_sources.specs.Configurations.{RefusesConfiguration};
 ghost use Rattle.filterset_command.specs.Configurations.{IsConfigurationIn};
-ghost use Rattle.filterset_command.specs.Files.{BySource, IsContent, IsFileFault, OrMemory, content_of};
+ghost use Rattle.filterset_command.specs.Files.{BySource, IsFileFault, OrMemory};
 
 use crate::fault::{CommandFault, FileRole};
 use crate::files::{FileSource, read_text};
-use crate::input::is_input;
 use filterset_answers::ConfiguredTexts;
 use filterset_drawing::Source;
 use filterset_places::Places;
@@ -41,36 +40,18 @@ impl ConfigurationFile {
     }
 }
 
-/// Reads the text of the file at a path, where `-` is standard input, which has this text.
-fn text_at<F: FileSource>(
-    alloc: Global,
-    files: &F,
-    input: &str,
-    path: &str,
-) -> Result<String, CommandFault>
-    ensures whole { IfOk result (λ text. IsContent (content_of (F.content files.now) input.now path.now) (string_bytes text)) }
-    ensures refused { IfErr result (OrMemory (IsFileFault (content_of (F.content files.now) input.now) (F.fails files.now)
-        FileRole.Configuration (λ _ _. ⊥) path.now)) }
-{
-    if is_input(path) {
-        return Ok(String::from_str(alloc, input)?);
-    }
-    read_text(alloc, files, FileRole::Configuration, path)
-}
-
-/// Reads the configuration at a path, where `-` is standard input, which has this text.
+/// Reads the configuration at a path.
 pub fn read_configuration_file<F: FileSource>(
     alloc: Global,
     files: &F,
-    input: &str,
     path: &str,
 ) -> Result<ConfigurationFile, CommandFault>
-    ensures read { IfOk result (λ file. IsConfigurationIn (content_of (F.content files.now) input.now path.now)
+    ensures read { IfOk result (λ file. IsConfigurationIn (F.content files.now path.now)
         (string_bytes file.text) file.configuration file.places.places.items) }
-    ensures refused { IfErr result (OrMemory (IsFileFault (content_of (F.content files.now) input.now) (F.fails files.now)
+    ensures refused { IfErr result (OrMemory (IsFileFault (F.content files.now) (F.fails files.now)
         FileRole.Configuration (BySource RefusesConfiguration) path.now)) }
 {
-    let text = text_at(alloc, files, input, path)?;
+    let text = read_text(alloc, files, FileRole::Configuration, path)?;
     let configuration = match read_configuration(alloc, text.as_str()) {
         Ok(configuration) => configuration,
         Err(refusal) => {

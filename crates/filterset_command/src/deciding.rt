@@ -14,8 +14,9 @@ ghost use Rattle.filterset_command.specs.Workspaces.{IsPlatformsFault};
 
 use crate::checking::known_packages;
 use crate::configuration::configured_texts;
-use crate::fault::{CommandFault, FileRole};
+use crate::fault::CommandFault;
 use crate::files::FileSource;
+use crate::input::name_of;
 use crate::naming::{ResolvedEntries, filter_of, resolve, resolve_entries};
 use crate::profile::{
     KnownPlatforms, ProfileRequest, ProfilesFile, read_facts, read_profiles_file,
@@ -30,7 +31,7 @@ use filterset_deciding::Question;
 use filterset_drawing::Source;
 use filterset_graph::PackageGraph;
 use filterset_profiles::Profile;
-use filterset_sources::{BuildPlatforms, Suite};
+use filterset_sources::{BuildPlatforms, RunIgnored, Suite};
 use nextest_filtering::{FiltersetKind, KnownGroups};
 use serde_json::Value;
 use std::alloc::{AllocError, Global};
@@ -48,6 +49,8 @@ pub struct DecisionRequest<'w> {
     pub metadata: Option<&'w str>,
     /// What `cargo nextest list` wrote. If the answer is no for one of its tests, that is shown.
     pub list: Option<&'w str>,
+    /// Which of its tests count.
+    pub run_ignored: RunIgnored,
     /// The filterset that is the value of `default()`, in place of that of the profile.
     pub default_filter: Option<&'w str>,
     /// The configuration whose profiles texts such as `@ci` name, and the profile for `default()`.
@@ -227,12 +230,10 @@ fn nowhere() -> BuildPlatforms
     }
 }
 
-/// Answers under the profiles of a configuration, on these platforms. Standard input has the text `input`, if that is the
-/// configuration.
+/// Answers under the profiles of a configuration, on these platforms.
 fn decide_configured<F: FileSource>(
     alloc: Global,
     files: &F,
-    input: &str,
     request: &DecisionRequest<'_>,
     workspace: KnownWorkspace<'_>,
     profile: &ProfileRequest<'_>,
@@ -240,10 +241,10 @@ fn decide_configured<F: FileSource>(
     entries: Vec<TextEntry<'_>>,
 ) -> Result<Answer, CommandFault>
     requires { map text_row entries.items ≡ request_rows request.now }
-    ensures answered { IfOk result (λ answer. AnswersProfiles (F.content files.now) input.now request.now
+    ensures answered { IfOk result (λ answer. AnswersProfiles (F.content files.now) request.now
         workspace.entry.graph.now workspace.entry.suites.now profile.now built answer.ending (string_bytes answer.text)) }
     ensures refused { IfErr result (OrMemory
-        (IsNamedFault (F.content files.now) (F.fails files.now) input.now request.now profile.now)) }
+        (IsNamedFault (F.content files.now) (F.fails files.now) request.now profile.now)) }
 {
     let ProfilesFile {
         text,
@@ -251,10 +252,9 @@ fn decide_configured<F: FileSource>(
         places,
         groups,
         profiles,
-    } = read_profiles_file(alloc, files, input, profile.configuration)?;
+    } = read_profiles_file(alloc, files, profile.configuration)?;
     let known = read_facts(alloc, files, profile, built)?;
-    let name = FileRole::Configuration.name_of(profile.configuration);
-    let source = Source::new(alloc, name, text.as_str())?;
+    let source = Source::new(alloc, name_of(profile.configuration), text.as_str())?;
     let texts = configured_texts(&source, filtersets.as_slice(), &places);
     let profiles = profiles.as_slice();
     decide_named(
@@ -262,26 +262,24 @@ fn decide_configured<F: FileSource>(
     )
 }
 
-/// Answers for a workspace, under profiles on these platforms or without one. Standard input has the text `input`, if that is
-/// the configuration.
+/// Answers for a workspace, under profiles on these platforms or without one.
 fn decide_known<F: FileSource>(
     alloc: Global,
     files: &F,
-    input: &str,
     request: &DecisionRequest<'_>,
     workspace: KnownWorkspace<'_>,
     built: BuildPlatforms,
 ) -> Result<Answer, CommandFault>
-    ensures answered { IfOk result (λ answer. AnswersKnown (F.content files.now) input.now request.now
+    ensures answered { IfOk result (λ answer. AnswersKnown (F.content files.now) request.now
         workspace.entry.graph.now workspace.entry.suites.now built answer.ending (string_bytes answer.text)) }
     ensures refused { IfErr result (OrMemory (λ fault. IsSomeAnd request.now.profile
-        (λ profile. IsNamedFault (F.content files.now) (F.fails files.now) input.now request.now profile fault))) }
+        (λ profile. IsNamedFault (F.content files.now) (F.fails files.now) request.now profile fault))) }
 {
     let entries = request_entries(alloc, request)?;
     match &request.profile {
         None => Ok(decide_plainly(alloc, request, workspace, entries.as_slice())?),
         Some(profile) => decide_configured(
-            alloc, files, input, request, workspace, profile, built, entries,
+            alloc, files, request, workspace, profile, built, entries,
         ),
     }
 }
@@ -307,47 +305,44 @@ fn platforms_for(
 fn decide_listed<F: FileSource>(
     alloc: Global,
     files: &F,
-    input: &str,
     request: &DecisionRequest<'_>,
     graph: &PackageGraph,
     path: &str,
 ) -> Result<Answer, CommandFault>
-    ensures answered { IfOk result (λ answer. AnswersListed (F.content files.now) input.now request.now graph.now path.now
+    ensures answered { IfOk result (λ answer. AnswersListed (F.content files.now) request.now graph.now path.now
         answer.ending (string_bytes answer.text)) }
     ensures refused { IfErr result (OrMemory
-        (IsListedFault (F.content files.now) (F.fails files.now) input.now request.now graph.now path.now)) }
+        (IsListedFault (F.content files.now) (F.fails files.now) request.now graph.now path.now)) }
 {
-    let (list, value) = read_list(alloc, files, path, graph)?;
+    let (list, value) = read_list(alloc, files, path, graph, request.run_ignored)?;
     let built = platforms_for(alloc, request, path, &value)?;
     let workspace = KnownWorkspace {
         graph,
         suites: list.suites.as_slice(),
     };
-    decide_known(alloc, files, input, request, workspace, built)
+    decide_known(alloc, files, request, workspace, built)
 }
 
-/// Answers a question about filtersets and every possible test. Standard input has the text `input`, if that is the
-/// configuration.
+/// Answers a question about filtersets and every possible test.
 pub fn decide_given<F: FileSource>(
     alloc: Global,
     files: &F,
-    input: &str,
     request: &DecisionRequest<'_>,
 ) -> Result<Answer, CommandFault>
-    ensures answered { IfOk result (λ answer. AnswersDecision (F.content files.now) input.now request.now
+    ensures answered { IfOk result (λ answer. AnswersDecision (F.content files.now) request.now
         answer.ending (string_bytes answer.text)) }
     ensures refused { IfErr result (OrMemory
-        (IsDecisionFault (F.content files.now) (F.fails files.now) input.now request.now)) }
+        (IsDecisionFault (F.content files.now) (F.fails files.now) request.now)) }
 {
     let graph = known_packages(alloc, files, request.metadata)?;
     match request.list {
-        Some(path) => decide_listed(alloc, files, input, request, &graph, path),
+        Some(path) => decide_listed(alloc, files, request, &graph, path),
         None => {
             let workspace = KnownWorkspace {
                 graph: &graph,
                 suites: &[],
             };
-            decide_known(alloc, files, input, request, workspace, nowhere())
+            decide_known(alloc, files, request, workspace, nowhere())
         }
     }
 }

@@ -19,7 +19,7 @@ fn file_status(fault: &FileFault) -> u8
 {
     match fault {
         FileFault::Unread(_) => 3,
-        FileFault::NotText | FileFault::Refused(_) | FileFault::WrongLine(_) => 2,
+        FileFault::NotText | FileFault::Refused(_) | FileFault::WrongCfg(_) => 2,
     }
 }
 
@@ -53,7 +53,7 @@ pub fn status(ended: &Result<Ended, CommandFault>) -> u8
         Ok(Ended::Answered(ending)) => answer_status(*ending),
         Ok(Ended::Served(ending)) => session_status(*ending),
         Err(CommandFault::File { fault, .. }) => file_status(fault),
-        Err(CommandFault::Run(_)) => 3,
+        Err(CommandFault::Run(_) | CommandFault::Unwritten(_)) => 3,
         Err(_) => 2,
     }
 }

@@ -2,7 +2,7 @@
 ghost use Rattle.std.specs.Prelude.{◌≡◌, IfErr, IfOk, Option, option_map};
 ghost use Rattle.std.specs.Borrow.{Bor};
 ghost use Rattle.filterset_drawing.specs.Columns.{Text};
-ghost use Rattle.filterset_command.specs.Explaining.{IsCandidate, IsMissing, binary_called, name_called};
+ghost use Rattle.filterset_command.specs.Explaining.{IsCandidate, IsMissing, binary_called, is_uncounted, name_called, test_called};
 ghost use Rattle.filterset_command.specs.Files.{OrMemory};
 
 use crate::fault::CommandFault;
@@ -24,6 +24,29 @@ fn test_called<'s>(tests: &'s [TestCaseName], name: &str) -> Option<&'s TestCase
     ensures { option_map (λ t. t.now) result ≡ name_called name.now tests.now }
 {
     tests.iter().find(|test| test.as_str() == name)
+}
+
+/// Returns whether the binary with this id has a test with this name that does not count.
+pub fn is_uncounted(binaries: &[AskedBinary<'_>], id: &str, test: Option<&str>) -> bool
+    ensures { result ≡ is_uncounted binaries.now id.now test.entry }
+{
+    let Some(test) = test else {
+        return false;
+    };
+    match binary_called(binaries, id) {
+        Some(binary) => test_called(binary.uncounted, test).is_some(),
+        None => false,
+    }
+}
+
+/// Returns the first test of the binary with this name, of those that count, or else of the others.
+fn any_test_called<'s>(binary: &AskedBinary<'s>, name: &str) -> Option<&'s TestCaseName>
+    ensures { option_map (λ t. t.now) result ≡ test_called name.now binary.now }
+{
+    match test_called(binary.tests, name) {
+        Some(test) => Some(test),
+        None => test_called(binary.uncounted, name),
+    }
 }
 
 /// Returns the first binary with this id. The fault names the list at the path `list`.
@@ -58,7 +81,7 @@ pub fn find_test<'s>(
     ensures missing { IfErr result (OrMemory (IsMissing list.now binaries.now id.now (Some test.entry))) }
 {
     let binary = find_binary(alloc, list, id, binaries)?;
-    let Some(test_name) = test_called(binary.tests, test) else {
+    let Some(test_name) = any_test_called(binary, test) else {
         return Err(CommandFault::NoTest {
             list: String::from_str(alloc, list)?,
             binary: String::from_str(alloc, id)?,

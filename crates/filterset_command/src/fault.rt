@@ -1,11 +1,13 @@
 //! The faults that end a command without an answer, and what they tell people to do next.
 ghost use Rattle.std.specs.Prelude.{◌≡◌, ◌≢◌, alloc_error};
-ghost use Rattle.filterset_command.specs.Files.{IsFaultAt, OrMemory, name_of};
+ghost use Rattle.std.specs.IoError.{error_kind};
+ghost use Rattle.std.specs.declared.io.ErrorKind.TheVariants.{OutOfMemory};
+ghost use Rattle.filterset_command.specs.Files.{IsFaultAt, OrMemory};
 
-use crate::input::{INPUT_NAME, is_input};
+use crate::input::{INPUT_NAME, name_of};
 use clap::Error;
 use filterset_json::RunFault;
-use filterset_profiles::LineageFault;
+use filterset_profiles::{CfgRefusal, LineageFault};
 use filterset_sources::SourceRefusal;
 use std::alloc::{AllocError, Global};
 use std::{fmt, io};
@@ -17,7 +19,7 @@ pub enum FileRole {
     Metadata,
     /// It has the tests: what `cargo nextest list` wrote.
     List,
-    /// It is nextest's configuration, where `-` is standard input.
+    /// It is nextest's configuration.
     Configuration,
     /// It has what `rustc` sets for the platform that tests are built for.
     TargetCfg,
@@ -26,16 +28,6 @@ pub enum FileRole {
 }
 
 impl FileRole {
-    /// Returns what faults call the file at a path.
-    pub fn name_of(self, path: &str) -> &str
-        ensures { result.now ≡ name_of self path.now }
-    {
-        match self {
-            FileRole::Configuration if is_input(path) => INPUT_NAME,
-            _ => path,
-        }
-    }
-
     /// Returns which file the option takes.
     fn help(self) -> &'static str {
         match self {
@@ -64,8 +56,8 @@ pub enum FileFault {
     NotText,
     /// Its content is not what it has to be.
     Refused(SourceRefusal),
-    /// This line, counted from 1, is nothing that `rustc` sets.
-    WrongLine(usize),
+    /// It is not what `rustc` sets for a platform.
+    WrongCfg(CfgRefusal),
 }
 
 // By hand, so that a function that drops a fault proves one call.
@@ -73,8 +65,9 @@ impl Drop for FileFault {
     fn drop(self) {
         match self {
             FileFault::Unread(_error) => {}
-            FileFault::NotText | FileFault::WrongLine(_) => {}
+            FileFault::NotText => {}
             FileFault::Refused(_refusal) => {}
+            FileFault::WrongCfg(_refusal) => {}
         }
     }
 }
@@ -86,10 +79,7 @@ impl FileFault {
             FileFault::Unread(error) => write!(f, "error: cannot read {path}: {error}"),
             FileFault::NotText => write!(f, "error: {path} is not UTF-8"),
             FileFault::Refused(refusal) => write!(f, "error: {path}: {refusal}"),
-            FileFault::WrongLine(line) => write!(
-                f,
-                "error: {path}: line {line} must be a name, or a key with a value in quotes",
-            ),
+            FileFault::WrongCfg(refusal) => write!(f, "error: {path}: {refusal}"),
         }
     }
 }
@@ -104,8 +94,12 @@ pub enum CommandFault {
     NotText,
     /// The command line lacks this argument.
     Missing(&'static str),
-    /// `-` stands for the filtersets, and for the configuration too.
+    /// There is nothing to check: no filterset, and no configuration in this folder or above.
+    NoConfiguration,
+    /// `-` stands for two things.
     TwoInputs,
+    /// `-` is given beside other filtersets.
+    MixedInput,
     /// The value of `--budget` is no number of steps.
     WrongBudget,
     /// The file at this path is not used.
@@ -132,6 +126,8 @@ pub enum CommandFault {
         binary: String,
         test: String,
     },
+    /// Standard output does not take the answer.
+    Unwritten(io::Error),
     /// Out of memory, or a read or a write failed.
     Run(RunFault),
 }
@@ -141,9 +137,10 @@ impl Drop for CommandFault {
     fn drop(self) {
         match self {
             CommandFault::Words(_error) => {}
-            CommandFault::NoWords | CommandFault::NotText => {}
-            CommandFault::TwoInputs | CommandFault::WrongBudget => {}
+            CommandFault::NoWords | CommandFault::NotText | CommandFault::NoConfiguration => {}
+            CommandFault::TwoInputs | CommandFault::MixedInput | CommandFault::WrongBudget => {}
             CommandFault::Missing(_) | CommandFault::Run(_) => {}
+            CommandFault::Unwritten(_error) => {}
             CommandFault::File {
                 role: _role,
                 path: _path,
@@ -172,7 +169,7 @@ impl CommandFault {
     pub fn in_file(alloc: Global, role: FileRole, path: &str, fault: FileFault) -> CommandFault
         ensures { OrMemory (IsFaultAt role path.now fault) result }
     {
-        match String::from_str(alloc, role.name_of(path)) {
+        match String::from_str(alloc, name_of(path)) {
             Ok(path) => CommandFault::File { role, path, fault },
             Err(refused) => CommandFault::Run(RunFault::Memory(refused)),
         }
@@ -180,7 +177,8 @@ impl CommandFault {
 
     /// Makes the fault of the file at a path that could not be read.
     pub fn from_read(alloc: Global, role: FileRole, path: &str, error: io::Error) -> CommandFault
-        ensures { OrMemory (IsFaultAt role path.now (FileFault.Unread error)) result }
+        ensures { OrMemory (λ fault. IsFaultAt role path.now (FileFault.Unread error) fault
+            × (error_kind error ≢ OutOfMemory)) result }
     {
         match error.kind() {
             io::ErrorKind::OutOfMemory => CommandFault::Run(RunFault::Memory(AllocError)),
@@ -226,8 +224,14 @@ impl fmt::Display for CommandFault {
                 f,
                 "error: {INPUT_NAME} is not UTF-8\nhelp: `-` takes filtersets, one a line, or a configuration, in UTF-8",
             ),
+            CommandFault::NoConfiguration => f.write_str(
+                "error: there is nothing to check: no filterset, and no `.config/nextest.toml` in this folder or above\nhelp: give filtersets, or a configuration by `--config`",
+            ),
             CommandFault::TwoInputs => f.write_str(
-                "error: `-` stands for the filtersets and for the configuration\nhelp: give one of them as an argument or a file",
+                "error: `-` stands for two things, and there is one standard input\nhelp: give one of them as an argument or a file",
+            ),
+            CommandFault::MixedInput => f.write_str(
+                "error: `-` is given beside other filtersets\nhelp: give it alone: each line of standard input is a filterset",
             ),
             CommandFault::WrongBudget => f.write_str(
                 "error: the value of `--budget` is no number of steps\nhelp: give a number such as 50000000",
@@ -253,6 +257,9 @@ impl fmt::Display for CommandFault {
                 f,
                 "error: {list} has no test `{test}` of the binary `{binary}`\nhelp: `filterset list` with the same files and -E 'binary_id(={binary})' prints its tests",
             ),
+            CommandFault::Unwritten(error) => {
+                write!(f, "error: cannot write standard output: {error}")
+            }
             CommandFault::Run(fault) => fault.fmt(f),
         }
     }

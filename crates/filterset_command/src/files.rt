@@ -1,9 +1,12 @@
 //! Reading whole files.
-ghost use Rattle.std.specs.Prelude.{◌≡◌, IfErr, IfOk, IfSome, List, Option, ℕ, string_bytes};
+ghost use Rattle.std.specs.Prelude.{◌≡◌, ◌≢◌, IfErr, IfOk, IfSome, List, Option, ℕ, string_bytes};
+ghost use Rattle.std.specs.IoError.{error_kind};
 ghost use Rattle.std.specs.declared.io.Error.{Error};
+ghost use Rattle.std.specs.declared.io.ErrorKind.TheVariants.{OutOfMemory};
 ghost use Rattle.filterset_command.specs.Files.{IsFileFault, OrMemory};
 
 use crate::fault::{CommandFault, FileFault, FileRole};
+use crate::input::is_input;
 use std::alloc::Global;
 use std::{fs, io};
 
@@ -18,7 +21,38 @@ pub trait FileSource {
     fn read(&self, alloc: Global, path: &str) -> io::Result<Vec<u8>>
         ensures bytes { IfOk result
             (λ bytes. IfSome (content self.now path.now) (λ known. bytes.items ≡ known)) }
-        ensures failed { IfErr result (fails self.now path.now) };
+        ensures failed { IfErr result (λ error.
+            error_kind error ≢ OutOfMemory → fails self.now path.now error) };
+}
+
+/// Files, where the path `-` is that of standard input, which has this text.
+pub struct WithInput<'f, F> {
+    pub files: &'f F,
+    pub input: &'f str,
+}
+
+impl<F> Drop for WithInput<'_, F> {
+    fn drop(self) {
+        let WithInput { files: _, input: _ } = self;
+    }
+}
+
+impl<F: FileSource> FileSource for WithInput<'_, F> {
+    ghost use Rattle.filterset_command.specs.Files.{content_of};
+
+    ghost content = { λ s. content_of (F.content s.files.now) s.input.now };
+
+    ghost fails = { λ s. F.fails s.files.now };
+
+    fn read(&self, alloc: Global, path: &str) -> io::Result<Vec<u8>> {
+        if !is_input(path) {
+            return self.files.read(alloc, path);
+        }
+        match String::from_str(alloc, self.input) {
+            Ok(text) => Ok(text.into_bytes()),
+            Err(_) => Err(io::Error::from(io::ErrorKind::OutOfMemory)),
+        }
+    }
 }
 
 /// The files of the machine.

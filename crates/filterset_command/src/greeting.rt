@@ -10,6 +10,7 @@ use crate::fault::CommandFault;
 use crate::files::FileSource;
 use crate::workspace::{Workspace, WorkspacePaths, read_workspace};
 use filterset_editor::show_error;
+use filterset_sources::RunIgnored;
 use serde_json::Value;
 use std::alloc::{AllocError, Global};
 
@@ -27,7 +28,8 @@ const WRONG: &str =
 #[derive(Clone, Copy)]
 pub enum Named<'v> {
     Nothing,
-    Paths(WorkspacePaths<'v>),
+    /// The paths of what `cargo metadata` wrote and of nextest's list.
+    Paths(&'v str, &'v str),
     /// There are not both paths.
     Wrong,
 }
@@ -66,7 +68,7 @@ fn named_in(options: &Value) -> Named<'_>
 {
     match path_at(options, METADATA) {
         Some(metadata) => match path_at(options, LIST) {
-            Some(list) => Named::Paths(WorkspacePaths { metadata, list }),
+            Some(list) => Named::Paths(metadata, list),
             None => Named::Wrong,
         },
         None if is_given(options, METADATA) || is_given(options, LIST) => Named::Wrong,
@@ -143,6 +145,14 @@ pub fn greet<F: FileSource>(
     match named_in(options) {
         Named::Nothing => Ok(silent(alloc)),
         Named::Wrong => Ok(complaint(alloc, WRONG)?),
-        Named::Paths(paths) => greet_from(alloc, files, &paths),
+        Named::Paths(metadata, list) => {
+            let run_ignored = RunIgnored::All;
+            let paths = WorkspacePaths {
+                metadata,
+                list,
+                run_ignored,
+            };
+            greet_from(alloc, files, &paths)
+        }
     }
 }

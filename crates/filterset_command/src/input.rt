@@ -1,7 +1,7 @@
 //! Standard input.
 ghost use Rattle.std.specs.Prelude.{◌≡◌, IfErr, IfOk, OnOk, string_bytes};
 ghost use Rattle.filterset_json.specs.Runs.{AreLeft};
-ghost use Rattle.filterset_command.specs.Files.{OrMemory, is_input};
+ghost use Rattle.filterset_command.specs.Files.{OrMemory, is_input, name_of};
 ghost use Rattle.filterset_command.specs.Requests.{IsInputFault};
 
 use crate::fault::CommandFault;
@@ -11,11 +11,18 @@ use std::alloc::Global;
 /// What faults call standard input.
 pub const INPUT_NAME: &str = "standard input";
 
-/// Returns whether a path of the configuration stands for standard input.
+/// Returns whether a path stands for standard input.
 pub fn is_input(path: &str) -> bool
     ensures { result ≡ is_input path.now }
 {
     path == "-"
+}
+
+/// Returns what faults call the file at a path.
+pub fn name_of(path: &str) -> &str
+    ensures { result.now ≡ name_of path.now }
+{
+    if is_input(path) { INPUT_NAME } else { path }
 }
 
 /// Reads what standard input has left as text.

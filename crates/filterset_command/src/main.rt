@@ -13,9 +13,11 @@ mod ending;
 mod explaining;
 mod fault;
 mod files;
+mod finding;
 mod greeting;
 mod input;
 mod naming;
+mod output;
 mod overriding;
 mod profile;
 mod profiled;
@@ -30,9 +32,12 @@ use command_line::CommandLine;
 use ending::{Ended, status};
 use fault::CommandFault;
 use files::HostFiles;
+use filterset_answers::Ending;
 use filterset_arguments::completions_for;
 use filterset_editor::Ending as SessionEnding;
 use filterset_json::{FromReader, RunFault, ToWriter};
+use finding::{find_configuration, lacks_texts, path_in, with_configuration};
+use output::HostOutput;
 use request::{Request, Task};
 use run::run;
 use serving::serve_editor;
@@ -52,12 +57,47 @@ fn words_of(rt: &HostRuntime) -> Result<Vec<String>, CommandFault> {
     }
 }
 
-/// Answers a request, on standard output.
+/// Answers a request on standard output, or writes on standard error what keeps it from that.
 fn answer_request(rt: &HostRuntime, request: &Request<'_>) -> Result<Ended, CommandFault> {
     let files = HostFiles { runtime: rt };
     let mut input = FromReader::new(rt.stdin());
-    let mut output = ToWriter::new(rt.stdout());
-    Ok(Ended::Answered(run(rt.alloc(), request, &files, &mut input, &mut output)?))
+    let mut output = HostOutput::new(rt.stdout());
+    let mut errors = HostOutput::new(rt.stderr());
+    let run = run(
+        rt.alloc(),
+        request,
+        &files,
+        &mut input,
+        &mut output,
+        &mut errors,
+    )?;
+    match output.into_failure() {
+        Some(error) => Err(CommandFault::Unwritten(error)),
+        None => Ok(Ended::Answered(run.ending)),
+    }
+}
+
+/// Answers a request, which may be to check the nearest configuration, at this path, and says on standard error which file that
+/// is, or that a filterset with faults is the path of a file. Without a configuration the path is empty.
+fn answer_found<'w>(
+    rt: &HostRuntime,
+    request: &Request<'w>,
+    nearest: &'w str,
+) -> Result<Ended, CommandFault> {
+    if lacks_texts(request) {
+        if nearest.is_empty() {
+            return Err(CommandFault::NoConfiguration);
+        }
+        let _ = eprintln!(rt; "checks {nearest}");
+        return answer_request(rt, &with_configuration(request, nearest));
+    }
+    let ended = answer_request(rt, request)?;
+    if let Ended::Answered(Ending::Faulty) = ended
+        && let Some(path) = path_in(rt, request)
+    {
+        let _ = eprintln!(rt; "help: `{path}` is a file: did you mean `--config {path}`?");
+    }
+    Ok(ended)
 }
 
 /// Serves an editor on standard input and output.
@@ -68,10 +108,10 @@ fn serve(rt: &HostRuntime, paths: Option<WorkspacePaths<'_>>) -> Result<Ended, C
     Ok(Ended::Served(serve_editor(rt.alloc(), &files, paths, &mut input, &mut output)?))
 }
 
-/// Does what the command line asks for.
-fn perform(rt: &HostRuntime, task: &Task<'_>) -> Result<Ended, CommandFault> {
+/// Does what the command line asks for. The nearest configuration is at this path, which is empty if there is none.
+fn perform<'w>(rt: &HostRuntime, task: &Task<'w>, nearest: &'w str) -> Result<Ended, CommandFault> {
     match task {
-        Task::Answer(request) => answer_request(rt, request),
+        Task::Answer(request) => answer_found(rt, request, nearest),
         Task::Complete(shell) => {
             let script = completions_for(rt.alloc(), *shell)?;
             answer_request(rt, &Request::Show(script.as_str()))
@@ -80,12 +120,35 @@ fn perform(rt: &HostRuntime, task: &Task<'_>) -> Result<Ended, CommandFault> {
     }
 }
 
+/// Returns the path of the nearest configuration, if the words are those of `check`, and else an empty one.
+fn nearest_for(rt: &HostRuntime, words: &[String]) -> Result<String, AllocError> {
+    match words.get(1) {
+        Some(word) if word.as_str() == "check" => find_configuration(rt),
+        _ => Ok(String::new(rt.alloc())),
+    }
+}
+
+/// Runs the command of a line. The nearest configuration is at this path, which is empty if there is none.
+fn run_line<'w>(
+    rt: &HostRuntime,
+    line: &'w CommandLine,
+    nearest: &'w str,
+) -> Result<Ended, CommandFault> {
+    let task = line.task()?;
+    perform(rt, &task, nearest)
+}
+
+/// Runs the command of these words.
+fn run_words(rt: &HostRuntime, words: &[String], nearest: &str) -> Result<Ended, CommandFault> {
+    let line = CommandLine::read(rt.alloc(), words)?;
+    run_line(rt, &line, nearest)
+}
+
 /// Runs the command of the command line.
 fn run_command(rt: &HostRuntime) -> Result<Ended, CommandFault> {
     let words = words_of(rt)?;
-    let line = CommandLine::read(rt.alloc(), words.as_slice())?;
-    let task = line.task()?;
-    perform(rt, &task)
+    let nearest = nearest_for(rt, words.as_slice())?;
+    run_words(rt, words.as_slice(), nearest.as_str())
 }
 
 /// Writes on standard error why a command failed, if it did. A failed write is ignored.

@@ -3,7 +3,8 @@ ghost use Rattle.std.specs.Prelude.{◌≡◌, ◌≢◌, ◌++◌, ◌∷◌, [
 ghost use Rattle.filterset_answers.specs.Checked.{text_row};
 ghost use Rattle.filterset_drawing.specs.Columns.{Text};
 ghost use Rattle.filterset_faults.specs.declared.kind.FiltersetKind.TheVariants as kinds;
-ghost use Rattle.filterset_command.specs.Deciding.{AreResolved, IsDefaultKind, IsFilterOf, LacksAny, LacksName, LacksOwn, ResolvesTo, naming_of, outcome_of};
+ghost use Rattle.filterset_command.specs.Deciding.{AreResolved, IsDefaultKind, IsFilterOf, LacksAny, LacksOwn, ResolvesTo, naming_of, outcome_of};
+ghost use Rattle.filterset_command.specs.Configurations.{LacksName};
 ghost use Rattle.filterset_command.specs.Files.{OrMemory};
 
 use crate::fault::CommandFault;
@@ -30,7 +31,7 @@ fn profile_name(text: &str) -> Option<&str>
 }
 
 /// Returns the profile with this name of the configuration at a path.
-fn request_of<'n>(configuration: &'n str, name: &'n str) -> ProfileRequest<'n>
+pub fn request_of<'n>(configuration: &'n str, name: &'n str) -> ProfileRequest<'n>
     ensures configuration { result.configuration.now ≡ configuration.entry.now }
     ensures name { result.name.now ≡ name.entry.now }
 {

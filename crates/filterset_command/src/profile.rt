@@ -6,11 +6,12 @@ ghost use Rattle.filterset_sources.specs.Configurations.{IsConfiguration};
 ghost use Rattle.filterset_sources.specs.declared.configuration.Configuration as configurations;
 ghost use Rattle.nextest_filtering.specs.Groups.{IsKnown};
 ghost use Rattle.filterset_command.specs.Configurations.{AreKnown, AreProfilesIn, AreSettings, IsRefusedProfile, IsSettingsFault, LacksProfile, RefusesFile};
-ghost use Rattle.filterset_command.specs.Files.{IsFileFault, OrMemory, content_of};
+ghost use Rattle.filterset_command.specs.Files.{IsFileFault, OrMemory};
 
 use crate::configuration::{ConfigurationFile, read_configuration_file};
 use crate::fault::{CommandFault, FileFault, FileRole};
 use crate::files::{FileSource, read_text};
+use crate::input::name_of;
 use filterset_places::Places;
 use filterset_profiles::{
     Cfg, CfgRefusal, LineageFault, PlatformFacts, Profile, ProfileRefusal, lineage, read_cfg,
@@ -25,7 +26,7 @@ use std::alloc::{AllocError, Global};
 /// The profile that a command uses, by the paths of the files that say what it is.
 #[derive(Clone, Copy)]
 pub struct ProfileRequest<'w> {
-    /// Nextest's configuration, where `-` is standard input.
+    /// Nextest's configuration.
     pub configuration: &'w str,
     pub name: &'w str,
     /// What `rustc --print cfg` wrote of the platform that tests are built for.
@@ -68,23 +69,22 @@ pub fn profiles_in(alloc: Global, path: &str, text: &str) -> Result<Vec<Profile>
     }
 }
 
-/// Reads the profiles of the configuration at a path, where `-` is standard input, which has this text.
+/// Reads the profiles of the configuration at a path.
 pub fn read_profiles_file<F: FileSource>(
     alloc: Global,
     files: &F,
-    input: &str,
     path: &str,
 ) -> Result<ProfilesFile, CommandFault>
-    ensures read { IfOk result (AreProfilesIn (content_of (F.content files.now) input.now path.now)) }
+    ensures read { IfOk result (AreProfilesIn (F.content files.now path.now)) }
     ensures known { IfOk result (λ file. IsKnown file.groups) }
-    ensures refused { IfErr result (OrMemory (IsFileFault (content_of (F.content files.now) input.now) (F.fails files.now)
+    ensures refused { IfErr result (OrMemory (IsFileFault (F.content files.now) (F.fails files.now)
         FileRole.Configuration RefusesFile path.now)) }
 {
     let ConfigurationFile {
         text,
         configuration,
         places,
-    } = read_configuration_file(alloc, files, input, path)?;
+    } = read_configuration_file(alloc, files, path)?;
     let profiles = profiles_in(alloc, path, text.as_str())?;
     let Configuration { filtersets, groups } = configuration;
     Ok(ProfilesFile {
@@ -112,11 +112,11 @@ fn read_settings<F: FileSource>(
     let text = read_text(alloc, files, role, path)?;
     match read_cfg(alloc, text.as_str()) {
         Ok(settings) => Ok(Some(settings)),
-        Err(CfgRefusal::Line(line)) => {
-            let wrong = FileFault::WrongLine(line);
+        Err(CfgRefusal::OutOfMemory(refused)) => Err(CommandFault::from(refused)),
+        Err(refusal) => {
+            let wrong = FileFault::WrongCfg(refusal);
             Err(CommandFault::in_file(alloc, role, path, wrong))
         }
-        Err(CfgRefusal::OutOfMemory(refused)) => Err(CommandFault::from(refused)),
     }
 }
 
@@ -167,9 +167,8 @@ fn wrong_profile(
     ensures { IsLineageFault profiles.now request.now.name.now fault → fault ≢ LineageFault.OutOfMemory alloc_error
         → IfOk result (LacksProfile request.now profiles.now) }
 {
-    let file = FileRole::Configuration.name_of(request.configuration);
     Ok(CommandFault::Profile {
-        file: String::from_str(alloc, file)?,
+        file: String::from_str(alloc, name_of(request.configuration))?,
         fault,
         known: names_of(alloc, profiles)?,
     })

@@ -11,8 +11,9 @@ ghost use Rattle.filterset_command.specs.Files.{OrMemory};
 
 use crate::asking::{AskedWorkspace, ask_under};
 use crate::configuration::configured_texts;
-use crate::fault::{CommandFault, FileRole};
+use crate::fault::CommandFault;
 use crate::files::FileSource;
+use crate::input::name_of;
 use crate::profile::{
     KnownPlatforms, ProfileRequest, ProfilesFile, lineage_of, read_facts, read_profiles_file,
 };
@@ -152,12 +153,10 @@ pub fn ask_profile<'p>(
     )
 }
 
-/// Answers under the profile of the files that describe it. Standard input has the text `input`, if that is the
-/// configuration.
+/// Answers under the profile of the files that describe it.
 pub fn ask_configured<F: FileSource>(
     alloc: Global,
     files: &F,
-    input: &str,
     asked: &AskedWorkspace<'_, '_>,
     profile: &ProfileRequest<'_>,
     built: BuildPlatforms,
@@ -165,11 +164,11 @@ pub fn ask_configured<F: FileSource>(
     kept: Option<Value>,
 ) -> Result<Answer, CommandFault>
     requires { IfSome given (λ entry. entry.kind ≡ FiltersetKind.DefaultFilter) }
-    ensures answered { IfOk result (λ answer. AnswersConfigured (F.content files.now) input.now
+    ensures answered { IfOk result (λ answer. AnswersConfigured (F.content files.now)
         (AnswersIn asked.now (option_map view kept)) asked.now.graph.now (option_map text_row given.entry) profile.now built
         answer.ending (string_bytes answer.text)) }
     ensures refused { IfErr result (OrMemory (λ fault. Lacks asked.now fault
-        ⊎ IsProfileFault (F.content files.now) (F.fails files.now) input.now profile.now fault)) }
+        ⊎ IsProfileFault (F.content files.now) (F.fails files.now) profile.now fault)) }
 {
     let ProfilesFile {
         text,
@@ -177,10 +176,9 @@ pub fn ask_configured<F: FileSource>(
         places,
         groups,
         profiles,
-    } = read_profiles_file(alloc, files, input, profile.configuration)?;
+    } = read_profiles_file(alloc, files, profile.configuration)?;
     let known = read_facts(alloc, files, profile, built)?;
-    let name = FileRole::Configuration.name_of(profile.configuration);
-    let source = Source::new(alloc, name, text.as_str())?;
+    let source = Source::new(alloc, name_of(profile.configuration), text.as_str())?;
     let texts = configured_texts(&source, filtersets.as_slice(), &places);
     ask_profile(
         alloc,

@@ -1,11 +1,9 @@
 //! What the command line asks for.
-ghost use Rattle.std.specs.Prelude.{◌≡◌, IfErr, IfOk, codes, false};
+ghost use Rattle.std.specs.Prelude.{◌≡◌, ◌≤◌, IfErr, IfOk, codes, length, map};
 ghost use Rattle.clap.specs.Words.{found_of};
 ghost use Rattle.filterset_drawing.specs.Columns.{Text};
-ghost use Rattle.std.specs.Option.{option_map_or};
-ghost use Rattle.filterset_command.specs.Files.{is_input};
-ghost use Rattle.filterset_command.specs.Requests.{are_lines, takes_input};
-ghost use Rattle.filterset_command.specs.Words.{ArePathsAsked, AreTextsAsked, AreWarningsAsked, IsAsked, IsAskedBy, IsBudgetAsked, IsBudgetFault, IsCheckRefusal, IsColorAsked, IsFormAsked, IsKindAsked, IsProfileAsked, IsQuestionAsked, IsTask, IsTextAsked, IsWordsFault, IsWorkspaceAsked, LacksArgument, NamesNoShell, decision_name};
+ghost use Rattle.filterset_command.specs.Requests.{input_count, inputs_of, is_some_input, profile_inputs, text_inputs, warning_inputs};
+ghost use Rattle.filterset_command.specs.Words.{ArePathsAsked, AreTextsAsked, AreWarningsAsked, IsAsked, IsAskedBy, IsBudgetAsked, IsBudgetFault, IsColorAsked, IsFormAsked, IsKindAsked, IsProfileAsked, IsQuestionAsked, IsRunIgnoredAsked, IsTask, IsTextAsked, IsWordsFault, IsTextsFault, IsWorkspaceAsked, LacksArgument, NamesNoShell, decision_name, given_texts, has_input};
 ghost use Rattle.filterset_arguments.specs.Scripts.{name_of};
 
 use crate::asking::{Asked, WorkspaceRequest};
@@ -21,6 +19,7 @@ use filterset_answers::{Form, Question};
 use filterset_arguments::Shell;
 use filterset_deciding::Question as Decision;
 use filterset_drawing::Color;
+use filterset_sources::RunIgnored;
 use nextest_filtering::FiltersetKind;
 
 /// The filtersets to check, to format or to simplify.
@@ -32,25 +31,54 @@ pub enum Texts<'w> {
     StandardInput,
 }
 
-impl Texts<'_> {
-    /// Returns whether the filtersets are the lines of standard input.
-    pub fn is_input(&self) -> bool
-        ensures { result ≡ are_lines self.now }
-    {
-        match self {
-            Texts::Given(_) => false,
-            Texts::StandardInput => true,
-        }
-    }
-}
-
-/// Returns whether there is a path of the configuration, and it stands for standard input.
+/// Returns whether there is a path, and it stands for standard input.
 fn is_some_input(path: Option<&str>) -> bool
-    ensures { result ≡ option_map_or (λ p. is_input p.now) path.entry false }
+    ensures { result ≡ is_some_input path.entry }
 {
     match path {
         Some(path) => is_input(path),
         None => false,
+    }
+}
+
+/// Returns how many of these paths stand for standard input.
+fn inputs_of(paths: &[Option<&str>]) -> usize
+    ensures value { result ≡ inputs_of paths.now }
+    ensures bound { result ≤ length paths.now }
+{
+    paths.iter().filter(|path| is_some_input(**path)).count()
+}
+
+/// Returns how many paths of a profile stand for standard input.
+fn profile_inputs(profile: &Option<ProfileRequest<'_>>) -> usize
+    ensures value { result ≡ profile_inputs profile.now }
+    ensures bound { result ≤ 3 }
+{
+    match profile {
+        Some(own) => inputs_of(&[Some(own.configuration), own.target_cfg, own.host_cfg]),
+        None => 0,
+    }
+}
+
+/// Returns how many paths of the list of tests and of its profile stand for standard input.
+fn warning_inputs(warnings: &Option<WarningRequest<'_>>) -> usize
+    ensures value { result ≡ warning_inputs warnings.now }
+    ensures bound { result ≤ 3 }
+{
+    match warnings {
+        Some(own) => inputs_of(&[Some(own.paths.list), own.target_cfg, own.host_cfg]),
+        None => 0,
+    }
+}
+
+/// Returns how many filtersets standard input stands for: its lines, or none.
+fn text_inputs(texts: &Texts<'_>) -> usize
+    ensures value { result ≡ text_inputs texts.now }
+    ensures bound { result ≤ 1 }
+{
+    match texts {
+        Texts::Given(_) => 0,
+        Texts::StandardInput => 1,
     }
 }
 
@@ -80,25 +108,25 @@ pub enum Request<'w> {
 }
 
 impl Request<'_> {
-    /// Returns whether the request is about standard input.
-    pub fn takes_input(&self) -> bool
-        ensures { result ≡ takes_input self.now }
+    /// Returns for how many things of the request standard input stands.
+    pub fn input_count(&self) -> usize
+        ensures { result ≡ input_count self.now }
     {
         match self {
             Request::Check { texts, paths, .. } => {
-                texts.is_input() || is_some_input(paths.configuration)
+                let own = inputs_of(&[paths.metadata, paths.configuration]);
+                text_inputs(texts) + (own + warning_inputs(&paths.warnings))
             }
-            Request::Format { texts, .. } => texts.is_input(),
-            Request::Simplify { texts, .. } => texts.is_input(),
-            Request::Ask(asked) => match &asked.profile {
-                Some(profile) => is_input(profile.configuration),
-                None => false,
-            },
-            Request::Decide(asked) => match &asked.profile {
-                Some(profile) => is_input(profile.configuration),
-                None => false,
-            },
-            Request::Show(_) => false,
+            Request::Format { texts, .. } => text_inputs(texts),
+            Request::Simplify { texts, .. } => text_inputs(texts),
+            Request::Ask(asked) => {
+                let own = inputs_of(&[Some(asked.paths.metadata), Some(asked.paths.list)]);
+                own + profile_inputs(&asked.profile)
+            }
+            Request::Decide(asked) => {
+                inputs_of(&[asked.metadata, asked.list]) + profile_inputs(&asked.profile)
+            }
+            Request::Show(_) => 0,
         }
     }
 }
@@ -124,7 +152,11 @@ pub fn task_of<'m>(matches: &'m ArgMatches<'_>) -> Result<Task<'m>, CommandFault
     if let Some(own) = matches.subcommand_matches("lsp") {
         return Ok(Task::Serve(workspace_of(own)?));
     }
-    Ok(Task::Answer(request_of(matches)?))
+    let request = request_of(matches)?;
+    if request.input_count() > 1 {
+        return Err(CommandFault::TwoInputs);
+    }
+    Ok(Task::Answer(request))
 }
 
 /// Returns the shell that `completions` is asked for.
@@ -145,8 +177,8 @@ fn request_of<'m>(matches: &'m ArgMatches<'_>) -> Result<Request<'m>, CommandFau
 {
     match matches.subcommand() {
         Some(("check", own)) => check_of(own),
-        Some(("format", own)) => Ok(format_of(own)),
-        Some(("simplify", own)) => Ok(simplify_of(own)),
+        Some(("format", own)) => format_of(own),
+        Some(("simplify", own)) => simplify_of(own),
         Some(("list", own)) => list_of(own),
         Some(("compare", own)) => compare_of(own),
         Some(("explain", own)) => explain_of(own),
@@ -162,20 +194,18 @@ fn request_of<'m>(matches: &'m ArgMatches<'_>) -> Result<Request<'m>, CommandFau
 /// Returns what `check` asks for.
 fn check_of<'m>(matches: &'m ArgMatches<'_>) -> Result<Request<'m>, CommandFault>
     ensures asked { IfOk result (IsAskedBy (codes "check") (found_of matches.now)) }
-    ensures refused { IfErr result (IsCheckRefusal (found_of matches.now)) }
+    ensures refused { IfErr result (IsTextsFault (found_of matches.now)) }
 {
-    let (texts, configuration) = (texts_of(matches), matches.get_str("config"));
-    if texts.is_input() && is_some_input(configuration) {
-        return Err(CommandFault::TwoInputs);
-    }
     Ok(Request::Check {
         kind: kind_of(matches),
         form: form_of(matches),
-        texts,
+        texts: texts_of(matches)?,
         paths: CheckPaths {
             metadata: matches.get_str("metadata"),
-            configuration,
+            configuration: matches.get_str("config"),
+            profile: text_of(matches, "profile")?,
             warnings: warnings_of(matches)?,
+            denies: matches.get_flag("deny"),
         },
     })
 }
@@ -192,32 +222,34 @@ fn warnings_of<'m>(matches: &'m ArgMatches<'_>) -> Result<Option<WarningRequest<
         paths: WorkspacePaths {
             metadata: text_of(matches, "metadata")?,
             list,
+            run_ignored: run_ignored_of(matches),
         },
         profile: text_of(matches, "profile")?,
         target_cfg: matches.get_str("target-cfg"),
         host_cfg: matches.get_str("host-cfg"),
-        denies: matches.get_flag("deny"),
     }))
 }
 
 /// Returns what `format` asks for.
-fn format_of<'m>(matches: &'m ArgMatches<'_>) -> Request<'m>
-    ensures { IsAskedBy (codes "format") (found_of matches.now) result }
+fn format_of<'m>(matches: &'m ArgMatches<'_>) -> Result<Request<'m>, CommandFault>
+    ensures asked { IfOk result (IsAskedBy (codes "format") (found_of matches.now)) }
+    ensures refused { IfErr result (IsTextsFault (found_of matches.now)) }
 {
-    Request::Format {
+    Ok(Request::Format {
         form: Form::Drawn(color_of(matches)),
-        texts: texts_of(matches),
-    }
+        texts: texts_of(matches)?,
+    })
 }
 
 /// Returns what `simplify` asks for.
-fn simplify_of<'m>(matches: &'m ArgMatches<'_>) -> Request<'m>
-    ensures { IsAskedBy (codes "simplify") (found_of matches.now) result }
+fn simplify_of<'m>(matches: &'m ArgMatches<'_>) -> Result<Request<'m>, CommandFault>
+    ensures asked { IfOk result (IsAskedBy (codes "simplify") (found_of matches.now)) }
+    ensures refused { IfErr result (IsTextsFault (found_of matches.now)) }
 {
-    Request::Simplify {
+    Ok(Request::Simplify {
         form: Form::Drawn(color_of(matches)),
-        texts: texts_of(matches),
-    }
+        texts: texts_of(matches)?,
+    })
 }
 
 /// Returns what `list` asks for.
@@ -306,6 +338,7 @@ fn decision_of<'m>(
         within: matches.get_str("within"),
         metadata: matches.get_str("metadata"),
         list: matches.get_str("list"),
+        run_ignored: run_ignored_of(matches),
         default_filter: matches.get_str("default"),
         profile: profile_of(matches)?,
         budget: budget_of(matches)?,
@@ -356,6 +389,7 @@ fn paths_of<'w>(matches: &ArgMatches<'w>) -> Result<WorkspacePaths<'w>, CommandF
     Ok(WorkspacePaths {
         metadata: text_of(matches, "metadata")?,
         list: text_of(matches, "list")?,
+        run_ignored: run_ignored_of(matches),
     })
 }
 
@@ -365,7 +399,10 @@ fn workspace_of<'w>(matches: &ArgMatches<'w>) -> Result<Option<WorkspacePaths<'w
     ensures missing { IfErr result (LacksArgument (found_of matches.now)) }
 {
     match matches.get_str("metadata") {
-        Some(_) => Ok(Some(paths_of(matches)?)),
+        Some(_) => Ok(Some(WorkspacePaths {
+            run_ignored: RunIgnored::All,
+            ..paths_of(matches)?
+        })),
         None => Ok(None),
     }
 }
@@ -391,6 +428,17 @@ fn color_of(matches: &ArgMatches<'_>) -> Color
     }
 }
 
+/// Returns which listed tests count.
+fn run_ignored_of(matches: &ArgMatches<'_>) -> RunIgnored
+    ensures { IsRunIgnoredAsked (found_of matches.now) result }
+{
+    match matches.get_str("run-ignored") {
+        Some("only") => RunIgnored::Only,
+        Some("all") => RunIgnored::All,
+        _ => RunIgnored::Default,
+    }
+}
+
 /// Returns the kind that the filtersets have to be.
 fn kind_of(matches: &ArgMatches<'_>) -> FiltersetKind
     ensures { IsKindAsked (found_of matches.now) result }
@@ -403,12 +451,31 @@ fn kind_of(matches: &ArgMatches<'_>) -> FiltersetKind
     }
 }
 
-/// Returns the filtersets: the arguments, or the lines of standard input if the only argument is `-`.
-fn texts_of<'m>(matches: &'m ArgMatches<'_>) -> Texts<'m>
-    ensures { AreTextsAsked (found_of matches.now) result }
+/// Returns the filtersets of the arguments, or else those of `-E`.
+fn given_texts<'m>(matches: &'m ArgMatches<'_>) -> &'m [&'m str]
+    ensures { map (λ t. t.now) result.now ≡ given_texts (found_of matches.now) }
 {
     match matches.get_strs("text").unwrap_or(&[]) {
-        ["-"] => Texts::StandardInput,
-        given => Texts::Given(given),
+        [] => matches.get_strs("filterset").unwrap_or(&[]),
+        given => given,
     }
+}
+
+/// Returns the filtersets, or the lines of standard input if the only one is `-`.
+fn texts_of<'m>(matches: &'m ArgMatches<'_>) -> Result<Texts<'m>, CommandFault>
+    ensures asked { IfOk result (AreTextsAsked (found_of matches.now)) }
+    ensures refused { IfErr result (IsTextsFault (found_of matches.now)) }
+{
+    match given_texts(matches) {
+        ["-"] => Ok(Texts::StandardInput),
+        given if has_input(given) => Err(CommandFault::MixedInput),
+        given => Ok(Texts::Given(given)),
+    }
+}
+
+/// Returns whether one of these filtersets stands for standard input.
+fn has_input(texts: &[&str]) -> bool
+    ensures { result ≡ has_input texts.now }
+{
+    texts.iter().any(|text| is_input(text))
 }

@@ -1,5 +1,5 @@
 //! The command `lsp`: a language server over standard input and output.
-ghost use Rattle.std.specs.Prelude.{◌≡◌, IfErr, IfOk, Some, None, option_map};
+ghost use Rattle.std.specs.Prelude.{◌≡◌, IfErr, IfOk, IsTrue, Some, None, option_map};
 ghost use Rattle.std.specs.Io.KnownBytes.{prepend_known};
 ghost use Rattle.filterset_names.specs.Workspaces.{known_of, workspace_row};
 ghost use Rattle.filterset_command.specs.Serving.{IsServiceFault, Serves, ServesIn, row_of};
@@ -43,8 +43,9 @@ fn serve_with<R: Source, W: Sink>(
     input: &mut R,
     output: &mut W,
 ) -> Result<Ending, RunFault>
-    ensures { IfOk result (ServesIn (known_of workspace.entry) (prepend_known opening.now (R.left input.old)) (R.left input.new)
+    ensures session { IfOk result (ServesIn (known_of workspace.entry) (prepend_known opening.now (R.left input.old)) (R.left input.new)
         (W.taken output.old) (W.taken output.new)) }
+    ensures ended { IfOk result (λ ending. ending ≡ Ending.InputEnded → IsTrue (R.ended input.new)) }
 {
     serve(
         &FiltersetLanguage { workspace },
@@ -65,6 +66,7 @@ fn serve_known<F: FileSource, R: Source, W: Sink>(
 ) -> Result<Ending, CommandFault>
     ensures session { IfOk result (Serves (F.content files.now) (F.fails files.now) (Some paths.now) (R.left input.old)
         (R.left input.new) (W.taken output.old) (W.taken output.new)) }
+    ensures ended { IfOk result (λ ending. ending ≡ Ending.InputEnded → IsTrue (R.ended input.new)) }
     ensures refused { IfErr result
         (OrMemory (IsServiceFault (F.content files.now) (F.fails files.now) (Some paths.now))) }
 {
@@ -81,6 +83,7 @@ fn serve_named<F: FileSource, R: Source, W: Sink>(
 ) -> Result<Ending, CommandFault>
     ensures session { IfOk result (Serves (F.content files.now) (F.fails files.now) None (R.left input.old) (R.left input.new)
         (W.taken output.old) (W.taken output.new)) }
+    ensures ended { IfOk result (λ ending. ending ≡ Ending.InputEnded → IsTrue (R.ended input.new)) }
     ensures refused { IfErr result (OrMemory (IsServiceFault (F.content files.now) (F.fails files.now) None)) }
 {
     let opening = read_opening(alloc, input)?;
@@ -102,6 +105,8 @@ pub fn serve_editor<F: FileSource, R: Source, W: Sink>(
     // What was written answers the messages that were read, and nothing else was.
     ensures session { IfOk result (Serves (F.content files.now) (F.fails files.now) paths.entry (R.left input.old)
         (R.left input.new) (W.taken output.old) (W.taken output.new)) }
+    // It ends for want of messages only at the end of the input.
+    ensures ended { IfOk result (λ ending. ending ≡ Ending.InputEnded → IsTrue (R.ended input.new)) }
     ensures refused { IfErr result (OrMemory (IsServiceFault (F.content files.now) (F.fails files.now) paths.entry)) }
 {
     match paths {

@@ -13,7 +13,7 @@ use crate::files::FileSource;
 use crate::input::INPUT_NAME;
 use crate::request::Texts;
 use filterset_answers::{
-    Answer, Form, TextEntry, format_texts, given_entries, line_entries, simplify_texts,
+    Answer, Form, TextEntry, format_texts, given_entries, input_entries, simplify_texts,
 };
 use filterset_drawing::Source;
 use nextest_filtering::FiltersetKind;
@@ -37,7 +37,7 @@ fn entries_of<'t>(
 {
     match texts {
         Texts::Given(texts) => given_entries(alloc, "argument", kind, texts),
-        Texts::StandardInput => line_entries(alloc, kind, input),
+        Texts::StandardInput => input_entries(alloc, kind, input),
     }
 }
 
@@ -45,19 +45,18 @@ fn entries_of<'t>(
 pub fn check_given<F: FileSource>(
     alloc: Global,
     files: &F,
-    input: &str,
     form: Form,
     paths: &CheckPaths<'_>,
     kind: FiltersetKind,
     texts: &Texts<'_>,
     file: &Source<'_>,
 ) -> Result<Answer, CommandFault>
-    ensures answered { IfOk result (λ answer. AnswersCheck (F.content files.now) input.now form paths.now
+    ensures answered { IfOk result (λ answer. AnswersCheck (F.content files.now) form paths.now
         (rows_of kind texts.now file.entry) answer.ending (string_bytes answer.text)) }
-    ensures refused { IfErr result (OrMemory (IsCheckFault (F.content files.now) (F.fails files.now) input.now paths.now)) }
+    ensures refused { IfErr result (OrMemory (IsCheckFault (F.content files.now) (F.fails files.now) paths.now)) }
 {
     let given = entries_of(alloc, kind, texts, file)?;
-    check_texts(alloc, files, input, form, paths, given)
+    check_texts(alloc, files, form, paths, given)
 }
 
 /// Formats the texts, or the lines of standard input, which is this file.

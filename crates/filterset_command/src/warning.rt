@@ -17,6 +17,7 @@ use crate::profiled::ask_profile;
 use crate::workspace::{WorkspacePaths, platforms_of, read_list};
 use filterset_answers::{Answer, ConfiguredTexts, Ending, Form, TextEntry};
 use filterset_graph::PackageGraph;
+use filterset_warnings::{WarningEnd, count_warnings};
 use nextest_filtering::KnownGroups;
 use serde_json::Value;
 use std::alloc::{AllocError, Global};
@@ -31,8 +32,6 @@ pub struct WarningRequest<'w> {
     pub target_cfg: Option<&'w str>,
     /// What it wrote of the platform that runs the build.
     pub host_cfg: Option<&'w str>,
-    /// Whether the command fails if there are warnings.
-    pub denies: bool,
 }
 
 impl<'w> WarningRequest<'w> {
@@ -60,6 +59,8 @@ pub struct CheckedTexts<'c> {
     pub configured: ConfiguredTexts<'c>,
     /// The texts: those of the configuration, and after them the others.
     pub entries: &'c [TextEntry<'c>],
+    /// How many warnings come before those of the list, and whether any are denied.
+    pub end: WarningEnd,
 }
 
 /// Answers under a profile of the configuration. `value` is nextest's list.
@@ -106,13 +107,14 @@ fn warn_listed<'x, F: FileSource>(
 ) -> Result<Answer, CommandFault>
     requires groups { IsKnown texts.now.groups.now }
     requires configuration { HasConfiguration texts.now }
-    ensures answered { IfOk result (λ answer. AnswersListed (F.content files.now) texts.now.form texts.now.graph.now
-        texts.now.groups.now texts.now.path texts.now.configured (map text_row texts.now.entries.now) request.now
-        answer.ending (string_bytes answer.text)) }
+    ensures answered { IfOk result (λ answer. AnswersListed (F.content files.now) texts.now.form texts.now.end
+        texts.now.graph.now texts.now.groups.now texts.now.path texts.now.configured (map text_row texts.now.entries.now)
+        request.now answer.ending (string_bytes answer.text)) }
     ensures refused { IfErr result (OrMemory (IsListedFault (F.content files.now) (F.fails files.now) texts.now.graph.now
         texts.now.path texts.now.configured.file.now.text.now request.now)) }
 {
-    let (list, value) = read_list(alloc, files, request.paths.list, texts.graph)?;
+    let (path, run_ignored) = (request.paths.list, request.paths.run_ignored);
+    let (list, value) = read_list(alloc, files, path, texts.graph, run_ignored)?;
     let own = WorkspaceRequest {
         paths: request.paths,
         form: texts.form,
@@ -120,7 +122,7 @@ fn warn_listed<'x, F: FileSource>(
         profile: None,
         asked: Asked::Warnings(WarnedTexts {
             entries: texts.entries,
-            denies: request.denies,
+            end: texts.end,
         }),
     };
     let asked = AskedWorkspace::new(&own, texts.graph, list.suites.as_slice());
@@ -133,7 +135,7 @@ fn warn_listed<'x, F: FileSource>(
     }
 }
 
-/// Answers by the list that is requested, or nothing if none is.
+/// Answers by the list that is requested. If none is, it answers how many warnings there are, if there are any.
 pub fn warn_checked<'x, F: FileSource>(
     alloc: Global,
     files: &F,
@@ -142,18 +144,15 @@ pub fn warn_checked<'x, F: FileSource>(
 ) -> Result<Answer, CommandFault>
     requires groups { IsKnown texts.now.groups.now }
     requires configuration { HasConfiguration texts.now }
-    ensures answered { IfOk result (λ answer. AnswersWarned (F.content files.now) texts.now.form texts.now.graph.now
-        texts.now.groups.now texts.now.path texts.now.configured (map text_row texts.now.entries.now) request.entry
-        answer.ending (string_bytes answer.text)) }
+    ensures answered { IfOk result (λ answer. AnswersWarned (F.content files.now) texts.now.form texts.now.end
+        texts.now.graph.now texts.now.groups.now texts.now.path texts.now.configured (map text_row texts.now.entries.now)
+        request.entry answer.ending (string_bytes answer.text)) }
     ensures refused { IfErr result (OrMemory (IsWarnedFault (F.content files.now) (F.fails files.now) texts.now.graph.now
         texts.now.path texts.now.configured.file.now.text.now request.entry)) }
 {
     match request {
         Some(request) => warn_listed(alloc, files, &request, texts),
-        None => Ok(Answer {
-            text: String::new(alloc),
-            ending: Ending::Fine,
-        }),
+        None => Ok(count_warnings(alloc, texts.form, texts.end)?),
     }
 }
 
@@ -167,12 +166,19 @@ fn either_ending(first: Ending, second: Ending) -> Ending
     }
 }
 
-/// Puts an answer behind another.
-pub fn join_answers(alloc: Global, first: Answer, second: Answer) -> Result<Answer, AllocError>
-    ensures text { IfOk result (λ whole. string_bytes whole.text ≡ string_bytes first.text ++ string_bytes second.text) }
+/// Puts a text and an answer after another answer.
+pub fn join_answers(
+    alloc: Global,
+    first: Answer,
+    middle: &str,
+    second: Answer,
+) -> Result<Answer, AllocError>
+    ensures text { IfOk result (λ whole. string_bytes whole.text
+        ≡ string_bytes first.text ++ (middle.now ++ string_bytes second.text)) }
     ensures ending { IfOk result (λ whole. whole.ending ≡ either_ending first.ending second.ending) }
 {
     let mut text = String::from_str(alloc, first.text.as_str())?;
+    text.push_str(middle)?;
     text.push_str(second.text.as_str())?;
     Ok(Answer {
         text,

@@ -13,19 +13,20 @@ use crate::fault::{CommandFault, FileRole};
 use crate::files::{FileSource, read_text};
 use filterset_graph::PackageGraph;
 use filterset_sources::{
-    BuildPlatforms, SourceRefusal, TestList, check_packages, read_json, read_metadata,
+    BuildPlatforms, RunIgnored, SourceRefusal, TestList, check_packages, read_json, read_metadata,
     read_platforms, read_test_list,
 };
 use serde_json::Value;
 use std::alloc::Global;
 
-/// The paths of the files that describe a workspace.
+/// The paths of the files that describe a workspace, and which of its tests count.
 #[derive(Clone, Copy)]
 pub struct WorkspacePaths<'w> {
     /// What `cargo metadata` wrote.
     pub metadata: &'w str,
     /// What `cargo nextest list` wrote.
     pub list: &'w str,
+    pub run_ignored: RunIgnored,
 }
 
 /// A workspace: its packages, and nextest's list of its tests.
@@ -74,12 +75,17 @@ pub fn read_graph<F: FileSource>(
 }
 
 /// Reads nextest's list, whose test binaries have to be built of these packages.
-fn list_of(alloc: Global, value: &Value, graph: &PackageGraph) -> Result<TestList, SourceRefusal>
-    ensures read { IfOk result (λ list. IsTestList (view value.now) list.suites.items
+fn list_of(
+    alloc: Global,
+    value: &Value,
+    graph: &PackageGraph,
+    run_ignored: RunIgnored,
+) -> Result<TestList, SourceRefusal>
+    ensures read { IfOk result (λ list. IsTestList run_ignored (view value.now) list.suites.items
         × All (IsOfPackage (ids graph.now)) list.suites.items) }
     ensures refused { IfErr result (RefusesList graph.now (view value.now)) }
 {
-    let list = read_test_list(alloc, value)?;
+    let list = read_test_list(alloc, value, run_ignored)?;
     check_packages(alloc, &list, graph)?;
     Ok(list)
 }
@@ -90,15 +96,16 @@ pub fn read_list<F: FileSource>(
     files: &F,
     path: &str,
     graph: &PackageGraph,
+    run_ignored: RunIgnored,
 ) -> Result<(TestList, Value), CommandFault>
-    ensures read { IfOk result (λ both. IsListIn (F.content files.now path.now) graph.now
+    ensures read { IfOk result (λ both. IsListIn (F.content files.now path.now) graph.now run_ignored
         (view both.1) both.0.suites.items) }
     ensures refused { IfErr result (OrMemory (IsFileFault (F.content files.now) (F.fails files.now)
         FileRole.List (RefusesValue (RefusesList graph.now)) path.now)) }
 {
     let role = FileRole::List;
     let value = read_value(alloc, files, role, path)?;
-    match list_of(alloc, &value, graph) {
+    match list_of(alloc, &value, graph, run_ignored) {
         Ok(list) => Ok((list, value)),
         Err(refusal) => Err(CommandFault::from_refusal(alloc, role, path, refusal)),
     }
@@ -114,7 +121,7 @@ pub fn read_workspace<F: FileSource>(
     ensures refused { IfErr result (OrMemory (IsWorkspaceFault (F.content files.now) (F.fails files.now) paths.now)) }
 {
     let graph = read_graph(alloc, files, paths.metadata)?;
-    let (list, value) = read_list(alloc, files, paths.list, &graph)?;
+    let (list, value) = read_list(alloc, files, paths.list, &graph, paths.run_ignored)?;
     Ok(Workspace { graph, list, value })
 }
 

@@ -3,6 +3,7 @@ use Rattle.std.proofs.lemmas.Result.{IfErr-weaker, IfOk-weaker, err_from_is_err_
 use Rattle.serde_json.specs.View.{view}
 use Rattle.filterset_command.specs.Asking.{IsAskedFault, LacksIn}
 use Rattle.filterset_command.specs.Configurations.{IsProfileFault}
+use Rattle.filterset_command.specs.Files.{name_of}
 use Rattle.filterset_command.specs.Workspaces.{IsPlatformsFault}
 use Rattle.filterset_command.specs.declared.fault.CommandFault.{CommandFault}
 use Rattle.filterset_command.proofs.FaultLemmas.{OrMemory-weaker}
@@ -20,7 +21,7 @@ returns-in-None-clause-refused g c =
     let request = c.args.request.now in
     let workspace = c.in_ok-graph.field-0 in
     let told = rw (c.new-asked.ensures.request, c.new-asked.ensures.suites, c.as_slice.ensures.value) at c.ask_plainly.ensures.missing in
-    IfErr-weaker c.ask_plainly.result _ _ (OrMemory-weaker (LacksIn request.paths.list.now request.asked workspace.list.suites.items) (IsAskedFault content fails c.args.input.now request)
+    IfErr-weaker c.ask_plainly.result _ _ (OrMemory-weaker (LacksIn (name_of request.paths.list.now) request.asked workspace.list.suites.items) (IsAskedFault content fails request)
     (λ fault lacks. inr (inr (workspace, c.in_ok-graph.ensures.read, inl lacks)))) told
 
 -- the platforms of the list are wrong
@@ -31,7 +32,7 @@ returns-in_err-built-in-Some-clause-refused g c =
     let request = c.args.request.now in
     let workspace = c.in_ok-graph.field-0 in
     let error = err_from_is_err_and c.from_residual-in_err-built-in-Some.result c.from_residual-in_err-built-in-Some.ensures.1 in
-    rw (error.1, error.2) (OrMemory-weaker (IsPlatformsFault request.paths.list.now (view workspace.value)) (IsAskedFault content fails c.args.input.now request)
+    rw (error.1, error.2) (OrMemory-weaker (IsPlatformsFault request.paths.list.now (view workspace.value)) (IsAskedFault content fails request)
     (λ fault wrong. inr (inr (workspace, c.in_ok-graph.ensures.read, inr (rw c.in-Some.is wrong)))) c.in_err-built-in-Some.field-0.0 c.in_err-built-in-Some.ensures.refused)
 
 pub returns-clause-answered : goal.returns-clause-answered
@@ -47,14 +48,13 @@ pub returns-clause-refused : goal.returns-clause-refused
 returns-clause-refused g c =
     let content = g.F.FileSource.content c.args.files.now in
     let fails = g.F.FileSource.fails c.args.files.now in
-    let input = c.args.input.now in
     let request = c.args.request.now in
     let profile = c.in-Some.profile in
     let workspace = c.in_ok-graph.field-0 in
     let told = rw (c.new-asked.ensures.request, c.new-asked.ensures.suites, c.as_slice.ensures.value) at c.ask_configured.ensures.refused in
-    IfErr-weaker c.ask_configured.result _ _ (OrMemory-weaker (λ (fault : CommandFault). LacksIn request.paths.list.now request.asked workspace.list.suites.items fault ⊎ IsProfileFault content fails input profile fault)
-    (IsAskedFault content fails input request)
-    (λ fault either. elim either as (λ _. IsAskedFault content fails input request fault) [
+    IfErr-weaker c.ask_configured.result _ _ (OrMemory-weaker (λ (fault : CommandFault). LacksIn (name_of request.paths.list.now) request.asked workspace.list.suites.items fault ⊎ IsProfileFault content fails profile fault)
+    (IsAskedFault content fails request)
+    (λ fault either. elim either as (λ _. IsAskedFault content fails request fault) [
       | inl lacks ↦ inr (inr (workspace, c.in_ok-graph.ensures.read, inl lacks))
       | inr own ↦ inr (inl (rw c.in-Some.is own))
     ])) told

@@ -2,6 +2,7 @@ use Rattle.std.proofs.Common.{refl}
 use Rattle.std.proofs.lemmas.Result.{IfErr-weaker, IfOk-weaker}
 use Rattle.filterset_answers.specs.declared.setting.Setting.{Setting}
 use Rattle.filterset_command.specs.Asking.{Lacks, LacksOf}
+use Rattle.filterset_command.specs.Files.{name_of}
 use Rattle.filterset_command.proofs.FaultLemmas.{OrMemory-weaker}
 use Rattle.filterset_command.proofs.asking.ask_under.Goals as goal
 
@@ -20,6 +21,6 @@ returns-clause-missing c =
     let asked = c.args.asked.now in
     let request = asked.request.now in
     let binaries = c.in_ok-binaries.binaries.items in
-    let told = rw c.as_slice.ensures.value at c.answer_asked.ensures.missing in
-    IfErr-weaker c.answer_asked.result _ _ (OrMemory-weaker (LacksOf request.paths.list.now request.asked binaries) (Lacks asked)
+    let told = rw (c.as_slice.ensures.value, c.name_of.ensures) at c.answer_asked.ensures.missing in
+    IfErr-weaker c.answer_asked.result _ _ (OrMemory-weaker (LacksOf (name_of request.paths.list.now) request.asked binaries) (Lacks asked)
     (λ fault lacks. (binaries, c.in_ok-binaries.ensures, lacks))) told

@@ -1,7 +1,8 @@
-use Rattle.std.proofs.Common.{List, [], ◌∷◌, string_bytes}
+use Rattle.std.proofs.Common.{List, [], ◌∷◌, inl, string_bytes}
 use Rattle.std.proofs.lemmas.Result.{err_from_is_err_and}
 use Rattle.std.specs.Prelude.{IsSomeAnd, Option}
 use Rattle.filterset_profiles.specs.declared.wrong.WrongValue.{WrongValue}
+use Rattle.filterset_command.specs.Checking.{IsUnchecked}
 use Rattle.filterset_command.specs.Warned.{IsWarnedFault, request_after}
 use Rattle.filterset_command.specs.declared.warning.WarningRequest.{WarningRequest}
 use Rattle.filterset_command.proofs.FaultLemmas.{OrMemory-weaker}
@@ -17,14 +18,18 @@ returns-clause-answered g c =
     let checked = rw (c.as_slice.ensures.value, c.in_ok-entries.ensures, c.as_slice-2.ensures.value) at c.in_ok-answer.ensures in
     let warned = rw (c.as_slice.ensures.value, c.in_ok-entries.ensures, c.request_after-request.ensures, c.as_slice-3.ensures.value) at c.in_ok-warnings.ensures.answered in (
       c.in_ok-values.values.items,
+      c.in_ok-own.own.count,
       c.in_ok-answer.answer.ending,
       c.in_ok-warnings.warnings.ending,
       string_bytes c.in_ok-answer.answer.text,
+      string_bytes c.in_ok-own.own.text,
       string_bytes c.in_ok-warnings.warnings.text,
       c.in_ok-values.ensures,
       checked,
+      c.in_ok-own.ensures,
       warned,
-      c.in_ok-join_answers.ensures.text,
+      rw c.as_slice-4.ensures.value at c.in_ok-find_asked.ensures.found,
+      rw c.as_str.ensures.value at c.in_ok-join_answers.ensures.text,
       c.in_ok-join_answers.ensures.ending,
     )
 
@@ -37,5 +42,5 @@ returns-in_err-warnings-clause-refused g c =
     let asked = c.request_after-request.ensures in
     let error = err_from_is_err_and c.from_residual-in_err-warnings.result c.from_residual-in_err-warnings.ensures.1 in
     rw (error.1, error.2) (OrMemory-weaker (IsWarnedFault content fails c.args.graph.now paths.configuration bytes c.request_after-request.result)
-    (IsWarnedFault content fails c.args.graph.now paths.configuration bytes paths.warnings)
-    (λ fault wrong. requested _ c.as_slice-3.result.now paths.warnings (rw asked at wrong)) c.in_err-warnings.field-0.0 c.in_err-warnings.ensures.refused)
+    (IsUnchecked content fails c.args.graph.now paths bytes)
+    (λ fault wrong. inl (requested _ c.as_slice-3.result.now paths.warnings (rw asked at wrong))) c.in_err-warnings.field-0.0 c.in_err-warnings.ensures.refused)

@@ -7,8 +7,7 @@ use Rattle.filterset_drawing.specs.declared.source.Source.{Source}
 use Rattle.filterset_places.specs.declared.place.Place.{Place}
 use Rattle.filterset_sources.specs.Configurations.{IsConfiguration}
 use Rattle.filterset_sources.specs.declared.configuration.Configuration.{Configuration}
-use Rattle.filterset_command.specs.Checking.{IsCheckFault, KnownConfiguration}
-use Rattle.filterset_command.specs.Warned.{IsWarnedFault}
+use Rattle.filterset_command.specs.Checking.{IsCheckFault, IsUnchecked, KnownConfiguration}
 use Rattle.filterset_command.proofs.FaultLemmas.{OrMemory-weaker}
 use Rattle.filterset_command.proofs.checking.check_texts.Goals as goal
 
@@ -66,8 +65,8 @@ returns-clause-refused g c =
     let file = c.in_ok-text.field-0 in
     let graph = c.in_ok-graph.graph in
     let bytes = ap text_of c.configured_texts-configured.ensures.file ∙ c.in_ok-file.ensures.text ∙ c.as_str.ensures.value in
-    IfErr-weaker c.check_all.result _ _ (OrMemory-weaker (IsWarnedFault content fails graph paths.configuration c.configured_texts-configured.result.file.now.text.now paths.warnings)
-    (IsCheckFault content fails c.args.input.now paths)
+    IfErr-weaker c.check_all.result _ _ (OrMemory-weaker (IsUnchecked content fails graph paths c.configured_texts-configured.result.file.now.text.now)
+    (IsCheckFault content fails paths)
     (λ fault wrong. inr (inr (
       graph,
       string_bytes file.text,

@@ -1,11 +1,14 @@
-use Rattle.std.proofs.Common.{◌∙◌, List, ap, inr, refl, string_bytes, subst}
+use Rattle.std.proofs.Common.{◌∙◌, ◌⊎◌, List, ap, inl, inr, refl, string_bytes, subst}
 use Rattle.std.specs.Prelude.{IfOk}
-use Rattle.std.proofs.lemmas.Result.{IfErr-weaker, IfOk-weaker}
+use Rattle.std.proofs.lemmas.Result.{IfErr-weaker, IfOk-weaker, err_from_is_err_and}
 use Rattle.filterset_drawing.specs.Columns.{Text}
 use Rattle.filterset_drawing.specs.declared.source.Source.{Source}
 use Rattle.filterset_answers.specs.declared.text.Answer.{Answer}
 use Rattle.filterset_profiles.specs.declared.profiles.Profile.{Profile}
+use Rattle.filterset_command.specs.Configurations.{IsSettingsFault}
 use Rattle.filterset_command.specs.Deciding.{AnswersNamed, IsNamedFault, LacksNamed, naming_of}
+use Rattle.filterset_command.specs.declared.fault.CommandFault.{CommandFault}
+use Rattle.filterset_command.specs.declared.fault.FileRole.TheVariants as roles
 use Rattle.filterset_command.proofs.FaultLemmas.{OrMemory-weaker}
 use Rattle.filterset_command.proofs.deciding.decide_configured.Goals as goal
 
@@ -26,7 +29,7 @@ returns-clause-answered g c =
       refl,
       c.in_ok-known.ensures.read,
       (
-        ap origin_of parts.file ∙ c.in_ok-source.ensures.origin ∙ c.name_of-name.ensures,
+        ap origin_of parts.file ∙ c.in_ok-source.ensures.origin ∙ c.name_of.ensures,
         ap text_of parts.file ∙ c.in_ok-source.ensures.text ∙ c.as_str.ensures.value,
         parts.filtersets ∙ c.as_slice.ensures.value,
         parts.places,
@@ -42,5 +45,20 @@ returns-clause-refused g c =
     let profile = c.args.profile.now in
     let file = c.in_ok-text.field-0 in
     let told = rw c.as_slice-profiles.ensures.value at c.decide_named.ensures.missing in
-    IfErr-weaker c.decide_named.result _ _ (OrMemory-weaker (LacksNamed request profile file.profiles.items) (IsNamedFault content fails c.args.input.now request profile)
+    IfErr-weaker c.decide_named.result _ _ (OrMemory-weaker (LacksNamed request profile file.profiles.items) (IsNamedFault content fails request profile)
     (λ fault lacks. inr (inr (inr (file, c.in_ok-text.ensures.read, lacks))))) told
+
+pub returns-in_err-known-clause-refused : goal.returns-in_err-known-clause-refused
+returns-in_err-known-clause-refused g c =
+    let content = g.F.FileSource.content c.args.files.now in
+    let fails = g.F.FileSource.fails c.args.files.now in
+    let request = c.args.request.now in
+    let profile = c.args.profile.now in
+    let Unset : CommandFault → Type 0 = λ fault. IsSettingsFault content fails roles.HostCfg profile.host_cfg fault
+    ⊎ IsSettingsFault content fails roles.TargetCfg profile.target_cfg fault in
+    let error = err_from_is_err_and c.from_residual-in_err-known.result c.from_residual-in_err-known.ensures.1 in
+    rw (error.1, error.2) (OrMemory-weaker Unset (IsNamedFault content fails request profile)
+    (λ fault either. elim either as (λ _. IsNamedFault content fails request profile fault) [
+      | inl host ↦ inr (inl host)
+      | inr target ↦ inr (inr (inl target))
+    ]) c.in_err-known.field-0.0 c.in_err-known.ensures.refused)

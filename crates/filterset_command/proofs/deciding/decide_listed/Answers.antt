@@ -20,9 +20,9 @@ returns-in_err-built-clause-refused g c =
     let list = view c.in_ok-list.value in
     let Wrong : CommandFault → ProfileRequest → Type 0 = λ fault profile. IsPlatformsFault path list fault in
     let Either : CommandFault → ProfileRequest → Type 0 = λ fault profile.
-    IsPlatformsFault path list fault ⊎ IsNamedFault content fails c.args.input.now request profile fault in
+    IsPlatformsFault path list fault ⊎ IsNamedFault content fails request profile fault in
     let error = err_from_is_err_and c.from_residual-in_err-built.result c.from_residual-in_err-built.ensures.1 in
-    rw (error.1, error.2) (OrMemory-weaker (λ (fault : CommandFault). IsSomeAnd request.profile (Wrong fault)) (IsListedFault content fails c.args.input.now request c.args.graph.now path)
+    rw (error.1, error.2) (OrMemory-weaker (λ (fault : CommandFault). IsSomeAnd request.profile (Wrong fault)) (IsListedFault content fails request c.args.graph.now path)
     (λ fault wrong. inr (list, c.in_ok-list.list.suites.items, c.in_ok-list.ensures.read, some_and_weaker request.profile (Wrong fault) (Either fault) (λ profile own. inl own) wrong))
     c.in_err-built.field-0.0 c.in_err-built.ensures.refused)
 
@@ -45,9 +45,9 @@ returns-clause-refused g c =
     let request = c.args.request.now in
     let path = c.args.path.now in
     let list = view c.in_ok-list.value in
-    let Named : CommandFault → ProfileRequest → Type 0 = λ fault profile. IsNamedFault content fails c.args.input.now request profile fault in
+    let Named : CommandFault → ProfileRequest → Type 0 = λ fault profile. IsNamedFault content fails request profile fault in
     let Either : CommandFault → ProfileRequest → Type 0 = λ fault profile.
-    IsPlatformsFault path list fault ⊎ IsNamedFault content fails c.args.input.now request profile fault in
-    IfErr-weaker c.decide_known.result _ _ (OrMemory-weaker (λ (fault : CommandFault). IsSomeAnd request.profile (Named fault)) (IsListedFault content fails c.args.input.now request c.args.graph.now path)
+    IsPlatformsFault path list fault ⊎ IsNamedFault content fails request profile fault in
+    IfErr-weaker c.decide_known.result _ _ (OrMemory-weaker (λ (fault : CommandFault). IsSomeAnd request.profile (Named fault)) (IsListedFault content fails request c.args.graph.now path)
     (λ fault wrong. inr (list, c.in_ok-list.list.suites.items, c.in_ok-list.ensures.read, some_and_weaker request.profile (Named fault) (Either fault) (λ profile own. inr own) wrong)))
     c.decide_known.ensures.refused

@@ -21,7 +21,7 @@ returns-clause-answered g c =
       c.in_ok-text.ensures.read,
       c.in_ok-known.ensures.read,
       (
-        ap origin_of parts.file ∙ c.in_ok-source.ensures.origin ∙ c.name_of-name.ensures,
+        ap origin_of parts.file ∙ c.in_ok-source.ensures.origin ∙ c.name_of.ensures,
         ap text_of parts.file ∙ c.in_ok-source.ensures.text ∙ c.as_str.ensures.value,
         parts.filtersets ∙ c.as_slice.ensures.value,
         parts.places,
@@ -33,14 +33,13 @@ pub returns-clause-refused : goal.returns-clause-refused
 returns-clause-refused g c =
     let content = g.F.FileSource.content c.args.files.now in
     let fails = g.F.FileSource.fails c.args.files.now in
-    let input = c.args.input.now in
     let profile = c.args.profile.now in
     let asked = c.args.asked.now in
     let file = c.in_ok-text.field-0 in
     let told = rw c.as_slice-2.ensures.value at c.ask_profile.ensures.missing in
     IfErr-weaker c.ask_profile.result _ _ (OrMemory-weaker (λ (fault : CommandFault). Lacks asked fault ⊎ LacksProfile profile file.profiles.items fault)
-    (λ (fault : CommandFault). Lacks asked fault ⊎ IsProfileFault content fails input profile fault)
-    (λ fault either. elim either as (λ _. Lacks asked fault ⊎ IsProfileFault content fails input profile fault) [
+    (λ (fault : CommandFault). Lacks asked fault ⊎ IsProfileFault content fails profile fault)
+    (λ fault either. elim either as (λ _. Lacks asked fault ⊎ IsProfileFault content fails profile fault) [
       | inl lacks ↦ inl lacks
       | inr lacks ↦ inr (inr (inr (inr (file, c.in_ok-text.ensures.read, lacks))))
     ])) told

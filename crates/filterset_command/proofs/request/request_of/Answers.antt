@@ -5,9 +5,9 @@ use Rattle.clap.specs.Walk.{rows_of}
 use Rattle.clap.specs.Words.{found_of, subcommand_name_of}
 use Rattle.clap.specs.declared.parser.matches.ArgMatches.{ArgMatches}
 use Rattle.filterset_drawing.specs.Columns.{Text}
-use Rattle.filterset_command.specs.Words.{IsAsked, IsAskedBy, IsBudgetFault, IsCheckRefusal, IsWordsFault}
+use Rattle.filterset_command.specs.Words.{IsAsked, IsAskedBy, IsBudgetFault, IsTextsFault, IsWordsFault}
 use Rattle.filterset_command.specs.declared.fault.CommandFault.{CommandFault}
-use Rattle.filterset_command.specs.declared.fault.CommandFault.TheVariants.{Missing, TwoInputs, WrongBudget}
+use Rattle.filterset_command.specs.declared.fault.CommandFault.TheVariants.{Missing, MixedInput, WrongBudget}
 use Rattle.filterset_command.specs.declared.request.Request.{Request}
 use Rattle.filterset_command.proofs.request.request_of.Goals as goal
 
@@ -21,25 +21,37 @@ returns-in-Some-check-default-clause-asked c =
     IfOk-weaker c.check_of.result _ _ (λ request asked.
     asked_by c.args.matches.now c.in-Some-check-default.field-0-0.now c.in-Some-check-default.own.now (codes "check") request c.in-Some-check-default.ensures.name c.in-Some-check-default.ensures.rows c.in-Some-check-default.is-check asked) c.check_of.ensures.asked
 
--- a fault of `check` is one of the words
-check_fault : (matches : ArgMatches) (own : ArgMatches) (fault : CommandFault) → Some (rows_of (found_of own)) ≡ option_map (λ p. p.1) (subcommand_rows_of matches)
-    → IsCheckRefusal (found_of own) fault → IsWordsFault matches fault
-check_fault matches own (Missing id) rows is = tt
-check_fault matches own TwoInputs rows is = (found_of own, sym rows, is)
-check_fault matches own _ rows is = absurd is
+-- a fault of the filtersets is one of the words
+texts_fault : (matches : ArgMatches) (own : ArgMatches) (fault : CommandFault) → Some (rows_of (found_of own)) ≡ option_map (λ p. p.1) (subcommand_rows_of matches)
+    → IsTextsFault (found_of own) fault → IsWordsFault matches fault
+texts_fault matches own (Missing id) rows is = tt
+texts_fault matches own MixedInput rows is = (found_of own, sym rows, is)
+texts_fault matches own _ rows is = absurd is
 
 pub returns-in-Some-check-default-clause-refused : goal.returns-in-Some-check-default-clause-refused
 returns-in-Some-check-default-clause-refused c =
     IfErr-weaker c.check_of.result _ _ (λ fault is.
-    check_fault c.args.matches.now c.in-Some-check-default.own.now fault c.in-Some-check-default.ensures.rows is) c.check_of.ensures.refused
+    texts_fault c.args.matches.now c.in-Some-check-default.own.now fault c.in-Some-check-default.ensures.rows is) c.check_of.ensures.refused
 
 pub returns-in-Some-format-default-clause-asked : goal.returns-in-Some-format-default-clause-asked
 returns-in-Some-format-default-clause-asked c =
-    asked_by c.args.matches.now c.in-Some-format-default.field-0-0.now c.in-Some-format-default.own.now (codes "format") c.format_of.result c.in-Some-format-default.ensures.name c.in-Some-format-default.ensures.rows c.in-Some-format-default.is-format c.format_of.ensures
+    IfOk-weaker c.format_of.result _ _ (λ request asked.
+    asked_by c.args.matches.now c.in-Some-format-default.field-0-0.now c.in-Some-format-default.own.now (codes "format") request c.in-Some-format-default.ensures.name c.in-Some-format-default.ensures.rows c.in-Some-format-default.is-format asked) c.format_of.ensures.asked
+
+pub returns-in-Some-format-default-clause-refused : goal.returns-in-Some-format-default-clause-refused
+returns-in-Some-format-default-clause-refused c =
+    IfErr-weaker c.format_of.result _ _ (λ fault is.
+    texts_fault c.args.matches.now c.in-Some-format-default.own.now fault c.in-Some-format-default.ensures.rows is) c.format_of.ensures.refused
 
 pub returns-in-Some-simplify-default-clause-asked : goal.returns-in-Some-simplify-default-clause-asked
 returns-in-Some-simplify-default-clause-asked c =
-    asked_by c.args.matches.now c.in-Some-simplify-default.field-0-0.now c.in-Some-simplify-default.own.now (codes "simplify") c.simplify_of.result c.in-Some-simplify-default.ensures.name c.in-Some-simplify-default.ensures.rows c.in-Some-simplify-default.is-simplify c.simplify_of.ensures
+    IfOk-weaker c.simplify_of.result _ _ (λ request asked.
+    asked_by c.args.matches.now c.in-Some-simplify-default.field-0-0.now c.in-Some-simplify-default.own.now (codes "simplify") request c.in-Some-simplify-default.ensures.name c.in-Some-simplify-default.ensures.rows c.in-Some-simplify-default.is-simplify asked) c.simplify_of.ensures.asked
+
+pub returns-in-Some-simplify-default-clause-refused : goal.returns-in-Some-simplify-default-clause-refused
+returns-in-Some-simplify-default-clause-refused c =
+    IfErr-weaker c.simplify_of.result _ _ (λ fault is.
+    texts_fault c.args.matches.now c.in-Some-simplify-default.own.now fault c.in-Some-simplify-default.ensures.rows is) c.simplify_of.ensures.refused
 
 pub returns-in-Some-list-default-clause-asked : goal.returns-in-Some-list-default-clause-asked
 returns-in-Some-list-default-clause-asked c =

@@ -15,5 +15,5 @@ returns-clause-session g c =
       (c.in_ok-workspace.workspace, c.in_ok-workspace.ensures.read, ap (λ (w : WorkspaceRow). Some w) c.known.ensures),
       Served-whole (says (DiagnosesIn known) (Responds known) abilities) left left (g.R.Source.left c.serve_with.new.input)
           (g.W.Sink.taken c.args.output.now) (g.W.Sink.taken c.serve_with.new.output) [] c.in_ok-serve_with.field-0 (Consumes-nil left)
-          c.in_ok-serve_with.ensures,
+          c.in_ok-serve_with.ensures.session,
     )

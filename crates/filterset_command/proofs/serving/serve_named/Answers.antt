@@ -16,7 +16,7 @@ returns-clause-session g c =
     let known : Option WorkspaceRow = option_map row_of greeting.workspace in
     let left = g.R.Source.left c.read_opening.new.input in
     let taken = g.W.Sink.taken c.write_all.new.output in
-    let served = rw (c.known_if-workspace.ensures, c.deref.ensures.value) at c.in_ok-serve_with.ensures in (
+    let served = rw (c.known_if-workspace.ensures, c.deref.ensures.value) at c.in_ok-serve_with.ensures.session in (
       opening.read.items,
       left,
       option_map view opening.options,

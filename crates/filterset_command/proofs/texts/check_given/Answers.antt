@@ -9,5 +9,5 @@ pub returns-clause-answered : goal.returns-clause-answered
 returns-clause-answered g c =
     let content = g.F.FileSource.content c.args.files.now in
     IfOk-weaker c.check_texts.result _ _ (λ answer.
-    subst (λ (all : List TextRow). AnswersCheck content c.args.input.now c.args.form c.args.paths.now all answer.ending (string_bytes answer.text)) c.in_ok-given.ensures)
+    subst (λ (all : List TextRow). AnswersCheck content c.args.form c.args.paths.now all answer.ending (string_bytes answer.text)) c.in_ok-given.ensures)
     c.check_texts.ensures.answered

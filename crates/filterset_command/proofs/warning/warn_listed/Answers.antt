@@ -2,6 +2,7 @@ use Rattle.std.proofs.Common.{◌⊎◌, inl, inr}
 use Rattle.std.proofs.lemmas.Result.{IfErr-weaker, IfOk-weaker}
 use Rattle.serde_json.specs.View.{view}
 use Rattle.filterset_command.specs.Asking.{LacksIn}
+use Rattle.filterset_command.specs.Files.{name_of}
 use Rattle.filterset_command.specs.Warned.{IsListedFault, IsProfileUnused, profile_at}
 use Rattle.filterset_command.specs.declared.asking.Asked.{Asked}
 use Rattle.filterset_command.specs.declared.asking.Asked.TheVariants.{Warnings}
@@ -24,9 +25,9 @@ returns-in-None-clause-refused g c =
     let request = c.args.request.now in
     let texts = c.args.texts.now in
     let suites = c.in_ok-list.list.suites.items in
-    let asked : Asked = Warnings (record { entries = texts.entries; denies = request.denies }) in
+    let asked : Asked = Warnings (record { entries = texts.entries; end = texts.end }) in
     let told = rw (c.new-asked.ensures.request, c.new-asked.ensures.suites, c.as_slice.ensures.value) at c.ask_plainly.ensures.missing in
-    IfErr-weaker c.ask_plainly.result _ _ (OrMemory-weaker (LacksIn request.paths.list.now asked suites)
+    IfErr-weaker c.ask_plainly.result _ _ (OrMemory-weaker (LacksIn (name_of request.paths.list.now) asked suites)
     (IsListedFault content fails texts.graph.now texts.path texts.configured.file.now.text.now request)
     (λ fault lacks. absurd lacks.2)) told
 
@@ -41,8 +42,8 @@ returns-clause-refused g c =
     let fails = g.F.FileSource.fails c.args.files.now in
     let request = c.args.request.now in
     let texts = c.args.texts.now in
-    let asked : Asked = Warnings (record { entries = texts.entries; denies = request.denies }) in
-    let Lacking : CommandFault → Type 0 = LacksIn request.paths.list.now asked c.in_ok-list.list.suites.items in
+    let asked : Asked = Warnings (record { entries = texts.entries; end = texts.end }) in
+    let Lacking : CommandFault → Type 0 = LacksIn (name_of request.paths.list.now) asked c.in_ok-list.list.suites.items in
     let Unused : CommandFault → Type 0 =
     IsProfileUnused content fails texts.configured.file.now.text.now request.paths.list.now (view c.in_ok-list.value) (profile_at c.in-Some.path request) in
     let Wrong : CommandFault → Type 0 = IsListedFault content fails texts.graph.now texts.path texts.configured.file.now.text.now request in
