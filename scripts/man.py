@@ -132,10 +132,10 @@ def pages(program):
     """Yields the name of each page, what it is about, its sections, and the pages that it refers to."""
     own, described = Help(program), section_of("`filterset`, the program for people", is_whole=False)
     commands = {f"filterset-{name}": (name, Help(program, name)) for name in own.commands()}
-    usage, statuses = (re.search(rf"(?m)(?:^{begin}.*\n)+", described)[0] for begin in (" {4}", r"\|"))
+    statuses = re.search(r"(?m)(?:^\|.*\n)+", described)[0]
     yield "filterset.1", own.about, {
-        "SYNOPSIS": example(usage),
-        "DESCRIPTION": roff_of(described.replace(usage, "").replace(statuses, "")),
+        "SYNOPSIS": example("\n".join(said.usage.replace("program", "filterset", 1) for _, said in commands.values())),
+        "DESCRIPTION": roff_of(described.replace(statuses, "")),
         "COMMANDS": [line for page, (_, said) in commands.items() for line in tagged(f"{page}(1)", said.about)],
         "EXIT STATUS": table(statuses)[3:],
         "FILES": roff_of(section_of("Files")),
