@@ -1,11 +1,8 @@
 #!/bin/bash
-# Tests the library for C that scripts/library.sh built in out/lib/, and the callers in bindings/:
-# - the header compiles as C and as C++, and declares just the functions that the library exports;
-# - the example in C writes what it should, also under valgrind, and with each request for memory refused in turn;
-# - filtersets of one workspace are asked on several threads at once, and valgrind finds no race;
-# - wrong arguments get the statuses that the header says, in their order (bindings/c/wrong.c);
-# - the callers in C, Python and Rust give the answers of bindings/cases.json.
-# What is not built, or what the machine lacks, is skipped, and counted as skipped. The last line is 'N passed, M failed'.
+# Tests the library for C that scripts/library.sh built in out/lib/, and the callers in bindings/: the header, the example
+# (also under valgrind, and with each request for memory refused in turn), threads, wrong arguments (bindings/c/wrong.c), and
+# the answers of bindings/cases.json in C, Python and Rust. What is not built, or what the machine lacks, is counted as
+# skipped. The last line is 'N passed, M failed'.
 set -uo pipefail
 source "$(dirname "${BASH_SOURCE[0]}")/lib.sh"
 compiler=${CC:-cc}

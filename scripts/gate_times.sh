@@ -1,9 +1,8 @@
 #!/bin/bash
 # Prints what the gate spends its time on: rt ci 2>&1 | scripts/gate_times.sh TABLE
 #
-# passes on what the gate prints, and looks every two seconds at the checks that run. It writes to TABLE a line for each
-# crate: the minutes of processor time of its proof, of its tests' proof, of the first of its must-fail edits, which proves
-# the crate again, and of the others; and when its proof and its last check ended, in minutes since the start.
+# passes on what the gate prints, and looks every two seconds at the checks that run. TABLE gets a line for each crate: the
+# minutes of processor time of its proof, its tests, its first must-fail edit and the others, and when these ended.
 set -uo pipefail
 samples=$(mktemp) || exit 2
 trap 'rm -f "$samples"' EXIT

@@ -1,13 +1,8 @@
 #!/bin/bash
 # Installs what `rt ci` built into an empty prefix, tries it from there, and uninstalls it:
-# - the programs run with an empty environment, need no library but those of C, and hold pages of examples/transcripts/;
-# - each command has a manual page; man, mandoc and groff show all pages without a warning;
-# - scripts/completions.py presses TAB in the shells that are there;
-# - the example of the library for C is built by what pkg-config says, and runs, but not with another version; wrong
-#   arguments get their statuses;
-# - nothing is left, but what others put there.
-# What this machine lacks for a part is named, and the part counted as skipped. The last line is 'N passed, M failed', or
-# 'N passed, M failed, K skipped'.
+# the programs with an empty environment, the manual pages, completions in the shells that are there, and the library for C.
+# Nothing is left afterwards, except what others put there. What this machine lacks is counted as skipped: the last line is
+# 'N passed, M failed', or 'N passed, M failed, K skipped'.
 set -uo pipefail
 source "$(dirname "${BASH_SOURCE[0]}")/lib.sh"
 need crates/filterset_command/out/filterset_command
@@ -131,15 +126,6 @@ try_stage() {
     holds "nothing is left below DESTDIR" has_only "$room/stage" ./usr
 }
 
-# Tries an install that fails on its way, since a file is where a folder must be.
-try_broken() {
-    mkdir -p "$room/broken/share" && touch "$room/broken/share/man"
-    holds "make install where a file is in the way" is_refused "$room/broken"
-    holds "a program was copied before" test -x "$room/broken/bin/filterset"
-    holds "make uninstall after that" makes uninstall "$room/broken"
-    holds "only that file is left" has_only "$room/broken" ./share ./share/man
-}
-
 # Returns whether an archive of the sources has a file.
 archives() { makes dist && tar -tzf "$room"/made/filterset-*.tar.gz | grep "^filterset-[0-9.]*/$1$"; }
 
@@ -159,7 +145,6 @@ try_completions
 try_library
 try_uninstall
 try_stage
-try_broken
 try_archive
 
 [ "$skipped" -eq 0 ] && finish
