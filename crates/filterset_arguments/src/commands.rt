@@ -67,16 +67,6 @@ fn metadata<'a>(alloc: Global) -> Arg<'a> {
         )
 }
 
-/// Makes the option of the filtersets' kind.
-fn kind<'a>(alloc: Global) -> Arg<'a> {
-    Arg::new(alloc, "kind")
-        .long("kind")
-        .value_name("KIND")
-        .value_parser(KINDS.as_slice())
-        .default_value("test")
-        .help("what the filtersets are for")
-}
-
 /// Makes the option of the file with the configuration.
 fn config<'a>(alloc: Global, help: &'a str) -> Result<Arg<'a>, AllocError> {
     Arg::new(alloc, "config")
@@ -91,40 +81,45 @@ fn required_config<'a>(alloc: Global, help: &'a str) -> Result<Arg<'a>, AllocErr
     Ok(config(alloc, help)?.required(true))
 }
 
-/// Makes the option by which warnings count as faults.
-fn deny_warnings<'a>(alloc: Global) -> Arg<'a> {
-    Arg::new(alloc, "deny")
-        .long("deny-warnings")
-        .action(ArgAction::SetTrue)
-        .help("exits with status 1 if there are warnings")
-}
-
 /// Makes the command `check`.
 fn check<'a>(alloc: Global) -> Result<Command<'a>, AllocError> {
     let command = Command::new(alloc, "check")
-        .about("Shows the faults of filtersets, and where they are")
+        .about("Finds errors in filtersets and shows where they are")
         .after_help("Example: filterset check 'package(parser) and not test(~slow)'");
     let config = config(
         alloc,
-        "nextest's configuration, or `-` for standard input: its filtersets are checked too, and its groups are known",
+        "nextest's configuration, or `-` for standard input; its filtersets are checked too",
     );
     let command = with_argument(command, config)?
         .arg(metadata(alloc))?
-        .arg(kind(alloc))?
+        .arg(
+            Arg::new(alloc, "kind")
+                .long("kind")
+                .value_name("KIND")
+                .value_parser(KINDS.as_slice())
+                .default_value("test")
+                .help("what the filtersets are for"),
+        )?
         .arg(message_format(alloc, CHECK_FORMATS.as_slice()).help(
-            "how the faults are written; `github` is for a workflow, which shows them in the diff",
+            "the output format; `github` shows errors in a pull request",
         ))?
         .arg(color(alloc))?;
     let command = with_argument(command, nextest_list(alloc).requires_arg("metadata"))?;
     let command = with_profile(alloc, command)?;
     let command = with_argument(command, run_ignored(alloc).requires_arg("list"))?;
-    with_argument(command.arg(deny_warnings(alloc))?, more_texts(alloc))?.arg(texts(alloc))
+    let command = command.arg(
+        Arg::new(alloc, "deny")
+            .long("deny-warnings")
+            .action(ArgAction::SetTrue)
+            .help("exit with status 1 if there are warnings"),
+    )?;
+    with_argument(command, more_texts(alloc))?.arg(texts(alloc))
 }
 
 /// Makes the command `format`.
 fn format<'a>(alloc: Global) -> Result<Command<'a>, AllocError> {
     let command = Command::new(alloc, "format")
-        .about("Prints filtersets evenly spaced")
+        .about("Prints filtersets in standard form")
         .after_help("Example: filterset format 'not!all()'")
         .arg(color(alloc))?;
     let command = with_argument(command, more_texts(alloc))?;
@@ -134,7 +129,7 @@ fn format<'a>(alloc: Global) -> Result<Command<'a>, AllocError> {
 /// Makes the command `simplify`.
 fn simplify<'a>(alloc: Global) -> Result<Command<'a>, AllocError> {
     let command = Command::new(alloc, "simplify")
-        .about("Prints filtersets without what changes nothing for every test")
+        .about("Prints filtersets without the parts that change nothing")
         .after_help("Example: filterset simplify 'test(a) or (test(a) and test(b))'")
         .arg(color(alloc))?;
     let command = with_argument(command, more_texts(alloc))?;
@@ -156,7 +151,7 @@ fn run_ignored<'a>(alloc: Global) -> Arg<'a> {
         .value_name("WHICH")
         .value_parser(RUN_IGNORED.as_slice())
         .default_value("default")
-        .help("which listed tests count: those that are not ignored, only ignored ones, or all")
+        .help("which tests count: those that are not ignored, only ignored ones, or all")
 }
 
 /// Makes the option of the default filter.
@@ -164,9 +159,7 @@ fn default_filter<'a>(alloc: Global) -> Arg<'a> {
     Arg::new(alloc, "default")
         .long("default-filter")
         .value_name("TEXT")
-        .help(
-            "the default filter, the value of `default()`, in place of that of the profile, or of `all()`",
-        )
+        .help("the default filter, instead of the profile's or `all()`")
 }
 
 /// Makes the option of the profile of the configuration.
@@ -175,7 +168,7 @@ fn profile<'a>(alloc: Global) -> Result<Arg<'a>, AllocError> {
         .long("profile")
         .value_name("NAME")
         .default_value("default")
-        .help("the profile of the configuration that nextest is to use")
+        .help("the profile to use")
         .requires_arg("config")?
         .short_alias('P')
 }
@@ -194,13 +187,13 @@ fn with_profile<'a>(alloc: Global, command: Command<'a>) -> Result<Command<'a>, 
     let target = cfg(
         alloc,
         "target-cfg",
-        "the output of `rustc --print cfg --target TRIPLE`, for overrides by what tests are built for",
+        "the output of `rustc --print cfg --target TRIPLE` for the platform that tests are built for",
     );
     let command = with_argument(command, target.requires_arg("config"))?;
     let host = cfg(
         alloc,
         "host-cfg",
-        "the output of `rustc --print cfg`, for overrides by the platform that builds",
+        "the output of `rustc --print cfg` for the platform that builds them",
     );
     with_argument(command, host.requires_arg("config"))
 }
@@ -217,7 +210,7 @@ fn with_workspace<'a>(alloc: Global, command: Command<'a>) -> Result<Command<'a>
 fn with_setting<'a>(alloc: Global, command: Command<'a>) -> Result<Command<'a>, AllocError> {
     let config = config(
         alloc,
-        "nextest's configuration, or `-` for standard input: the default filter and the groups of its profile count",
+        "nextest's configuration, or `-` for standard input, for the default filter and groups of a profile",
     );
     let command = with_argument(with_workspace(alloc, command)?, config)?;
     with_profile(alloc, command)
@@ -239,41 +232,30 @@ fn more_texts<'a>(alloc: Global) -> Result<Arg<'a>, AllocError> {
         .conflicts_with("text")
 }
 
-/// Makes the option that ignores the default filter.
-fn ignore_default_filter<'a>(alloc: Global) -> Arg<'a> {
-    Arg::new(alloc, "ignore")
-        .long("ignore-default-filter")
-        .action(ArgAction::SetTrue)
-        .help("lists also tests that the default filter does not pick")
-}
-
 /// Makes the command `list`.
 fn list<'a>(alloc: Global) -> Result<Command<'a>, AllocError> {
     let command = Command::new(alloc, "list")
-        .about("Lists the tests of a workspace that filtersets pick")
+        .about("Lists the tests that filtersets pick")
         .after_help(
             "Example: filterset list --cargo-metadata metadata.json --nextest-list list.json -E 'test(~slow)'",
         )
         .arg(
             filterset(alloc).action(ArgAction::Append).help(
-                "a filterset; of several the union, and without any the default filter",
+                "a filterset; repeat for a union; defaults to the default filter",
             ),
         )?;
     with_setting(alloc, command)?
         .arg(run_ignored(alloc))?
-        .arg(ignore_default_filter(alloc))?
+        .arg(
+            Arg::new(alloc, "ignore")
+                .long("ignore-default-filter")
+                .action(ArgAction::SetTrue)
+                .help("list tests that the default filter does not pick too"),
+        )?
         .arg(message_format(alloc, FORMATS.as_slice()).help(
-            "how the tests are written; `json` is nextest's own shape",
+            "the output format; `json` is nextest's own",
         ))?
         .arg(color(alloc))
-}
-
-/// Makes the option that writes the tests by name.
-fn tests<'a>(alloc: Global) -> Arg<'a> {
-    Arg::new(alloc, "tests")
-        .long("tests")
-        .action(ArgAction::SetTrue)
-        .help("writes the tests by name, and skipped binaries by id")
 }
 
 /// Makes a required argument, given by its place.
@@ -287,13 +269,18 @@ fn required_text<'a>(alloc: Global, id: &'a str, name: &'a str, help: &'a str) -
 /// Makes the command `compare`.
 fn compare<'a>(alloc: Global) -> Result<Command<'a>, AllocError> {
     let command = Command::new(alloc, "compare")
-        .about("Counts the tests that only one of two filtersets picks, and those that both pick")
+        .about("Counts the tests that one of two filtersets picks, or both")
         .after_help(
             "Example: filterset compare --cargo-metadata metadata.json --nextest-list list.json --tests 'all()' 'not test(~slow)'",
         );
     with_setting(alloc, command)?
         .arg(run_ignored(alloc))?
-        .arg(tests(alloc))?
+        .arg(
+            Arg::new(alloc, "tests")
+                .long("tests")
+                .action(ArgAction::SetTrue)
+                .help("list the tests, and the ids of skipped binaries"),
+        )?
         .arg(color(alloc))?
         .arg(required_text(alloc, "first", "A", "a filterset"))?
         .arg(required_text(alloc, "second", "B", "another filterset"))
@@ -316,9 +303,7 @@ fn test<'a>(alloc: Global) -> Arg<'a> {
 /// Makes the command `explain`.
 fn explain<'a>(alloc: Global) -> Result<Command<'a>, AllocError> {
     let command = Command::new(alloc, "explain")
-        .about(
-            "Shows why a filterset picks a test or not: the value of each predicate and operator",
-        )
+        .about("Shows why a filterset picks a test or not")
         .after_help(
             "Example: filterset explain --cargo-metadata metadata.json --nextest-list list.json -E 'test(~slow)' parser tests::deep",
         )
@@ -332,54 +317,22 @@ fn explain<'a>(alloc: Global) -> Result<Command<'a>, AllocError> {
 /// Makes the command `overrides`.
 fn overrides<'a>(alloc: Global) -> Result<Command<'a>, AllocError> {
     let command = Command::new(alloc, "overrides")
-        .about(
-            "Counts the tests that each override of a profile applies to, or shows what gives a test its settings",
-        )
+        .about("Shows which tests overrides apply to, and where a test gets its settings from")
         .after_help(
             "Example: filterset overrides --config .config/nextest.toml --cargo-metadata metadata.json --nextest-list list.json",
         )
         .arg(
             filterset(alloc).action(ArgAction::Append).help(
-                "a filterset of the tests to count; of several the union, and without any all tests",
+                "a filterset of the tests to count; repeat for a union; defaults to all tests",
             ),
         )?;
-    let config = required_config(
-        alloc,
-        "nextest's configuration, or `-` for standard input: the overrides of its profile apply",
-    );
+    let config = required_config(alloc, "nextest's configuration, or `-` for standard input");
     let command = with_argument(with_workspace(alloc, command)?, config)?;
     let command = with_profile(alloc, command)?
         .arg(run_ignored(alloc))?
         .arg(color(alloc))?
         .arg(binary(alloc))?;
     with_argument(command, test(alloc).conflicts_with("filterset"))
-}
-
-/// Makes the argument of a question's filtersets.
-fn filtersets<'a>(alloc: Global) -> Arg<'a> {
-    Arg::new(alloc, "filterset")
-        .value_name("TEXT")
-        .num_args(1..)
-        .required(true)
-        .action(ArgAction::Append)
-        .help("the filtersets, or names of profiles such as `@ci`")
-}
-
-/// Makes the option of the tests that a question is about.
-fn within<'a>(alloc: Global) -> Arg<'a> {
-    Arg::new(alloc, "within")
-        .long("within")
-        .value_name("TEXT")
-        .help("a filterset of the tests that count, in place of all tests of the workspace")
-}
-
-/// Makes the option that limits a search.
-fn budget<'a>(alloc: Global) -> Arg<'a> {
-    Arg::new(alloc, "budget")
-        .long("budget")
-        .value_name("STEPS")
-        .default_value("50000000")
-        .help("how many steps the search may take before the answer is `unknown`")
 }
 
 /// Makes a command that asks a question about filtersets and every possible test.
@@ -395,18 +348,38 @@ fn question<'a>(
         .arg(metadata(alloc))?;
     let config = config(
         alloc,
-        "nextest's configuration, or `-` for standard input: `@ci` is the default filter of its profile `ci`",
+        "nextest's configuration, or `-` for standard input; `@ci` is the default filter of its profile `ci`",
     );
     let command = with_argument(command, config)?;
     let command = with_argument(command, nextest_list(alloc).requires_arg("metadata"))?;
     let command = with_argument(command, run_ignored(alloc).requires_arg("list"))?;
     with_profile(alloc, command)?
         .arg(default_filter(alloc))?
-        .arg(within(alloc))?
-        .arg(budget(alloc))?
-        .arg(message_format(alloc, FORMATS.as_slice()).help("how the answer is written"))?
+        .arg(
+            Arg::new(alloc, "within")
+                .long("within")
+                .value_name("TEXT")
+                .help(
+                    "a filterset of the tests that count; defaults to all tests of the workspace",
+                ),
+        )?
+        .arg(
+            Arg::new(alloc, "budget")
+                .long("budget")
+                .value_name("STEPS")
+                .default_value("50000000")
+                .help("how many steps the search may take before the answer is `unknown`"),
+        )?
+        .arg(message_format(alloc, FORMATS.as_slice()).help("the output format"))?
         .arg(color(alloc))?
-        .arg(filtersets(alloc))
+        .arg(
+            Arg::new(alloc, "filterset")
+                .value_name("TEXT")
+                .num_args(1..)
+                .required(true)
+                .action(ArgAction::Append)
+                .help("the filtersets, or names of profiles such as `@ci`"),
+        )
 }
 
 /// Makes the command `same`.
@@ -414,7 +387,7 @@ fn same<'a>(alloc: Global) -> Result<Command<'a>, AllocError> {
     question(
         alloc,
         "same",
-        "Decides whether filtersets pick the same of all possible tests, or shows a test on which they differ",
+        "Decides whether filtersets pick the same tests, for every possible test",
         "Example: filterset same 'not (test(a) or test(b))' 'not test(a) and not test(b)'",
     )
 }
@@ -424,7 +397,7 @@ fn cover<'a>(alloc: Global) -> Result<Command<'a>, AllocError> {
     question(
         alloc,
         "cover",
-        "Decides whether each possible test is picked by at least one filterset, or shows one that is not",
+        "Decides whether at least one filterset picks each possible test",
         "Example: filterset cover --cargo-metadata metadata.json 'package(parser)' 'rdeps(lexer)'",
     )
 }
@@ -434,7 +407,7 @@ fn disjoint<'a>(alloc: Global) -> Result<Command<'a>, AllocError> {
     question(
         alloc,
         "disjoint",
-        "Decides whether each possible test is picked by at most one filterset, or shows one that is not",
+        "Decides whether at most one filterset picks each possible test",
         "Example: filterset disjoint 'kind(lib)' 'kind(test)'",
     )
 }
@@ -444,7 +417,7 @@ fn partition<'a>(alloc: Global) -> Result<Command<'a>, AllocError> {
     question(
         alloc,
         "partition",
-        "Decides whether each possible test is picked by exactly one filterset, or shows one that is not",
+        "Decides whether exactly one filterset picks each possible test",
         "Example: filterset partition 'test(~slow)' 'not test(~slow)'",
     )
 }
@@ -452,7 +425,7 @@ fn partition<'a>(alloc: Global) -> Result<Command<'a>, AllocError> {
 /// Makes the command `lsp`.
 fn lsp<'a>(alloc: Global) -> Result<Command<'a>, AllocError> {
     let command = Command::new(alloc, "lsp")
-        .about("Serves an editor over standard input and output, by the Language Server Protocol")
+        .about("Runs a language server for editors")
         .after_help(
             "Example: filterset lsp --cargo-metadata metadata.json --nextest-list list.json",
         );
@@ -464,7 +437,7 @@ fn lsp<'a>(alloc: Global) -> Result<Command<'a>, AllocError> {
 fn completions<'a>(alloc: Global) -> Result<Command<'a>, AllocError> {
     let shell = required_text(alloc, "shell", "SHELL", "the shell");
     Command::new(alloc, "completions")
-        .about("Writes the script by which a shell completes command lines of this program")
+        .about("Prints a completion script for a shell")
         .after_help("Example: filterset completions bash")
         .arg(shell.value_parser(SHELLS.as_slice()))
 }
@@ -492,7 +465,7 @@ fn with_command<'a>(
 pub fn arguments<'a>(alloc: Global) -> Result<Command<'a>, AllocError> {
     let command = Command::new(alloc, "filterset")
         .version(VERSION)
-        .about("Checks the filtersets of cargo-nextest, and shows which tests they pick and why")
+        .about("Checks cargo-nextest filtersets, and shows which tests they pick and why")
         .after_help("Example: filterset check --config .config/nextest.toml")
         .subcommand_required(true);
     let command = with_command(command, check(alloc))?;
