@@ -1,5 +1,5 @@
 -- Filters of overrides, as expressions and as trees.
-use Rattle.std.proofs.Common.{◌≡◌, ◌↔◌, Bool, IsTrue, List, Option, Some, None, sym, subst}
+use Rattle.std.proofs.Common.{◌≡◌, ◌↔◌, Bool, IsTrue, List, Option, Some, None, refl, sym, subst}
 use Rattle.std.specs.Prelude.{MatchOption}
 use Rattle.filterset_faults.specs.declared.span.SourceSpan.{SourceSpan}
 use Rattle.filterset_graph.specs.declared.package.PackageMetadata.{PackageMetadata}
@@ -9,14 +9,17 @@ use Rattle.filterset_expression.specs.FlatExpressions.{IsFlat}
 use Rattle.filterset_expression.specs.Meaning.{IsCompiled, Meaning}
 use Rattle.filterset_expression.specs.declared.expression.CompiledExpr.{CompiledExpr}
 use Rattle.filterset_expression.specs.declared.flat.FlatExpr.{FlatExpr}
-use Rattle.filterset_expression.specs.declared.query.BinaryQuery.{BinaryQuery}
 use Rattle.filterset_expression.specs.declared.query.TestQuery.{TestQuery}
 use Rattle.filterset_expression.proofs.Meanings.{compiled_means}
-use Rattle.filterset_overrides.specs.Applying.{AppliesAs, FilterPicks, HasApplication, IsCompiledOf, Text, platforms_of}
-use Rattle.filterset_overrides.specs.Asking.{AnswersFor, IsLaidOut, IsPicked, is_all}
+use Rattle.filterset_overrides.specs.Applying.{AppliesAs, FilterPicks, HasApplication, IsCompiledOf, platforms_of}
+use Rattle.filterset_overrides.specs.Asking.{IsLaidOut, is_all}
 use Rattle.filterset_overrides.specs.declared.applying.Application.{Application}
 use Rattle.filterset_overrides.specs.declared.applying.Application.TheVariants.{Applies, NotPicked, OtherPlatform, UnknownPlatform}
 use Rattle.filterset_overrides.specs.declared.asked.AskedOverride.{AskedOverride}
+
+-- the answer says of the test what the expression does
+abbrev pub AnswersFor : FlatExpr → TestQuery → Bool → Type 0
+AnswersFor flat query answer = (expr default : CompiledExpr) → IsFlat flat expr default → IsTrue answer ↔ Holds expr query default no_groups
 
 -- all tests hold of each test
 all_hold : (all default : CompiledExpr) (query : TestQuery) → is_all all → Holds all query default no_groups
@@ -53,14 +56,12 @@ application_by answer Picks platforms OtherPlatform same has = (same.0 has.0, ha
 application_by answer Picks platforms UnknownPlatform same has = (same.0 has.0, has.1)
 
 -- so an override applies, by the answer of its laid out filter
-pub applies_as : (packages : List PackageMetadata) (default : CompiledExpr) (o : AskedOverride) (flat : FlatExpr) (binary : BinaryQuery) (test : Text) (answer : Bool) (application : Application)
-    → IsCompiledOf packages o → IsLaidOut default o flat → IsPicked flat binary test answer
-    → HasApplication (IsTrue answer) (platforms_of o binary.platform) application → AppliesAs packages default (binary, test) o application
-applies_as packages default o flat binary test answer application compiled laid (query, of_binary, of_test, says) has = (
+pub applies_as : (packages : List PackageMetadata) (default : CompiledExpr) (o : AskedOverride) (flat : FlatExpr) (query : TestQuery) (answer : Bool) (application : Application)
+    → IsCompiledOf packages o → IsLaidOut default o flat → AnswersFor flat query answer → HasApplication (IsTrue answer) (platforms_of o query.binary_query.platform) application
+    → AppliesAs packages default (query.binary_query, query.test_name.now) o application
+applies_as packages default o flat query answer application compiled laid says has = (
   query,
-  of_binary,
-  of_test,
-  application_by answer (FilterPicks packages default o query) (platforms_of o query.binary_query.platform) application
-      (laid_picks packages default o flat query answer compiled laid says)
-      (subst (λ (b : BinaryQuery). HasApplication (IsTrue answer) (platforms_of o b.platform) application) (sym of_binary) has),
+  refl,
+  refl,
+  application_by answer (FilterPicks packages default o query) (platforms_of o query.binary_query.platform) application (laid_picks packages default o flat query answer compiled laid says) has,
 )

@@ -9,7 +9,7 @@ use Rattle.filterset_expression.specs.declared.logic.Connective.TheVariants.{Con
 use Rattle.filterset_overrides.specs.Applied.{AreTaken}
 use Rattle.filterset_overrides.specs.Applying.{AppliesAs, DoesApply, Test, Text, sets, verdict}
 use Rattle.filterset_overrides.specs.Asking.{NamesOverride}
-use Rattle.filterset_overrides.specs.Giving.{AreExplained, Gives, IsFirst, IsGiver, Takes, asked_of}
+use Rattle.filterset_overrides.specs.Giving.{AreExplained, Gives, IsFirst, IsGiver, IsProfileGiver, Takes, asked_of}
 use Rattle.filterset_overrides.specs.declared.applying.ExplainedOverride.{ExplainedOverride}
 use Rattle.filterset_overrides.specs.declared.asked.AskedOverride.{AskedOverride}
 use Rattle.filterset_overrides.specs.declared.asked.AskedProfile.{AskedProfile}
@@ -103,6 +103,14 @@ named Applies key overrides profiles None path (Unknown p) first same = subst (�
 named Applies key overrides profiles None path (Override p) first same = absurd same
 named Applies key overrides profiles None path (Profile name) first same = absurd same
 named Applies key overrides profiles None path Nextest first same = absurd same
+
+-- no override takes the setting
+pub by_profile : (Applies : AskedOverride → Option Bool → Type 0) (key : Text) (overrides : List AskedOverride) (profiles : List AskedProfile) (giver : Giver)
+    → Takes Applies key overrides (Some false) → IsProfileGiver key profiles giver → IsGiver Applies key overrides profiles giver
+by_profile Applies key overrides profiles (Profile name) none is = (none, is)
+by_profile Applies key overrides profiles Nextest none is = (none, is)
+by_profile Applies key overrides profiles (Override path) none is = absurd is
+by_profile Applies key overrides profiles (Unknown path) none is = absurd is
 
 module _ (packages : List PackageMetadata) (default : CompiledExpr) (test : Test) (key : Text) (explained : List ExplainedOverride) (i : ℕ) (one : ExplainedOverride)
     (lt : i < length explained) (at : get_or explained i one ≡ one) (are : AreExplained packages default test explained)

@@ -1,12 +1,10 @@
 -- What the laid out filter of an override answers. Only contracts of private functions cite this.
-use Rattle.std.specs.Prelude.{◌≡◌, ◌↔◌, Bool, true, false, IsTrue, Option, Some, None, MatchOption, if◌then◌else◌}
-use Rattle.filterset_expression.specs.Expression.{All, Holds, formula, no_groups}
+use Rattle.std.specs.Prelude.{◌≡◌, Bool, true, false, Option, Some, None, MatchOption, if◌then◌else◌}
+use Rattle.filterset_expression.specs.Expression.{All, formula}
 use Rattle.filterset_expression.specs.Formula.{Leaf}
 use Rattle.filterset_expression.specs.FlatExpressions.{IsFlat}
 use Rattle.filterset_expression.specs.declared.expression.CompiledExpr.{CompiledExpr}
 use Rattle.filterset_expression.specs.declared.flat.FlatExpr.{FlatExpr}
-use Rattle.filterset_expression.specs.declared.query.BinaryQuery.{BinaryQuery}
-use Rattle.filterset_expression.specs.declared.query.TestQuery.{TestQuery}
 use Rattle.filterset_overrides.specs.Applying.{Text, sets, verdict}
 use Rattle.filterset_overrides.specs.declared.applying.ExplainedOverride.{ExplainedOverride}
 use Rattle.filterset_overrides.specs.declared.explaining.Giver.{Giver}
@@ -24,15 +22,6 @@ IsFilterOf o expr = MatchOption o.filter (is_all expr) (λ filter. filter.now �
 -- the steps are those of that expression
 abbrev pub IsLaidOut : CompiledExpr → AskedOverride → FlatExpr → Type 0
 IsLaidOut default o flat = (expr : CompiledExpr) × IsFilterOf o expr × IsFlat flat expr default
-
--- the answer says of the test what the expression does
-abbrev pub AnswersFor : FlatExpr → TestQuery → Bool → Type 0
-AnswersFor flat query answer = (expr default : CompiledExpr) → IsFlat flat expr default → IsTrue answer ↔ Holds expr query default no_groups
-
--- the same of the test of the binary
-abbrev pub IsPicked : FlatExpr → BinaryQuery → Text → Bool → Type 0
-IsPicked flat binary test answer = (query : TestQuery) × (query.binary_query ≡ binary) × (query.test_name.now ≡ test)
-    × AnswersFor flat query answer
 
 -- the giver is the override at this path, which applies or may
 abbrev pub NamesOverride : Option Bool → Text → Giver → Type 0

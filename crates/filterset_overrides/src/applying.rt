@@ -3,15 +3,34 @@ ghost use Rattle.std.specs.Prelude.{◌≡◌, ◌++◌, All, IfOk, IsTrue, List
 ghost use Rattle.std.specs.List.{AllZip};
 ghost use Rattle.filterset_graph.specs.declared.package.PackageMetadata.{PackageMetadata};
 ghost use Rattle.filterset_expression.specs.Contexts.{default_of};
+ghost use Rattle.filterset_expression.specs.Expression.{no_groups};
+ghost use Rattle.filterset_expression.specs.FlatExpressions.{IsTold};
 ghost use Rattle.filterset_expression.specs.declared.expression.CompiledExpr.{CompiledExpr};
 ghost use Rattle.filterset_overrides.specs.Applying.{AppliesAs, HasApplication, IsCompiledOf, Test, tests_of, tests_of_one, verdict};
 ghost use Rattle.filterset_overrides.specs.Counting.{is_picked};
 ghost use Rattle.filterset_overrides.specs.Asking.{IsFilterOf, IsLaidOut};
 
 use crate::asked::{AskedOverride, ListedBinary};
-use crate::asking::{NoGroups, picks, picks_test};
-use filterset_expression::{CompiledExpr, EvalContext, FlatExpr, TestQuery};
+use filterset_expression::{CompiledExpr, EvalContext, FlatExpr, GroupLookup, TestQuery};
+use filterset_matchers::NameMatcher;
 use std::alloc::{AllocError, Global};
+
+/// A lookup in which no test is in a group. The filter of an override has no `group` predicate.
+#[derive(Clone, Copy, Debug)]
+struct NoGroups;
+
+impl GroupLookup for NoGroups {
+    ghost matches_group = { λ _. no_groups };
+
+    fn is_member_test(
+        &self,
+        _alloc: Global,
+        _test: &TestQuery<'_>,
+        _matcher: &NameMatcher,
+    ) -> Result<bool, AllocError> {
+        Ok(false)
+    }
+}
 
 /// How an override applies to a test.
 #[derive(Clone, Copy, Debug, PartialEq, Eq)]
@@ -64,6 +83,26 @@ fn application_of(is_picked: bool, platforms: Option<bool>) -> Application
     }
 }
 
+/// Returns how the override applies to a test. Its filter is laid out as `flat`, and `told` is the filter's answer about the
+/// test's binary.
+fn apply_flat(
+    alloc: Global,
+    asked: &AskedOverride<'_>,
+    flat: &FlatExpr<'_>,
+    lookup: &NoGroups,
+    told: Option<bool>,
+    query: &TestQuery<'_>,
+) -> Result<Application, AllocError>
+    requires { IsTold flat.now query.now.binary_query told }
+    ensures { IfOk result (λ application. (packages : List PackageMetadata) (default : CompiledExpr)
+        → IsCompiledOf packages asked.now → IsLaidOut default asked.now flat.now
+        → AppliesAs packages default (query.now.binary_query, query.now.test_name.now) asked.now application) }
+{
+    let is_picked = flat.matches_test_of_told(alloc, told, query, lookup)?;
+    let platforms = asked.platforms_of(query.binary_query.platform);
+    Ok(application_of(is_picked, platforms))
+}
+
 /// Adds how the override applies to each test of a binary, whose filter is laid out as `flat`.
 fn push_applications(
     alloc: Global,
@@ -78,34 +117,13 @@ fn push_applications(
         → AllZip (λ test. AppliesAs packages default test asked.now) (tests ++ tests_of_one binary.now)
         applications.new.items) }
 {
-    let query = &binary.query;
-    let platforms = asked.platforms_of(query.platform);
-    let told = flat.matches_binary(alloc, query)?;
-    let tests = binary.tests;
-    let lookup = NoGroups;
-    for test in tests {
-        let is_picked = picks(alloc, flat, &lookup, query, told, test)?;
-        applications.push(application_of(is_picked, platforms))?;
-    }
-    Ok(())
-}
-
-/// Adds how the override applies to each test, whose filter is laid out as `flat`.
-fn push_all_applications(
-    alloc: Global,
-    asked: &AskedOverride<'_>,
-    flat: &FlatExpr<'_>,
-    binaries: &[ListedBinary<'_>],
-    applications: &mut Vec<Application>,
-) -> Result<(), AllocError>
-    ensures { OnOk result ((packages : List PackageMetadata) (default : CompiledExpr) (tests : List Test)
-        → IsCompiledOf packages asked.now → IsLaidOut default asked.now flat.now
-        → AllZip (λ test. AppliesAs packages default test asked.now) tests applications.old.items
-        → AllZip (λ test. AppliesAs packages default test asked.now) (tests ++ tests_of binaries.now)
-        applications.new.items) }
-{
-    for binary in binaries {
-        push_applications(alloc, asked, flat, binary, applications)?;
+    let told = flat.matches_binary(alloc, &binary.query)?;
+    for test in binary.tests {
+        let query = TestQuery {
+            binary_query: binary.query,
+            test_name: *test,
+        };
+        applications.push(apply_flat(alloc, asked, flat, &NoGroups, told, &query)?)?;
     }
     Ok(())
 }
@@ -125,7 +143,9 @@ fn apply_filter(
 {
     let flat = FlatExpr::new(alloc, filter, context)?;
     let mut applications = Vec::new(alloc);
-    push_all_applications(alloc, asked, &flat, binaries, &mut applications)?;
+    for binary in binaries {
+        push_applications(alloc, asked, &flat, binary, &mut applications)?;
+    }
     Ok(applications)
 }
 
@@ -159,9 +179,8 @@ fn apply_filter_to_test(
         application) }
 {
     let flat = FlatExpr::new(alloc, filter, context)?;
-    let is_picked = picks_test(alloc, &flat, &NoGroups, query)?;
-    let platforms = asked.platforms_of(query.binary_query.platform);
-    Ok(application_of(is_picked, platforms))
+    let told = flat.matches_binary(alloc, &query.binary_query)?;
+    apply_flat(alloc, asked, &flat, &NoGroups, told, query)
 }
 
 /// Returns how the override applies to the test.

@@ -4,9 +4,8 @@ ghost use Rattle.std.specs.List.{list_any};
 ghost use Rattle.filterset_graph.specs.declared.package.PackageMetadata.{PackageMetadata};
 ghost use Rattle.filterset_expression.specs.Contexts.{default_of};
 ghost use Rattle.filterset_expression.specs.declared.expression.CompiledExpr.{CompiledExpr};
-ghost use Rattle.filterset_overrides.specs.Applied.{AreApplied, IsApplied, overrides_of};
+ghost use Rattle.filterset_overrides.specs.Applied.{AreApplied, overrides_of};
 ghost use Rattle.filterset_overrides.specs.Applying.{IsCompiledOf, Test, tests_of};
-ghost use Rattle.filterset_overrides.specs.declared.asked.AskedOverride.{AskedOverride};
 ghost use Rattle.filterset_overrides.specs.Counting.{EachAfter, IsRow, IsTable};
 
 mod answers;
@@ -68,20 +67,6 @@ fn count_tests(binaries: &[ListedBinary<'_>]) -> Result<usize, AllocError>
     Ok(count)
 }
 
-/// Returns the row of an override that has `at` overrides before it.
-fn row_of<'o>(at: usize, applied: &AppliedOverride<'o>) -> OverrideRow<'o>
-    ensures { (packages : List PackageMetadata) (default : CompiledExpr) (tests : List Test)
-        (before : List AskedOverride) → IsApplied packages default tests applied.now → at ≡ length before
-        → IsRow packages default tests before applied.now.asked result }
-{
-    OverrideRow {
-        at,
-        path: applied.asked.path,
-        tests: count_answers(applied.answers.as_slice()),
-        picks_all: applied.picks_all,
-    }
-}
-
 /// Returns the row of each override.
 fn rows_of<'o>(
     alloc: Global,
@@ -93,27 +78,14 @@ fn rows_of<'o>(
 {
     let mut rows = Vec::with_capacity(alloc, applied.len())?;
     for (at, one) in applied.iter().enumerate() {
-        let row = row_of(at, one);
-        rows.push(row)?;
+        rows.push(OverrideRow {
+            at,
+            path: one.asked.path,
+            tests: count_answers(one.answers.as_slice()),
+            picks_all: one.picks_all,
+        })?;
     }
     Ok(rows)
-}
-
-/// Returns the table of the overrides, which answered about so many tests.
-fn table_of<'o>(
-    alloc: Global,
-    overrides: &[AskedOverride<'o>],
-    applied: &[AppliedOverride<'o>],
-    test_count: usize,
-) -> Result<OverrideTable<'o>, AllocError>
-    ensures { IfOk result (λ table. (packages : List PackageMetadata) (default : CompiledExpr) (tests : List Test)
-        → length tests ≡ test_count → AreApplied packages default tests applied.now
-        → overrides_of applied.now ≡ overrides.now → IsTable packages default tests overrides.now table) }
-{
-    let rows = rows_of(alloc, applied)?;
-    let keys = keys_of(alloc, overrides, &[])?;
-    let columns = count_settings(alloc, keys.as_slice(), applied, test_count)?;
-    Ok(OverrideTable { rows, columns })
 }
 
 /// Returns how many of the tests each override applies to, and for each of its settings how many tests get it from the
@@ -132,7 +104,10 @@ pub fn count_overrides<'o>(
 {
     let test_count = count_tests(binaries)?;
     let applied = apply_all(alloc, overrides, context, binaries)?;
-    table_of(alloc, overrides, applied.as_slice(), test_count)
+    let rows = rows_of(alloc, &applied)?;
+    let keys = keys_of(alloc, overrides, &[])?;
+    let columns = count_settings(alloc, &keys, &applied, test_count)?;
+    Ok(OverrideTable { rows, columns })
 }
 
 /// Returns whether it is unknown of a test whether one of the overrides applies to it.

@@ -1,12 +1,12 @@
 //! Which overrides apply to a test, and what gives it each of its settings.
-ghost use Rattle.std.specs.Prelude.{◌≡◌, All, false, IfOk, List, MatchOption, Some, is_none, map};
+ghost use Rattle.std.specs.Prelude.{◌≡◌, All, IfOk, List, is_none, map};
 ghost use Rattle.std.specs.List.{list_any};
 ghost use Rattle.filterset_graph.specs.declared.package.PackageMetadata.{PackageMetadata};
 ghost use Rattle.filterset_expression.specs.Contexts.{default_of};
 ghost use Rattle.filterset_expression.specs.declared.expression.CompiledExpr.{CompiledExpr};
-ghost use Rattle.filterset_overrides.specs.Applying.{AppliesAs, DoesApply, IsCompiledOf, Test, verdict};
+ghost use Rattle.filterset_overrides.specs.Applying.{DoesApply, IsCompiledOf, Test, verdict};
 ghost use Rattle.filterset_overrides.specs.Asking.{IsGivenBy};
-ghost use Rattle.filterset_overrides.specs.Giving.{AreExplained, Explains, IsGiver, IsProfileGiver, Takes, asked_of};
+ghost use Rattle.filterset_overrides.specs.Giving.{AreExplained, Explains, IsGiver, IsProfileGiver, asked_of};
 
 pub mod text;
 
@@ -43,25 +43,6 @@ pub struct TestOverrides<'o> {
     pub settings: Vec<ExplainedSetting<'o>>,
 }
 
-/// Returns how the override applies to the test.
-fn apply<'o>(
-    alloc: Global,
-    asked: &AskedOverride<'o>,
-    context: &EvalContext<'_>,
-    query: &TestQuery<'_>,
-) -> Result<ExplainedOverride<'o>, AllocError>
-    ensures asked { IfOk result (λ explained. explained.asked ≡ asked.now) }
-    ensures applied { IfOk result (λ explained. (packages : List PackageMetadata) → IsCompiledOf packages asked.now
-        → AppliesAs packages (default_of context.now) (query.now.binary_query, query.now.test_name.now)
-        explained.asked explained.application) }
-{
-    let application = apply_to_test(alloc, asked, context, query)?;
-    Ok(ExplainedOverride {
-        asked: *asked,
-        application,
-    })
-}
-
 /// Returns how each override applies to the test.
 fn apply_all<'o>(
     alloc: Global,
@@ -77,7 +58,11 @@ fn apply_all<'o>(
 {
     let mut explained = Vec::with_capacity(alloc, overrides.len())?;
     for asked in overrides {
-        explained.push(apply(alloc, asked, context, query)?)?;
+        let application = apply_to_test(alloc, asked, context, query)?;
+        explained.push(ExplainedOverride {
+            asked: *asked,
+            application,
+        })?;
     }
     Ok(explained)
 }
@@ -96,22 +81,6 @@ fn given_by<'o>(key: &str, explained: &ExplainedOverride<'o>) -> Option<Giver<'o
     }
 }
 
-/// Returns the first override that gives the setting or may.
-fn first_override<'o>(key: &str, explained: &[ExplainedOverride<'o>]) -> Option<Giver<'o>>
-    ensures { (packages : List PackageMetadata) (default : CompiledExpr) (test : Test)
-        → AreExplained packages default test explained.now
-        → MatchOption result (Takes (DoesApply packages default test) key.now (asked_of explained.now) (Some false))
-        (λ giver. (profiles : List AskedProfile)
-        → IsGiver (DoesApply packages default test) key.now (asked_of explained.now) profiles giver) }
-{
-    for one in explained {
-        if let Some(giver) = given_by(key, one) {
-            return Some(giver);
-        }
-    }
-    None
-}
-
 /// Returns the first profile that sets the key, or nextest itself.
 fn first_profile<'o>(key: &str, profiles: &[AskedProfile<'o>]) -> Giver<'o>
     ensures { IsProfileGiver key.now profiles.now result }
@@ -124,7 +93,7 @@ fn first_profile<'o>(key: &str, profiles: &[AskedProfile<'o>]) -> Giver<'o>
     Giver::Nextest
 }
 
-/// Returns what gives the setting.
+/// Returns what gives the setting: the first override that does or may, or else a profile or nextest itself.
 fn giver_of<'o>(
     key: &str,
     explained: &[ExplainedOverride<'o>],
@@ -134,10 +103,12 @@ fn giver_of<'o>(
         → AreExplained packages default test explained.now
         → IsGiver (DoesApply packages default test) key.now (asked_of explained.now) profiles.now result }
 {
-    match first_override(key, explained) {
-        Some(giver) => giver,
-        None => first_profile(key, profiles),
+    for one in explained {
+        if let Some(giver) = given_by(key, one) {
+            return giver;
+        }
     }
+    first_profile(key, profiles)
 }
 
 /// Returns the key with what gives it.

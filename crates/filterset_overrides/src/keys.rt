@@ -3,21 +3,10 @@ ghost use Rattle.std.specs.Prelude.{◌≡◌, ◌++◌, ◌∷◌, [], IfOk, Li
 ghost use Rattle.std.specs.List.{list_any};
 ghost use Rattle.std.specs.Str.{bytes_eq};
 ghost use Rattle.filterset_overrides.specs.Applying.{Text};
-ghost use Rattle.filterset_overrides.specs.Giving.{AreDistinctOf, all_settings, override_settings, profile_settings};
+ghost use Rattle.filterset_overrides.specs.Giving.{AreDistinctOf, all_settings};
 
 use crate::asked::{AskedOverride, AskedProfile};
 use std::alloc::{AllocError, Global};
-
-/// Adds the keys that are not there.
-fn push_keys<'o>(keys: &mut Vec<&'o str>, settings: &'o [String]) -> Result<(), AllocError>
-    ensures { OnOk result ((all : List Text) → AreDistinctOf all (map (λ k. k.now) keys.old.items)
-        → AreDistinctOf (all ++ map string_bytes settings.entry.now) (map (λ k. k.now) keys.new.items)) }
-{
-    for setting in settings {
-        push_key(keys, setting.as_str())?;
-    }
-    Ok(())
-}
 
 /// Adds the key if it is not there.
 fn push_key<'o>(keys: &mut Vec<&'o str>, key: &'o str) -> Result<(), AllocError>
@@ -37,30 +26,13 @@ fn has_key(keys: &[&str], key: &str) -> bool
     keys.iter().any(|there| *there == key)
 }
 
-/// Adds the keys that the overrides set.
-fn push_override_keys<'o>(
-    keys: &mut Vec<&'o str>,
-    overrides: &[AskedOverride<'o>],
-) -> Result<(), AllocError>
+/// Adds the keys that are not there.
+fn push_keys<'o>(keys: &mut Vec<&'o str>, settings: &'o [String]) -> Result<(), AllocError>
     ensures { OnOk result ((all : List Text) → AreDistinctOf all (map (λ k. k.now) keys.old.items)
-        → AreDistinctOf (all ++ override_settings overrides.now) (map (λ k. k.now) keys.new.items)) }
+        → AreDistinctOf (all ++ map string_bytes settings.entry.now) (map (λ k. k.now) keys.new.items)) }
 {
-    for asked in overrides {
-        push_keys(keys, asked.settings)?;
-    }
-    Ok(())
-}
-
-/// Adds the keys that the profiles set.
-fn push_profile_keys<'o>(
-    keys: &mut Vec<&'o str>,
-    profiles: &[AskedProfile<'o>],
-) -> Result<(), AllocError>
-    ensures { OnOk result ((all : List Text) → AreDistinctOf all (map (λ k. k.now) keys.old.items)
-        → AreDistinctOf (all ++ profile_settings profiles.now) (map (λ k. k.now) keys.new.items)) }
-{
-    for profile in profiles {
-        push_keys(keys, profile.settings)?;
+    for setting in settings {
+        push_key(keys, setting.as_str())?;
     }
     Ok(())
 }
@@ -74,7 +46,11 @@ pub fn keys_of<'o>(
     ensures { IfOk result (λ keys. AreDistinctOf (all_settings overrides.now profiles.now) (map (λ k. k.now) keys.items)) }
 {
     let mut keys = Vec::new(alloc);
-    push_override_keys(&mut keys, overrides)?;
-    push_profile_keys(&mut keys, profiles)?;
+    for asked in overrides {
+        push_keys(&mut keys, asked.settings)?;
+    }
+    for profile in profiles {
+        push_keys(&mut keys, profile.settings)?;
+    }
     Ok(keys)
 }

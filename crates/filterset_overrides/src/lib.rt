@@ -3,7 +3,6 @@
 
 mod applying;
 mod asked;
-mod asking;
 mod counting;
 mod explaining;
 mod keys;

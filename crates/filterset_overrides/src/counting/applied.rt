@@ -3,7 +3,7 @@ ghost use Rattle.std.specs.Prelude.{◌≡◌, ◌==◌, ◌&&◌, All, IfOk, Li
 ghost use Rattle.std.specs.List.{list_all};
 ghost use Rattle.filterset_graph.specs.declared.package.PackageMetadata.{PackageMetadata};
 ghost use Rattle.filterset_expression.specs.Contexts.{default_of};
-ghost use Rattle.filterset_overrides.specs.Applied.{AreApplied, IsApplied, overrides_of};
+ghost use Rattle.filterset_overrides.specs.Applied.{AreApplied, overrides_of};
 ghost use Rattle.filterset_overrides.specs.Applying.{IsCompiledOf, tests_of};
 ghost use Rattle.filterset_overrides.specs.Counting.{is_picked};
 
@@ -47,27 +47,6 @@ fn picks_all(asked: &AskedOverride<'_>, applications: &[Application]) -> bool
     asked.filter.is_some() && has_all_picked(applications)
 }
 
-/// Returns what the override answers about each test.
-fn apply<'o>(
-    alloc: Global,
-    asked: &AskedOverride<'o>,
-    context: &EvalContext<'_>,
-    binaries: &[ListedBinary<'_>],
-) -> Result<AppliedOverride<'o>, AllocError>
-    ensures asked { IfOk result (λ applied. applied.asked ≡ asked.now) }
-    ensures applied { IfOk result (λ applied. (packages : List PackageMetadata) → IsCompiledOf packages asked.now
-        → IsApplied packages (default_of context.now) (tests_of binaries.now) applied) }
-{
-    let applications = apply_to_tests(alloc, asked, context, binaries)?;
-    let answers = verdicts_of(alloc, applications.as_slice())?;
-    let picks_all = picks_all(asked, applications.as_slice());
-    Ok(AppliedOverride {
-        asked: *asked,
-        answers,
-        picks_all,
-    })
-}
-
 /// Returns what each override answers about each test.
 pub fn apply_all<'o>(
     alloc: Global,
@@ -81,7 +60,12 @@ pub fn apply_all<'o>(
 {
     let mut all = Vec::with_capacity(alloc, overrides.len())?;
     for asked in overrides {
-        all.push(apply(alloc, asked, context, binaries)?)?;
+        let applications = apply_to_tests(alloc, asked, context, binaries)?;
+        all.push(AppliedOverride {
+            asked: *asked,
+            answers: verdicts_of(alloc, &applications)?,
+            picks_all: picks_all(asked, &applications),
+        })?;
     }
     Ok(all)
 }

@@ -1,7 +1,7 @@
 //! The table of overrides, as text.
 ghost use Rattle.std.specs.Prelude.{◌≡◌, ◌++◌, IfOk, OnOk, is_some, string_bytes};
 ghost use Rattle.std.specs.List.{flat_map, list_all, list_any};
-ghost use Rattle.filterset_overrides.specs.TableText.{count_text, given_at, given_text, gives_none, is_overtaken, is_zero, override_table_text, row_line, unknown_text, warning_line, warning_lines};
+ghost use Rattle.filterset_overrides.specs.TableText.{count_text, given_at, given_text, gives_none, is_overtaken, is_zero, override_table_text, row_line, warning_line, warning_lines};
 
 use crate::counting::{OverrideRow, OverrideTable, SettingColumn, TestCount};
 use std::alloc::{AllocError, Global};
@@ -38,23 +38,15 @@ impl SettingColumn<'_> {
     }
 }
 
-/// Writes of how many further tests it is unknown, if there are any.
-fn push_unknown(output: &mut String, unknown: usize) -> Result<(), AllocError>
-    ensures { OnOk result (string_bytes output.new ≡ string_bytes output.old ++ unknown_text unknown) }
-{
-    if unknown == 0 {
-        return Ok(());
-    }
-    write!(output, " (unknown: {unknown})")
-}
-
-/// Writes a number of tests.
+/// Writes a number of tests, and of how many further tests it is unknown, if there are any.
 fn push_count(output: &mut String, count: TestCount) -> Result<(), AllocError>
     ensures { OnOk result (string_bytes output.new ≡ string_bytes output.old ++ count_text count) }
 {
-    let sure = count.sure;
-    write!(output, "{sure}")?;
-    push_unknown(output, count.unknown)
+    let TestCount { sure, unknown } = count;
+    if unknown == 0 {
+        return write!(output, "{sure}");
+    }
+    write!(output, "{sure} (unknown: {unknown})")
 }
 
 /// Writes a setting, and how many tests get it, if there is such a number.
@@ -150,36 +142,6 @@ fn push_warnings(
     )
 }
 
-/// Writes the line of each override.
-fn push_rows(
-    output: &mut String,
-    columns: &[SettingColumn<'_>],
-    rows: &[OverrideRow<'_>],
-) -> Result<(), AllocError>
-    ensures { OnOk result (string_bytes output.new
-        ≡ string_bytes output.old ++ flat_map (row_line columns.now) rows.now) }
-{
-    for row in rows {
-        push_row(output, columns, row)?;
-    }
-    Ok(())
-}
-
-/// Writes what is odd about each override.
-fn push_all_warnings(
-    output: &mut String,
-    columns: &[SettingColumn<'_>],
-    rows: &[OverrideRow<'_>],
-) -> Result<(), AllocError>
-    ensures { OnOk result (string_bytes output.new
-        ≡ string_bytes output.old ++ flat_map (warning_lines columns.now) rows.now) }
-{
-    for row in rows {
-        push_warnings(output, columns, row)?;
-    }
-    Ok(())
-}
-
 /// Writes the table of overrides, a line each: to how many tests the override applies, and how many get each of its
 /// settings from it. A number of tests of which that is unknown follows in parentheses.
 ///
@@ -192,7 +154,11 @@ pub fn override_table_text(alloc: Global, table: &OverrideTable<'_>) -> Result<S
 {
     let columns = table.columns.as_slice();
     let mut text = String::new(alloc);
-    push_rows(&mut text, columns, table.rows.as_slice())?;
-    push_all_warnings(&mut text, columns, table.rows.as_slice())?;
+    for row in &table.rows {
+        push_row(&mut text, columns, row)?;
+    }
+    for row in &table.rows {
+        push_warnings(&mut text, columns, row)?;
+    }
     Ok(text)
 }

@@ -65,26 +65,16 @@ fn push_overrides(
     Ok(())
 }
 
-/// Writes what gives a setting.
-fn push_giver(output: &mut String, giver: Giver<'_>) -> Result<(), AllocError>
-    ensures { OnOk result (string_bytes output.new ≡ string_bytes output.old ++ giver_text giver.entry) }
+/// Returns the words for what gives a setting: a name, and what is before it.
+fn giver_words<'o>(giver: Giver<'o>) -> (&'static str, &'o str)
+    ensures { result.0.now ++ result.1.now ≡ giver_text giver.entry }
 {
     match giver {
-        Giver::Override(path) => output.push_str(path),
-        Giver::Unknown(path) => write!(output, "unknown: platform of {path}"),
-        Giver::Profile(name) => write!(output, "profile.{name}"),
-        Giver::Nextest => output.push_str("nextest's default"),
+        Giver::Override(path) => ("", path),
+        Giver::Unknown(path) => ("unknown: platform of ", path),
+        Giver::Profile(name) => ("profile.", name),
+        Giver::Nextest => ("nextest's default", ""),
     }
-}
-
-/// Writes a setting and what gives it.
-fn push_setting(output: &mut String, setting: &ExplainedSetting<'_>) -> Result<(), AllocError>
-    ensures { OnOk result (string_bytes output.new ≡ string_bytes output.old ++ setting_line setting.now) }
-{
-    let key = setting.key;
-    write!(output, "{key}: ")?;
-    push_giver(output, setting.giver)?;
-    output.push_str("\n")
 }
 
 /// Writes what gives each setting, a line each.
@@ -92,7 +82,9 @@ fn push_settings(output: &mut String, all: &[ExplainedSetting<'_>]) -> Result<()
     ensures { OnOk result (string_bytes output.new ≡ string_bytes output.old ++ flat_map setting_line all.now) }
 {
     for setting in all {
-        push_setting(output, setting)?;
+        let key = setting.key;
+        let (before, name) = giver_words(setting.giver);
+        writeln!(output, "{key}: {before}{name}")?;
     }
     Ok(())
 }

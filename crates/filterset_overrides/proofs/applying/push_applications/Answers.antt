@@ -1,9 +1,8 @@
-use Rattle.std.proofs.Common.{rules, arith, ◌≡◌, ◌<◌, ◌+◌, ◌++◌, ◌∷◌, [], Bool, Bor, IsTrue, List, Option, length, get_or, map, take, subst}
+use Rattle.std.proofs.Common.{rules, arith, ◌≡◌, ◌<◌, ◌+◌, ◌++◌, ◌∷◌, [], Bor, List, length, get_or, map, take, subst}
 use Rattle.std.specs.List.{AllZip}
 use Rattle.std.proofs.lemmas.List.{take_all}
 use Rattle.filterset_graph.specs.declared.binary.TestCaseName.{TestCaseName}
-use Rattle.filterset_overrides.specs.Applying.{AppliesAs, HasApplication, Test}
-use Rattle.filterset_overrides.proofs.ApplyingLemmas.{applies_as}
+use Rattle.filterset_overrides.specs.Applying.{AppliesAs, Test}
 use Rattle.filterset_overrides.proofs.ListLemmas.{AllZip-push, behind, map_more}
 use Rattle.filterset_overrides.proofs.applying.push_applications.Goals as goal
 
@@ -24,9 +23,7 @@ loop-test-preserved c packages default tests compiled laid before =
     let f : Bor TestCaseName → Test = λ t. (query, t.now) in
     let this : Test = (query, one.now) in
     let so_far = map f (take i items) in
-    let has = subst (λ (platforms : Option Bool). HasApplication (IsTrue c.in_ok-is_picked.is_picked) platforms c.application_of.result) c.platforms_of-platforms.ensures c.application_of.ensures in
-    let one_applies = applies_as packages default asked c.args.flat.now query one.now c.in_ok-is_picked.is_picked c.application_of.result compiled laid c.in_ok-is_picked.ensures has in
-    let added = AllZip-push (λ test. AppliesAs packages default test asked) (tests ++ so_far) c.loop-test.applications.items this c.application_of.result
-    (c.loop-test.invariant packages default tests compiled laid before) one_applies in
-    rw c.in_ok-push.ensures.items (subst (λ (all : List Test). AllZip (λ test. AppliesAs packages default test asked) all (c.loop-test.applications.items ++ c.application_of.result ∷ []))
+    let added = AllZip-push (λ test. AppliesAs packages default test asked) (tests ++ so_far) c.loop-test.applications.items this c.in_ok-apply_flat.field-0
+    (c.loop-test.invariant packages default tests compiled laid before) (c.in_ok-apply_flat.ensures packages default compiled laid) in
+    rw c.in_ok-push.ensures.items (subst (λ (all : List Test). AllZip (λ test. AppliesAs packages default test asked) all (c.loop-test.applications.items ++ c.in_ok-apply_flat.field-0 ∷ []))
     (behind tests so_far (this ∷ []) (map f (take (i + 1) items)) (map_more f items i one lt at)) added)

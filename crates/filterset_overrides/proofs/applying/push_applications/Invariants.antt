@@ -11,4 +11,4 @@ abbrev pub invariant-loop-test : goal.invariant-loop-test
 invariant-loop-test l =
     (packages : List PackageMetadata) (default : CompiledExpr) (tests : List Test) → IsCompiledOf packages l.asked → IsLaidOut default l.asked l.flat
     → AllZip (λ test. AppliesAs packages default test l.asked) tests l.initial.applications.items
-    → AllZip (λ test. AppliesAs packages default test l.asked) (tests ++ map (λ t. (l.binary.query, t.now)) (take l.test-index l.tests)) l.applications.items
+    → AllZip (λ test. AppliesAs packages default test l.asked) (tests ++ map (λ t. (l.binary.query, t.now)) (take l.test-index l.binary.tests.now)) l.applications.items

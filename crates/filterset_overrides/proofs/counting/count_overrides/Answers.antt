@@ -1,15 +1,23 @@
-use Rattle.std.proofs.Common.{◌∙◌, List, ap, subst, sym}
-use Rattle.std.proofs.lemmas.Result.{IfOk-weaker}
+use Rattle.std.proofs.Common.{◌∙◌, All, List, [], ap, map, subst, sym}
 use Rattle.filterset_expression.specs.Contexts.{default_of}
-use Rattle.filterset_overrides.specs.Applied.{AreApplied, overrides_of}
-use Rattle.filterset_overrides.specs.Applying.{tests_of}
-use Rattle.filterset_overrides.specs.declared.counting.applied.AppliedOverride.{AppliedOverride}
+use Rattle.filterset_overrides.specs.Applying.{Text, tests_of}
+use Rattle.filterset_overrides.specs.Counting.{EachAfter, IsGiven, IsRow}
+use Rattle.filterset_overrides.specs.Giving.{AreDistinctOf, all_settings}
+use Rattle.filterset_overrides.specs.declared.asked.AskedOverride.{AskedOverride}
+use Rattle.filterset_overrides.specs.declared.counting.SettingColumn.{SettingColumn}
 use Rattle.filterset_overrides.proofs.counting.count_overrides.Goals as goal
 
 pub returns : goal.returns
-returns c =
+returns c packages compiled =
     let default = default_of c.args.context.now in
     let tests = tests_of c.args.binaries.now in
-    IfOk-weaker c.table_of.result _ _ (λ table is packages compiled. is packages default tests (sym c.in_ok-test_count.ensures)
-    (subst (λ (all : List AppliedOverride). AreApplied packages default tests all) (sym c.as_slice.ensures.value) (c.in_ok-applied.ensures.applied packages compiled))
-    (ap overrides_of c.as_slice.ensures.value ∙ c.in_ok-applied.ensures.asked)) c.table_of.ensures
+    let applied = c.in_ok-applied.ensures.applied packages compiled in
+    let asked = c.in_ok-applied.ensures.asked in
+    let rows = rw c.deref.ensures.value at (c.in_ok-rows.ensures packages default tests) in
+    let given = rw c.deref-3.ensures.value at (c.in_ok-columns.ensures.given packages default tests) in
+    let keys = c.in_ok-columns.ensures.keys ∙ ap (map (λ k. k.now)) c.deref-2.ensures.value in (
+      subst (λ (os : List AskedOverride). EachAfter (IsRow packages default tests) [] os c.in_ok-rows.rows.items) asked (rows applied),
+      subst (λ (texts : List Text). AreDistinctOf (all_settings c.args.overrides.now []) texts) (sym keys) c.in_ok-keys.ensures,
+      subst (λ (os : List AskedOverride). All (λ (s : SettingColumn). EachAfter (IsGiven packages default tests s.key.now) [] os s.given.items) c.in_ok-columns.columns.items) asked
+          (given (sym c.in_ok-test_count.ensures) applied),
+    )

@@ -1,8 +1,10 @@
-use Rattle.std.proofs.Common.{rules, arith, ◌≡◌, ◌<◌, ◌++◌, ◌∷◌, [], List, length, get_or, take, subst, sym, ◌∙◌}
+use Rattle.std.proofs.Common.{rules, arith, ◌≡◌, ◌<◌, ◌++◌, ◌∷◌, [], List, length, get_or, take, refl, subst, sym, ◌∙◌}
+use Rattle.std.specs.List.{count_by}
 use Rattle.std.proofs.lemmas.List.{length-map, length-take-le}
 use Rattle.filterset_overrides.specs.Applied.{IsApplied, overrides_of}
-use Rattle.filterset_overrides.specs.Counting.{EachAfter, IsRow}
+use Rattle.filterset_overrides.specs.Counting.{EachAfter, IsRow, is_none, is_yes}
 use Rattle.filterset_overrides.specs.declared.asked.AskedOverride.{AskedOverride}
+use Rattle.filterset_overrides.specs.declared.counting.OverrideRow.{OverrideRow}
 use Rattle.filterset_overrides.specs.declared.counting.applied.AppliedOverride.{AppliedOverride}
 use Rattle.filterset_overrides.proofs.ListLemmas.{EachAfter-push, map_more}
 use Rattle.filterset_overrides.proofs.counting.rows_of.Goals as goal
@@ -16,9 +18,12 @@ loop-at-preserved c packages default tests applied =
     let at : get_or all i one ≡ one = search (rules, c.index-applied-at.is) in
     let f = λ (a : AppliedOverride). a.asked in
     let so_far = overrides_of (take i all) in
-    let row = c.row_of-row.result in
+    let answers = one.answers.items in
+    let sure : c.count_answers.result.sure ≡ count_by is_yes answers = rw c.as_slice.ensures.value at c.count_answers.ensures.sure in
+    let unknown : c.count_answers.result.unknown ≡ count_by is_none answers = rw c.as_slice.ensures.value at c.count_answers.ensures.unknown in
+    let row : OverrideRow = record { at = i; path = one.asked.path; tests = c.count_answers.result; picks_all = one.picks_all } in
     let is = subst (IsApplied packages default tests) at (applied i one lt) in
     let long : i ≡ length so_far = sym (length-map (take i all) f ∙ length-take-le i all (omega (arith, lt))) in
     let each = EachAfter-push (IsRow packages default tests) [] so_far c.loop-at.rows.items one.asked row
-    (c.loop-at.invariant packages default tests applied) (c.row_of-row.ensures packages default tests so_far is long) in
+    (c.loop-at.invariant packages default tests applied) (long, refl, (answers, is.0, sure, unknown), is.1) in
     rw c.in_ok-push.ensures.items (subst (λ (os : List AskedOverride). EachAfter (IsRow packages default tests) [] os (c.loop-at.rows.items ++ row ∷ [])) (sym (map_more f all i one lt at)) each)

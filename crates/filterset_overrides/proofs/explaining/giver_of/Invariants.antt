@@ -3,7 +3,7 @@ use Rattle.filterset_graph.specs.declared.package.PackageMetadata.{PackageMetada
 use Rattle.filterset_expression.specs.declared.expression.CompiledExpr.{CompiledExpr}
 use Rattle.filterset_overrides.specs.Applying.{DoesApply, Test}
 use Rattle.filterset_overrides.specs.Giving.{AreExplained, Takes, asked_of}
-use Rattle.filterset_overrides.proofs.explaining.first_override.Given as goal
+use Rattle.filterset_overrides.proofs.explaining.giver_of.Given as goal
 
 -- none of the overrides so far takes the setting
 abbrev pub invariant-loop-one : goal.invariant-loop-one
