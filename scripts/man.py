@@ -113,7 +113,7 @@ class Help:
     def __init__(self, program, *command):
         self.text = subprocess.run([program, *command, "--help"], capture_output=True, text=True, check=True).stdout
         self.about = self.text.partition("\n")[0]
-        self.usage, self.example = (re.search(f"(?m)^{name}: (.*)", self.text)[1] for name in ("Usage", "Example"))
+        self.usage, self.example = (re.search(rf"(?m)^{name}: \S+ (.*)", self.text)[1] for name in ("Usage", "Example"))
 
     def listed(self, heading):
         return self.text.partition(f"\n{heading}:\n")[2].partition("\n\n")[0]
@@ -125,7 +125,7 @@ class Help:
     def sections(self):
         """Returns what the pages of the program and of its commands have at their ends."""
         found = OPTION.findall(self.listed("Arguments")) + OPTION.findall(self.listed("Options"))
-        return {"OPTIONS": [line for option in found for line in tagged(*option)], "EXAMPLES": example(self.example)}
+        return {"OPTIONS": [line for option in found for line in tagged(*option)], "EXAMPLES": example(f"filterset {self.example}")}
 
 
 def pages(program):
@@ -134,7 +134,7 @@ def pages(program):
     commands = {f"filterset-{name}": (name, Help(program, name)) for name in own.commands()}
     statuses = re.search(r"(?m)(?:^\|.*\n)+", described)[0]
     yield "filterset.1", own.about, {
-        "SYNOPSIS": example("\n".join(said.usage.replace("program", "filterset", 1) for _, said in commands.values())),
+        "SYNOPSIS": example("\n".join(f"filterset {said.usage}" for _, said in commands.values())),
         "DESCRIPTION": roff_of(described.replace(statuses, "")),
         "COMMANDS": [line for page, (_, said) in commands.items() for line in tagged(f"{page}(1)", said.about)],
         "EXIT STATUS": table(statuses)[3:],
@@ -143,7 +143,7 @@ def pages(program):
     }, [*(f"{page}.1" for page in commands), "filterset-record.1", "nextest-filterset.7"]
     for page, (name, said) in commands.items():
         yield f"{page}.1", said.about, {
-            "SYNOPSIS": [rf"\fB{literal(said.usage.replace('program', 'filterset', 1))}\fR"],
+            "SYNOPSIS": [rf"\fBfilterset {literal(said.usage)}\fR"],
             "DESCRIPTION": roff_of(section_of(f"`{name}`")),
             **said.sections(),
         }, ["filterset.1", "nextest-filterset.7"]
