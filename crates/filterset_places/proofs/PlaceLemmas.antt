@@ -4,7 +4,7 @@ use Rattle.std.specs.declared.alloc.AllocError.{AllocError}
 use Rattle.std.specs.declared.alloc.Global.{Global}
 use Rattle.std.specs.List.{slice_get}
 use Rattle.filterset_json.specs.Shape.{Text}
-use Rattle.filterset_sources.specs.Configurations.{IsConfiguration, Rows, configured_rows}
+use Rattle.filterset_sources.specs.Configurations.{ConfiguredRow, IsConfiguration, configured_rows}
 use Rattle.filterset_sources.specs.declared.configuration.Configuration.{Configuration}
 use Rattle.filterset_sources.specs.declared.configuration.ConfiguredFilterset.{ConfiguredFilterset}
 use Rattle.filterset_places.specs.Numbers.{AreApart, numbered}
@@ -22,7 +22,7 @@ slice_get-push (z ∷ zs) x y (suc i) h = elim (slice_get-push zs x y i h) [
   | inr there ↦ let e : i ≡ length zs = there.0 in inr (omega arith, there.1)
 ]
 
-pub places-push : (file : Text) (literals : List Stretch) (rows others : Rows) (places : List (Option Place)) (place : Option Place)
+pub places-push : (file : Text) (literals : List Stretch) (rows others : List ConfiguredRow) (places : List (Option Place)) (place : Option Place)
     → IfSome place (PlaceAt file literals rows others (length places))
     → ArePlacesAmong file literals rows others places → ArePlacesAmong file literals rows others (places ++ place ∷ [])
 places-push file literals rows others places place here before at found h = elim (slice_get-push places place (Some found) at h) [
@@ -35,7 +35,7 @@ places-push file literals rows others places place here before at found h = elim
 ]
 
 -- places among the filtersets of the file with numbers are places
-pub places-all : (file : Text) (rows : Rows) (r : Result (Vec (Option Place) Global) AllocError) (literals : List Stretch) (made : Text)
+pub places-all : (file : Text) (rows : List ConfiguredRow) (r : Result (Vec (Option Place) Global) AllocError) (literals : List Stretch) (made : Text)
     (others : Configuration) (filtersets : List ConfiguredFilterset)
     → AreApart 0 literals → made ≡ numbered file literals → IsConfiguration made others → filtersets ≡ others.filtersets.items
     → IfOk r (λ places. ArePlacesAmong file literals rows (configured_rows filtersets) places.items)
@@ -44,6 +44,4 @@ places-all file rows (Err e) literals made others filtersets apart is says all a
 places-all file rows (Ok places) literals made others filtersets apart is says all among = λ at place found.
     let P : Text → Type 0 = λ t. IsConfiguration t others in
     let Q : List ConfiguredFilterset → Type 0 = λ fs. PlaceAt file literals rows (configured_rows fs) at place in
-    let (row, other, here, there, read, numbered_as) = subst Q all (among at place found) in
-    let (number, among_literals, path, text, differs) = numbered_as in
-    (row, literals, number, others, other, here, read, apart, among_literals, subst P is says, there, path, text, differs)
+    (literals, others, apart, subst P is says, subst Q all (among at place found))

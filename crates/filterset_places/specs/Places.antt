@@ -1,7 +1,7 @@
 -- Where the filtersets of nextest's configuration are in its file.
 use Rattle.std.specs.Prelude.{◌≡◌, ◌≢◌, ◌+◌, ◌-◌, ◌==◌, ℕ, List, Option, Some, None, decimal, slice_get, unwrap_or, if◌then◌else◌}
 use Rattle.filterset_json.specs.Shape.{Text}
-use Rattle.filterset_sources.specs.Configurations.{ConfiguredRow, IsConfiguration, Rows, configured_rows}
+use Rattle.filterset_sources.specs.Configurations.{ConfiguredRow, IsConfiguration, configured_rows}
 use Rattle.filterset_sources.specs.declared.configuration.Configuration.{Configuration}
 use Rattle.filterset_faults.specs.Span.{offset_of, length_of, span}
 use Rattle.filterset_faults.specs.declared.span.SourceSpan.{SourceSpan}
@@ -10,25 +10,27 @@ use Rattle.filterset_places.specs.Strings.{IsPlaceOf}
 use Rattle.filterset_places.specs.declared.place.Place.{Place}
 use Rattle.filterset_places.specs.declared.stretch.Stretch.{Stretch}
 
--- The place is that of the filterset at this position: its literal is read as the filterset's text; and if in the file some
--- literals are replaced by their numbers, this one among them, then the file is a configuration in which the filterset at this
--- position has the same path, and the number of this literal as its text.
-abbrev pub IsPlaceAt : Text → Rows → ℕ → Place → Type 0
-IsPlaceAt file rows at place =
-    (row : ConfiguredRow) × (literals : List Stretch) × (number : ℕ) × (others : Configuration) × (other : ConfiguredRow)
-    × (slice_get rows at ≡ Some row) × IsPlaceOf file row.text place
-    × AreApart 0 literals × (slice_get literals number ≡ Some place.literal) × IsConfiguration (numbered file literals) others
-    × (slice_get (configured_rows others.filtersets.items) at ≡ Some other)
-    × (other.path ≡ row.path) × (other.text ≡ decimal number) × (row.text ≢ decimal number)
-
 -- The place is that of the literal with the number that is written as `other`, and its literal is read as the text, which is
 -- not so written.
 abbrev pub IsNumberedPlace : List Stretch → Text → Text → Text → Place → Type 0
 IsNumberedPlace literals file text other place = IsPlaceOf file text place
     × (number : ℕ) × (slice_get literals number ≡ Some place.literal) × (other ≡ decimal number) × (text ≢ decimal number)
 
+-- The rows are those of a file, and the others those of the file with numbers in place of literals. At this position both have
+-- the same path, and the text of the other is the number of the place's literal, which is read as the text of the one.
+abbrev pub PlaceAt : Text → List Stretch → List ConfiguredRow → List ConfiguredRow → ℕ → Place → Type 0
+PlaceAt file literals rows others at place =
+    (row : ConfiguredRow) × (other : ConfiguredRow) × (slice_get rows at ≡ Some row) × (slice_get others at ≡ Some other)
+    × (other.path ≡ row.path) × IsNumberedPlace literals file row.text other.text place
+
+-- The place is that of the filterset at this position: so it is if in the file some literals are replaced by their numbers, and
+-- it is a configuration then.
+abbrev pub IsPlaceAt : Text → List ConfiguredRow → ℕ → Place → Type 0
+IsPlaceAt file rows at place = (cuts : List Stretch) × (others : Configuration) × AreApart 0 cuts
+    × IsConfiguration (numbered file cuts) others × PlaceAt file cuts rows (configured_rows others.filtersets.items) at place
+
 -- so it is with each filterset that has a place
-abbrev pub ArePlaces : Text → Rows → List (Option Place) → Type 0
+abbrev pub ArePlaces : Text → List ConfiguredRow → List (Option Place) → Type 0
 ArePlaces file rows places =
     (at : ℕ) (place : Place) → slice_get places at ≡ Some (Some place) → IsPlaceAt file rows at place
 
@@ -49,21 +51,7 @@ file_span place s =
     let from = (origin_at place (offset_of s)).from in
     span from ((if length_of s == 0 then from else (origin_at place (offset_of s + (length_of s - 1))).to) - from)
 
--- ---- among the filtersets of the file with numbers
-
--- The other filterset has the path of the one, and the number of this literal as its text, which the one has not.
-abbrev pub IsNumbered : List Stretch → ConfiguredRow → ConfiguredRow → Stretch → Type 0
-IsNumbered literals row other literal =
-    (number : ℕ) × (slice_get literals number ≡ Some literal)
-    × (other.path ≡ row.path) × (other.text ≡ decimal number) × (row.text ≢ decimal number)
-
--- The literal at the place is read as the text of the filterset at this position, and the other filterset at this position has
--- its path and the literal's number.
-abbrev pub PlaceAt : Text → List Stretch → Rows → Rows → ℕ → Place → Type 0
-PlaceAt file literals rows others at place =
-    (row : ConfiguredRow) × (other : ConfiguredRow) × (slice_get rows at ≡ Some row) × (slice_get others at ≡ Some other)
-    × IsPlaceOf file row.text place × IsNumbered literals row other place.literal
-
-abbrev pub ArePlacesAmong : Text → List Stretch → Rows → Rows → List (Option Place) → Type 0
+-- the places among the filtersets of the file with numbers
+abbrev pub ArePlacesAmong : Text → List Stretch → List ConfiguredRow → List ConfiguredRow → List (Option Place) → Type 0
 ArePlacesAmong file literals rows others places =
     (at : ℕ) (place : Place) → slice_get places at ≡ Some (Some place) → PlaceAt file literals rows others at place

@@ -10,11 +10,7 @@ use std::alloc::{AllocError, Global};
 use std::fmt::Write;
 
 /// Writes a file with its number in place of each of these stretches. Returns `None` if they do not follow each other.
-pub(crate) fn numbered(
-    alloc: Global,
-    file: &str,
-    stretches: &[Stretch],
-) -> Result<Option<String>, AllocError>
+fn numbered(alloc: Global, file: &str, stretches: &[Stretch]) -> Result<Option<String>, AllocError>
     ensures text { IfOk result (λ o. IfSome o (λ made. string_bytes made ≡ numbered file.now stretches.now)) }
     ensures apart { IfOk result (λ o. IfSome o (λ _. AreApart 0 stretches.now)) }
 {
@@ -40,7 +36,7 @@ pub(crate) fn numbered(
 }
 
 /// Returns the number that is written so, if there is one.
-pub(crate) fn number_of(alloc: Global, text: &str) -> Result<Option<usize>, AllocError>
+fn number_of(alloc: Global, text: &str) -> Result<Option<usize>, AllocError>
     ensures { IfOk result (λ o. IfSome o (λ number. text.now ≡ decimal number)) }
 {
     let Ok(number) = text.parse::<usize>() else {

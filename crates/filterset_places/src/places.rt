@@ -1,13 +1,12 @@
 //! The places of a configuration's filtersets.
 ghost use Rattle.std.specs.Prelude.{◌≡◌, IfOk, IfSome, Some, option_map, slice_get};
-ghost use Rattle.filterset_sources.specs.Configurations.{IsConfiguration, configured_row, configured_rows};
-ghost use Rattle.filterset_places.specs.Places.{ArePlaces, ArePlacesAmong, IsNumbered, PlaceAt, place_at};
+ghost use Rattle.filterset_sources.specs.Configurations.{configured_row, configured_rows};
+ghost use Rattle.filterset_places.specs.Places.{ArePlaces, ArePlacesAmong, PlaceAt, place_at};
 
-use crate::numbering::{number_of, numbered};
+use crate::numbering::Numbering;
 use crate::place::Place;
-use crate::scanning::{find_literals, texts_of};
-use crate::stretch::Stretch;
-use crate::string::{is_same, place_of};
+use crate::scanning::texts_of;
+use crate::string::is_same;
 use filterset_sources::{Configuration, ConfiguredFilterset, SourceRefusal, read_configuration};
 use std::alloc::{AllocError, Global};
 
@@ -47,26 +46,6 @@ impl Places {
     }
 }
 
-/// Returns the literal whose number the filterset has in the file with numbers, where it is `other`.
-fn numbered_literal(
-    alloc: Global,
-    literals: &[Stretch],
-    filterset: &ConfiguredFilterset,
-    other: &ConfiguredFilterset,
-) -> Result<Option<Stretch>, AllocError>
-    ensures { IfOk result (λ o. IfSome o
-        (IsNumbered literals.now (configured_row filterset.now) (configured_row other.now))) }
-{
-    let (text, number) = (filterset.text.as_str(), other.text.as_str());
-    if !is_same(other.path.as_str(), filterset.path.as_str()) || is_same(text, number) {
-        return Ok(None);
-    }
-    match number_of(alloc, number)? {
-        Some(number) => Ok(literals.get(number).copied()),
-        None => Ok(None),
-    }
-}
-
 /// Returns the filterset at a position.
 fn filterset_at(filtersets: &[ConfiguredFilterset], at: usize) -> Option<&ConfiguredFilterset>
     ensures { IfSome result (λ found. slice_get (configured_rows filtersets.now) at ≡ Some (configured_row found.now)) }
@@ -78,13 +57,13 @@ fn filterset_at(filtersets: &[ConfiguredFilterset], at: usize) -> Option<&Config
 fn place_at(
     alloc: Global,
     file: &str,
-    literals: &[Stretch],
+    numbering: &Numbering,
     filtersets: &[ConfiguredFilterset],
     others: &[ConfiguredFilterset],
     at: usize,
 ) -> Result<Option<Place>, AllocError>
-    ensures { IfOk result (λ o. IfSome o
-        (PlaceAt file.now literals.now (configured_rows filtersets.now) (configured_rows others.now) at)) }
+    ensures { IfOk result (λ o. IfSome o (PlaceAt file.now numbering.now.literals.items
+        (configured_rows filtersets.now) (configured_rows others.now) at)) }
 {
     let Some(filterset) = filterset_at(filtersets, at) else {
         return Ok(None);
@@ -92,39 +71,28 @@ fn place_at(
     let Some(other) = filterset_at(others, at) else {
         return Ok(None);
     };
-    match numbered_literal(alloc, literals, filterset, other)? {
-        Some(literal) => place_of(alloc, file, literal, filterset.text.as_str()),
-        None => Ok(None),
+    if !is_same(other.path.as_str(), filterset.path.as_str()) {
+        return Ok(None);
     }
+    numbering.place_of(alloc, file, filterset.text.as_str(), other.text.as_str())
 }
 
 /// Returns the place of each filterset, if `others` are the filtersets of the file with numbers.
 fn places_among(
     alloc: Global,
     file: &str,
-    literals: &[Stretch],
+    numbering: &Numbering,
     filtersets: &[ConfiguredFilterset],
     others: &[ConfiguredFilterset],
 ) -> Result<Vec<Option<Place>>, AllocError>
-    ensures { IfOk result (λ places. ArePlacesAmong file.now literals.now (configured_rows filtersets.now)
-        (configured_rows others.now) places.items) }
+    ensures { IfOk result (λ places. ArePlacesAmong file.now numbering.now.literals.items
+        (configured_rows filtersets.now) (configured_rows others.now) places.items) }
 {
     let mut places = Vec::with_capacity(alloc, filtersets.len())?;
     for at in 0..filtersets.len() {
-        places.push(place_at(alloc, file, literals, filtersets, others, at)?)?;
+        places.push(place_at(alloc, file, numbering, filtersets, others, at)?)?;
     }
     Ok(places)
-}
-
-/// Reads a configuration, or returns `None` if there is none in the file.
-fn read(alloc: Global, file: &str) -> Result<Option<Configuration>, AllocError>
-    ensures { IfOk result (λ o. IfSome o (IsConfiguration file.now)) }
-{
-    match read_configuration(alloc, file) {
-        Ok(configuration) => Ok(Some(configuration)),
-        Err(SourceRefusal::OutOfMemory(refused)) => Err(refused),
-        Err(_) => Ok(None),
-    }
 }
 
 /// Finds the places of filtersets in the file that they were read from.
@@ -135,19 +103,15 @@ fn find_places(
 ) -> Result<Vec<Option<Place>>, AllocError>
     ensures { IfOk result (λ places. ArePlaces file.now (configured_rows filtersets.now) places.items) }
 {
-    let literals = find_literals(alloc, file, texts_of(alloc, filtersets)?)?;
-    let literals = literals.as_slice();
-    let Some(other) = numbered(alloc, file, literals)? else {
+    let Some(numbering) = Numbering::of(alloc, file, texts_of(alloc, filtersets)?)? else {
         return Ok(Vec::new(alloc));
     };
-    let Some(other) = read(alloc, other.as_str())? else {
-        return Ok(Vec::new(alloc));
-    };
-    places_among(
-        alloc,
-        file,
-        literals,
-        filtersets,
-        other.filtersets.as_slice(),
-    )
+    match read_configuration(alloc, numbering.text.as_str()) {
+        Ok(other) => {
+            let others = other.filtersets.as_slice();
+            places_among(alloc, file, &numbering, filtersets, others)
+        }
+        Err(SourceRefusal::OutOfMemory(refused)) => Err(refused),
+        Err(_) => Ok(Vec::new(alloc)),
+    }
 }

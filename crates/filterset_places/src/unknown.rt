@@ -1,19 +1,19 @@
 //! Finds keys of a configuration that are not read, and are near one that is.
-ghost use Rattle.std.specs.Prelude.{◌≡◌, ◌++◌, IfOk, IfSome, IsTrue, List, OnOk, Some, codes, length, option_map};
+ghost use Rattle.std.specs.Prelude.{◌≡◌, ◌++◌, IfOk, IfSome, IsTrue, List, OnOk, Some, codes, length};
 ghost use Rattle.std.specs.Bool.{OnTrue};
 ghost use Rattle.toml.specs.Data.{Members, table};
 ghost use Rattle.toml.specs.Parse.{parse_document};
-ghost use Rattle.toml.specs.View.{table_view, view};
-ghost use Rattle.filterset_places.specs.Keys.{AreUnknownKeys, FindsUnknown, IsKeyPlace, Judged, found_keys, is_renamed, key_row, key_rows};
+ghost use Rattle.filterset_places.specs.Keys.{AreUnknownKeys, Finds, IsKeyPlace, Judged, found_keys, is_renamed, key_row, key_rows};
 ghost use Rattle.filterset_places.specs.declared.unknown.UnknownKey.{UnknownKey};
 
 use crate::edits::meant_among;
-use crate::keys::{FoundKey, found_keys};
+use crate::keys::{FoundKey, found_keys, names_of};
 use crate::string::is_same;
 use filterset_faults::SourceSpan;
 use filterset_json::{Step, step_text};
+use filterset_sources::{SourceRefusal, file_of};
 use std::alloc::{AllocError, Global};
-use toml::{Table, Value};
+use toml::Value;
 
 /// A key of a configuration that is not read, and is near one that is.
 #[derive(Debug, Drop)]
@@ -32,19 +32,6 @@ const PLACED_KEYS: usize = 32;
 
 /// How many bytes may be parsed to find each of them: no file that is longer is searched.
 const PARSED_BYTES: usize = 1 << 20;
-
-/// Parses a text as TOML, or returns `None` if it is none.
-fn read_table(alloc: Global, text: &str) -> Result<Option<Table>, AllocError>
-    ensures { IfOk result (λ o. option_map table_view o ≡ parse_document text.now) }
-{
-    match toml::table_from_str(alloc, text) {
-        Ok(file) => Ok(Some(file)),
-        Err(error) => match error.span() {
-            Some(_) => Ok(None),
-            None => Err(AllocError),
-        },
-    }
-}
 
 /// Returns whether a byte may be in a key without quotes.
 fn is_bare(byte: &u8) -> bool {
@@ -86,12 +73,15 @@ fn reads_renamed(
     ensures { IfOk result (λ is. OnTrue is ((ms : Members) × (parse_document text.now ≡ Some ms)
         × IsTrue (is_renamed (found_keys (table ms)) (key_row found.now)))) }
 {
-    let Some(file) = read_table(alloc, text)? else {
-        return Ok(false);
-    };
-    let file = Value::Table(file);
-    let keys = found_keys(alloc, &file)?;
-    Ok(is_renamed(keys.as_slice(), found, renamed))
+    match file_of(alloc, text) {
+        Ok(file) => {
+            let file = Value::Table(file);
+            let keys = found_keys(alloc, &file)?;
+            Ok(is_renamed(keys.as_slice(), found, renamed))
+        }
+        Err(SourceRefusal::OutOfMemory(refused)) => Err(refused),
+        Err(_) => Ok(false),
+    }
 }
 
 /// Looks for the place of a key, at which a letter behind it makes a file with the other key. The key is the unknown one of
@@ -135,9 +125,9 @@ fn push_unknown(
     found: &FoundKey<'_>,
 ) -> Result<(), AllocError>
     ensures { OnOk result ((front : List UnknownKey) × (output.new.items ≡ output.old.items ++ front)
-        × Judged text.now (key_rows keys.now) (key_row found.now) front) }
+        × Judged text.now (key_rows keys.now) 0 (key_row found.now) front) }
 {
-    let Some(meant) = meant_among(found.kind.names(), found.key) else {
+    let Some(meant) = meant_among(names_of(found.kind), found.key) else {
         return Ok(());
     };
     let key = step_text(alloc, Step::Key(found.key))?;
@@ -157,7 +147,7 @@ fn unknown_among(
     text: &str,
     keys: &[FoundKey<'_>],
 ) -> Result<Vec<UnknownKey>, AllocError>
-    ensures { IfOk result (λ unknown. FindsUnknown text.now (key_rows keys.now) (key_rows keys.now) unknown.items) }
+    ensures { IfOk result (λ unknown. Finds (Judged text.now (key_rows keys.now)) 0 (key_rows keys.now) unknown.items) }
 {
     let mut unknown = Vec::new(alloc);
     for found in keys {
@@ -173,10 +163,13 @@ fn unknown_among(
 pub fn find_unknown_keys(alloc: Global, text: &str) -> Result<Vec<UnknownKey>, AllocError>
     ensures { IfOk result (λ unknown. AreUnknownKeys text.now unknown.items) }
 {
-    let Some(file) = read_table(alloc, text)? else {
-        return Ok(Vec::new(alloc));
-    };
-    let file = Value::Table(file);
-    let keys = found_keys(alloc, &file)?;
-    unknown_among(alloc, text, keys.as_slice())
+    match file_of(alloc, text) {
+        Ok(file) => {
+            let file = Value::Table(file);
+            let keys = found_keys(alloc, &file)?;
+            unknown_among(alloc, text, keys.as_slice())
+        }
+        Err(SourceRefusal::OutOfMemory(refused)) => Err(refused),
+        Err(_) => Ok(Vec::new(alloc)),
+    }
 }

@@ -2,18 +2,9 @@
 use Rattle.std.proofs.Common.{◌≡◌, Bool, true, false, not, cond, Bor, List, [], ◌∷◌, ◌++◌, String, Global, append_assoc, map, string_bytes, refl, ap, sym, ◌∙◌}
 use Rattle.std.proofs.lemmas.List.{map-append}
 use Rattle.std.specs.List.{list_any}
-use Rattle.std.specs.Map as maps
 use Rattle.std.specs.Str.{bytes_eq}
-use Rattle.toml.specs.View.{members_view}
-use Rattle.toml.proofs.Views.{Entry}
 use Rattle.filterset_json.specs.Shape.{Text}
 use Rattle.filterset_profiles.specs.Profiles.{keys_but}
-use Rattle.filterset_sources.specs.Configurations.{keys_of}
-
--- the keys of the members are those of the entries
-pub keys-entries : (es : List Entry) → map string_bytes (maps.keys_of es) ≡ keys_of (members_view es)
-keys-entries [] = refl
-keys-entries (e ∷ es) = ap (λ keys. string_bytes e.0 ∷ keys) (keys-entries es)
 
 abbrev pub texts_of : List (Bor Text) → List Text
 texts_of others = map (λ o. o.now) others

@@ -1,30 +1,15 @@
--- One more value is checked.
-use Rattle.std.proofs.Common.{◌≡◌, ℕ, ◌+◌, List, [], ◌∷◌, ◌++◌, Err, IfOk, IfSome, None, Ok, Option, Result, Some, length, refl, ap, append-nil, append_assoc, subst, sym, ◌∙◌, arith}
+-- The places of values.
+use Rattle.std.proofs.Common.{◌≡◌, ℕ, List, Err, IfOk, IfSome, None, Ok, Option, Result, Some, ap, subst, sym, ◌∙◌}
 use Rattle.std.specs.List.{slice_get}
 use Rattle.std.specs.declared.alloc.AllocError.{AllocError}
-use Rattle.toml.specs.Data.{Data, Members, table}
+use Rattle.toml.specs.Data.{Members, table}
 use Rattle.toml.specs.Parse.{parse_document}
 use Rattle.filterset_places.specs.Numbers.{AreApart, numbered}
 use Rattle.filterset_places.specs.Places.{IsNumberedPlace}
 use Rattle.filterset_places.specs.declared.place.Place.{Place}
 use Rattle.filterset_places.specs.declared.stretch.Stretch.{Stretch}
 use Rattle.filterset_json.specs.Shape.{Text}
-use Rattle.filterset_profiles.specs.Wrong.{FindsWrong, IsValuePlace, Judged, ValueRow, values_of}
-use Rattle.filterset_profiles.specs.declared.wrong.WrongValue.{WrongValue}
-
-pub found-next : (text : Text) (file : Data) (at : ℕ) (rows : List ValueRow) (row : ValueRow) (found front : List WrongValue) → FindsWrong text file at rows found
-    → Judged text file (at + length rows) row front → FindsWrong text file at (rows ++ row ∷ []) (found ++ front)
-found-next text file at [] row found front h judged =
-    let here : at + 0 ≡ at = omega arith in
-    (front, [], ap (λ ws. ws ++ front) h ∙ sym (append-nil front), subst (λ n. Judged text file n row front) here judged, refl)
-found-next text file at (r ∷ rows) row found front h judged =
-    let next : at + length (r ∷ rows) ≡ at + 1 + length rows = omega arith in (
-      h.0,
-      h.1 ++ front,
-      ap (λ ws. ws ++ front) h.2 ∙ append_assoc h.0 h.1 front,
-      h.3,
-      found-next text file (at + 1) rows row h.1 front h.4 (subst (λ n. Judged text file n row front) next judged),
-    )
+use Rattle.filterset_profiles.specs.Wrong.{IsValuePlace, ValueRow, values_of}
 
 -- a place by the number that the value has in the file with numbers
 pub value-place : (file : Text) (at : ℕ) (row other : ValueRow) (literals : List Stretch) (ms : Members) (values : List ValueRow) (text number : Text)

@@ -8,6 +8,7 @@ use Rattle.std.specs.Ordering.{nat_cmp}
 use Rattle.toml.specs.Data.{Data, Members, no_members, member, as_str, as_table, get, get_member}
 use Rattle.filterset_json.specs.Shape.{Text}
 use Rattle.filterset_sources.specs.Configurations.{keys_of}
+use Rattle.filterset_sources.specs.Sections.{members_under}
 use Rattle.filterset_profiles.specs.declared.circles.Link.{Link}
 
 -- the name of the profile that the one of this name falls back on: `default`, unless it inherits from another; `default`
@@ -37,10 +38,6 @@ IsProfileInCircle profiles at = (name : Text) × (slice_get (keys_of profiles) a
 -- exactly these profiles are marked
 abbrev pub MarksProfiles : Members → List Bool → Type 0
 MarksProfiles profiles marks = (at : ℕ) → (slice_get marks at ≡ Some true) ↔ IsProfileInCircle profiles at
-
--- the members of the table under a key: there are none if there is no table
-abbrev pub members_under : Text → Data → Members
-members_under key d = unwrap_or (option_and_then as_table (get key d)) no_members
 
 -- the same of a file
 abbrev pub IsInCircle : Data → ℕ → Type 0

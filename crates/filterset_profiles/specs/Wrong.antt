@@ -1,10 +1,11 @@
 -- Which values of a configuration's profiles are wrong, other than its filtersets.
-use Rattle.std.specs.Prelude.{◌≡◌, ◌+◌, ◌++◌, ◌||◌, ◌⊎◌, ℕ, Bool, false, List, [], ◌∷◌, None, Option, Some, IfSome, IsTrue, MatchOption, codes, if◌then◌else◌, is_none, is_some, map, option_and_then, option_map, option_to_list, slice_get, string_bytes}
+use Rattle.std.specs.Prelude.{◌≡◌, ◌++◌, ◌||◌, ◌⊎◌, ℕ, Bool, false, List, [], ◌∷◌, None, Option, Some, IfSome, IsTrue, MatchOption, codes, flat_map, if◌then◌else◌, is_none, is_some, map, option_and_then, option_map, option_to_list, slice_get, string_bytes}
 use Rattle.std.specs.Option.{option_map_or}
-use Rattle.toml.specs.Data.{Data, table, Items, no_items, item, Members, no_members, member, as_array, as_str, as_table, get}
+use Rattle.toml.specs.Data.{Data, table, Members, no_members, member, as_str, as_table, get}
 use Rattle.toml.specs.Parse.{parse_document}
 use Rattle.toml.specs.View.{view}
 use Rattle.filterset_json.specs.Paths.{key_text}
+use Rattle.filterset_places.specs.Keys.{Finds}
 use Rattle.filterset_places.specs.Numbers.{AreApart, numbered}
 use Rattle.filterset_places.specs.Places.{IsNumberedPlace}
 use Rattle.filterset_places.specs.declared.place.Place.{Place}
@@ -12,9 +13,8 @@ use Rattle.filterset_places.specs.declared.stretch.Stretch.{Stretch}
 use Rattle.filterset_profiles.specs.PlatformGrammar.{Spells}
 use Rattle.filterset_profiles.specs.PlatformTrees.{Spec}
 use Rattle.filterset_json.specs.Shape.{Text}
-use Rattle.filterset_profiles.specs.Circles.{IsInCircle, MarksCircles, members_under}
+use Rattle.filterset_profiles.specs.Circles.{IsInCircle, MarksCircles}
 use Rattle.filterset_profiles.specs.Names.{is_built_in, is_reserved}
-use Rattle.filterset_profiles.specs.Paths.{override_path, profile_path}
 use Rattle.filterset_profiles.specs.Profiles.{is_group}
 use Rattle.filterset_profiles.specs.declared.placing.NumberedValues.{NumberedValues}
 use Rattle.filterset_profiles.specs.declared.checking.CheckedFile.{CheckedFile}
@@ -23,6 +23,9 @@ use Rattle.filterset_profiles.specs.declared.wrong.ProfileValue.{ProfileValue}
 use Rattle.filterset_profiles.specs.declared.wrong.ValueRole.{ValueRole}
 use Rattle.filterset_profiles.specs.declared.wrong.ValueRole.TheVariants.{ForBoth, ForNothing, Group, NoCircle, NoText, Parent, Platform, ReservedGroup, ReservedProfile}
 use Rattle.filterset_profiles.specs.declared.wrong.WrongValue.{WrongValue}
+use Rattle.filterset_sources.specs.Sections.{SectionRow, below, members_under, sections_of}
+use Rattle.filterset_sources.specs.declared.sections.SectionKind.{SectionKind}
+use Rattle.filterset_sources.specs.declared.sections.SectionKind.TheVariants as kinds
 
 -- ---- the values that are checked
 
@@ -48,10 +51,6 @@ Adds rows old new = value_rows new.values.items ≡ value_rows old.values.items 
 -- a value at a path, which is to be a text
 abbrev pub text_row : Text → ValueRole → Data → ValueRow
 text_row path role e = option_map_or (row path role) (as_str e) (row path NoText [])
-
--- the path to what is under a key of what is at a path
-abbrev pub below : Text → Text → Text
-below path key = path ++ (codes "." ++ key)
 
 abbrev pub value_under : Text → Text → ValueRole → Data → List ValueRow
 value_under path key role d = option_to_list (option_map (text_row (below path key) role) (get key d))
@@ -80,28 +79,16 @@ abbrev pub override_values : Text → Data → List ValueRow
 override_values path d = value_under path (codes "test-group") Group d
     ++ (platform_values path d ++ option_to_list (option_map (λ role. row path role []) (shape_of d)))
 
--- those of the overrides of the profile at a path, of which the first has this position
-abbrev pub item_values : Text → ℕ → Items → List ValueRow
-item_values path at no_items = []
-item_values path at (item d ds) = override_values (override_path path at) d ++ item_values path (at + 1) ds
-
-abbrev pub list_values : Text → Data → List ValueRow
-list_values path d = option_map_or (item_values path 0) (option_and_then as_array (get (codes "overrides") d)) []
-
 -- the name that the profile at a position inherits from is also to lead to no circle
 abbrev pub circle_values : Text → ℕ → Data → List ValueRow
-circle_values path at d =
-    option_to_list (option_map (row (below path (codes "inherits")) (NoCircle at))
+circle_values path at d = option_to_list (option_map (row (below path (codes "inherits")) (NoCircle at))
     (option_and_then as_str (get (codes "inherits") d)))
 
-abbrev pub profile_values : Text → ℕ → Data → List ValueRow
-profile_values path at d =
-    value_under path (codes "inherits") Parent d ++ (circle_values path at d ++ list_values path d)
-
--- those of profiles, of which the first has this position
-abbrev pub member_values : ℕ → Members → List ValueRow
-member_values at no_members = []
-member_values at (member name d ms) = profile_values (profile_path name) at d ++ member_values (at + 1) ms
+-- those of a section
+abbrev pub own_values : SectionKind → Text → Data → List ValueRow
+own_values (kinds.Profile at) path d = value_under path (codes "inherits") Parent d ++ circle_values path at d
+own_values kinds.Override path d = override_values path d
+own_values _ path d = []
 
 -- those of the members of the table at a path whose names are reserved
 abbrev pub name_values : Text → ValueRole → Members → List ValueRow
@@ -111,7 +98,7 @@ name_values path role (member name d ms) =
 
 -- those of a file
 abbrev pub values_of : Data → List ValueRow
-values_of file = member_values 0 (members_under (codes "profile") file)
+values_of file = flat_map (λ (s : SectionRow). own_values s.kind s.path s.value) (sections_of file)
     ++ (name_values (codes "profile") ReservedProfile (members_under (codes "profile") file)
     ++ name_values (codes "test-groups") ReservedGroup (members_under (codes "test-groups") file))
 
@@ -159,16 +146,10 @@ abbrev pub Judged : Text → Data → ℕ → ValueRow → List WrongValue → T
 Judged text file at row found = (IsRight file row.role row.text × (found ≡ []))
     ⊎ ((¬ IsRight file row.role row.text) × (w : WrongValue) × (found ≡ w ∷ []) × IsWrongValue text at row w)
 
--- what is found of values, of which the first has this position, in their order
-abbrev pub FindsWrong : Text → Data → ℕ → List ValueRow → List WrongValue → Type 0
-FindsWrong text file at [] found = found ≡ []
-FindsWrong text file at (row ∷ rows) found = (front : List WrongValue) × (rest : List WrongValue) × (found ≡ front ++ rest)
-    × Judged text file at row front × FindsWrong text file (at + 1) rows rest
-
 -- these are the wrong values of a file; there are none in a text that is no TOML
 abbrev pub AreWrongValues : Text → List WrongValue → Type 0
 AreWrongValues text found = MatchOption (parse_document text) (found ≡ [])
-    (λ ms. FindsWrong text (table ms) 0 (values_of (table ms)) found)
+    (λ ms. Finds (Judged text (table ms)) 0 (values_of (table ms)) found)
 
 -- the text is TOML with these values
 abbrev pub ReadsAs : Text → List ProfileValue → Type 0

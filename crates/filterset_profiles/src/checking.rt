@@ -2,19 +2,21 @@
 ghost use Rattle.std.specs.Prelude.{◌≡◌, ◌++◌, List, IfOk, OnOk};
 ghost use Rattle.std.specs.Bool.{OnFalse, OnTrue};
 ghost use Rattle.toml.specs.View.{view};
+ghost use Rattle.filterset_places.specs.Keys.{Finds};
 ghost use Rattle.filterset_profiles.specs.PlatformGrammar.{Spells};
 ghost use Rattle.filterset_profiles.specs.PlatformTrees.{Spec};
 ghost use Rattle.filterset_profiles.specs.Circles.{IsInCircle};
-ghost use Rattle.filterset_profiles.specs.Wrong.{AreWrongValues, FindsWrong, IsKnown, IsRight, IsWrongValue, Judged, value_row, value_rows, values_of};
+ghost use Rattle.filterset_profiles.specs.Wrong.{AreWrongValues, IsKnown, IsRight, IsWrongValue, Judged, value_row, value_rows, values_of};
 ghost use Rattle.filterset_profiles.specs.declared.wrong.WrongValue.{WrongValue};
 
 use crate::circles::mark_circles;
 use crate::names::is_built_in;
-use crate::placing::{NumberedValues, numbered_values, place_in, read_table};
+use crate::placing::{NumberedValues, numbered_values, place_in};
 use crate::platforms::{PlatformRefusal, PlatformSpec};
 use crate::values::{has_member, is_group};
 use crate::walking::values_of;
 use crate::wrong::{ProfileValue, ValueRole, WrongValue};
+use filterset_sources::{SourceRefusal, file_of};
 use std::alloc::{AllocError, Global};
 use toml::Value;
 
@@ -122,7 +124,7 @@ fn wrong_among(
     values: &[ProfileValue],
 ) -> Result<Vec<WrongValue>, AllocError>
     requires { IsKnown file.now }
-    ensures { IfOk result (λ found. FindsWrong file.now.text.now (view file.now.file.now) 0 (value_rows values.now)
+    ensures { IfOk result (λ found. Finds (Judged file.now.text.now (view file.now.file.now)) 0 (value_rows values.now)
         found.items) }
 {
     let mut found = Vec::new(alloc);
@@ -134,7 +136,7 @@ fn wrong_among(
 
 /// Finds the wrong values of a file.
 fn wrong_in(alloc: Global, text: &str, file: &Value) -> Result<Vec<WrongValue>, AllocError>
-    ensures { IfOk result (λ found. FindsWrong text.now (view file.now) 0 (values_of (view file.now)) found.items) }
+    ensures { IfOk result (λ found. Finds (Judged text.now (view file.now)) 0 (values_of (view file.now)) found.items) }
 {
     let values = values_of(alloc, file)?;
     let file = CheckedFile {
@@ -154,8 +156,9 @@ fn wrong_in(alloc: Global, text: &str, file: &Value) -> Result<Vec<WrongValue>, 
 pub fn find_wrong_values(alloc: Global, text: &str) -> Result<Vec<WrongValue>, AllocError>
     ensures { IfOk result (λ found. AreWrongValues text.now found.items) }
 {
-    match read_table(alloc, text)? {
-        Some(file) => wrong_in(alloc, text, &Value::Table(file)),
-        None => Ok(Vec::new(alloc)),
+    match file_of(alloc, text) {
+        Ok(file) => wrong_in(alloc, text, &Value::Table(file)),
+        Err(SourceRefusal::OutOfMemory(refused)) => Err(refused),
+        Err(_) => Ok(Vec::new(alloc)),
     }
 }

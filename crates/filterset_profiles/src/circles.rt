@@ -6,7 +6,7 @@ ghost use Rattle.filterset_profiles.specs.Circles.{AreDistinct, IsIndex, MarksCi
 ghost use Rattle.filterset_profiles.specs.Leads.{AreFar, IsMarked, MarksEnds, lead};
 ghost use Rattle.filterset_sources.specs.Configurations.{keys_of};
 
-use crate::walking::table_under;
+use filterset_sources::table_under;
 use std::alloc::{AllocError, Global};
 use std::collections::BTreeMap;
 use toml::{Table, Value};

@@ -1,33 +1,19 @@
 //! Finds the places of values in the file that they were read from.
-ghost use Rattle.std.specs.Prelude.{◌≡◌, IfOk, IfSome, option_map, string_bytes};
-ghost use Rattle.toml.specs.Parse.{parse_document};
-ghost use Rattle.toml.specs.View.{table_view};
+ghost use Rattle.std.specs.Prelude.{◌≡◌, IfOk, IfSome, string_bytes};
 ghost use Rattle.filterset_profiles.specs.Wrong.{AreNumbered, IsValuePlace, ReadsAs, value_row};
 
 use crate::walking::values_of;
 use crate::wrong::ProfileValue;
 use filterset_places::{Numbering, Place};
+use filterset_sources::{SourceRefusal, file_of};
 use std::alloc::{AllocError, Global};
-use toml::{Table, Value};
+use toml::Value;
 
 /// The values of a file with the numbers of some of its strings in their place.
 #[derive(Drop)]
 pub(crate) struct NumberedValues {
     pub numbering: Numbering,
     pub values: Vec<ProfileValue>,
-}
-
-/// Parses a text as TOML, or returns `None` if it is none.
-pub(crate) fn read_table(alloc: Global, text: &str) -> Result<Option<Table>, AllocError>
-    ensures { IfOk result (λ o. option_map table_view o ≡ parse_document text.now) }
-{
-    match toml::table_from_str(alloc, text) {
-        Ok(file) => Ok(Some(file)),
-        Err(error) => match error.span() {
-            Some(_) => Ok(None),
-            None => Err(AllocError),
-        },
-    }
 }
 
 /// Returns the texts of values.
@@ -43,11 +29,14 @@ fn texts_of<'v>(alloc: Global, values: &'v [ProfileValue]) -> Result<Vec<&'v str
 fn read_numbered(alloc: Global, numbering: Numbering) -> Result<Option<NumberedValues>, AllocError>
     ensures { IfOk result (λ o. IfSome o (λ n. (n.numbering ≡ numbering) × ReadsAs (string_bytes numbering.text) n.values.items)) }
 {
-    let Some(file) = read_table(alloc, numbering.text.as_str())? else {
-        return Ok(None);
-    };
-    let values = values_of(alloc, &Value::Table(file))?;
-    Ok(Some(NumberedValues { numbering, values }))
+    match file_of(alloc, numbering.text.as_str()) {
+        Ok(file) => {
+            let values = values_of(alloc, &Value::Table(file))?;
+            Ok(Some(NumberedValues { numbering, values }))
+        }
+        Err(SourceRefusal::OutOfMemory(refused)) => Err(refused),
+        Err(_) => Ok(None),
+    }
 }
 
 /// Puts numbers in place of the strings of a file that are read as the texts of its values, and reads its values again.

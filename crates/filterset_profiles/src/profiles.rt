@@ -11,6 +11,7 @@ use crate::overrides::{Override, read_overrides};
 use crate::paths::profile_path;
 use crate::refusal::ProfileRefusal;
 use crate::values::{read_keys_but, read_text, wrong_at};
+use filterset_sources::{SourceRefusal, file_of};
 use std::alloc::{AllocError, Global};
 use toml::{Table, Value};
 
@@ -90,12 +91,10 @@ fn read_toml(alloc: Global, text: &str) -> Result<Table, ProfileRefusal>
     ensures read { IfOk result (λ file. parse_document text.now ≡ Some (table_view file)) }
     ensures refused { IfErr result (RefusesText text.now) }
 {
-    match toml::table_from_str(alloc, text) {
+    match file_of(alloc, text) {
         Ok(file) => Ok(file),
-        Err(error) => match error.span() {
-            Some(_) => Err(ProfileRefusal::NotToml(error)),
-            None => Err(ProfileRefusal::OutOfMemory(AllocError)),
-        },
+        Err(SourceRefusal::NotToml { error, .. }) => Err(ProfileRefusal::NotToml(error)),
+        Err(_) => Err(ProfileRefusal::OutOfMemory(AllocError)),
     }
 }
 

@@ -1,26 +1,15 @@
 //! Finds the values of profiles that are checked.
-ghost use Rattle.std.specs.Prelude.{◌≡◌, ◌∷◌, [], IfOk, OnOk, codes, option_and_then, option_map, string_bytes};
-ghost use Rattle.toml.specs.Data.{as_table, get};
-ghost use Rattle.toml.specs.View.{items_view, table_view, view};
-ghost use Rattle.filterset_profiles.specs.Circles.{members_under};
-ghost use Rattle.filterset_profiles.specs.Wrong.{Adds, circle_values, has_platform, item_values, member_values, name_values, override_values, platform_values, profile_values, row, shape_of, text_row, value_rows, value_under, values_of};
+ghost use Rattle.std.specs.Prelude.{◌≡◌, ◌∷◌, [], IfOk, OnOk, flat_map, string_bytes};
+ghost use Rattle.toml.specs.View.{view};
+ghost use Rattle.filterset_profiles.specs.Wrong.{Adds, circle_values, has_platform, name_values, override_values, own_values, platform_values, row, shape_of, text_row, value_rows, value_under, values_of};
+ghost use Rattle.filterset_sources.specs.Sections.{members_under, section_rows};
 
 use crate::names::is_reserved;
-use crate::paths::{override_path, profile_path};
 use crate::wrong::{ProfileValue, ValueRole};
 use filterset_json::{Step, step_text};
+use filterset_sources::{Section, SectionKind, sections_of, table_under};
 use std::alloc::{AllocError, Global};
-use toml::{Table, Value};
-
-/// Returns the table under a key, if there is one.
-pub(crate) fn table_under<'f>(value: &'f Value, key: &str) -> Option<&'f Table>
-    ensures { option_map (λ t. table_view t.now) result ≡ option_and_then as_table (get key.now (view value.now)) }
-{
-    match value.get(key) {
-        Some(found) => found.as_table(),
-        None => None,
-    }
-}
+use toml::Value;
 
 /// Returns whether an override has platforms.
 fn has_platform(value: &Value) -> bool
@@ -118,17 +107,6 @@ impl Walk {
         }
     }
 
-    /// Adds the values of each override of the profile at `path`.
-    fn push_items(&mut self, path: &str, values: &[Value]) -> Result<(), AllocError>
-        ensures { OnOk result (Adds (item_values path.now 0 (items_view values.now)) self.old self.new) }
-    {
-        for (at, value) in values.iter().enumerate() {
-            let path = override_path(self.alloc, path, at)?;
-            self.push_override(path.as_str(), value)?;
-        }
-        Ok(())
-    }
-
     /// Adds the name that the profile at `path`, which has this position, inherits from.
     fn push_circle(&mut self, path: &str, at: usize, value: &Value) -> Result<(), AllocError>
         ensures { OnOk result (Adds (circle_values path.now at (view value.now)) self.old self.new) }
@@ -145,32 +123,29 @@ impl Walk {
         }
     }
 
-    /// Adds the values of the profile at `path`, which has this position.
-    fn push_profile(&mut self, path: &str, at: usize, value: &Value) -> Result<(), AllocError>
-        ensures { OnOk result (Adds (profile_values path.now at (view value.now)) self.old self.new) }
+    /// Adds the values of a section.
+    fn push_section(&mut self, section: &Section<'_>) -> Result<(), AllocError>
+        ensures { OnOk result (Adds (own_values section.now.kind (string_bytes section.now.path) (view section.now.value.now))
+            self.old self.new) }
     {
-        self.push_under(path, "inherits", ValueRole::Parent, value)?;
-        self.push_circle(path, at, value)?;
-        let Some(found) = value.get("overrides") else {
-            return Ok(());
-        };
-        match found.as_array() {
-            Some(values) => self.push_items(path, values.as_slice()),
-            None => Ok(()),
+        let (path, value) = (section.path.as_str(), section.value);
+        match section.kind {
+            SectionKind::Profile(at) => {
+                self.push_under(path, "inherits", ValueRole::Parent, value)?;
+                self.push_circle(path, at, value)
+            }
+            SectionKind::Override => self.push_override(path, value),
+            _ => Ok(()),
         }
     }
 
-    /// Adds the values of each profile of a file.
-    fn push_profiles(&mut self, file: &Value) -> Result<(), AllocError>
-        ensures { OnOk result (Adds (member_values 0 (members_under (codes "profile") (view file.now)))
+    /// Adds the values of sections.
+    fn push_sections(&mut self, sections: &[Section<'_>]) -> Result<(), AllocError>
+        ensures { OnOk result (Adds (flat_map (λ s. own_values s.kind s.path s.value) (section_rows sections.now))
             self.old self.new) }
     {
-        let Some(members) = table_under(file, "profile") else {
-            return Ok(());
-        };
-        for (at, (name, value)) in members.iter().enumerate() {
-            let path = profile_path(self.alloc, name.as_str())?;
-            self.push_profile(path.as_str(), at, value)?;
+        for section in sections {
+            self.push_section(section)?;
         }
         Ok(())
     }
@@ -200,7 +175,8 @@ pub(crate) fn values_of(alloc: Global, file: &Value) -> Result<Vec<ProfileValue>
 {
     let values = Vec::new(alloc);
     let mut walk = Walk { alloc, values };
-    walk.push_profiles(file)?;
+    let sections = sections_of(alloc, file)?;
+    walk.push_sections(sections.as_slice())?;
     walk.push_reserved(file, "profile", ValueRole::ReservedProfile)?;
     walk.push_reserved(file, "test-groups", ValueRole::ReservedGroup)?;
     Ok(walk.values)

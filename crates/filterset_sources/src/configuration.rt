@@ -1,14 +1,15 @@
 //! Reads the filtersets and test groups of nextest's configuration.
-ghost use Rattle.std.specs.Prelude.{◌≡◌, ◌==◌, ◌≤◌, IfErr, IfOk, IsSome, OnOk, codes, count_by, length, map, string_bytes, take};
-ghost use Rattle.toml.specs.Data.{as_table};
+ghost use Rattle.std.specs.Prelude.{◌≡◌, ◌==◌, ◌≤◌, Err, IfErr, IfOk, Ok, OnOk, Some, codes, count_by, length, map, string_bytes, take};
 ghost use Rattle.toml.specs.Parse.{parse_document};
-ghost use Rattle.toml.specs.View.{items_view, table_view, view};
-ghost use Rattle.filterset_sources.specs.Configurations.{Adds, FileRows, FilterUnder, GroupsUnder, IsConfiguration, IsConfigured, ItemRows, MemberRows, ProfileRows, RefusesConfiguration, SectionRows, SectionsUnder, Then, WrongConfiguration, configured_rows, keys_of, line_at};
+ghost use Rattle.toml.specs.View.{table_view, view};
+ghost use Rattle.filterset_sources.specs.Configurations.{IsConfiguration, RefusesConfiguration, RefusesToml, all_filters, configured_rows, filter_under, followed_by, keys_of, line_at, own_filters, section_filters};
 ghost use Rattle.filterset_sources.specs.Refusals.{Refuses};
+ghost use Rattle.filterset_sources.specs.Sections.{members_under, section_row, section_rows};
+ghost use Rattle.filterset_sources.specs.declared.sections.SectionKind.TheVariants as kinds;
 
 use crate::refusal::SourceRefusal;
+use crate::sections::{Section, SectionKind, sections_of, table_under};
 use filterset_faults::FiltersetKind;
-use filterset_json::{Step, step_text};
 use std::alloc::{AllocError, Global};
 use toml::{Table, Value};
 
@@ -31,30 +32,6 @@ pub struct Configuration {
     pub groups: Vec<String>,
 }
 
-/// What an item of a list in a profile sets, for the tests that its filter picks.
-#[derive(Clone, Copy)]
-enum ProfileSection {
-    /// Settings, which may include a default filter.
-    Override,
-    /// Scripts that run before the tests.
-    Script,
-}
-
-/// What goes after "must be" where a table is wanted.
-const TABLE: &str = "a table";
-
-/// Refuses the value at `path` unless it is a table.
-fn check_table(alloc: Global, path: &str, value: &Value) -> Result<(), SourceRefusal>
-    ensures ok { OnOk result (IsSome (as_table (view value.now))) }
-    ensures refused { IfErr result (Refuses (λ place. (as_table (view value.now) ≡ None)
-        × (place ≡ (path.now, codes "a table")))) }
-{
-    if value.is_table() {
-        return Ok(());
-    }
-    Err(SourceRefusal::at(String::from_str(alloc, path)?, TABLE))
-}
-
 /// Adds the filterset under a key of the value at `path`, if there is one.
 fn push_filter(
     output: &mut Vec<ConfiguredFilterset>,
@@ -64,9 +41,9 @@ fn push_filter(
     key: &str,
     kind: FiltersetKind,
 ) -> Result<(), SourceRefusal>
-    ensures read { OnOk result (Adds (configured_rows output.old.items) (configured_rows output.new.items)
-        (FilterUnder path.now key.now kind (view value.now))) }
-    ensures refused { IfErr result (Refuses (λ place. FilterUnder path.now key.now kind (view value.now) (Err place))) }
+    ensures read { OnOk result (followed_by (Ok (configured_rows output.old.items)) (filter_under path.now key.now kind (view value.now))
+        ≡ Ok (configured_rows output.new.items)) }
+    ensures refused { IfErr result (Refuses (λ place. filter_under path.now key.now kind (view value.now) ≡ Err place)) }
 {
     let Some(found) = value.get(key) else {
         return Ok(());
@@ -87,171 +64,57 @@ fn push_override(
     path: &str,
     value: &Value,
 ) -> Result<(), SourceRefusal>
-    ensures read { OnOk result (Adds (configured_rows output.old.items) (configured_rows output.new.items)
-        (Then (FilterUnder path.now (codes "default-filter") FiltersetKind.DefaultFilter (view value.now))
-        (FilterUnder path.now (codes "filter") FiltersetKind.OverrideFilter (view value.now)))) }
-    ensures refused { IfErr result (Refuses (λ place.
-        Then (FilterUnder path.now (codes "default-filter") FiltersetKind.DefaultFilter (view value.now))
-        (FilterUnder path.now (codes "filter") FiltersetKind.OverrideFilter (view value.now)) (Err place))) }
+    ensures read { OnOk result (followed_by (Ok (configured_rows output.old.items)) (own_filters kinds.Override path.now (view value.now))
+        ≡ Ok (configured_rows output.new.items)) }
+    ensures refused { IfErr result (Refuses (λ place. own_filters kinds.Override path.now (view value.now) ≡ Err place)) }
 {
-    push_filter(
-        output,
-        alloc,
-        path,
-        value,
-        "default-filter",
-        FiltersetKind::DefaultFilter,
-    )?;
-    push_filter(
-        output,
-        alloc,
-        path,
-        value,
-        "filter",
-        FiltersetKind::OverrideFilter,
-    )
+    let kind = FiltersetKind::DefaultFilter;
+    push_filter(output, alloc, path, value, "default-filter", kind)?;
+    let kind = FiltersetKind::OverrideFilter;
+    push_filter(output, alloc, path, value, "filter", kind)
 }
 
 /// Adds the filtersets of a section.
 fn push_section(
     output: &mut Vec<ConfiguredFilterset>,
     alloc: Global,
-    section: ProfileSection,
-    path: &str,
-    value: &Value,
+    section: &Section<'_>,
 ) -> Result<(), SourceRefusal>
-    ensures read { OnOk result (Adds (configured_rows output.old.items) (configured_rows output.new.items)
-        (SectionRows section path.now (view value.now))) }
-    ensures refused { IfErr result (Refuses (λ place. SectionRows section path.now (view value.now) (Err place))) }
+    ensures read { OnOk result (followed_by (Ok (configured_rows output.old.items)) (section_filters (section_row section.now))
+        ≡ Ok (configured_rows output.new.items)) }
+    ensures refused { IfErr result (Refuses (λ place. section_filters (section_row section.now) ≡ Err place)) }
 {
-    check_table(alloc, path, value)?;
-    match section {
-        ProfileSection::Override => push_override(output, alloc, path, value),
-        ProfileSection::Script => {
-            push_filter(
-                output,
-                alloc,
-                path,
-                value,
-                "filter",
-                FiltersetKind::OverrideFilter,
-            )
+    if let Some(expected) = section.wrong_shape() {
+        let path = String::from_str(alloc, section.path.as_str())?;
+        return Err(SourceRefusal::at(path, expected));
+    }
+    let (path, value) = (section.path.as_str(), section.value);
+    match section.kind {
+        SectionKind::Profile(_) => {
+            let kind = FiltersetKind::DefaultFilter;
+            push_filter(output, alloc, path, value, "default-filter", kind)
         }
+        SectionKind::Override => push_override(output, alloc, path, value),
+        SectionKind::Script => {
+            let kind = FiltersetKind::OverrideFilter;
+            push_filter(output, alloc, path, value, "filter", kind)
+        }
+        _ => Ok(()),
     }
 }
 
-/// Adds the filtersets of each section of a list.
-fn push_items(
-    output: &mut Vec<ConfiguredFilterset>,
+/// Reads the filtersets of sections.
+fn filtersets_of(
     alloc: Global,
-    section: ProfileSection,
-    path: &str,
-    values: &[Value],
-) -> Result<(), SourceRefusal>
-    ensures read { OnOk result (Adds (configured_rows output.old.items) (configured_rows output.new.items)
-        (ItemRows section path.now 0 (items_view values.now))) }
-    ensures refused { IfErr result (Refuses (λ place. ItemRows section path.now 0 (items_view values.now) (Err place))) }
-{
-    for (at, value) in values.iter().enumerate() {
-        let path = format!(in alloc; "{path}[{at}]")?;
-        push_section(output, alloc, section, path.as_str(), value)?;
-    }
-    Ok(())
-}
-
-/// Adds the filtersets of the list of sections under a key of the value at `path`, if there is one.
-fn push_sections(
-    output: &mut Vec<ConfiguredFilterset>,
-    alloc: Global,
-    section: ProfileSection,
-    path: &str,
-    value: &Value,
-    key: &str,
-) -> Result<(), SourceRefusal>
-    ensures read { OnOk result (Adds (configured_rows output.old.items) (configured_rows output.new.items)
-        (SectionsUnder path.now key.now section (view value.now))) }
-    ensures refused { IfErr result (Refuses (λ place. SectionsUnder path.now key.now section (view value.now) (Err place))) }
-{
-    let Some(found) = value.get(key) else {
-        return Ok(());
-    };
-    let path = format!(in alloc; "{path}.{key}")?;
-    let Some(values) = found.as_array() else {
-        return Err(SourceRefusal::at(path, "a list"));
-    };
-    push_items(output, alloc, section, path.as_str(), values.as_slice())
-}
-
-/// Adds the filtersets of a profile.
-fn push_profile(
-    output: &mut Vec<ConfiguredFilterset>,
-    alloc: Global,
-    path: &str,
-    value: &Value,
-) -> Result<(), SourceRefusal>
-    ensures read { OnOk result (Adds (configured_rows output.old.items) (configured_rows output.new.items)
-        (ProfileRows path.now (view value.now))) }
-    ensures refused { IfErr result (Refuses (λ place. ProfileRows path.now (view value.now) (Err place))) }
-{
-    check_table(alloc, path, value)?;
-    push_filter(
-        output,
-        alloc,
-        path,
-        value,
-        "default-filter",
-        FiltersetKind::DefaultFilter,
-    )?;
-    push_sections(
-        output,
-        alloc,
-        ProfileSection::Override,
-        path,
-        value,
-        "overrides",
-    )?;
-    push_sections(
-        output,
-        alloc,
-        ProfileSection::Script,
-        path,
-        value,
-        "scripts",
-    )
-}
-
-/// Adds the filtersets of each profile.
-fn push_profiles(
-    output: &mut Vec<ConfiguredFilterset>,
-    alloc: Global,
-    profiles: &Table,
-) -> Result<(), SourceRefusal>
-    ensures read { OnOk result (Adds (configured_rows output.old.items) (configured_rows output.new.items)
-        (MemberRows (table_view profiles.now))) }
-    ensures refused { IfErr result (Refuses (λ place. MemberRows (table_view profiles.now) (Err place))) }
-{
-    for (name, value) in profiles.iter() {
-        let name = step_text(alloc, Step::Key(name.as_str()))?;
-        let path = format!(in alloc; "profile.{name}")?;
-        push_profile(output, alloc, path.as_str(), value)?;
-    }
-    Ok(())
-}
-
-/// Reads the filtersets of a file.
-fn filtersets_of(alloc: Global, file: &Value) -> Result<Vec<ConfiguredFilterset>, SourceRefusal>
-    ensures read { IfOk result (λ filtersets.
-        FileRows (view file.now) (Ok (configured_rows filtersets.items))) }
-    ensures refused { IfErr result (Refuses (λ place. FileRows (view file.now) (Err place))) }
+    sections: &[Section<'_>],
+) -> Result<Vec<ConfiguredFilterset>, SourceRefusal>
+    ensures read { IfOk result (λ read. all_filters (section_rows sections.now) ≡ Ok (configured_rows read.items)) }
+    ensures refused { IfErr result (Refuses (λ place. all_filters (section_rows sections.now) ≡ Err place)) }
 {
     let mut filtersets = Vec::new(alloc);
-    let Some(found) = file.get("profile") else {
-        return Ok(filtersets);
-    };
-    let Some(profiles) = found.as_table() else {
-        return Err(SourceRefusal::at(String::from_str(alloc, "profile")?, TABLE));
-    };
-    push_profiles(&mut filtersets, alloc, profiles)?;
+    for section in sections {
+        push_section(&mut filtersets, alloc, section)?;
+    }
     Ok(filtersets)
 }
 
@@ -267,28 +130,14 @@ fn keys_of(alloc: Global, entries: &Table) -> Result<Vec<String>, AllocError>
 }
 
 /// Reads the names of the test groups of a file.
-fn groups_of(alloc: Global, file: &Value) -> Result<Vec<String>, SourceRefusal>
-    ensures read { IfOk result (λ names. GroupsUnder (view file.now) (Ok (map (λ s. string_bytes s) names.items))) }
-    ensures refused { IfErr result (Refuses (λ place. GroupsUnder (view file.now) (Err place))) }
+fn groups_of(alloc: Global, file: &Value) -> Result<Vec<String>, AllocError>
+    ensures { IfOk result (λ names. map (λ s. string_bytes s) names.items
+        ≡ keys_of (members_under (codes "test-groups") (view file.now))) }
 {
-    let Some(found) = file.get("test-groups") else {
-        return Ok(Vec::new(alloc));
-    };
-    match found.as_table() {
-        Some(groups) => Ok(keys_of(alloc, groups)?),
-        None => Err(SourceRefusal::at(String::from_str(alloc, "test-groups")?, TABLE)),
+    match table_under(file, "test-groups") {
+        Some(groups) => keys_of(alloc, groups),
+        None => Ok(Vec::new(alloc)),
     }
-}
-
-/// Reads the filtersets and test groups of a file.
-fn read_tables(alloc: Global, file: &Value) -> Result<Configuration, SourceRefusal>
-    ensures read { IfOk result (IsConfigured (view file.now)) }
-    ensures refused { IfErr result (Refuses (WrongConfiguration (view file.now))) }
-{
-    Ok(Configuration {
-        filtersets: filtersets_of(alloc, file)?,
-        groups: groups_of(alloc, file)?,
-    })
 }
 
 /// Returns how many line feeds are before the byte offset `at`.
@@ -309,9 +158,9 @@ fn line_of(text: &str, at: usize) -> usize
 }
 
 /// Parses a text as TOML.
-fn read_toml(alloc: Global, text: &str) -> Result<Table, SourceRefusal>
+pub fn file_of(alloc: Global, text: &str) -> Result<Table, SourceRefusal>
     ensures read { IfOk result (λ file. parse_document text.now ≡ Some (table_view file)) }
-    ensures refused { IfErr result (RefusesConfiguration text.now) }
+    ensures refused { IfErr result (RefusesToml text.now) }
 {
     match toml::table_from_str(alloc, text) {
         Ok(file) => Ok(file),
@@ -330,6 +179,10 @@ pub fn read_configuration(alloc: Global, text: &str) -> Result<Configuration, So
     ensures read { IfOk result (IsConfiguration text.now) }
     ensures refused { IfErr result (RefusesConfiguration text.now) }
 {
-    let file = Value::Table(read_toml(alloc, text)?);
-    read_tables(alloc, &file)
+    let file = Value::Table(file_of(alloc, text)?);
+    let sections = sections_of(alloc, &file)?;
+    Ok(Configuration {
+        filtersets: filtersets_of(alloc, sections.as_slice())?,
+        groups: groups_of(alloc, &file)?,
+    })
 }

@@ -8,11 +8,13 @@ mod members;
 mod metadata;
 mod platforms;
 mod refusal;
+mod sections;
 
-pub use configuration::{Configuration, ConfiguredFilterset, read_configuration};
+pub use configuration::{Configuration, ConfiguredFilterset, file_of, read_configuration};
 pub use filterset_json::WrongValue;
 pub use json::read_json;
 pub use list::{RunIgnored, Suite, SuiteStatus, TestList, check_packages, read_test_list};
 pub use metadata::read_metadata;
 pub use platforms::{BuildPlatforms, read_platforms};
 pub use refusal::SourceRefusal;
+pub use sections::{Section, SectionKind, sections_of, table_under};

@@ -6,5 +6,5 @@ use Rattle.filterset_places.proofs.places.places_among.Given as goal
 abbrev pub invariant-loop-at : goal.invariant-loop-at
 invariant-loop-at l = record {
   count : vec_len l.places ≡ l.at;
-  places : ArePlacesAmong l.file l.literals (configured_rows l.filtersets) (configured_rows l.others) l.places.items;
+  places : ArePlacesAmong l.file l.numbering.literals.items (configured_rows l.filtersets) (configured_rows l.others) l.places.items;
 }

@@ -1,6 +1,6 @@
 use Rattle.std.proofs.Common.{◌≡◌, ◌<◌, ◌+◌, [], ◌∷◌, ◌++◌, length, take, ap, subst, sym, ◌∙◌}
 use Rattle.std.proofs.lemmas.List.{map-append, take_more}
-use Rattle.filterset_places.specs.Keys.{FindsUnknown, key_row, key_rows}
+use Rattle.filterset_places.specs.Keys.{Finds, Judged, key_row, key_rows}
 use Rattle.filterset_places.specs.declared.keys.FoundKey.{FoundKey}
 use Rattle.filterset_places.proofs.KeyLemmas.{found-next}
 use Rattle.filterset_places.proofs.unknown.unknown_among.Goals as goal
@@ -17,6 +17,6 @@ loop-found-preserved c =
     let (front, pushed, judged) = c.in_ok-push_unknown.ensures in
     let more : key_rows (take (i + 1) keys) ≡ rows ++ key_row key ∷ [] =
     ap key_rows (take_more keys i key lt ∙ ap (λ (x : FoundKey). take i keys ++ x ∷ []) (sym c.found-item.is)) ∙ map-append key_row (take i keys) (key ∷ []) in
-    subst (λ rs. FindsUnknown text all rs c.push_unknown.new.output.items) (sym more)
-    (subst (λ fs. FindsUnknown text all (rows ++ key_row key ∷ []) fs) (sym pushed)
-    (found-next text all rows (key_row key) c.loop-found.unknown.items front c.loop-found.invariant judged))
+    subst (λ rs. Finds (Judged text all) 0 rs c.push_unknown.new.output.items) (sym more)
+    (subst (λ fs. Finds (Judged text all) 0 (rows ++ key_row key ∷ []) fs) (sym pushed)
+    (found-next (Judged text all) 0 rows (key_row key) c.loop-found.unknown.items front c.loop-found.invariant judged))

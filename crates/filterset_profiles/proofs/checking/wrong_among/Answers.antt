@@ -1,9 +1,10 @@
 use Rattle.std.proofs.Common.{arith, ℕ, ◌≡◌, ◌<◌, ◌+◌, [], ◌∷◌, ◌++◌, List, length, get_or, take, ap, subst, sym, ◌∙◌}
 use Rattle.std.proofs.lemmas.List.{length-map, length-take-le, map-append, take_more}
 use Rattle.toml.specs.View.{view}
-use Rattle.filterset_profiles.specs.Wrong.{FindsWrong, Judged, value_row, value_rows}
+use Rattle.filterset_places.specs.Keys.{Finds}
+use Rattle.filterset_profiles.specs.Wrong.{Judged, value_row, value_rows}
 use Rattle.filterset_profiles.specs.declared.wrong.ProfileValue.{ProfileValue}
-use Rattle.filterset_profiles.proofs.WrongLemmas.{found-next}
+use Rattle.filterset_places.proofs.KeyLemmas.{found-next}
 use Rattle.filterset_profiles.proofs.checking.wrong_among.Goals as goal
 
 -- the rows of one more value
@@ -23,7 +24,7 @@ loop-at-preserved c =
     let rows = value_rows (take i values) in
     let (front, pushed, judged) = c.in_ok-push_wrong.ensures in
     let long : 0 + length rows ≡ i = omega (arith, length-map (take i values) value_row, length-take-le i values (omega arith)) in
-    subst (λ rs. FindsWrong text file 0 rs c.push_wrong.new.found.items) (sym (rows-more values i value lt c.index-values-at.is))
-    (subst (λ fs. FindsWrong text file 0 (rows ++ value_row value ∷ []) fs) (sym pushed)
-    (found-next text file 0 rows (value_row value) c.loop-at.found.items front c.loop-at.invariant
+    subst (λ rs. Finds (Judged text file) 0 rs c.push_wrong.new.found.items) (sym (rows-more values i value lt c.index-values-at.is))
+    (subst (λ fs. Finds (Judged text file) 0 (rows ++ value_row value ∷ []) fs) (sym pushed)
+    (found-next (Judged text file) 0 rows (value_row value) c.loop-at.found.items front c.loop-at.invariant
     (subst (λ n. Judged text file n (value_row value) front) (sym long) judged)))

@@ -2,7 +2,8 @@ use Rattle.std.proofs.Common.{rules, ◌≡◌, ◌∷◌, ◌++◌, true, false
 use Rattle.std.specs.List.{list_any}
 use Rattle.std.specs.Str.{bytes_eq}
 use Rattle.filterset_profiles.specs.Profiles.{keys_but}
-use Rattle.filterset_profiles.proofs.KeyLemmas.{kept_push, key_passed, keys-entries}
+use Rattle.filterset_profiles.proofs.KeyLemmas.{kept_push, key_passed}
+use Rattle.filterset_sources.proofs.ConfigurationLemmas.{keys-entries}
 use Rattle.filterset_profiles.proofs.values.copy_keys_but.Goals as goal
 
 pub loop-key-init : goal.loop-key-init

@@ -5,7 +5,8 @@ use Rattle.toml.specs.View.{members_view, view}
 use Rattle.toml.proofs.Views.{Entry}
 use Rattle.filterset_json.specs.Paths.{key_text}
 use Rattle.filterset_profiles.specs.Names.{is_reserved}
-use Rattle.filterset_profiles.specs.Wrong.{below, name_values, row, value_rows}
+use Rattle.filterset_profiles.specs.Wrong.{name_values, row, value_rows}
+use Rattle.filterset_sources.specs.Sections.{below}
 use Rattle.filterset_profiles.proofs.walking.Walk.push_reserved.Goals as goal
 
 pub loop-name-preserved-then-not-is_reserved : goal.loop-name-preserved-then-not-is_reserved
