@@ -4,12 +4,12 @@
 #
 #     bash scripts/lsp/client.sh [--programs FOLDER]
 #
-# The program is `filterset_command` in its crate, or in FOLDER. If there is no neovim, the script installs it by apt-get;
+# The program is `filterset` in its crate, or in FOLDER. If there is no neovim, the script installs it by apt-get;
 # if it can't, it skips the client. The last line is 'N passed, M failed', or '0 passed, 0 failed, 1 skipped'.
 set -uo pipefail
 source "$(dirname "${BASH_SOURCE[0]}")/../lib.sh"
-program=$PWD/crates/filterset_command/out/filterset_command
-if [ "${1:-}" = --programs ]; then program=$(realpath "$2")/filterset_command; fi
+program=$PWD/crates/filterset/out/filterset
+if [ "${1:-}" = --programs ]; then program=$(realpath "$2")/filterset; fi
 need "$program"
 
 # Installs neovim, if this machine can.

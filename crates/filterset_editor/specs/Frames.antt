@@ -1,9 +1,8 @@
 -- Messages on a stream, as the protocol frames them: a head of lines, the empty one last, and as many bytes as the head says.
-use Rattle.std.specs.Prelude.{◌≡◌, ◌≤◌, ◌<◌, ◌==◌, ◌&&◌, ◌||◌, ◌⊎◌, ◌+◌, ◌*◌, ◌-◌, ◌++◌, ℕ, suc, Bool, List, [], ◌∷◌, Option, None, Some, Vec, codes, decimal, drop, is_some, length, nat_le, nat_lt, option_and_then, option_map, position, slice_index, slice_range, take, if◌then◌else◌}
+use Rattle.std.specs.Prelude.{◌≡◌, ◌≤◌, ◌<◌, ◌==◌, ◌&&◌, ◌||◌, ◌⊎◌, ◌+◌, ◌*◌, ◌-◌, ◌++◌, ℕ, suc, Bool, List, [], ◌∷◌, Option, None, Some, codes, decimal, drop, is_some, length, nat_le, nat_lt, option_and_then, option_map, position, slice_index, slice_range, take, if◌then◌else◌}
 use Rattle.std.specs.Char.{is_ascii_digit}
 use Rattle.std.specs.List.{prefix_len}
 use Rattle.std.specs.Str.{str_eq_ignore_ascii_case}
-use Rattle.std.specs.declared.alloc.Global.{Global}
 use Rattle.filterset_editor.specs.declared.frames.Next as next
 
 abbrev pub Bytes : Type 0
@@ -94,11 +93,6 @@ IsNext stream next.TheVariants.Partial = Waits stream
 IsNext stream next.TheVariants.Malformed = IsMalformed stream
 IsNext stream (next.TheVariants.Message from to) =
     (from ≤ to) × (to ≤ length stream) × IsFrame (take to stream) (slice_range stream from to)
-
--- the next message was taken from the stream, or none has come whole but may come, and nothing changed
-abbrev pub IsTaken : Bytes → Option (Vec ℕ Global) → Bytes → Type 0
-IsTaken old None new = Waits old × (new ≡ old)
-IsTaken old (Some message) new = (frame : Bytes) × IsFrame frame message.items × (old ≡ frame ++ new)
 
 -- the frame that is written of a message
 abbrev pub framed : Bytes → Bytes

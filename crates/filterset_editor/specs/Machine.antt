@@ -1,17 +1,15 @@
--- The server as a machine: what it answers to a message in a phase, and what comes behind it.
-use Rattle.std.specs.Prelude.{◌≡◌, ℤ, negsuc, Bool, true, false, List, Option, Some, None, MatchOption, codes, string_bytes, if◌then◌else◌}
-use Rattle.serde_json.specs.Data.{Data, null, number, unsigned, boolean, string, array, object, no_items, item, Members, member, no_members, put}
+-- The server as a machine: what it answers to a message in a phase, and its state after that.
+use Rattle.std.specs.Prelude.{◌≡◌, ℤ, negsuc, Bool, true, false, List, [], ◌∷◌, Option, Some, None, MatchOption, codes, map, string_bytes}
+use Rattle.serde_json.specs.Data.{Data, null, number, unsigned, boolean, string, array, object, no_members}
 use Rattle.serde_json.specs.Find.{of_integer}
 use Rattle.serde_json.specs.View.{view, items_of}
 use Rattle.filterset_editor.specs.Documents.{DocumentRow, IsRevised, document_of, put_document, row_of, without_document}
-use Rattle.filterset_editor.specs.Inquiries.{feature_of, offers}
 use Rattle.filterset_editor.specs.Positions.{Text}
-use Rattle.filterset_editor.specs.declared.abilities.Abilities.{Abilities}
+use Rattle.filterset_editor.specs.Values.{Pair, object_of}
 use Rattle.filterset_editor.specs.declared.documents.Document.{Document}
-use Rattle.filterset_editor.specs.declared.inquiry.Feature.{Feature}
 use Rattle.filterset_editor.specs.declared.inquiry.Inquiry.{Inquiry}
-use Rattle.filterset_editor.specs.declared.message.Asked.{Asked}
-use Rattle.filterset_editor.specs.declared.message.Asked.TheVariants.{Initialize, Shutdown, About, Wrong, Unknown}
+use Rattle.filterset_editor.specs.declared.message.Call.{Call}
+use Rattle.filterset_editor.specs.declared.message.Call.TheVariants.{Initialize, Shutdown, About, Wrong, Unknown}
 use Rattle.filterset_editor.specs.declared.message.Incoming.{Incoming}
 use Rattle.filterset_editor.specs.declared.message.Incoming.TheVariants.{Request, Notification, Response, NotJson, NotMessage}
 use Rattle.filterset_editor.specs.declared.message.Notice.{Notice}
@@ -19,31 +17,17 @@ use Rattle.filterset_editor.specs.declared.message.Notice.TheVariants.{Exit, Ope
 use Rattle.filterset_editor.specs.declared.positions.Encoding.{Encoding}
 use Rattle.filterset_editor.specs.declared.positions.Encoding.TheVariants.{Utf8, Utf16, Utf32}
 use Rattle.filterset_editor.specs.declared.phase.Phase.{Phase}
-use Rattle.filterset_editor.specs.declared.server.Server.{Server}
 use Rattle.filterset_editor.specs.declared.phase.Phase.TheVariants.{New, Running, Stopped, Over}
+use Rattle.filterset_editor.specs.declared.server.Server.{Server}
 
--- ---- what a server says of documents
-
--- which diagnostics documents have
-abbrev pub Diagnosis : Type 1
-Diagnosis = Encoding → DocumentRow → List Data → Type 0
-
--- which results requests about documents have
-abbrev pub Results : Type 1
-Results = Encoding → DocumentRow → Inquiry → Data → Type 0
-
--- what a server says of documents, and what it can do
+-- what a server says of documents: which diagnostics they have, and which results requests about them
 pub record Says : Type 1 where
-  pub has : Diagnosis
-  pub gives : Results
-  pub can : Abilities
+  pub has : Encoding → DocumentRow → List Data → Type 0
+  pub gives : Encoding → DocumentRow → Inquiry → Data → Type 0
 
-abbrev pub says : Diagnosis → Results → Abilities → Says
-says has gives can = record { has = has; gives = gives; can = can }
+-- ---- answers to requests
 
--- ---- requests
-
--- the codes of errors: -32700, -32600, -32601, -32602 and -32002
+-- the codes of errors: -32700, -32600, -32601, -32602, -32603 and -32002
 abbrev pub parse_error : ℤ
 parse_error = negsuc 32699
 
@@ -56,131 +40,108 @@ method_not_found = negsuc 32600
 abbrev pub invalid_params : ℤ
 invalid_params = negsuc 32601
 
+abbrev pub internal_error : ℤ
+internal_error = negsuc 32602
+
 abbrev pub server_not_initialized : ℤ
 server_not_initialized = negsuc 32001
 
+-- each message has this member
+abbrev pub version_of_rpc : Pair
+version_of_rpc = (codes "jsonrpc", string (codes "2.0"))
+
+-- the answer to the request with this id is an error
 abbrev pub error_data : Data → ℤ → Text → Data
 error_data id code message =
-    object (member (codes "error") (object (member (codes "code") (number (of_integer code)) (member (codes "message") (string message) no_members)))
-    (member (codes "id") id (member (codes "jsonrpc") (string (codes "2.0")) no_members)))
+    let error = object_of ((codes "code", number (of_integer code)) ∷ (codes "message", string message) ∷ []) in
+    object_of ((codes "error", error) ∷ (codes "id", id) ∷ version_of_rpc ∷ [])
 
+-- the answer to the request with this id is a result
 abbrev pub result_data : Data → Data → Data
-result_data id result =
-    object (member (codes "id") id (member (codes "jsonrpc") (string (codes "2.0")) (member (codes "result") result no_members)))
+result_data id result = object_of ((codes "id", id) ∷ version_of_rpc ∷ (codes "result", result) ∷ [])
 
 abbrev pub encoding_name : Encoding → Text
 encoding_name Utf8 = codes "utf-8"
 encoding_name Utf16 = codes "utf-16"
 encoding_name Utf32 = codes "utf-32"
 
--- the members, with this one too if it is wanted
-unfoldable pub put_if : Bool → Text → Data → Members → Members
-put_if wanted key d members = if wanted then put key d members else members
-
--- the types of tokens, by their numbers
-abbrev pub legend : Data
-legend =
-    object (member (codes "tokenModifiers") (array no_items)
-    (member (codes "tokenTypes") (array (item (string (codes "enumMember")) (item (string (codes "function")) (item (string (codes "keyword"))
-    (item (string (codes "operator")) (item (string (codes "regexp")) (item (string (codes "string")) no_items))))))) no_members))
-
+-- tokens have these types, counted from 0, and no modifiers
 abbrev pub token_options : Data
-token_options = object (member (codes "full") (boolean true) (member (codes "legend") legend no_members))
+token_options =
+    let types = codes "enumMember" ∷ codes "function" ∷ codes "keyword" ∷ codes "operator" ∷ codes "regexp" ∷ codes "string" ∷ [] in
+    let legend = object_of ((codes "tokenModifiers", array (items_of [])) ∷ (codes "tokenTypes", array (items_of (map string types))) ∷ []) in
+    object_of ((codes "full", boolean true) ∷ (codes "legend", legend) ∷ [])
 
--- every server counts columns so, and takes changes of documents (2)
-abbrev pub always_able : Encoding → Members
-always_able encoding =
-    member (codes "positionEncoding") (string (encoding_name encoding))
-    (member (codes "textDocumentSync") (object (member (codes "change") (number (unsigned 2)) (member (codes "openClose") (boolean true) no_members))) no_members)
-
--- what a server announces: what every server does, and what it can
-abbrev pub capabilities : Encoding → Abilities → Members
-capabilities encoding can =
-    put_if can.symbols (codes "documentSymbolProvider") (boolean true)
-    (put_if can.semantic_tokens (codes "semanticTokensProvider") token_options
-    (put_if can.folding (codes "foldingRangeProvider") (boolean true)
-    (put_if can.formatting (codes "documentFormattingProvider") (boolean true)
-    (put_if can.code_actions (codes "codeActionProvider") (boolean true)
-    (put_if can.completion (codes "completionProvider") (object no_members)
-    (put_if can.hover (codes "hoverProvider") (boolean true) (always_able encoding)))))))
+-- what a server can do: it counts columns so, and takes changes of documents (2)
+abbrev pub capabilities : Encoding → Data
+capabilities encoding = object_of (
+    (codes "codeActionProvider", boolean true) ∷ (codes "completionProvider", object no_members)
+    ∷ (codes "documentFormattingProvider", boolean true) ∷ (codes "documentSymbolProvider", boolean true)
+    ∷ (codes "foldingRangeProvider", boolean true) ∷ (codes "hoverProvider", boolean true)
+    ∷ (codes "positionEncoding", string (encoding_name encoding)) ∷ (codes "semanticTokensProvider", token_options)
+    ∷ (codes "textDocumentSync", object_of ((codes "change", number (unsigned 2)) ∷ (codes "openClose", boolean true) ∷ [])) ∷ [])
 
 -- the result of `initialize`
-abbrev pub initialized : Encoding → Abilities → Data
-initialized encoding can =
-    object (member (codes "capabilities") (object (capabilities encoding can))
-    (member (codes "serverInfo") (object (member (codes "name") (string (codes "filterset")) no_members)) no_members))
-
-abbrev pub IsError : Data → ℤ → Data → Type 0
-IsError id code answer = (message : Text) × (answer ≡ error_data id code message)
+abbrev pub description : Encoding → Data
+description encoding = object_of ((codes "capabilities", capabilities encoding)
+    ∷ (codes "serverInfo", object_of ((codes "name", string (codes "filterset")) ∷ [])) ∷ [])
 
 -- the result of a request about the document of an address: null if it is not open
-abbrev pub Responds : Results → Encoding → List Document → Text → Inquiry → Data → Type 0
-Responds Gives encoding documents uri inquiry result =
-    MatchOption (document_of uri documents) (result ≡ null) (λ document. Gives encoding (row_of document) inquiry result)
-
--- the answer to a request for a feature is of this kind if the server has it, else there is no such method
-abbrev pub IfOffered : Abilities → Feature → Data → Data → Type 0 → Type 0
-IfOffered can feature id answer Is =
-    (offers can feature ≡ true → Is) × (offers can feature ≡ false → IsError id method_not_found answer)
-
--- the answer to a request about the document of an address
-abbrev pub RepliesAbout : Results → Abilities → Encoding → List Document → Text → Inquiry → Data → Data → Type 0
-RepliesAbout Gives can encoding documents uri inquiry id answer =
-    IfOffered can (feature_of inquiry) id answer
-    ((result : Data) × Responds Gives encoding documents uri inquiry result × (answer ≡ result_data id result))
+abbrev pub Responds : Says → Encoding → List Document → Text → Inquiry → Data → Type 0
+Responds S encoding documents uri inquiry result =
+    MatchOption (document_of uri documents) (result ≡ null) (λ document. S.gives encoding (row_of document) inquiry result)
 
 -- the answer to a request in a phase, while these documents are open
-abbrev pub Replies : Results → Abilities → Phase → List Document → Asked → Data → Data → Type 0
-Replies Gives can New documents (Initialize encoding) id answer = answer ≡ result_data id (initialized encoding can)
-Replies Gives can New documents asked id answer = IsError id server_not_initialized answer
-Replies Gives can (Running encoding) documents Shutdown id answer = answer ≡ result_data id null
-Replies Gives can (Running encoding) documents (About uri inquiry) id answer =
-    RepliesAbout Gives can encoding documents (string_bytes uri) inquiry id answer
-Replies Gives can (Running encoding) documents (Wrong feature) id answer =
-    IfOffered can feature id answer (IsError id invalid_params answer)
-Replies Gives can (Running encoding) documents Unknown id answer = IsError id method_not_found answer
-Replies Gives can phase documents asked id answer = IsError id invalid_request answer
+abbrev pub Replies : Says → Phase → List Document → Call → Data → Data → Type 0
+Replies S New documents (Initialize encoding) id answer = answer ≡ result_data id (description encoding)
+Replies S New documents call id answer = answer ≡ error_data id server_not_initialized (codes "not initialized")
+Replies S (Running encoding) documents (Initialize other) id answer =
+    answer ≡ error_data id invalid_request (codes "initialized already")
+Replies S (Running encoding) documents Shutdown id answer = answer ≡ result_data id null
+Replies S (Running encoding) documents (About uri inquiry) id answer = (result : Data)
+    × Responds S encoding documents (string_bytes uri) inquiry result × (answer ≡ result_data id result)
+Replies S (Running encoding) documents Wrong id answer = answer ≡ error_data id invalid_params (codes "wrong parameters")
+Replies S (Running encoding) documents Unknown id answer = answer ≡ error_data id method_not_found (codes "unknown method")
+Replies S phase documents call id answer = answer ≡ error_data id invalid_request (codes "shut down")
 
--- the phase behind a request
-abbrev pub phase_behind : Phase → Asked → Phase
-phase_behind New (Initialize encoding) = Running encoding
-phase_behind (Running encoding) Shutdown = Stopped
-phase_behind phase asked = phase
+-- the phase after a request
+abbrev pub phase_after : Phase → Call → Phase
+phase_after New (Initialize encoding) = Running encoding
+phase_after (Running encoding) Shutdown = Stopped
+phase_after phase call = phase
 
 -- ---- notifications
 
--- the diagnostics of a version of a document
-abbrev pub published_data : Text → ℤ → List Data → Data
-published_data uri version diagnostics =
-    object (member (codes "jsonrpc") (string (codes "2.0"))
-    (member (codes "method") (string (codes "textDocument/publishDiagnostics"))
-    (member (codes "params") (object (member (codes "diagnostics") (array (items_of diagnostics)) (member (codes "uri") (string uri)
-    (member (codes "version") (number (of_integer version)) no_members)))) no_members)))
+-- a notification of the server
+abbrev pub notification_data : Text → Data → Data
+notification_data method params =
+    object_of (version_of_rpc ∷ (codes "method", string method) ∷ (codes "params", params) ∷ [])
 
--- no diagnostics of a document any more
-abbrev pub cleared_data : Text → Data
-cleared_data uri =
-    object (member (codes "jsonrpc") (string (codes "2.0"))
-    (member (codes "method") (string (codes "textDocument/publishDiagnostics"))
-    (member (codes "params") (object (member (codes "diagnostics") (array no_items) (member (codes "uri") (string uri) no_members))) no_members)))
+abbrev pub version_pairs : Option ℤ → List Pair
+version_pairs None = []
+version_pairs (Some version) = (codes "version", number (of_integer version)) ∷ []
+
+-- the diagnostics of a document, or of a version of it
+abbrev pub published_data : Text → Option ℤ → List Data → Data
+published_data uri version diagnostics = notification_data (codes "textDocument/publishDiagnostics") (object_of
+    ((codes "diagnostics", array (items_of diagnostics)) ∷ (codes "uri", string uri) ∷ version_pairs version))
 
 -- the diagnostics that a document has
-abbrev pub Publishes : Diagnosis → Encoding → Document → Option Data → Type 0
-Publishes Has encoding document answer =
-    (diagnostics : List Data) × Has encoding (row_of document) diagnostics
-    × (answer ≡ Some (published_data (string_bytes document.uri) document.version diagnostics))
+abbrev pub Publishes : Says → Encoding → Document → Option Data → Type 0
+Publishes S encoding document answer = (diagnostics : List Data) × S.has encoding (row_of document) diagnostics
+    × (answer ≡ Some (published_data (string_bytes document.uri) (Some document.version) diagnostics))
 
--- what is answered to a notification about documents, and the documents behind it
-abbrev pub Notifies : Diagnosis → Encoding → Notice → List Document → Option Data → List Document → Type 0
-Notifies Has encoding (Opened document) old answer new =
-    Publishes Has encoding document answer × (new ≡ put_document document old)
-Notifies Has encoding (Changed revision) old answer new =
+-- what is answered to a notification about documents, and the documents after it
+abbrev pub Notifies : Says → Encoding → Notice → List Document → Option Data → List Document → Type 0
+Notifies S encoding (Opened document) old answer new =
+    Publishes S encoding document answer × (new ≡ put_document document old)
+Notifies S encoding (Changed revision) old answer new =
     MatchOption (document_of (string_bytes revision.uri) old) ((answer ≡ None) × (new ≡ old))
     (λ document. (revised : Document) × IsRevised encoding document revision revised
-    × Publishes Has encoding revised answer × (new ≡ put_document revised old))
-Notifies Has encoding (Closed uri) old answer new =
-    (answer ≡ Some (cleared_data (string_bytes uri))) × (new ≡ without_document (string_bytes uri) old)
-Notifies Has encoding notice old answer new = (answer ≡ None) × (new ≡ old)
+    × Publishes S encoding revised answer × (new ≡ put_document revised old))
+Notifies S encoding (Closed uri) old answer new =
+    (answer ≡ Some (published_data (string_bytes uri) None [])) × (new ≡ without_document (string_bytes uri) old)
+Notifies S encoding notice old answer new = (answer ≡ None) × (new ≡ old)
 
 -- ---- messages
 
@@ -196,23 +157,25 @@ abbrev pub is_stopped : Phase → Bool
 is_stopped Stopped = true
 is_stopped phase = false
 
--- the phase behind `exit`, which is in order only if the server was shut down
-abbrev pub phase_ended : Phase → Phase
-phase_ended (Over in_order) = Over in_order
-phase_ended phase = Over (is_stopped phase)
+-- the phase after `exit`, which is in order only if the server was shut down
+abbrev pub phase_at_exit : Phase → Phase
+phase_at_exit (Over in_order) = Over in_order
+phase_at_exit phase = Over (is_stopped phase)
 
 -- documents are kept while the session goes on
-abbrev pub Keeps : Diagnosis → Phase → Notice → List Document → Option Data → List Document → Type 0
-Keeps Has (Running encoding) notice old answer new = Notifies Has encoding notice old answer new
-Keeps Has phase notice old answer new = (answer ≡ None) × (new ≡ old)
+abbrev pub Keeps : Says → Phase → Notice → List Document → Option Data → List Document → Type 0
+Keeps S (Running encoding) notice old answer new = Notifies S encoding notice old answer new
+Keeps S phase notice old answer new = (answer ≡ None) × (new ≡ old)
 
--- what is answered to a message, and the state behind it
+-- what is answered to a message, and the state after it
 abbrev pub Answers : Says → State → Incoming → Option Data → State → Type 0
-Answers S old (Request id asked) answer new =
-    ((reply : Data) × Replies S.gives S.can old.phase old.documents asked (view id) reply × (answer ≡ Some reply))
-    × (new.phase ≡ phase_behind old.phase asked) × (new.documents ≡ old.documents)
-Answers S old (Notification Exit) answer new = (answer ≡ None) × (new.phase ≡ phase_ended old.phase) × (new.documents ≡ old.documents)
-Answers S old (Notification notice) answer new = Keeps S.has old.phase notice old.documents answer new.documents × (new.phase ≡ old.phase)
+Answers S old (Request id call) answer new =
+    ((reply : Data) × Replies S old.phase old.documents call (view id) reply × (answer ≡ Some reply))
+    × (new.phase ≡ phase_after old.phase call) × (new.documents ≡ old.documents)
+Answers S old (Notification Exit) answer new =
+    (answer ≡ None) × (new.phase ≡ phase_at_exit old.phase) × (new.documents ≡ old.documents)
+Answers S old (Notification notice) answer new =
+    Keeps S old.phase notice old.documents answer new.documents × (new.phase ≡ old.phase)
 Answers S old Response answer new = (answer ≡ None) × (new ≡ old)
-Answers S old NotJson answer new = ((reply : Data) × IsError null parse_error reply × (answer ≡ Some reply)) × (new ≡ old)
-Answers S old NotMessage answer new = ((reply : Data) × IsError null invalid_request reply × (answer ≡ Some reply)) × (new ≡ old)
+Answers S old NotJson answer new = (answer ≡ Some (error_data null parse_error (codes "not JSON"))) × (new ≡ old)
+Answers S old NotMessage answer new = (answer ≡ Some (error_data null invalid_request (codes "no message"))) × (new ≡ old)

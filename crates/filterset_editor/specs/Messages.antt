@@ -1,22 +1,21 @@
 -- What messages of a client say.
-use Rattle.std.specs.Prelude.{◌≡◌, ℕ, ℤ, List, [], ◌∷◌, Option, None, Some, IsSome, IsUtf8, codes, map, option_and_then, option_map, string_bytes, unwrap_or, if◌then◌else◌}
+use Rattle.std.specs.Prelude.{◌≡◌, ℕ, ℤ, List, [], ◌∷◌, Option, None, Some, IsSome, IsUtf8, MatchOption, codes, map, option_and_then, option_map, string_bytes, unwrap_or, if◌then◌else◌}
 use Rattle.std.specs.Str.{bytes_eq}
 use Rattle.serde_json.specs.Data.{Data, Items, no_items, item}
-use Rattle.serde_json.specs.Find.{as_array, as_str, get, pointer}
+use Rattle.serde_json.specs.Find.{as_str, get}
 use Rattle.serde_json.specs.Read.{read}
 use Rattle.serde_json.specs.View.{view}
 use Rattle.filterset_editor.specs.Documents.{DocumentRow, row_of}
-use Rattle.filterset_editor.specs.Inquiries.{feature_named, inquiry_in}
+use Rattle.filterset_editor.specs.Inquiries.{inquiry_in}
 use Rattle.filterset_editor.specs.Positions.{Text}
-use Rattle.filterset_editor.specs.Values.{integer_at, range_in, text_at}
+use Rattle.filterset_editor.specs.Values.{array_at, integer_at, range_in, text_at}
 use Rattle.filterset_editor.specs.declared.edits.Change.{Change}
 use Rattle.filterset_editor.specs.declared.message.Incoming.{Incoming}
 use Rattle.filterset_editor.specs.declared.message.Incoming.TheVariants.{Request, Notification, Response, NotJson, NotMessage}
-use Rattle.filterset_editor.specs.declared.message.Asked.{Asked}
-use Rattle.filterset_editor.specs.declared.message.Asked.TheVariants.{Initialize, Shutdown, About, Wrong, Unknown}
+use Rattle.filterset_editor.specs.declared.message.Call.{Call}
+use Rattle.filterset_editor.specs.declared.message.Call.TheVariants.{Initialize, Shutdown, About, Wrong, Unknown}
 use Rattle.filterset_editor.specs.declared.message.Notice.{Notice}
 use Rattle.filterset_editor.specs.declared.message.Notice.TheVariants as notices
-use Rattle.filterset_editor.specs.declared.inquiry.Feature.{Feature}
 use Rattle.filterset_editor.specs.declared.inquiry.Inquiry.{Inquiry}
 use Rattle.filterset_editor.specs.declared.positions.Encoding.{Encoding}
 use Rattle.filterset_editor.specs.declared.positions.Encoding.TheVariants.{Utf8, Utf16, Utf32}
@@ -75,7 +74,7 @@ opened_in d = option_and_then (λ uri. option_and_then (λ language. option_and_
 
 abbrev pub changed_in : Data → Option Said
 changed_in d = option_and_then (λ uri. option_and_then (λ version. option_map (λ list. changes uri version list)
-    (option_and_then changes_in (option_and_then as_array (pointer (codes "/params/contentChanges") d)))) (version_in d)) (uri_in d)
+    (option_and_then changes_in (array_at (codes "/params/contentChanges") d))) (version_in d)) (uri_in d)
 
 -- what the notification of this method says: nothing if the method is not known, or its parameters are wrong
 abbrev pub said_in : Text → Data → Option Said
@@ -101,39 +100,34 @@ first_known no_items = Utf16
 first_known (item d ds) = unwrap_or (option_and_then encoding_named (as_str d)) (first_known ds)
 
 abbrev pub encoding_in : Data → Encoding
-encoding_in d = unwrap_or (option_map first_known
-    (option_and_then as_array (pointer (codes "/params/capabilities/general/positionEncodings") d))) Utf16
+encoding_in d =
+    unwrap_or (option_map first_known (array_at (codes "/params/capabilities/general/positionEncodings") d)) Utf16
 
 -- what a request asks for
-pub data AskedRow : Type 0 where
-  begins : Encoding → AskedRow
-  shuts_down : AskedRow
-  asks_about : Text → Inquiry → AskedRow
-  is_wrong : Feature → AskedRow
-  is_unknown : AskedRow
+pub data CallRow : Type 0 where
+  begins : Encoding → CallRow
+  shuts_down : CallRow
+  asks_about : Text → Inquiry → CallRow
+  is_wrong : CallRow
+  is_unknown : CallRow
 
-abbrev pub asked_row : Asked → AskedRow
-asked_row (Initialize encoding) = begins encoding
-asked_row Shutdown = shuts_down
-asked_row (About uri inquiry) = asks_about (string_bytes uri) inquiry
-asked_row (Wrong feature) = is_wrong feature
-asked_row Unknown = is_unknown
+abbrev pub call_row : Call → CallRow
+call_row (Initialize encoding) = begins encoding
+call_row Shutdown = shuts_down
+call_row (About uri inquiry) = asks_about (string_bytes uri) inquiry
+call_row Wrong = is_wrong
+call_row Unknown = is_unknown
 
--- a request for a feature asks about the document of an address
-abbrev pub about_in : Feature → Data → AskedRow
-about_in feature d = unwrap_or (option_and_then (λ uri. option_map (λ inquiry. asks_about uri inquiry) (inquiry_in feature d)) (uri_in d))
-    (is_wrong feature)
-
--- what a request of a method that may be for a feature asks for
-abbrev pub featured_in : Text → Data → AskedRow
-featured_in method d = unwrap_or (option_map (λ feature. about_in feature d) (feature_named method)) is_unknown
+-- a request about the document of an address, if there is an address
+abbrev pub about : Option Text → Option Inquiry → CallRow
+about uri inquiry = unwrap_or (option_and_then (λ u. option_map (asks_about u) inquiry) uri) is_wrong
 
 -- what the request of this method asks for
-abbrev pub asked_in : Text → Data → AskedRow
-asked_in method d =
+abbrev pub call_in : Text → Data → CallRow
+call_in method d =
     if bytes_eq method (codes "initialize") then begins (encoding_in d)
     else if bytes_eq method (codes "shutdown") then shuts_down
-    else featured_in method d
+    else unwrap_or (option_map (about (uri_in d)) (inquiry_in method d)) is_unknown
 
 -- ---- messages
 
@@ -143,15 +137,20 @@ method_of d = option_and_then as_str (get (codes "method") d)
 -- What a message is: with a method a request, if it has an id, and a notification, if it has none; without one a response, if
 -- it has an id.
 abbrev pub IsSaid : Data → Incoming → Type 0
-IsSaid d (Request id asked) =
-    (get (codes "id") d ≡ Some (view id)) × ((method : Text) × (method_of d ≡ Some method) × (asked_row asked ≡ asked_in method d))
+IsSaid d (Request id call) =
+    (get (codes "id") d ≡ Some (view id)) × ((method : Text) × (method_of d ≡ Some method) × (call_row call ≡ call_in method d))
 IsSaid d (Notification notice) =
     (get (codes "id") d ≡ None) × ((method : Text) × (method_of d ≡ Some method) × (said_of notice ≡ said_in method d))
 IsSaid d Response = (method_of d ≡ None) × IsSome (get (codes "id") d)
 IsSaid d NotMessage = (method_of d ≡ None) × (get (codes "id") d ≡ None)
 IsSaid d NotJson = ⊥
 
+-- what JSON the bytes are, if they are any
+abbrev pub IsParsed : List ℕ → Option Data → Type 0
+IsParsed content None = IsUtf8 content → read content ≡ None
+IsParsed content (Some d) = IsUtf8 content × (read content ≡ Some d)
+
 -- what the bytes of a message say
 abbrev pub IsIncoming : List ℕ → Incoming → Type 0
-IsIncoming content NotJson = IsUtf8 content → read content ≡ None
-IsIncoming content incoming = (d : Data) × (read content ≡ Some d) × IsSaid d incoming
+IsIncoming content incoming = (parsed : Option Data) × IsParsed content parsed
+    × MatchOption parsed (incoming ≡ NotJson) (λ d. IsSaid d incoming)

@@ -1,16 +1,14 @@
 -- How a session begins: the first message of a stream, and the options that it gives the server.
-use Rattle.std.specs.Prelude.{◌≡◌, ◌⊎◌, ◌&&◌, ◌++◌, Bool, false, IsUtf8, Option, Some, None, codes, is_some, option_and_then, option_map, if◌then◌else◌}
+use Rattle.std.specs.Prelude.{◌≡◌, ◌⊎◌, ◌&&◌, ◌++◌, [], ◌∷◌, Bool, false, Option, Some, None, codes, is_some, option_and_then, if◌then◌else◌}
 use Rattle.std.specs.Io.KnownBytes.{Consumes, IsAtEnd}
 use Rattle.std.specs.Str.{bytes_eq}
-use Rattle.serde_json.specs.Data.{Data, number, unsigned, object, string, member, no_members}
+use Rattle.serde_json.specs.Data.{Data, number, unsigned, string}
 use Rattle.serde_json.specs.Find.{get, pointer}
-use Rattle.serde_json.specs.Read.{read}
-use Rattle.serde_json.specs.View.{view}
 use Rattle.filterset_editor.specs.Frames.{Bytes, IsFrame, IsMalformed, IsPartial}
-use Rattle.filterset_editor.specs.Messages.{method_of}
+use Rattle.filterset_editor.specs.Machine.{notification_data}
+use Rattle.filterset_editor.specs.Messages.{IsParsed, method_of}
 use Rattle.filterset_editor.specs.Positions.{Text}
-use Rattle.filterset_editor.specs.declared.opening.Front.{Front}
-use Rattle.filterset_editor.specs.declared.opening.Front.TheVariants.{Waiting, Settled}
+use Rattle.filterset_editor.specs.Values.{object_of}
 
 abbrev pub names_initialize : Option Text → Bool
 names_initialize None = false
@@ -27,7 +25,7 @@ options_in d = if is_initialize d then pointer (codes "/params/initializationOpt
 -- the options that the bytes of a message give
 abbrev pub GivesOptions : Bytes → Option Data → Type 0
 GivesOptions message options =
-    (IsUtf8 message → options ≡ option_and_then options_in (read message)) × (¬ IsUtf8 message → options ≡ None)
+    (parsed : Option Data) × IsParsed message parsed × (options ≡ option_and_then options_in parsed)
 
 -- the stream begins with this message, which came whole
 abbrev pub BeginsWith : Bytes → Bytes → Type 0
@@ -46,15 +44,5 @@ IsOpening left_old left_new opening options = Consumes left_old left_new opening
 
 -- the notification that shows the user an error (1)
 abbrev pub shown_data : Text → Data
-shown_data message =
-    object (member (codes "jsonrpc") (string (codes "2.0"))
-    (member (codes "method") (string (codes "window/showMessage"))
-    (member (codes "params") (object (member (codes "message") (string message)
-    (member (codes "type") (number (unsigned 1)) no_members))) no_members)))
-
--- ---- what only contracts of private functions cite
-
--- the stream may still bring the options, or these are all
-abbrev pub IsFront : Bytes → Front → Type 0
-IsFront stream Waiting = IsPartial stream
-IsFront stream (Settled options) = Settles stream (option_map view options)
+shown_data message = notification_data (codes "window/showMessage")
+    (object_of ((codes "message", string message) ∷ (codes "type", number (unsigned 1)) ∷ []))

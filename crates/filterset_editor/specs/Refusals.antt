@@ -1,47 +1,36 @@
 -- What is said when memory runs out, and what the server then still knows.
-use Rattle.std.specs.Prelude.{◌≡◌, ◌⊎◌, ℤ, negsuc, [], Option, Some, None, MatchOption, codes, string_bytes}
-use Rattle.serde_json.specs.Data.{Data, null, number, unsigned, string, array, object, no_items, item, member, no_members}
+use Rattle.std.specs.Prelude.{◌≡◌, ◌⊎◌, [], ◌∷◌, Option, Some, None, MatchOption, codes, string_bytes}
+use Rattle.serde_json.specs.Data.{Data, null, number, unsigned, string}
 use Rattle.serde_json.specs.View.{view}
 use Rattle.filterset_editor.specs.Documents.{without_document}
 use Rattle.filterset_editor.specs.Frames.{Bytes}
-use Rattle.filterset_editor.specs.Machine.{Answers, Says, State, error_data}
+use Rattle.filterset_editor.specs.Machine.{Answers, Says, State, error_data, internal_error, published_data}
 use Rattle.filterset_editor.specs.Messages.{IsIncoming}
 use Rattle.filterset_editor.specs.Positions.{Text}
+use Rattle.filterset_editor.specs.Values.{object_of}
 use Rattle.filterset_editor.specs.Written.{Writes}
 use Rattle.filterset_editor.specs.declared.message.Incoming.{Incoming}
 use Rattle.filterset_editor.specs.declared.message.Incoming.TheVariants.{Request, Notification}
 use Rattle.filterset_editor.specs.declared.message.Notice.{Notice}
 use Rattle.filterset_editor.specs.declared.message.Notice.TheVariants.{Opened, Changed, Closed}
 
--- the code of the error: -32603
-abbrev pub internal_error : ℤ
-internal_error = negsuc 32602
-
 -- the answer to a request for which memory ran out
 abbrev pub refused_data : Data → Data
 refused_data id = error_data id internal_error (codes "out of memory")
 
-abbrev pub start_data : Data
-start_data = object (member (codes "character") (number (unsigned 0)) (member (codes "line") (number (unsigned 0)) no_members))
-
-abbrev pub start_range : Data
-start_range = object (member (codes "end") start_data (member (codes "start") start_data no_members))
+abbrev pub start_position : Data
+start_position = object_of ((codes "character", number (unsigned 0)) ∷ (codes "line", number (unsigned 0)) ∷ [])
 
 -- an error at the start of a document that the server has forgotten
 abbrev pub forgotten_diagnostic : Data
-forgotten_diagnostic =
-    object (member (codes "code") (string (codes "memory"))
-    (member (codes "message") (string (codes "out of memory: close this document and open it again"))
-    (member (codes "range") start_range
-    (member (codes "severity") (number (unsigned 1)) (member (codes "source") (string (codes "filterset")) no_members)))))
+forgotten_diagnostic = object_of ((codes "code", string (codes "memory"))
+    ∷ (codes "message", string (codes "out of memory: close this document and open it again"))
+    ∷ (codes "range", object_of ((codes "end", start_position) ∷ (codes "start", start_position) ∷ []))
+    ∷ (codes "severity", number (unsigned 1)) ∷ (codes "source", string (codes "filterset")) ∷ [])
 
 -- the notification that says so
 abbrev pub forgotten_data : Text → Data
-forgotten_data uri =
-    object (member (codes "jsonrpc") (string (codes "2.0"))
-    (member (codes "method") (string (codes "textDocument/publishDiagnostics"))
-    (member (codes "params") (object (member (codes "diagnostics") (array (item forgotten_diagnostic no_items))
-    (member (codes "uri") (string uri) no_members))) no_members)))
+forgotten_data uri = published_data uri None (forgotten_diagnostic ∷ [])
 
 -- the document that a notification is about
 abbrev pub uri_of : Notice → Option Text
@@ -50,7 +39,7 @@ uri_of (Changed revision) = Some (string_bytes revision.uri)
 uri_of (Closed uri) = Some (string_bytes uri)
 uri_of notice = None
 
--- the state before a message, or behind it
+-- the state before a message, or after it
 abbrev pub IsAround : Says → State → Incoming → State → Type 0
 IsAround S old incoming state = (state ≡ old) ⊎ ((answer : Option Data) × Answers S old incoming answer state)
 
@@ -61,29 +50,29 @@ Forgets uri old new = (new.phase ≡ old.phase) × (new.documents ≡ without_do
 abbrev pub ForgetsAll : State → State → Type 0
 ForgetsAll old new = (new.phase ≡ old.phase) × (new.documents ≡ [])
 
--- What is answered to a message if memory runs out, and the state behind it. A request gets an error, and changes nothing. The
+-- What is answered to a message if memory runs out, and the state after it. A request gets an error, and changes nothing. The
 -- document of a notification is forgotten, and its one diagnostic says so.
 abbrev pub RunsOut : Says → State → Incoming → Option Data → State → Type 0
-RunsOut S old (Request id asked) answer new = (answer ≡ Some (refused_data (view id))) × (new ≡ old)
+RunsOut S old (Request id call) answer new = (answer ≡ Some (refused_data (view id))) × (new ≡ old)
 RunsOut S old (Notification notice) answer new = MatchOption (uri_of notice) ⊥ (λ uri. (answer ≡ Some (forgotten_data uri))
     × ((mid : State) × IsAround S old (Notification notice) mid × Forgets uri mid new))
 RunsOut S old incoming answer new = ⊥
 
--- what is written for a message by its answer, and the state behind it
+-- what is written for a message by its answer, and the state after it
 abbrev pub WritesAnswer : Says → State → Incoming → Bytes → State → Type 0
 WritesAnswer S old incoming written new = (answer : Option Data) × Writes answer written × Answers S old incoming answer new
 
--- what is written for a message, and the state behind it: of its answer, or that memory ran out
+-- what is written for a message, and the state after it: of its answer, or that memory ran out
 abbrev pub AnswersOrRunsOut : Says → State → Incoming → Bytes → State → Type 0
 AnswersOrRunsOut S old incoming written new = (answer : Option Data) × Writes answer written
     × (Answers S old incoming answer new ⊎ RunsOut S old incoming answer new)
 
--- What is written for a message that memory is too short to read, and the state behind it: an error without an id. Since the
+-- What is written for a message that memory is too short to read, and the state after it: an error without an id. Since the
 -- message may change a document, all are forgotten.
 abbrev pub RefusesMessage : State → Bytes → State → Type 0
 RefusesMessage old written new = Writes (Some (refused_data null)) written × ForgetsAll old new
 
--- what is written for the bytes of a message, and the state behind it
+-- what is written for the bytes of a message, and the state after it
 abbrev pub Exchange : Says → State → Bytes → Bytes → State → Type 0
 Exchange S old message written new =
     ((incoming : Incoming) × IsIncoming message incoming × AnswersOrRunsOut S old incoming written new)

@@ -1,11 +1,11 @@
 //! Documents that are open.
-ghost use Rattle.std.specs.Prelude.{◌≡◌, ◌<◌, IfOk, IfSome, OnErr, OnOk, length, option_map, string_bytes};
-ghost use Rattle.std.specs.Str.{bytes_eq};
+ghost use Rattle.std.specs.Prelude.{◌≡◌, ◌<◌, IfOk, IfSome, OnErr, OnOk, length, option_map};
 ghost use Rattle.filterset_editor.specs.Documents as spec;
 ghost use Rattle.filterset_editor.specs.Documents.{IsRevised, place_of};
 
 use crate::edits::{Change, change_text};
 use crate::positions::Encoding;
+use crate::values::is_same;
 use std::alloc::{AllocError, Global};
 
 /// A document as the client has it.
@@ -26,39 +26,24 @@ pub struct Revision {
     pub changes: Vec<Change>,
 }
 
-/// Returns whether two texts are the same.
-fn is_same(a: &str, b: &str) -> bool
-    ensures { result ≡ bytes_eq a.now b.now }
-{
-    a == b
-}
-
-/// Returns whether a document has this address.
-fn has_uri(document: &Document, uri: &str) -> bool
-    ensures { result ≡ bytes_eq (string_bytes document.now.uri) uri.now }
-{
-    is_same(document.uri.as_str(), uri)
-}
-
 /// Finds the document of this address.
 pub fn place_of(documents: &[Document], uri: &str) -> Option<usize>
     ensures value { result ≡ place_of uri.now documents.now }
     ensures within { IfSome result (λ i. i < length documents.now) }
 {
-    documents.iter().position(|document| has_uri(document, uri))
+    documents
+        .iter()
+        .position(|document| is_same(document.uri.as_str(), uri))
 }
 
 /// Returns the document of this address, if it is open.
 pub fn document_of<'d>(documents: &'d [Document], uri: &str) -> Option<&'d Document>
     ensures { option_map (λ d. d.now) result ≡ spec.document_of uri.now documents.now }
 {
-    match place_of(documents, uri) {
-        Some(i) => documents.get(i),
-        None => None,
-    }
+    documents.get(place_of(documents, uri)?)
 }
 
-/// Puts a document in place of the one of its address, or behind the others. Returns an error only if out of memory, and
+/// Puts a document in place of the one of its address, or after the others. Returns an error only if out of memory, and
 /// then changes nothing.
 pub fn put_document(documents: &mut Vec<Document>, document: Document) -> Result<(), AllocError>
     ensures ok { OnOk result (documents.new.items ≡ spec.put_document document documents.old.items) }

@@ -1,6 +1,5 @@
 //! Changes of documents.
-ghost use Rattle.std.specs.Prelude.{◌≡◌, ◌++◌, IfOk, drop, string_bytes, take};
-ghost use Rattle.std.specs.Str.{IsCharBoundary};
+ghost use Rattle.std.specs.Prelude.{IfOk, string_bytes};
 ghost use Rattle.filterset_editor.specs.Edits.{AreChanged, IsChanged, IsReplaced};
 
 use crate::lines::Lines;
@@ -13,26 +12,6 @@ pub struct Change {
     /// What of the document is replaced: all of it if there is no range.
     pub range: Option<Range>,
     pub text: String,
-}
-
-/// Returns a copy of `old` with `text` in place of what is between two offsets at which characters begin.
-fn replace(
-    alloc: Global,
-    old: &str,
-    from: usize,
-    to: usize,
-    text: &str,
-) -> Result<String, AllocError>
-    requires from { IsCharBoundary old.now from }
-    requires to { IsCharBoundary old.now to }
-    ensures { IfOk result (λ new. string_bytes new ≡ take from old.now ++ (text.now ++ drop to old.now)) }
-{
-    let (front, _) = old.split_at(from);
-    let (_, back) = old.split_at(to);
-    let mut new = String::from_str(alloc, front)?;
-    new.push_str(text)?;
-    new.push_str(back)?;
-    Ok(new)
 }
 
 /// Returns a copy of `old` with `text` in place of what is in the range.
@@ -48,10 +27,15 @@ fn replace_range(
     let lines = Lines::of(alloc, old)?;
     let from = lines.offset(encoding, range.start);
     let to = lines.offset(encoding, range.end);
-    replace(alloc, old, from, from.max(to), text)
+    let (front, _) = old.split_at(from);
+    let (_, back) = old.split_at(from.max(to));
+    let mut new = String::from_str(alloc, front)?;
+    new.push_str(text)?;
+    new.push_str(back)?;
+    Ok(new)
 }
 
-/// Returns the text of a document behind a change.
+/// Returns the text of a document after a change.
 fn make_change(
     alloc: Global,
     encoding: Encoding,
@@ -66,7 +50,7 @@ fn make_change(
     }
 }
 
-/// Makes changes of a document, one behind the other, and returns its text. Returns an error only if out of memory.
+/// Makes changes of a document, one after the other, and returns its text. Returns an error only if out of memory.
 pub fn change_text(
     alloc: Global,
     encoding: Encoding,

@@ -1,10 +1,12 @@
 //! Reads heads of messages.
-ghost use Rattle.std.specs.Prelude.{◌≡◌, ◌==◌, ◌+◌, ◌*◌, ◌≤◌, ◌<◌, IfSome, length, position, slice_index};
+ghost use Rattle.std.specs.Prelude.{◌≡◌, ◌==◌, ◌+◌, ◌*◌, ◌≤◌, ◌<◌, IfSome, length, position};
 ghost use Rattle.std.specs.Char.{is_ascii_digit};
 ghost use Rattle.std.specs.List.{prefix_len};
 ghost use Rattle.filterset_editor.specs.Frames as spec;
 ghost use Rattle.filterset_editor.specs.Frames.{allowed, most_of_message};
 ghost use Rattle.filterset_editor.specs.Heads.{IsBounded, IsWithin, head_of};
+
+use crate::lines::byte_at;
 
 /// What the front of a stream says of the next message.
 #[derive(Clone, Copy, Debug, PartialEq, Eq)]
@@ -19,13 +21,6 @@ pub enum Head {
 
 /// How many bytes a message has at most.
 const MOST_OF_MESSAGE: usize = 64 * 1024 * 1024;
-
-/// Returns the byte at a position, or 0 behind the end.
-fn byte_at(bytes: &[u8], at: usize) -> u8
-    ensures { result ≡ slice_index bytes.now at }
-{
-    if at < bytes.len() { bytes[at] } else { 0 }
-}
 
 /// Returns how many bytes are before the first carriage return and line feed.
 fn line_len(bytes: &[u8]) -> Option<usize>

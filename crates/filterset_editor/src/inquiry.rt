@@ -7,18 +7,6 @@ use crate::positions::{Position, Range};
 use crate::values::{is_same, position_at, range_at};
 use serde_json::Value;
 
-/// What a server may do with documents when it is asked.
-#[derive(Clone, Copy, Debug, PartialEq, Eq)]
-pub enum Feature {
-    Hover,
-    Completion,
-    CodeActions,
-    Formatting,
-    FoldingRanges,
-    SemanticTokens,
-    Symbols,
-}
-
 /// What a request asks about a document.
 #[derive(Clone, Copy, Debug, PartialEq, Eq)]
 pub enum Inquiry {
@@ -27,68 +15,32 @@ pub enum Inquiry {
     CodeActions(Range),
     Formatting,
     FoldingRanges,
+    /// Tokens have these types, counted from 0, and no modifiers: `enumMember`, `function`, `keyword`, `operator`, `regexp`,
+    /// `string`.
     SemanticTokens,
     Symbols,
 }
 
-/// Returns the feature that an inquiry is for.
-pub fn feature_of(inquiry: Inquiry) -> Feature
-    ensures { result ≡ spec.feature_of inquiry }
-{
-    match inquiry {
-        Inquiry::Hover(_) => Feature::Hover,
-        Inquiry::Completion(_) => Feature::Completion,
-        Inquiry::CodeActions(_) => Feature::CodeActions,
-        Inquiry::Formatting => Feature::Formatting,
-        Inquiry::FoldingRanges => Feature::FoldingRanges,
-        Inquiry::SemanticTokens => Feature::SemanticTokens,
-        Inquiry::Symbols => Feature::Symbols,
-    }
-}
-
-/// Returns the feature that requests of this method are for.
-pub fn feature_named(method: &str) -> Option<Feature>
-    ensures { result ≡ spec.feature_named method.now }
+/// Reads what a request of this method asks about its document: `Some(None)` if it has wrong parameters, and `None` if no such
+/// method is known.
+pub fn read_inquiry(method: &str, message: &Value) -> Option<Option<Inquiry>>
+    ensures { result ≡ spec.inquiry_in method.now (view message.now) }
 {
     if is_same(method, "textDocument/hover") {
-        Some(Feature::Hover)
+        Some(position_at(message, "/params/position").map(Inquiry::Hover))
     } else if is_same(method, "textDocument/completion") {
-        Some(Feature::Completion)
+        Some(position_at(message, "/params/position").map(Inquiry::Completion))
     } else if is_same(method, "textDocument/codeAction") {
-        Some(Feature::CodeActions)
+        Some(range_at(message, "/params/range").map(Inquiry::CodeActions))
     } else if is_same(method, "textDocument/formatting") {
-        Some(Feature::Formatting)
+        Some(Some(Inquiry::Formatting))
     } else if is_same(method, "textDocument/foldingRange") {
-        Some(Feature::FoldingRanges)
+        Some(Some(Inquiry::FoldingRanges))
     } else if is_same(method, "textDocument/semanticTokens/full") {
-        Some(Feature::SemanticTokens)
+        Some(Some(Inquiry::SemanticTokens))
     } else if is_same(method, "textDocument/documentSymbol") {
-        Some(Feature::Symbols)
+        Some(Some(Inquiry::Symbols))
     } else {
         None
-    }
-}
-
-/// Reads what a request for a feature asks about its document.
-pub fn inquiry_in(feature: Feature, message: &Value) -> Option<Inquiry>
-    ensures { result ≡ spec.inquiry_in feature (view message.now) }
-{
-    match feature {
-        Feature::Hover => {
-            let position = position_at(message, "/params/position")?;
-            Some(Inquiry::Hover(position))
-        }
-        Feature::Completion => {
-            let position = position_at(message, "/params/position")?;
-            Some(Inquiry::Completion(position))
-        }
-        Feature::CodeActions => {
-            let range = range_at(message, "/params/range")?;
-            Some(Inquiry::CodeActions(range))
-        }
-        Feature::Formatting => Some(Inquiry::Formatting),
-        Feature::FoldingRanges => Some(Inquiry::FoldingRanges),
-        Feature::SemanticTokens => Some(Inquiry::SemanticTokens),
-        Feature::Symbols => Some(Inquiry::Symbols),
     }
 }

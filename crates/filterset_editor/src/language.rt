@@ -1,9 +1,8 @@
 //! What a server says of documents.
-ghost use Rattle.std.specs.Prelude.{◌≡◌, IfOk, map};
+ghost use Rattle.std.specs.Prelude.{IfOk, map};
 ghost use Rattle.serde_json.specs.View.{view};
 ghost use Rattle.filterset_editor.specs.Documents.{row_of};
 
-use crate::abilities::Abilities;
 use crate::documents::Document;
 use crate::inquiry::Inquiry;
 use crate::positions::Encoding;
@@ -12,25 +11,10 @@ use std::alloc::{AllocError, Global};
 
 /// What a server says of documents.
 pub trait Language {
-    ghost use Rattle.std.specs.Prelude.{List};
-    ghost use Rattle.serde_json.specs.Data.{Data};
-    ghost use Rattle.filterset_editor.specs.Documents.{DocumentRow};
-    ghost use Rattle.filterset_editor.specs.declared.abilities.Abilities.{Abilities};
-    ghost use Rattle.filterset_editor.specs.declared.inquiry.Inquiry.{Inquiry};
-    ghost use Rattle.filterset_editor.specs.declared.positions.Encoding.{Encoding};
+    ghost use Rattle.filterset_editor.specs.Machine.{Says};
 
-    /// The diagnostics of a document, with ranges in this encoding: by its address, language and text.
-    ghost has: { Self → Encoding → DocumentRow → List Data → Type 0 };
-
-    /// The result of a request about a document.
-    ghost gives: { Self → Encoding → DocumentRow → Inquiry → Data → Type 0 };
-
-    /// What the server can do.
-    ghost can: { Self → Abilities };
-
-    /// Returns what the server can do.
-    fn abilities(&self) -> Abilities
-        ensures { result ≡ can self.now };
+    /// Which diagnostics documents have, and which results requests about them, with ranges in an encoding.
+    ghost says: { Self → Says };
 
     /// Makes the diagnostics of a document. Returns an error only if out of memory.
     fn diagnose(
@@ -39,10 +23,10 @@ pub trait Language {
         encoding: Encoding,
         document: &Document,
     ) -> Result<Vec<Value>, AllocError>
-        ensures { IfOk result (λ diagnostics. has self.now encoding (row_of document.now) (map view diagnostics.items)) };
+        ensures { IfOk result
+            (λ diagnostics. (says self.now).has encoding (row_of document.now) (map view diagnostics.items)) };
 
-    /// Makes the result of a request about a document, which is for what the server can do. Returns an error only if out of
-    /// memory.
+    /// Makes the result of a request about a document. Returns an error only if out of memory.
     fn respond(
         &self,
         alloc: Global,
@@ -50,5 +34,5 @@ pub trait Language {
         document: &Document,
         inquiry: Inquiry,
     ) -> Result<Value, AllocError>
-        ensures { IfOk result (λ value. gives self.now encoding (row_of document.now) inquiry (view value)) };
+        ensures { IfOk result (λ value. (says self.now).gives encoding (row_of document.now) inquiry (view value)) };
 }

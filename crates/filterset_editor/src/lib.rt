@@ -2,7 +2,6 @@
 //! the session.
 #![tactic(auto)]
 
-mod abilities;
 mod documents;
 mod edits;
 mod ending;
@@ -19,15 +18,12 @@ mod refusals;
 mod replies;
 mod server;
 mod serving;
-mod session;
 mod values;
-mod written;
 
-pub use abilities::Abilities;
 pub use documents::Document;
 pub use edits::{Change, change_text};
 pub use ending::Ending;
-pub use inquiry::{Feature, Inquiry};
+pub use inquiry::Inquiry;
 pub use language::Language;
 pub use lines::Lines;
 pub use opening::{Opening, read_opening, show_error};

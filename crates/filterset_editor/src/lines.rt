@@ -16,8 +16,8 @@ pub struct Lines<'t> {
     ghost indexed: { starts.items ≡ line_starts text.now },
 }
 
-/// Returns the byte at a position, or 0 behind the end.
-fn byte_at(bytes: &[u8], at: usize) -> u8
+/// Returns the byte at a position, or 0 after the end.
+pub fn byte_at(bytes: &[u8], at: usize) -> u8
     ensures { result ≡ slice_index bytes.now at }
 {
     if at < bytes.len() { bytes[at] } else { 0 }

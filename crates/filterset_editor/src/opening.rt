@@ -1,14 +1,15 @@
 //! How a session begins: what a client sends first, and the options that it gives the server.
-ghost use Rattle.std.specs.Prelude.{◌≡◌, IfOk, option_map, string_bytes};
+ghost use Rattle.std.specs.Prelude.{◌≡◌, ◌≢◌, Err, IfOk, IsTrue, OnOk, false, option_map, string_bytes};
 ghost use Rattle.serde_json.specs.View.{view};
 ghost use Rattle.filterset_editor.specs.Openings as spec;
-ghost use Rattle.filterset_editor.specs.Openings.{GivesOptions, IsFront, IsOpening, shown_data};
+ghost use Rattle.filterset_editor.specs.Openings.{GivesOptions, IsOpening, shown_data};
+ghost use Rattle.filterset_editor.specs.Sessions.{ReadsPiece};
 ghost use Rattle.filterset_editor.specs.Written.{Writes};
 
-use crate::frames::{Next, next_frame};
-use crate::message::method_of;
+use crate::frames::{Next, frame_answer, next_frame};
+use crate::message::{method_of, parse_json};
+use crate::replies::make_notification;
 use crate::values::is_same;
-use crate::written::frame_of;
 use filterset_json::{RunFault, Source};
 use serde_json::{Value, json};
 use std::alloc::{AllocError, Global};
@@ -25,15 +26,6 @@ pub struct Opening {
     pub options: Option<Value>,
 }
 
-/// What the front of a stream says of the options.
-#[derive(Debug, Drop)]
-enum Front {
-    /// The first message has not come whole.
-    Waiting,
-    /// There are these, and no others come.
-    Settled(Option<Value>),
-}
-
 /// Returns whether a message is the request `initialize`.
 fn is_initialize(message: &Value) -> bool
     ensures { result ≡ spec.is_initialize (view message.now) }
@@ -44,11 +36,14 @@ fn is_initialize(message: &Value) -> bool
     }
 }
 
-/// Copies the options of the request `initialize`.
-fn options_in(alloc: Global, message: &Value) -> Result<Option<Value>, AllocError>
-    ensures { IfOk result (λ found. option_map view found ≡ spec.options_in (view message.now)) }
+/// Reads the options that the bytes of a message give.
+fn read_options(alloc: Global, message: &[u8]) -> Result<Option<Value>, AllocError>
+    ensures { IfOk result (λ found. GivesOptions message.now (option_map view found)) }
 {
-    if !is_initialize(message) {
+    let Some(message) = parse_json(alloc, message)? else {
+        return Ok(None);
+    };
+    if !is_initialize(&message) {
         return Ok(None);
     }
     match message.pointer("/params/initializationOptions") {
@@ -57,75 +52,68 @@ fn options_in(alloc: Global, message: &Value) -> Result<Option<Value>, AllocErro
     }
 }
 
-/// Reads the options that the bytes of a message give.
-fn options_of(alloc: Global, message: &[u8]) -> Result<Option<Value>, AllocError>
-    ensures { IfOk result (λ found. GivesOptions message.now (option_map view found)) }
+/// Adds the next piece of the input to what was read of it, and returns whether there was one. Fails if the read fails, or out of
+/// memory.
+pub fn read_piece<R: Source>(input: &mut R, read: &mut Vec<u8>) -> Result<bool, RunFault>
+    ensures piece { IfOk result (ReadsPiece (R.left input.old) (R.left input.new) read.old.items read.new.items) }
+    ensures ended { IfOk result (λ found. found ≡ false → IsTrue (R.ended input.new)) }
+    ensures none_failed { OnOk result (R.failed input.new ≡ R.failed input.old) }
+    ensures read_failed { result ≡ Err RunFault.Read → IsTrue (R.failed input.new) }
+    ensures no_write { result ≢ Err RunFault.Write }
 {
-    let Ok(text) = std::str::from_utf8(message) else {
-        return Ok(None);
+    let mut piece = [0u8; PIECE];
+    let Ok(count) = input.read_some(&mut piece) else {
+        return Err(RunFault::Read);
     };
-    match Value::from_str(alloc, text) {
-        Ok(value) => options_in(alloc, &value),
-        Err(error) if error.is_memory() => Err(AllocError),
-        Err(_) => Ok(None),
-    }
-}
-
-/// Reads what the front of a stream says of the options.
-fn read_front(alloc: Global, stream: &[u8]) -> Result<Front, AllocError>
-    ensures { IfOk result (IsFront stream.now) }
-{
-    match next_frame(stream) {
-        Next::Partial => Ok(Front::Waiting),
-        Next::Malformed => Ok(Front::Settled(None)),
-        Next::Message { from, to } => {
-            let options = options_of(alloc, &stream[from..to])?;
-            Ok(Front::Settled(options))
-        }
-    }
+    read.extend_from_slice(&piece[..count])?;
+    Ok(count > 0)
 }
 
 /// Reads what a client sends first: until a message has come whole, or none can come, or the input ends. Fails if a read fails, or
 /// out of memory.
 pub fn read_opening<R: Source>(alloc: Global, input: &mut R) -> Result<Opening, RunFault>
-    ensures { IfOk result (λ opening. IsOpening (R.left input.old) (R.left input.new) opening.read.items
+    ensures opening { IfOk result (λ opening. IsOpening (R.left input.old) (R.left input.new) opening.read.items
         (option_map view opening.options)) }
+    ensures none_failed { OnOk result (R.failed input.new ≡ R.failed input.old) }
+    ensures read_failed { result ≡ Err RunFault.Read → IsTrue (R.failed input.new) }
+    ensures no_write { result ≢ Err RunFault.Write }
 {
     let mut read = Vec::new(alloc);
-    let mut piece = [0u8; PIECE];
     loop {
-        match read_front(alloc, read.as_slice())? {
-            Front::Settled(options) => return Ok(Opening { read, options }),
-            Front::Waiting => {}
+        match next_frame(read.as_slice()) {
+            Next::Partial => {}
+            Next::Malformed => {
+                return Ok(Opening {
+                    read,
+                    options: None,
+                });
+            }
+            Next::Message { from, to } => {
+                let options = read_options(alloc, &read[from..to])?;
+                return Ok(Opening { read, options });
+            }
         }
-        let Ok(count) = input.read_some(&mut piece) else {
-            return Err(RunFault::Read);
-        };
-        if count == 0 {
+        if !read_piece(input, &mut read)? {
             return Ok(Opening {
                 read,
                 options: None,
             });
         }
-        read.extend_from_slice(&piece[..count])?;
     }
 }
 
 /// Makes the notification that shows the user an error.
-fn shown(alloc: Global, message: &str) -> Result<Value, AllocError>
+fn make_error_notification(alloc: Global, message: &str) -> Result<Value, AllocError>
     ensures { IfOk result (λ value. view value ≡ shown_data message.now) }
 {
-    json!(in alloc; {
-        "jsonrpc": "2.0",
-        "method": "window/showMessage",
-        "params": { "message": message, "type": 1u8 }
-    })
+    let params = json!(in alloc; { "message": message, "type": 1u8 })?;
+    make_notification(alloc, "window/showMessage", params)
 }
 
 /// Makes what is written to show the user an error. Returns an error only if out of memory.
 pub fn show_error(alloc: Global, message: &str) -> Result<String, AllocError>
     ensures { IfOk result (λ written. Writes (Some (shown_data message.now)) (string_bytes written)) }
 {
-    let value = shown(alloc, message)?;
-    frame_of(alloc, Some(value))
+    let notification = make_error_notification(alloc, message)?;
+    frame_answer(alloc, Some(notification))
 }

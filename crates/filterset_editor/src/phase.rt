@@ -2,7 +2,7 @@
 ghost use Rattle.std.specs.Prelude.{◌≡◌};
 ghost use Rattle.filterset_editor.specs.Machine as spec;
 
-use crate::message::Asked;
+use crate::message::Call;
 use crate::positions::Encoding;
 
 /// How far a session has come.
@@ -17,20 +17,20 @@ pub enum Phase {
     Over { in_order: bool },
 }
 
-/// Returns the phase behind a request.
-pub fn phase_behind(phase: Phase, asked: &Asked) -> Phase
-    ensures { result ≡ spec.phase_behind phase asked.now }
+/// Returns the phase after a request.
+pub fn phase_after(phase: Phase, call: &Call) -> Phase
+    ensures { result ≡ spec.phase_after phase call.now }
 {
-    match (phase, asked) {
-        (Phase::New, Asked::Initialize(encoding)) => Phase::Running(*encoding),
-        (Phase::Running(_), Asked::Shutdown) => Phase::Stopped,
+    match (phase, call) {
+        (Phase::New, Call::Initialize(encoding)) => Phase::Running(*encoding),
+        (Phase::Running(_), Call::Shutdown) => Phase::Stopped,
         (phase, _) => phase,
     }
 }
 
-/// Returns the phase behind `exit`.
-pub fn phase_ended(phase: Phase) -> Phase
-    ensures { result ≡ spec.phase_ended phase }
+/// Returns the phase after `exit`.
+pub fn phase_at_exit(phase: Phase) -> Phase
+    ensures { result ≡ spec.phase_at_exit phase }
 {
     match phase {
         Phase::Over { in_order } => Phase::Over { in_order },

@@ -1,27 +1,39 @@
 //! What is said when memory runs out.
-ghost use Rattle.std.specs.Prelude.{◌≡◌, IfOk, OnOk, Some, option_map, string_bytes};
+ghost use Rattle.std.specs.Prelude.{◌≡◌, IfOk, Some, option_map, string_bytes};
 ghost use Rattle.serde_json.specs.Data.{null};
 ghost use Rattle.serde_json.specs.View.{view};
 ghost use Rattle.filterset_editor.specs.Documents.{without_document};
-ghost use Rattle.filterset_editor.specs.Machine.{state_of};
+ghost use Rattle.filterset_editor.specs.Machine.{error_data, state_of};
 ghost use Rattle.filterset_editor.specs.Refusals as spec;
-ghost use Rattle.filterset_editor.specs.Refusals.{ForgetsAll, forgotten_data, refused_data};
+ghost use Rattle.filterset_editor.specs.Refusals.{ForgetsAll, forgotten_data, forgotten_diagnostic, refused_data};
 ghost use Rattle.filterset_editor.specs.Written.{Writes};
 
 use crate::documents::remove_document;
+use crate::frames::frame_answer;
 use crate::message::Notice;
-use crate::replies::{INTERNAL_ERROR, error};
-use crate::server::Server;
-use crate::written::frame_of;
+use crate::replies::{INTERNAL_ERROR, make_error};
+use crate::server::{Server, publish};
 use serde_json::{Value, json};
 use std::alloc::{AllocError, Global};
+
+/// Makes what is written of an error.
+pub fn write_error(
+    alloc: Global,
+    id: &Value,
+    code: i64,
+    message: &str,
+) -> Result<String, AllocError>
+    ensures { IfOk result (λ written. Writes (Some (error_data (view id.now) code message.now)) (string_bytes written)) }
+{
+    let error = make_error(alloc, id, code, message)?;
+    frame_answer(alloc, Some(error))
+}
 
 /// Makes what is written for a request for which memory ran out.
 pub fn refuse_request(alloc: Global, id: &Value) -> Result<String, AllocError>
     ensures { IfOk result (λ written. Writes (Some (refused_data (view id.now))) (string_bytes written)) }
 {
-    let answer = error(alloc, id, INTERNAL_ERROR, "out of memory")?;
-    frame_of(alloc, Some(answer))
+    write_error(alloc, id, INTERNAL_ERROR, "out of memory")
 }
 
 /// Copies the address of the document that a notification is about.
@@ -36,38 +48,16 @@ pub fn uri_of(alloc: Global, notice: &Notice) -> Result<Option<String>, AllocErr
     }
 }
 
-/// Makes the value of the range at the start of a document.
-fn start_value(alloc: Global) -> Result<Value, AllocError>
-    ensures { IfOk result (λ value. view value ≡ spec.start_range) }
-{
-    let end = json!(in alloc; { "character": 0u8, "line": 0u8 })?;
-    let start = json!(in alloc; { "character": 0u8, "line": 0u8 })?;
-    json!(in alloc; { "end": end, "start": start })
-}
-
 /// Makes the diagnostic of a document that the server has forgotten.
-fn forgotten_value(alloc: Global) -> Result<Value, AllocError>
-    ensures { IfOk result (λ value. view value ≡ spec.forgotten_diagnostic) }
+fn diagnose_forgotten(alloc: Global) -> Result<Value, AllocError>
+    ensures { IfOk result (λ value. view value ≡ forgotten_diagnostic) }
 {
-    let range = start_value(alloc)?;
     json!(in alloc; {
         "code": "memory",
         "message": "out of memory: close this document and open it again",
-        "range": range,
+        "range": { "end": { "character": 0u8, "line": 0u8 }, "start": { "character": 0u8, "line": 0u8 } },
         "severity": 1u8,
         "source": "filterset"
-    })
-}
-
-/// Makes the notification that the server has forgotten a document.
-fn forgotten(alloc: Global, uri: &str) -> Result<Value, AllocError>
-    ensures { IfOk result (λ value. view value ≡ forgotten_data uri.now) }
-{
-    let diagnostic = forgotten_value(alloc)?;
-    json!(in alloc; {
-        "jsonrpc": "2.0",
-        "method": "textDocument/publishDiagnostics",
-        "params": { "diagnostics": [diagnostic], "uri": uri }
     })
 }
 
@@ -78,8 +68,10 @@ pub fn forget_document(server: &mut Server, alloc: Global, uri: &str) -> Result<
     ensures phase { server.new.phase ≡ server.old.phase }
 {
     remove_document(&mut server.documents, uri);
-    let answer = forgotten(alloc, uri)?;
-    frame_of(alloc, Some(answer))
+    let mut diagnostics = Vec::new(alloc);
+    diagnostics.push(diagnose_forgotten(alloc)?)?;
+    let notification = publish(alloc, uri, None, diagnostics)?;
+    frame_answer(alloc, Some(notification))
 }
 
 /// Forgets all documents, since a message could not be read that may change one, and makes what is written of that.

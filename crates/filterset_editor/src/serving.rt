@@ -1,38 +1,64 @@
 //! The loop of a server.
-ghost use Rattle.std.specs.Prelude.{◌≡◌, ◌++◌, IfOk, IsTrue, []};
-ghost use Rattle.std.specs.Io.KnownBytes.{Appends, prepend_known};
+ghost use Rattle.std.specs.Prelude.{◌≡◌, ◌≢◌, Err, IfOk, IfSome, IsTrue, OnOk, Some};
+ghost use Rattle.std.specs.Io.KnownBytes.{prepend_known};
 ghost use Rattle.filterset_editor.specs.Frames.{Bytes};
-ghost use Rattle.filterset_editor.specs.Machine.{says, state_of};
-ghost use Rattle.filterset_editor.specs.Sessions.{Advances, IsBehind, Served};
+ghost use Rattle.filterset_editor.specs.Machine.{state_of};
+ghost use Rattle.filterset_editor.specs.Sessions.{GoesOn, IsEnding, Served};
 
 use crate::ending::Ending;
+use crate::frames::{Next, drop_front, next_frame};
 use crate::language::Language;
-use crate::session::Session;
+use crate::opening::read_piece;
+use crate::phase::Phase;
+use crate::server::Server;
 use filterset_json::{RunFault, Sink, Source, write_all};
 use std::alloc::{AllocError, Global};
 
-/// How many bytes to ask for at a time.
-const PIECE: usize = 16 * 1024;
+/// Returns how a session ends in a phase, if it does.
+fn ending_of(server: &Server) -> Option<Ending>
+    ensures in_phase { (rest : Bytes) → IfSome result (λ ending. IsEnding ending (state_of server.now) rest) }
+    ensures not_at_end { result ≢ Some Ending.InputEnded }
+{
+    match server.phase {
+        Phase::Over { in_order } => Some(Ending::Exit { in_order }),
+        _ => None,
+    }
+}
 
-/// Takes a piece of the stream, and writes what is written for the messages that have come whole.
-fn step<L: Language, W: Sink>(
-    session: &mut Session,
+/// Answers the message at the front of what waits, or reads more of the input. Returns how the session ends, if it does.
+fn take_turn<L: Language, R: Source, W: Sink>(
+    server: &mut Server,
+    waiting: &mut Vec<u8>,
     language: &L,
     alloc: Global,
-    piece: &[u8],
+    input: &mut R,
     output: &mut W,
 ) -> Result<Option<Ending>, RunFault>
-    ensures advances { IfOk result (λ _. (written : Bytes)
-        × Advances (says (L.has language.now) (L.gives language.now) (L.can language.now)) (state_of session.old.server)
-        (session.old.frames.waiting.items ++ piece.now) [] (state_of session.new.server) session.new.frames.waiting.items written
-        × Appends (W.taken output.old) (W.taken output.new) written) }
-    ensures behind { IfOk result (λ ended.
-        IsBehind ended (state_of session.new.server) session.new.frames.waiting.items) }
+    ensures goes_on { OnOk result (GoesOn (L.says language.now) (R.left input.old) (R.left input.new)
+        (W.taken output.old) (W.taken output.new) (state_of server.old) waiting.old.items (state_of server.new) waiting.new.items) }
+    ensures ends { IfOk result
+        (λ end. IfSome end (λ ending. IsEnding ending (state_of server.new) waiting.new.items)) }
+    ensures ended { IfOk result (λ end. end ≡ Some Ending.InputEnded → IsTrue (R.ended input.new)) }
+    ensures none_failed { OnOk result ((R.failed input.new ≡ R.failed input.old)
+        × (W.failed output.new ≡ W.failed output.old)) }
+    ensures read_failed { result ≡ Err RunFault.Read → IsTrue (R.failed input.new) }
+    ensures write_failed { result ≡ Err RunFault.Write → IsTrue (W.failed output.new) }
 {
-    let mut written = String::new(alloc);
-    let ended = session.advance(language, alloc, piece, &mut written)?;
-    write_all(output, written.as_bytes())?;
-    Ok(ended)
+    match next_frame(waiting.as_slice()) {
+        Next::Malformed => Ok(Some(Ending::Malformed)),
+        Next::Message { from, to } => {
+            let written = server.exchange(language, alloc, &waiting[from..to])?;
+            write_all(output, written.as_bytes())?;
+            drop_front(waiting, to);
+            Ok(ending_of(server))
+        }
+        Next::Partial => {
+            if read_piece(input, waiting)? {
+                return Ok(None);
+            }
+            Ok(Some(Ending::InputEnded))
+        }
+    }
 }
 
 /// Answers the messages of a client until the session ends. `opening` is what was read of the input before, which comes first.
@@ -44,23 +70,27 @@ pub fn serve<L: Language, R: Source, W: Sink>(
     input: &mut R,
     output: &mut W,
 ) -> Result<Ending, RunFault>
-    ensures served { IfOk result (Served (says (L.has language.now) (L.gives language.now) (L.can language.now))
-        (prepend_known opening.now (R.left input.old)) (R.left input.new) (W.taken output.old) (W.taken output.new)) }
+    // What was written answers the messages that were read, and nothing else was.
+    ensures served { IfOk result (Served (L.says language.now) (prepend_known opening.now (R.left input.old))
+        (R.left input.new) (W.taken output.old) (W.taken output.new)) }
+    // It ends for want of messages only at the end of the input.
     ensures ended { IfOk result (λ ending. ending ≡ Ending.InputEnded → IsTrue (R.ended input.new)) }
+    ensures none_failed { OnOk result ((R.failed input.new ≡ R.failed input.old)
+        × (W.failed output.new ≡ W.failed output.old)) }
+    ensures read_failed { result ≡ Err RunFault.Read → IsTrue (R.failed input.new) }
+    ensures write_failed { result ≡ Err RunFault.Write → IsTrue (W.failed output.new) }
 {
-    let mut session = Session::new(alloc);
-    if let Some(ending) = step(&mut session, language, alloc, opening, output)? {
-        return Ok(ending);
-    }
-    let mut piece = [0u8; PIECE];
-    for _piece in 0..u64::MAX {
-        let Ok(count) = input.read_some(&mut piece) else {
-            return Err(RunFault::Read);
-        };
-        if count == 0 {
-            return Ok(Ending::InputEnded);
-        }
-        if let Some(ending) = step(&mut session, language, alloc, &piece[..count], output)? {
+    let mut server = Server::new(alloc);
+    let mut waiting = Vec::from_slice(alloc, opening)?;
+    for _turn in 0..u64::MAX {
+        if let Some(ending) = take_turn(
+            &mut server,
+            &mut waiting,
+            language,
+            alloc,
+            input,
+            output,
+        )? {
             return Ok(ending);
         }
     }

@@ -1,5 +1,5 @@
 use Rattle.std.proofs.Common.{◌≡◌, Some, ap, option_map, string_bytes, sym, ◌∙◌}
-use Rattle.filterset_editor.specs.Machine.{says, state_of}
+use Rattle.filterset_editor.specs.Machine.{state_of}
 use Rattle.filterset_editor.specs.Refusals.{uri_of}
 use Rattle.filterset_editor.proofs.RefusalLemmas.{notice-refused}
 use Rattle.filterset_editor.proofs.server.answer_notice.Goals as goal
@@ -8,6 +8,6 @@ pub returns-in-Some : goal.returns-in-Some
 returns-in-Some g c =
     let about : uri_of c.args.notice ≡ Some c.as_str.result.now =
     sym c.in_ok-address.ensures ∙ ap (option_map (λ uri. string_bytes uri)) c.in-Some.is ∙ ap Some (sym c.as_str.ensures.value) in
-    notice-refused (says (g.L.Language.has c.args.language.now) (g.L.Language.gives c.args.language.now) (g.L.Language.can c.args.language.now))
+    notice-refused (g.L.Language.says c.args.language.now)
     (state_of c.args.server.now) (state_of c.try_notice.new.server) (state_of c.forget_document.new.server) c.args.notice c.as_str.result.now c.forget_document.result
     about c.in-Err.ensures.err (c.forget_document.ensures.phase, c.forget_document.ensures.documents) c.forget_document.ensures.written

@@ -12,6 +12,6 @@ returns-clause-ok g c =
     let Q : List Document → Type 0 = λ ds. document_of c.as_str.result.now ds ≡ Some c.in-Some.document.now in
     let found : document_of (string_bytes c.args.revision.uri) c.args.documents.now.items ≡ Some c.in-Some.document.now =
     subst P c.as_str.ensures.value (subst Q c.as_slice.ensures.value (sym c.in-Some.ensures)) in
-    changed-is (g.L.Language.has c.args.language.now) c.args.encoding (string_bytes c.args.revision.uri) c.args.revision
-    c.args.documents.now.items c.put_document.new.documents.items c.in-Some.document.now c.in_ok-revised.revised (Some (view c.in_ok-revised.value))
-    found c.in_ok-revised.ensures.revised c.in_ok-revised.ensures.value c.in_ok-put_document.ensures.ok
+    changed-is (g.L.Language.says c.args.language.now) c.args.encoding (string_bytes c.args.revision.uri) c.args.revision
+    c.args.documents.now.items c.put_document.new.documents.items c.in-Some.document.now c.in_ok-revised.revised (Some (view c.in_ok-value.value))
+    found c.in_ok-revised.ensures c.in_ok-value.ensures c.in_ok-put_document.ensures.ok

@@ -1,6 +1,6 @@
 use Rattle.std.proofs.Common.{sym, ◌∙◌}
 use Rattle.filterset_editor.proofs.MessageLemmas.{first-found, first-next, first-none}
-use Rattle.filterset_editor.proofs.message.first_known.Goals as goal
+use Rattle.filterset_editor.proofs.message.choose_encoding.Goals as goal
 
 pub returns-in-Some : goal.returns-in-Some
 returns-in-Some c =

@@ -2,7 +2,7 @@ use Rattle.std.proofs.Common.{◌≡◌, ap, option_map, sym, ◌∙◌, None, S
 use Rattle.serde_json.specs.View.{view}
 use Rattle.filterset_editor.specs.Messages.{change_in, change_row}
 use Rattle.filterset_editor.proofs.MessageLemmas.{changes-all, changes-next, changes-none, changes-wrong}
-use Rattle.filterset_editor.proofs.message.changes_in.Goals as goal
+use Rattle.filterset_editor.proofs.message.read_changes.Goals as goal
 
 pub loop-value-init : goal.loop-value-init
 loop-value-init c = changes-none c.args.values.now c.new-changes.result.items c.new-changes.ensures.items
