@@ -1,13 +1,17 @@
-//! Writes filtersets anew, with the same meaning: with operators between their operands, with parentheses that show how an
+//! Looks at filtersets without asking what they match: their tokens (`tokens`), how deeply they nest (`nesting`), and what
+//! means the same, simplified (`simplifying`), with operators between their operands, with parentheses that show how an
 //! expression is read, or without the operator `^`.
 #![tactic(auto)]
 
 mod calls;
 mod fronts;
 mod links;
+pub mod nesting;
 mod operands;
 mod showing;
+pub mod simplifying;
 mod spelling;
+pub mod tokens;
 
 pub use calls::read_call;
 pub use fronts::Front;

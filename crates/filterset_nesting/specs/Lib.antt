@@ -1,4 +1,0 @@
-pub mod Arguments
-pub mod Depth
-pub mod Nesting
-pub mod Tokens

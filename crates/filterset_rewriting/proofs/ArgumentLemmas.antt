@@ -1,0 +1,158 @@
+-- Where arguments end that are spelled as the grammar says.
+use Rattle.std.proofs.Common.{◌≡◌, ◌≢◌, ℕ, suc, ◌+◌, ◌<◌, ◌∙◌, ap, Bool, true, false, cond, eqb, List, [], ◌∷◌, ◌++◌, append_assoc, arith, drop, get_or, length, length-append, refl, subst, sym}
+use Rattle.std.specs.Prelude.{◌&&◌, ◌||◌, not}
+use Rattle.std.proofs.lemmas.Bool.{eqb-false, eqb-true, ne_eqb}
+use Rattle.std.proofs.lemmas.Bool.Decides.{nat_tests}
+use Rattle.std.proofs.lemmas.List.{drop_at}
+use Rattle.filterset_grammar.specs.Grammar.{begins_plainly}
+use Rattle.filterset_grammar.specs.Text.{Blanks, Escape, HexDigits, SlashesFollow, Spelled, ends_in_backslash, escaped, hex_value, hexadecimal, is_plain, letter, newline, no_blank, nothing, plain, return_newline, space}
+use Rattle.filterset_language.specs.Parsing.Front.{blank_len}
+use Rattle.filterset_language.specs.Parsing.RawTexts.{body_len}
+use Rattle.filterset_rewriting.specs.Nesting.Arguments.{IsBody, raw_len}
+
+-- ---- raw texts
+
+-- what stands for itself ends no raw text
+over_plain : (b : ℕ) (t : List ℕ) → is_plain b ≡ true → raw_len false (b ∷ t) ≡ suc (raw_len false t)
+over_plain b t is = by_tests (eqb b 44) (eqb b 41) (eqb b 92) is
+  where
+    by_tests : (p q r : Bool) → cond (p || (q || r)) false true ≡ true
+        → cond (p || q) 0 (suc (raw_len r t)) ≡ suc (raw_len false t)
+    by_tests true q r is = absurd cc
+    by_tests false true r is = absurd cc
+    by_tests false false true is = absurd cc
+    by_tests false false false is = refl
+
+hex_plain : (d : ℕ) → hex_value d < 16 → is_plain d ≡ true
+hex_plain d lt = grind (arith, nat_tests)
+
+over_digits : (digits t : List ℕ) (before number : ℕ) → HexDigits digits before number → raw_len false (digits ++ t) ≡ length digits + raw_len false t
+over_digits [] t before number is = omega arith
+over_digits (d ∷ ds) t before number is =
+    over_plain d (ds ++ t) (hex_plain d is.0) ∙ (let more = over_digits ds t _ number is.1 in omega (arith, more))
+
+over_escape : {e : List ℕ} {c : ℕ} → Escape e c → (t : List ℕ) → raw_len true (e ++ t) ≡ length e + raw_len false t
+over_escape (letter {l} {c} is) t = omega arith
+over_escape (hexadecimal {t = e} {c} digits some few are scalar is) t =
+    let inner : List ℕ = digits ++ 125 ∷ t in
+    let whole : e ++ t ≡ 117 ∷ 123 ∷ inner = ap (λ (x : List ℕ). x ++ t) is ∙ simp append_assoc in
+    let size = ap length is in
+    let last : raw_len false (125 ∷ t) ≡ suc (raw_len false t) = over_plain 125 t refl in
+    let more : raw_len false inner ≡ length digits + raw_len false (125 ∷ t) = over_digits digits (125 ∷ t) 0 c are in
+    let first : raw_len true (117 ∷ 123 ∷ inner) ≡ suc (suc (raw_len false inner)) = refl in
+    ap (raw_len true) whole ∙ (omega (arith, first, more, last, size, length-append digits (125 ∷ [])))
+
+-- a raw text goes on up to its end
+pub over_raw : {raw value : List ℕ} → Spelled raw value → (t : List ℕ) → raw_len false (raw ++ 41 ∷ t) ≡ length raw
+over_raw nothing t = refl
+over_raw (plain {b} {raw} {value} is more) t = over_plain b (raw ++ 41 ∷ t) is ∙ ap suc (over_raw more t)
+over_raw (escaped {more = own} {raw} {value} {c} e is more whole) t =
+    let rest : List ℕ = raw ++ 41 ∷ t in
+    let parts : own ++ 41 ∷ t ≡ e ++ rest = ap (λ (x : List ℕ). x ++ 41 ∷ t) whole ∙ append_assoc e raw (41 ∷ t) in
+    let first : raw_len false (92 ∷ (own ++ 41 ∷ t)) ≡ suc (raw_len true (own ++ 41 ∷ t)) = refl in
+    let second : raw_len true (own ++ 41 ∷ t) ≡ length e + raw_len false rest = ap (raw_len true) parts ∙ over_escape is rest in
+    omega (arith, first, second, over_raw more t, ap length whole, length-append e raw)
+
+-- ---- blanks
+
+blank_space : (t : List ℕ) → blank_len (32 ∷ t) ≡ 1
+blank_space [] = refl
+blank_space (c ∷ t) = refl
+
+blank_newline : (t : List ℕ) → blank_len (10 ∷ t) ≡ 1
+blank_newline [] = refl
+blank_newline (c ∷ t) = refl
+
+-- blanks that are left before a text without any
+pub record Left (rest t : List ℕ) : Type 0 where
+  pub blanks : List ℕ
+  pub are : Blanks blanks
+  pub text : rest ≡ blanks ++ t
+
+-- one blank less is left
+pub one_less : (rest t : List ℕ) (n : ℕ) → Left rest t → blank_len t ≡ 0 → n ≡ blank_len rest → 0 < n → Left (drop n rest) t
+one_less rest t n left stop is some = from left.blanks left.are left.text
+  where
+    from : (blanks : List ℕ) → Blanks blanks → rest ≡ blanks ++ t → Left (drop n rest) t
+    from blanks no_blank text = absurd (omega (arith, is, ap blank_len text, stop, some))
+    from blanks (space {t = more} are) text =
+        let count : n ≡ 1 = is ∙ ap blank_len text ∙ blank_space (more ++ t) in
+        record { blanks = more; are = are; text = ap (λ (k : ℕ). drop k rest) count ∙ ap (drop 1) text }
+    from blanks (newline {t = more} are) text =
+        let count : n ≡ 1 = is ∙ ap blank_len text ∙ blank_newline (more ++ t) in
+        record { blanks = more; are = are; text = ap (λ (k : ℕ). drop k rest) count ∙ ap (drop 1) text }
+    from blanks (return_newline {t = more} are) text =
+        let count : n ≡ 2 = is ∙ ap blank_len text in
+        record { blanks = more; are = are; text = ap (λ (k : ℕ). drop k rest) count ∙ ap (drop 2) text }
+
+pub none_left : (rest t : List ℕ) → Left rest t → blank_len rest ≡ 0 → rest ≡ t
+none_left rest t left none = from left.blanks left.are left.text
+  where
+    from : (blanks : List ℕ) → Blanks blanks → rest ≡ blanks ++ t → rest ≡ t
+    from blanks no_blank text = text
+    from blanks (space {t = more} are) text = absurd (omega (arith, none, ap blank_len text, blank_space (more ++ t)))
+    from blanks (newline {t = more} are) text = absurd (omega (arith, none, ap blank_len text, blank_newline (more ++ t)))
+    from blanks (return_newline {t = more} are) text = absurd (let two : blank_len (13 ∷ 10 ∷ (more ++ t)) ≡ 2 = refl in omega (arith, none, ap blank_len text, two))
+
+-- ---- raw texts that begin plainly
+
+no_blanks : (b : ℕ) (t : List ℕ) → b ∷ t ≡ [] → ⊥
+no_blanks b t is = cc
+
+after_blank : (b : ℕ) (raw u : List ℕ) → eqb b 32 ≡ false → eqb b 10 ≡ false → (b ≡ 13 → (u : List ℕ) → raw ≢ 10 ∷ u) → blank_len (b ∷ (raw ++ 41 ∷ u)) ≡ 0
+after_blank b [] u e32 e10 h = rw (e32, e10) (at13 (eqb b 13))
+  where
+    at13 : (v : Bool) → ◌≡◌ {A = ℕ} (cond (v && false) 2 0) 0
+    at13 true = refl
+    at13 false = refl
+after_blank b (c ∷ raw) u e32 e10 h = rw (e32, e10) (two (eqb b 13) (eqb c 10) refl refl)
+  where
+    two : (v w : Bool) → eqb b 13 ≡ v → eqb c 10 ≡ w → ◌≡◌ {A = ℕ} (cond (v && w) 2 0) 0
+    two true true p q = absurd (h (eqb-true b 13 p) raw (ap (λ (x : ℕ). x ∷ raw) (eqb-true c 10 q)))
+    two true false p q = refl
+    two false w p q = refl
+
+-- what begins plainly begins with no blank
+pub plain_stop : (raw u : List ℕ) → raw ≢ [] → begins_plainly raw → blank_len (raw ++ 41 ∷ u) ≡ 0
+plain_stop [] u some h = absurd (some refl)
+plain_stop (b ∷ raw) u some h =
+    let e32 : eqb b 32 ≡ false = ne_eqb b 32 (λ e. no_blanks b [] (h.0 (b ∷ []) raw (subst (λ (x : ℕ). Blanks (x ∷ [])) (sym e) (space no_blank)) refl)) in
+    let e10 : eqb b 10 ≡ false = ne_eqb b 10 (λ e. no_blanks b [] (h.0 (b ∷ []) raw (subst (λ (x : ℕ). Blanks (x ∷ [])) (sym e) (newline no_blank)) refl)) in
+    after_blank b raw u e32 e10 (λ e more is. no_blanks b (10 ∷ []) (h.0 (b ∷ 10 ∷ []) more (subst (λ (x : ℕ). Blanks (x ∷ 10 ∷ [])) (sym e) (return_newline no_blank)) (ap (λ (x : List ℕ). b ∷ x) is)))
+
+-- and with no slash
+pub plain_no_slash : (raw t u : List ℕ) → raw ≢ [] → begins_plainly raw → raw ++ 41 ∷ t ≢ 47 ∷ u
+plain_no_slash [] t u some h is = absurd (some refl)
+plain_no_slash (b ∷ raw) t u some h is = (h.1 b raw refl).0 (ap (λ (x : List ℕ). get_or x 0 0) is)
+
+-- ---- cuts
+
+pub cut : (text inside rest : List ℕ) (n : ℕ) → text ≡ inside ++ rest → n ≡ length inside → drop n text ≡ rest
+cut text inside rest n is size = ap (drop n) is ∙ drop_at inside rest n (sym size)
+
+-- ---- bodies of regular expressions
+
+slash_is : (b before : ℕ) → (eqb b 47 && not (eqb before 92)) ≡ true → (b ≡ 47) × (eqb before 92 ≡ false)
+slash_is b before e = from (eqb b 47) (eqb before 92) refl refl e
+  where
+    from : (v w : Bool) → eqb b 47 ≡ v → eqb before 92 ≡ w → (v && not w) ≡ true → (b ≡ 47) × (eqb before 92 ≡ false)
+    from true true h i e = absurd cc
+    from true false h i e = (eqb-true b 47 h, i)
+    from false w h i e = absurd cc
+
+over_slashes : (before : ℕ) (body u : List ℕ) → SlashesFollow before body → ends_in_backslash (before ∷ body) ≡ false → body_len before (body ++ 47 ∷ u) ≡ length body
+over_slashes before [] u slashes end = rw end refl
+over_slashes before (b ∷ body) u slashes end =
+    from (eqb b 47 && not (eqb before 92)) refl (over_slashes b body u slashes.1 end)
+  where
+    from : (v : Bool) → (eqb b 47 && not (eqb before 92)) ≡ v → body_len b (body ++ 47 ∷ u) ≡ length body → cond v 0 (suc (body_len b (body ++ 47 ∷ u))) ≡ suc (length body)
+    from true e on = let s = slash_is b before e in absurd (eqb-false before 92 s.1 (slashes.0 s.0))
+    from false e on = ap suc on
+
+from_start : (body : List ℕ) → ends_in_backslash body ≡ false → ends_in_backslash (0 ∷ body) ≡ false
+from_start [] e = refl
+from_start (b ∷ body) e = e
+
+-- a body goes on up to its slash
+pub over_body : (body u : List ℕ) → IsBody body → body_len 0 (body ++ 47 ∷ u) ≡ length body
+over_body body u is = over_slashes 0 body u is.1.slashes (from_start body is.1.end)

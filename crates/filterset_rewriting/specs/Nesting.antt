@@ -1,0 +1,4 @@
+pub mod Arguments
+pub mod Depth
+pub mod Levels
+pub mod Tokens

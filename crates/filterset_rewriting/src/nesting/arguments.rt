@@ -1,0 +1,225 @@
+//! Where the arguments of predicates end.
+ghost use Rattle.std.specs.Prelude.{◌≡◌, ◌≤◌, ◌∷◌, ◌++◌, IfSome, List, MatchOption, false, length, ℕ};
+ghost use Rattle.std.specs.Str.{bytes_eq};
+ghost use Rattle.filterset_grammar.specs.Text.{Blanks};
+ghost use Rattle.filterset_language.specs.Parsing.Front.{blank_len, close_len};
+ghost use Rattle.filterset_language.specs.Parsing.RawTexts.{body_len};
+ghost use Rattle.filterset_rewriting.specs.Nesting.Arguments as spec;
+ghost use Rattle.filterset_rewriting.specs.Nesting.Arguments.{IsArgument, IsBody, IsMatcher, IsRaw};
+ghost use Rattle.filterset_rewriting.specs.declared.nesting.arguments.ArgumentKind.TheVariants as kinds;
+
+/// What a predicate takes as its argument.
+#[derive(Clone, Copy)]
+pub enum ArgumentKind {
+    /// Nothing but white space.
+    Nothing,
+    /// A text that ends at the first `)` without a backslash in front of it.
+    Raw,
+    /// Such a text, or a regular expression between slashes.
+    Matcher,
+}
+
+fn is_name(word: &[u8], name: &[u8]) -> bool
+    ensures { result ≡ bytes_eq word.now name.now }
+{
+    word == name
+}
+
+fn takes_nothing(name: &[u8]) -> bool
+    ensures { result ≡ spec.takes_nothing name.now }
+{
+    is_name(name, b"all") || is_name(name, b"none") || is_name(name, b"default")
+}
+
+fn takes_platform(name: &[u8]) -> bool
+    ensures { result ≡ spec.takes_platform name.now }
+{
+    is_name(name, b"platform")
+}
+
+fn asks_package(name: &[u8]) -> bool
+    ensures { result ≡ spec.asks_package name.now }
+{
+    is_name(name, b"package") || is_name(name, b"deps") || is_name(name, b"rdeps")
+}
+
+fn asks_binary(name: &[u8]) -> bool
+    ensures { result ≡ spec.asks_binary name.now }
+{
+    is_name(name, b"kind") || is_name(name, b"binary") || is_name(name, b"binary_id")
+}
+
+fn asks_test(name: &[u8]) -> bool
+    ensures { result ≡ spec.asks_test name.now }
+{
+    is_name(name, b"test") || is_name(name, b"group")
+}
+
+/// Returns what the predicate of this name takes.
+pub fn argument_of(name: &[u8]) -> Option<ArgumentKind>
+    ensures { result ≡ spec.argument_of name.now }
+{
+    if takes_nothing(name) {
+        Some(ArgumentKind::Nothing)
+    } else if takes_platform(name) {
+        Some(ArgumentKind::Raw)
+    } else if asks_package(name) || asks_binary(name) || asks_test(name) {
+        Some(ArgumentKind::Matcher)
+    } else {
+        None
+    }
+}
+
+/// Returns what is behind a predicate, if it is spelled as one: the text begins behind its name.
+pub fn argument_end(argument: ArgumentKind, text: &[u8]) -> Option<&[u8]>
+    ensures within { IfSome result (λ behind. length behind.now ≤ length text.now) }
+    ensures behind { (blanks inside t : List ℕ) → Blanks blanks → IsArgument argument inside
+        → text.now ≡ blanks ++ (40 ∷ (inside ++ 41 ∷ t)) → MatchOption result ⊥ (λ behind. behind.now ≡ t) }
+{
+    let inside = after_byte(skip_blanks(text), b'(')?;
+    match argument {
+        ArgumentKind::Nothing => bare_end(inside),
+        ArgumentKind::Raw => raw_end(inside),
+        ArgumentKind::Matcher => matcher_end(inside),
+    }
+}
+
+/// Returns what is behind the next `)`.
+fn bare_end(text: &[u8]) -> Option<&[u8]>
+    ensures within { IfSome result (λ behind. length behind.now ≤ length text.now) }
+    ensures behind { (inside t : List ℕ) → IsArgument kinds.Nothing inside
+        → text.now ≡ inside ++ 41 ∷ t → MatchOption result ⊥ (λ behind. behind.now ≡ t) }
+{
+    let (_, rest) = text.split_at(close_len(text));
+    after_byte(rest, b')')
+}
+
+/// Returns what is behind the `)` that ends a raw text. There is none if a comma is before it.
+fn raw_end(text: &[u8]) -> Option<&[u8]>
+    ensures within { IfSome result (λ behind. length behind.now ≤ length text.now) }
+    ensures behind { (inside t : List ℕ) → IsRaw inside
+        → text.now ≡ inside ++ 41 ∷ t → MatchOption result ⊥ (λ behind. behind.now ≡ t) }
+{
+    let (_, rest) = text.split_at(raw_len(text));
+    after_byte(rest, b')')
+}
+
+/// Returns what is behind a matcher and its `)`.
+fn matcher_end(text: &[u8]) -> Option<&[u8]>
+    ensures within { IfSome result (λ behind. length behind.now ≤ length text.now) }
+    ensures behind { (inside t : List ℕ) → IsMatcher inside
+        → text.now ≡ inside ++ 41 ∷ t → MatchOption result ⊥ (λ behind. behind.now ≡ t) }
+{
+    let start = skip_blanks(text);
+    match after_byte(start, b'/') {
+        Some(body) => regex_end(body),
+        None => raw_end(start),
+    }
+}
+
+/// Returns what is behind the body of a regular expression and its `)`.
+fn regex_end(text: &[u8]) -> Option<&[u8]>
+    ensures within { IfSome result (λ behind. length behind.now ≤ length text.now) }
+    ensures behind { (body blanks t : List ℕ) → IsBody body → Blanks blanks
+        → text.now ≡ body ++ 47 ∷ (blanks ++ 41 ∷ t) → MatchOption result ⊥ (λ behind. behind.now ≡ t) }
+{
+    let (_, rest) = text.split_at(body_len(text));
+    let end = after_byte(rest, b'/')?;
+    after_byte(skip_blanks(end), b')')
+}
+
+/// Returns what is behind the byte, if the text begins with it.
+fn after_byte(text: &[u8], byte: u8) -> Option<&[u8]>
+    ensures within { IfSome result (λ behind. length behind.now ≤ length text.now) }
+    ensures behind { (t : List ℕ) → text.now ≡ byte ∷ t → MatchOption result ⊥ (λ behind. behind.now ≡ t) }
+    ensures there { IfSome result (λ behind. text.now ≡ byte ∷ behind.now) }
+{
+    match text {
+        [first, rest @ ..] if *first == byte => Some(rest),
+        _ => None,
+    }
+}
+
+/// Returns the text without its blanks in front.
+fn skip_blanks(text: &[u8]) -> &[u8]
+    ensures within { length result.now ≤ length text.now }
+    ensures skipped { (blanks t : List ℕ) → Blanks blanks → blank_len t ≡ 0 → text.now ≡ blanks ++ t → result.now ≡ t }
+{
+    let mut rest = text;
+    loop {
+        let count = blank_len(rest);
+        if count == 0 {
+            return rest;
+        }
+        rest = rest.split_at(count).1;
+    }
+}
+
+/// Returns the length in bytes of the blank at the start of a text, or 0 if there is none.
+fn blank_len(text: &[u8]) -> usize
+    ensures value { result ≡ blank_len text.now }
+    ensures within { result ≤ length text.now }
+{
+    match text {
+        [b' ' | b'\n', ..] => 1,
+        [b'\r', b'\n', ..] => 2,
+        _ => 0,
+    }
+}
+
+/// Returns the number of bytes before the next `)`, or of the whole text.
+fn close_len(text: &[u8]) -> usize
+    ensures value { result ≡ close_len text.now }
+    ensures within { result ≤ length text.now }
+{
+    for (i, b) in text.iter().enumerate() {
+        if *b == b')' {
+            return i;
+        }
+    }
+    text.len()
+}
+
+/// Returns whether a raw text ends at this byte.
+fn ends_raw(is_escaped: bool, byte: u8) -> bool
+    ensures { result ≡ spec.ends_raw is_escaped byte }
+{
+    !is_escaped && matches!(byte, b',' | b')')
+}
+
+/// Returns whether the byte is a backslash that escapes the next one.
+fn escapes(is_escaped: bool, byte: u8) -> bool
+    ensures { result ≡ spec.escapes is_escaped byte }
+{
+    !is_escaped && byte == b'\\'
+}
+
+/// Returns the number of bytes before the first `)` or comma without a backslash in front of it, or of the whole text.
+fn raw_len(text: &[u8]) -> usize
+    ensures value { result ≡ spec.raw_len false text.now }
+    ensures within { result ≤ length text.now }
+{
+    let mut is_escaped = false;
+    for (i, b) in text.iter().enumerate() {
+        if ends_raw(is_escaped, *b) {
+            return i;
+        }
+        is_escaped = escapes(is_escaped, *b);
+    }
+    text.len()
+}
+
+/// Returns the number of bytes before the first `/` that does not directly follow a backslash, or of the whole text.
+fn body_len(text: &[u8]) -> usize
+    ensures value { result ≡ body_len 0 text.now }
+    ensures within { result ≤ length text.now }
+{
+    let mut before = 0;
+    for (i, b) in text.iter().enumerate() {
+        if *b == b'/' && before != b'\\' {
+            return i;
+        }
+        before = *b;
+    }
+    text.len()
+}

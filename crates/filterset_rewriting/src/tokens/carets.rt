@@ -1,0 +1,47 @@
+//! The operators `^` of filtersets that are read.
+ghost use Rattle.std.specs.Prelude.{◌≡◌, IfOk};
+ghost use Rattle.filterset_language.specs.Views.{tree_of};
+ghost use Rattle.filterset_rewriting.specs.Tokens as spec;
+ghost use Rattle.filterset_rewriting.specs.Tokens.{AreCarets, HasCarets};
+
+use crate::tokens::leaves::tokens_of;
+use crate::tokens::{Token, TokenKind};
+use filterset_faults::SourceSpan;
+use filterset_language::{Parsed, ParsedExpr};
+use std::alloc::{AllocError, Global};
+
+/// Returns whether a token of a text is an operator `^`.
+fn is_caret(text: &[u8], token: &Token) -> bool
+    ensures { result ≡ spec.is_caret text.now token.now }
+{
+    matches!(token.kind, TokenKind::Operator) && matches!(text.get(token.span.offset()), Some(b'^'))
+}
+
+/// Returns the spans of the operators `^` of a text that reads as this tree, in their order. A `^` in an argument is none.
+fn carets_of(alloc: Global, text: &str, tree: &ParsedExpr) -> Result<Vec<SourceSpan>, AllocError>
+    ensures { IfOk result (λ spans. AreCarets text.now (tree_of tree.now) spans.items) }
+{
+    let tokens = tokens_of(alloc, text, tree)?;
+    let bytes = text.as_bytes();
+    let mut spans = Vec::new(alloc);
+    for token in &tokens {
+        if is_caret(bytes, token) {
+            spans.push(token.span)?;
+        }
+    }
+    Ok(spans)
+}
+
+/// Returns the spans of the operators `^` of a text, in their order. A text that does not read has none.
+pub fn carets_in(alloc: Global, text: &str) -> Result<Vec<SourceSpan>, AllocError>
+    ensures { IfOk result (λ spans. HasCarets text.now spans.items) }
+{
+    if !text.as_bytes().contains(&b'^') {
+        return Ok(Vec::new(alloc));
+    }
+    let Parsed { tree, faults } = ParsedExpr::parse_with_faults(alloc, text)?;
+    match tree {
+        Some(tree) if faults.is_empty() => carets_of(alloc, text, &tree),
+        _ => Ok(Vec::new(alloc)),
+    }
+}
