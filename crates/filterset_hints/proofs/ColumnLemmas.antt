@@ -24,7 +24,7 @@ use Rattle.filterset_listing.proofs.ValueLemmas.{compound_value, negated_alike, 
 use Rattle.filterset_hints.specs.Columns.{values_of, first_of, second_of, Fits}
 use Rattle.filterset_hints.specs.Subjects.{Basis, HasColumn}
 use Rattle.filterset_hints.specs.declared.columns.Columns.{Columns}
-use Rattle.filterset_hints.specs.declared.subject.Subject.{Subject}
+use Rattle.filterset_listing.specs.declared.subjects.Subject.{Subject}
 
 module _ (basis : Basis) where
   -- ---- values

@@ -10,7 +10,7 @@ use Rattle.filterset_grammar.specs.Tree.{Tree}
 use Rattle.filterset_hints.specs.Finding.{never, needless_by, may_still, AreDeciding}
 use Rattle.filterset_hints.specs.Needless.{Frame, MayDecide, IsNeedless}
 use Rattle.filterset_hints.specs.Subjects.{Basis, HasColumn, may_be, MaySay}
-use Rattle.filterset_hints.specs.declared.subject.Subject.{Subject}
+use Rattle.filterset_listing.specs.declared.subjects.Subject.{Subject}
 use Rattle.filterset_hints.proofs.Values.{may_say}
 
 denied : (d m : Bool) → not (d && m) ≡ true → d ≡ true → m ≡ true → ⊥

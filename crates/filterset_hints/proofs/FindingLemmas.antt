@@ -18,7 +18,7 @@ use Rattle.filterset_hints.specs.Needless.{Frame, Negated, UnionLeft, UnionRight
 use Rattle.filterset_hints.specs.Subjects.{Basis}
 use Rattle.filterset_hints.specs.Unmatched.{AreUnmatched}
 use Rattle.filterset_hints.specs.declared.columns.Columns.{Columns}
-use Rattle.filterset_hints.specs.declared.subject.Subject.{Subject}
+use Rattle.filterset_listing.specs.declared.subjects.Subject.{Subject}
 use Rattle.filterset_hints.proofs.ColumnLemmas.{own_column}
 use Rattle.filterset_hints.proofs.DecidingLemmas.{beside_decides, Judged, judged}
 

@@ -28,7 +28,7 @@ use Rattle.filterset_listing.specs.Values.{HasValueIn}
 use Rattle.filterset_listing.specs.declared.explaining.candidate.Candidate.TheVariants as candidates
 use Rattle.filterset_hints.specs.Needless.{Frame, Negated, UnionLeft, UnionRight, JoinLeft, JoinRight, Enclosed, placed, constant, MayDecide, ChangesNothing}
 use Rattle.filterset_hints.specs.Subjects.{Basis, may_be, MaySay}
-use Rattle.filterset_hints.specs.declared.subject.Subject.{Subject}
+use Rattle.filterset_listing.specs.declared.subjects.Subject.{Subject}
 
 -- ---- what cannot fail to hold
 

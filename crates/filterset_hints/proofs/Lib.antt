@@ -3,4 +3,3 @@ pub mod ColumnLemmas
 pub mod DecidingLemmas
 pub mod FindingLemmas
 pub mod LawLemmas
-pub mod ListedLemmas

@@ -11,7 +11,7 @@ use Rattle.filterset_listing.specs.Values.{HasValueIn}
 use Rattle.filterset_listing.specs.declared.explaining.candidate.Candidate.{Candidate}
 use Rattle.filterset_listing.specs.declared.explaining.candidate.Candidate.TheVariants.{Binary, Test}
 use Rattle.filterset_hints.specs.Subjects.{Basis, HasValue, may_be, MaySay}
-use Rattle.filterset_hints.specs.declared.subject.Subject.{Subject}
+use Rattle.filterset_listing.specs.declared.subjects.Subject.{Subject}
 
 module _ (group : Text) (packages : List PackageMetadata) (default : CompiledExpr) (e : Tree SourceSpan) where
   one_value_in : (candidate : Candidate) (x y : Option Bool) → HasValueIn group candidate packages default e x

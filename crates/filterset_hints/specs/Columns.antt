@@ -5,7 +5,7 @@ use Rattle.filterset_grammar.specs.Tree.{Tree, Not, Union, Join, Parens, Set}
 use Rattle.filterset_hints.specs.Subjects.{Basis, HasColumn}
 use Rattle.filterset_hints.specs.declared.columns.Columns.{Columns}
 use Rattle.filterset_hints.specs.declared.columns.Columns.TheVariants.{Leaf, One', Two'}
-use Rattle.filterset_hints.specs.declared.subject.Subject.{Subject}
+use Rattle.filterset_listing.specs.declared.subjects.Subject.{Subject}
 
 abbrev pub values_of : Columns → List (Option Bool)
 values_of (Leaf values) = values.items

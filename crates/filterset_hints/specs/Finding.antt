@@ -10,7 +10,7 @@ use Rattle.filterset_hints.specs.Subjects.{Basis, may_be}
 use Rattle.filterset_hints.specs.Unmatched.{Unmatched, unmatched_in}
 use Rattle.filterset_hints.specs.declared.columns.Columns.{Columns}
 use Rattle.filterset_hints.specs.declared.needless.NeedlessOperand.{NeedlessOperand}
-use Rattle.filterset_hints.specs.declared.subject.Subject.{Subject}
+use Rattle.filterset_listing.specs.declared.subjects.Subject.{Subject}
 use Rattle.filterset_hints.specs.declared.unmatched.UnmatchedPredicate.{UnmatchedPredicate}
 
 -- the operands that are found, each with its constant

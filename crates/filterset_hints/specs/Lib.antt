@@ -1,6 +1,5 @@
 -- cited by public contracts
 pub mod Subjects
-pub mod Listed
 pub mod Unmatched
 pub mod Needless
 pub mod Finding

@@ -10,7 +10,7 @@ use Rattle.filterset_grammar.specs.declared.operators.NotOperator.{NotOperator}
 use Rattle.filterset_grammar.specs.declared.operators.OrOperator.{OrOperator}
 use Rattle.filterset_hints.specs.Subjects.{Basis, HasColumn, MaySay}
 use Rattle.filterset_hints.specs.Unmatched.{Unmatched, is_yes}
-use Rattle.filterset_hints.specs.declared.subject.Subject.{Subject}
+use Rattle.filterset_listing.specs.declared.subjects.Subject.{Subject}
 
 -- an operator over an operand, with its other operand; or parentheses
 pub data Frame : Type 0 where

@@ -5,7 +5,7 @@ use Rattle.filterset_faults.specs.declared.span.SourceSpan.{SourceSpan}
 use Rattle.filterset_grammar.specs.Printing.{printed_leaf}
 use Rattle.filterset_grammar.specs.Tree.{Leaf, Tree, Not, Union, Join, Parens, Set}
 use Rattle.filterset_hints.specs.Subjects.{Basis, HasColumn}
-use Rattle.filterset_hints.specs.declared.subject.Subject.{Subject}
+use Rattle.filterset_listing.specs.declared.subjects.Subject.{Subject}
 
 -- a predicate, and how many skipped binaries may have a test that it matches
 abbrev pub Unmatched : Type 0

@@ -12,9 +12,9 @@ ghost use Rattle.filterset_hints.specs.Columns.{first_of, second_of, values_of, 
 ghost use Rattle.filterset_hints.specs.Subjects.{HasColumn};
 
 use crate::operands::{negated_by, operands_of};
-use crate::subject::Subject;
 use filterset_expression::{CompiledExpr, EvalContext, FlatExpr, Logic};
 use filterset_language::ParsedExpr;
+use filterset_listing::Subject;
 use std::alloc::{AllocError, Global};
 
 /// What a tree is evaluated by and for.

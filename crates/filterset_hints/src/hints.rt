@@ -12,10 +12,10 @@ ghost use Rattle.filterset_hints.specs.Unmatched.{AreUnmatched};
 
 use crate::columns::{Asked, Columns, columns_of};
 use crate::needless::{NeedlessOperand, find_needless};
-use crate::subject::Subject;
 use crate::unmatched::{UnmatchedPredicate, any_yes, find_unmatched};
 use filterset_expression::{CompiledExpr, EvalContext};
 use filterset_language::ParsedExpr;
+use filterset_listing::Subject;
 use std::alloc::{AllocError, Global};
 
 /// What a list of tests says of a filterset.

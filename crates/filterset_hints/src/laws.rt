@@ -8,7 +8,7 @@ ghost use Rattle.filterset_listing.specs.Asking.{TreePicks};
 ghost use Rattle.filterset_listing.specs.declared.explaining.candidate.Candidate.TheVariants.{Binary, Test};
 ghost use Rattle.filterset_hints.specs.Needless.{ChangesNothing, Frame, constant, placed};
 ghost use Rattle.filterset_hints.specs.Subjects.{Basis};
-ghost use Rattle.filterset_hints.specs.declared.subject.Subject.{Subject};
+ghost use Rattle.filterset_listing.specs.declared.subjects.Subject.{Subject};
 
 /// Proves that a constant changes nothing in place of an operand exactly if the whole tree picks the same tests with it: a
 /// test in its group, and each test that a binary whose tests are unknown may have, whatever its name and group are.

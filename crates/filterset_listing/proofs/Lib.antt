@@ -16,3 +16,4 @@ pub mod ValueLemmas
 pub mod NodeLemmas
 pub mod PossibleLemmas
 pub mod AmongLemmas
+pub mod SubjectLemmas

@@ -16,4 +16,5 @@ pub mod Values
 pub mod Explaining
 pub mod Joining
 pub mod Possible
+pub mod Subjects
 pub mod ExplanationText

@@ -17,7 +17,7 @@ pub mod candidate;
 mod joining;
 mod operands;
 pub mod packages;
-mod possible;
+pub mod possible;
 pub mod text;
 mod values;
 

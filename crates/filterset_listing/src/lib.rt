@@ -9,6 +9,7 @@ mod groups;
 mod listing;
 mod lookup;
 mod selection;
+mod subjects;
 
 pub use binary::AskedBinary;
 pub use comparing::text::{any_unknown, comparison_text, differ};
@@ -23,3 +24,4 @@ pub use listing::json::list_json;
 pub use listing::text::{list_text, uncounted_count, unknown_count};
 pub use listing::{BinaryPicks, UnknownTest, list, lists_unknown};
 pub use selection::selection_of;
+pub use subjects::{Subject, subjects_of};

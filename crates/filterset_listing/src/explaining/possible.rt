@@ -1,9 +1,10 @@
 //! The groups that a test may be in.
-ghost use Rattle.std.specs.Prelude.{◌≡◌, IfOk};
+ghost use Rattle.std.specs.Prelude.{◌≡◌, IfOk, List};
 ghost use Rattle.filterset_expression.specs.Contexts.{default_of};
 ghost use Rattle.filterset_expression.specs.declared.expression.CompiledExpr as compiled;
-ghost use Rattle.filterset_listing.specs.Overrides.{MayApply, all_tests, given_of};
+ghost use Rattle.filterset_listing.specs.Overrides.{AreTold, MayApply, all_tests, given_of};
 ghost use Rattle.filterset_listing.specs.Possible.{ArePossible, Walks, path_if};
+ghost use Rattle.filterset_listing.specs.declared.groups.GroupOverride as declared;
 
 use crate::groups::{GroupOverride, ToldOverride, lay_out, told_overrides};
 use filterset_expression::{CompiledExpr, EvalContext, TestQuery};
@@ -55,6 +56,28 @@ impl<'g> PossibleGroups<'g> {
     }
 }
 
+/// Returns the groups that a test may be in. `rows` are the overrides that may apply to tests of its binary.
+pub fn possible_groups<'g>(
+    alloc: Global,
+    rows: &[ToldOverride<'_, 'g, '_>],
+    query: &TestQuery<'_>,
+) -> Result<PossibleGroups<'g>, AllocError>
+    ensures { IfOk result (λ possible. (default : compiled.CompiledExpr) (overrides : List declared.GroupOverride)
+        → AreTold default overrides query.now.binary_query rows.now
+        → ArePossible default overrides query.now possible) }
+{
+    let mut possible = PossibleGroups {
+        undecided: Vec::new(alloc),
+        last: GLOBAL_TEST_GROUP,
+    };
+    for row in rows {
+        if possible.push(alloc, row, query)? {
+            return Ok(possible);
+        }
+    }
+    Ok(possible)
+}
+
 /// Returns the groups that a test may be in, by these overrides. `all` is the filter of one that has none.
 pub fn groups_of<'g, 'f>(
     alloc: Global,
@@ -68,14 +91,5 @@ pub fn groups_of<'g, 'f>(
 {
     let laid = lay_out(alloc, overrides, all, context)?;
     let rows = told_overrides(alloc, &laid, &query.binary_query)?;
-    let mut possible = PossibleGroups {
-        undecided: Vec::new(alloc),
-        last: GLOBAL_TEST_GROUP,
-    };
-    for row in &rows {
-        if possible.push(alloc, row, query)? {
-            return Ok(possible);
-        }
-    }
-    Ok(possible)
+    possible_groups(alloc, &rows, query)
 }

@@ -4,7 +4,7 @@ use Rattle.filterset_hints.specs.Columns.{values_of}
 use Rattle.filterset_hints.specs.Finding.{AreDeciding, found_of, unmatched_of}
 use Rattle.filterset_hints.specs.Needless.{AreFound, picks_by_all}
 use Rattle.filterset_hints.specs.Subjects.{Basis}
-use Rattle.filterset_hints.specs.declared.subject.Subject.{Subject}
+use Rattle.filterset_listing.specs.declared.subjects.Subject.{Subject}
 use Rattle.filterset_hints.proofs.ColumnLemmas.{own_column}
 use Rattle.filterset_hints.proofs.hints.needless_of.Goals as goal
 

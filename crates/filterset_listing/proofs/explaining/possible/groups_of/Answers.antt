@@ -1,57 +1,14 @@
-use Rattle.std.proofs.Common.{rules, arith, ◌≡◌, ◌<◌, ◌+◌, ◌∷◌, ◌∙◌, List, ℕ, ap, drop, get_or, length, map, refl, subst, sym}
-use Rattle.std.proofs.lemmas.List.{drop_all, drop_more}
+use Rattle.std.proofs.Common.{subst, sym}
+use Rattle.std.proofs.lemmas.Result.{IfOk-weaker}
 use Rattle.filterset_expression.specs.Contexts.{default_of}
-use Rattle.filterset_listing.specs.Overrides.{AreLaid, MayApply, given_of}
-use Rattle.filterset_listing.specs.Possible.{Walks}
-use Rattle.filterset_listing.specs.declared.groups.ToldOverride.{ToldOverride}
-use Rattle.filterset_listing.proofs.PossibleLemmas.{Walked, possible_alike, walk_begins, walk_ends, walk_goes, walk_stops}
+use Rattle.filterset_listing.specs.Overrides.{AreLaid, AreTold}
 use Rattle.filterset_listing.proofs.explaining.possible.groups_of.Goals as goal
-
--- the overrides from a row on
-left_from : (rows : List ToldOverride) (i : ℕ) (row : ToldOverride) → i < length rows → get_or rows i row ≡ row → drop i rows ≡ row ∷ drop (i + 1) rows
-left_from rows i row lt at = drop_more rows i row lt ∙ ap (λ r. r ∷ drop (i + 1) rows) at
-
-pub loop-row-init : goal.loop-row-init
-loop-row-init c default all = walk_begins default (map given_of c.deref-row-items.result.now) c.args.query.now _ _ c.new.ensures.items refl
-
-pub loop-row-preserved : goal.loop-row-preserved
-loop-row-preserved c default all =
-    let rows = c.deref-row-items.result.now in
-    let query = c.args.query.now in
-    let i = c.loop-row.row-index in
-    let row = c.row-item.result in
-    let before = c.loop-row.possible in
-    let lt : i < length rows = omega (arith, c.loop-row-test.true) in
-    let at : get_or rows i row ≡ row = search (rules, c.row-item.is) in
-    let may = subst (MayApply default query.binary_query) at (all i row lt) in
-    let walked = subst (λ l. Walked default (map given_of rows) query before.undecided.items before.last.now (map given_of l)) (left_from rows i row lt at) (c.loop-row.invariant default all) in
-    walk_goes default (map given_of rows) query before c.push.new.self (given_of row) (map given_of (drop (i + 1) rows)) walked
-    (subst (Walks default query (given_of row) before c.push.new.self) c.if-branch.false (c.in_ok-push.ensures default may))
-
-pub returns-then-branch : goal.returns-then-branch
-returns-then-branch c =
-    let default = default_of c.args.context.now in
-    let rows = c.deref-row-items.result.now in
-    let query = c.args.query.now in
-    let told = rw (← c.deref-row-items.ensures.value) at (c.in_ok-rows.ensures default c.args.overrides.now (subst (AreLaid default c.args.overrides.now) (sym c.deref.ensures.value) c.in_ok-laid.ensures)) in
-    let i = c.loop-row.row-index in
-    let row = c.row-item.result in
-    let before = c.loop-row.possible in
-    let lt : i < length rows = omega (arith, c.loop-row-test.true) in
-    let at : get_or rows i row ≡ row = search (rules, c.row-item.is) in
-    let may = subst (MayApply default query.binary_query) at (told.0 i row lt) in
-    let walked = subst (λ l. Walked default (map given_of rows) query before.undecided.items before.last.now (map given_of l)) (left_from rows i row lt at) (c.loop-row.invariant default told.0) in
-    possible_alike default (map given_of rows) c.args.overrides.now query c.push.new.self (told.1 query refl)
-    (walk_stops default (map given_of rows) query before c.push.new.self (given_of row) (map given_of (drop (i + 1) rows)) walked
-    (subst (Walks default query (given_of row) before c.push.new.self) c.if-branch.true (c.in_ok-push.ensures default may)))
 
 pub returns : goal.returns
 returns c =
     let default = default_of c.args.context.now in
-    let rows = c.deref-row-items.result.now in
-    let query = c.args.query.now in
-    let told = rw (← c.deref-row-items.ensures.value) at (c.in_ok-rows.ensures default c.args.overrides.now (subst (AreLaid default c.args.overrides.now) (sym c.deref.ensures.value) c.in_ok-laid.ensures)) in
-    let possible = c.loop-row.possible in
-    possible_alike default (map given_of rows) c.args.overrides.now query possible (told.1 query refl)
-    (walk_ends default (map given_of rows) query possible
-    (subst (λ l. Walked default (map given_of rows) query possible.undecided.items possible.last.now (map given_of l)) (drop_all c.loop-row.row-index rows c.loop-row-test.false) (c.loop-row.invariant default told.0)))
+    let overrides = c.args.overrides.now in
+    let laid = subst (AreLaid default overrides) (sym c.deref.ensures.value) c.in_ok-laid.ensures in
+    IfOk-weaker c.possible_groups.result _ _ (λ possible are. are default overrides
+    (subst (AreTold default overrides c.args.query.now.binary_query) (sym c.deref-2.ensures.value) (c.in_ok-rows.ensures default overrides laid)))
+    c.possible_groups.ensures

@@ -11,7 +11,7 @@ use Rattle.filterset_expression.proofs.Meanings.{compiled_means}
 use Rattle.filterset_listing.specs.Asking.{Text, in_group}
 use Rattle.filterset_listing.specs.Values.{HasValueIn}
 use Rattle.filterset_listing.specs.declared.explaining.candidate.Candidate.TheVariants.{Binary}
-use Rattle.filterset_hints.proofs.subject.Subject.ask.Goals as goal
+use Rattle.filterset_listing.proofs.subjects.Subject.ask.Goals as goal
 
 -- what both clauses say of an answer
 value_of : (group : Text) (query : BinaryQuery) (flat : FlatExpr) (answer : Option Bool)
