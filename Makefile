@@ -8,8 +8,8 @@
 PREFIX = /usr/local
 DESTDIR =
 OUT = out
-COMMAND = crates/filterset_command/out/filterset_command
-VERSION := $(shell sed -n 's/^const VERSION: &str = "\(.*\)";$$/\1/p' crates/filterset_command/src/arguments.rt)
+COMMAND = crates/filterset/out/filterset
+VERSION := $(shell sed -n 's/^const VERSION: &str = "\(.*\)";$$/\1/p' crates/filterset_arguments/src/commands.rt)
 
 .PHONY: all programs extras library install uninstall check dist
 all: programs

@@ -87,7 +87,7 @@ example_refused() {
 
 in_c() {
     local valgrind=(valgrind -q --error-exitcode=99 --leak-check=full --errors-for-leak-kinds=all)
-    metadata=crates/filterset_command/data/cargo-metadata.json
+    metadata=crates/filterset/data/cargo-metadata.json
     try "the example in C" "$compiler" -std=c99 -O2 -Wall -Wextra -Wpedantic -Werror -Ibindings/c bindings/c/example.c \
         "$lib/libfilterset.a" -o "$room/example"
     try "what the example writes" example_writes

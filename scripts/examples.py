@@ -3,7 +3,7 @@
 
     scripts/examples.py [--programs FOLDER] [PAGE..]
 
-`rt ci` builds the programs; or they are FOLDER/filterset_command and FOLDER/filterset_cli, with the built conformance.
+`rt ci` builds the programs; or they are FOLDER/filterset and FOLDER/filterset_cli, with the built conformance.
 examples/README.md says how examples are written. Without a page it runs README.md, docs/, examples/transcripts/ and
 examples/sessions/. Then options.md must have each option that `--help` of the program for people or of one of its
 commands lists, with each value, and the example of each help. The last line is 'N passed, M failed', by commands, runs
@@ -29,9 +29,9 @@ from repository import TOP, report, tracked
 
 PAGES = ("README.md", "docs/*.md", "examples/*/*.md")
 OPTIONS = "examples/transcripts/options.md"
-PROGRAMS = ("filterset_command", "filterset_cli")
+PROGRAMS = ("filterset", "filterset_cli")
 SUITE = TOP / "crates/conformance/out/conformance"
-DATA = "crates/filterset_command/data"
+DATA = "crates/filterset/data"
 WAYS = {"message by message": 1 << 30, "byte by byte": 1}
 
 # A heading; or a block: its language, its name, how its lines end, and its text.
@@ -44,7 +44,7 @@ OPTION = re.compile(r"^ {2,6}(?:(-\w)(?:, |$))?(--[\w-]+)?(.*(?:\n(?! {2,6}-).*)
 FILTERSET = """\
 #!/bin/bash
 if [ "$1" = --try ]; then shift; fi
-if [ $# -gt 0 ]; then exec -a filterset '{filterset_command}' "$@"; else exec '{filterset_cli}'; fi
+if [ $# -gt 0 ]; then exec -a filterset '{filterset}' "$@"; else exec '{filterset_cli}'; fi
 """
 
 
@@ -251,9 +251,9 @@ def results(programs, pages):
     """Yields the place of each example, and its fault or None; of all pages if none is given."""
     for page in map(Page, pages or tracked(*PAGES)):
         yield from run_commands(page, programs)
-        yield from run_sessions(page, programs["filterset_command"])
+        yield from run_sessions(page, programs["filterset"])
     if not pages:
-        yield from check_options(programs["filterset_command"])
+        yield from check_options(programs["filterset"])
 
 
 def main(words):

@@ -30,7 +30,7 @@ put() {
 }
 
 put_programs() {
-    put 755 crates/filterset_command/out/filterset_command bin/filterset
+    put 755 crates/filterset/out/filterset bin/filterset
     put 755 crates/filterset_cli/out/filterset_cli bin/filterset-record
 }
 
@@ -86,7 +86,7 @@ EOF
 }
 
 install_all() {
-    if [ ! -x crates/filterset_command/out/filterset_command ] || [ ! -f "$out/completions/fish" ]; then
+    if [ ! -x crates/filterset/out/filterset ] || [ ! -f "$out/completions/fish" ]; then
         say "there is nothing to install: run make first"
         exit 1
     fi

@@ -5,7 +5,7 @@
 # 'N passed, M failed', or 'N passed, M failed, K skipped'.
 set -uo pipefail
 source "$(dirname "${BASH_SOURCE[0]}")/lib.sh"
-need crates/filterset_command/out/filterset_command
+need crates/filterset/out/filterset
 need "$program"
 prefix=$room/prefix skipped=0
 
@@ -37,7 +37,7 @@ try_programs() {
     holds "the libraries of filterset" needs_only_c "$prefix/bin/filterset"
     holds "the libraries of filterset-record" needs_only_c "$prefix/bin/filterset-record"
     mkdir "$room/programs"
-    ln -s "$prefix/bin/filterset" "$room/programs/filterset_command"
+    ln -s "$prefix/bin/filterset" "$room/programs/filterset"
     ln -s "$prefix/bin/filterset-record" "$room/programs/filterset_cli"
     holds "transcripts" scripts/examples.py --programs "$room/programs" examples/transcripts/{options,records}.md
 }
@@ -79,7 +79,7 @@ try_completions() {
 build_example() {
     # shellcheck disable=SC2046 # (words of flags)
     "${CC:-cc}" -o "$room/example" "$prefix/share/doc/filterset/example.c" $(pkg-config --cflags --libs filterset) &&
-        LD_LIBRARY_PATH=$prefix/lib "$room/example" crates/filterset_command/data/cargo-metadata.json 'deps(parser)'
+        LD_LIBRARY_PATH=$prefix/lib "$room/example" crates/filterset/data/cargo-metadata.json 'deps(parser)'
 }
 
 # Builds the program of wrong arguments with the installed header and static library, and runs it.
@@ -90,7 +90,7 @@ build_wrong() {
 # Returns whether the example does not start with a library that has the name of another version alone.
 refuses_another() {
     mkdir "$room/another" && cp "$prefix/lib/libfilterset.so" "$room/another/libfilterset.so.1" || return 1
-    ! LD_LIBRARY_PATH=$room/another "$room/example" crates/filterset_command/data/cargo-metadata.json 'all()' 2> "$room/errors" &&
+    ! LD_LIBRARY_PATH=$room/another "$room/example" crates/filterset/data/cargo-metadata.json 'all()' 2> "$room/errors" &&
         grep 'libfilterset.so.0' "$room/errors"
 }
 

@@ -29,7 +29,7 @@ SPAN = re.compile(r"`([^`]+)`|\*\*(.+?)\*\*|\[((?:`[^`]*`|[^\]`])*)\]\([^)]*\)")
 OPTION = re.compile(r"^ {2,6}((?:-\w, )?[-<[].*?)(?: {2,}(.*))?$", re.M)
 # What pages call by its place in the repository, and what that is where the programs are installed.
 INSTALLED = [(r"\./filterset(?=`? <|\n)", "filterset-record"), (r"\./filterset\b", "filterset"),
-             (r"\$ data=.*\n", ""), (r"\$data/|crates/filterset_command/data/", "")]
+             (r"\$ data=.*\n", ""), (r"\$data/|crates/filterset/data/", "")]
 # What roff would take for something else, or set as another character.
 ROFF = {"\\": r"\e", "-": r"\-", "'": r"\(aq", "`": r"\(ga", "^": r"\(ha", "~": r"\(ti", '"': r"\(dq"}
 

@@ -15,7 +15,7 @@ umask 022
 cd "$(dirname "${BASH_SOURCE[0]}")/.."
 if [ $# -ne 2 ]; then sed -n '2,4s/^# \{0,1\}//p' scripts/release.sh >&2; exit 2; fi
 version=$1 folder=$2 name=filterset-$1-x86_64-linux
-programs=(crates/filterset_command/out/filterset_command crates/filterset_cli/out/filterset_cli)
+programs=(crates/filterset/out/filterset crates/filterset_cli/out/filterset_cli)
 built=("${programs[@]}" out/lib/libfilterset.a out/lib/libfilterset.so)
 
 die() {

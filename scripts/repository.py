@@ -4,7 +4,7 @@ import subprocess
 from pathlib import Path
 
 TOP = Path(__file__).resolve().parent.parent
-COMMAND = TOP / "crates/filterset_command/out/filterset_command"
+COMMAND = TOP / "crates/filterset/out/filterset"
 
 
 def tracked(*patterns):

@@ -4,8 +4,8 @@ scripts/trusted.py [CRATE..]
 
 A file has a line: how many of its lines are reached, without comments, and what they define. The last line has the sum.
 The clauses are those of all public calls in these crates and those below them, or in all that the programs and the
-library for C are made of, and of the functions in `PROMISED`. What proves something where it is used (an invariant, the
-laws of an `==`) is not followed: the prover checks it. The layout must be that of `rt fmt`.
+library for C are made of; of a crate in `PROMISED`, those of these functions. What proves something where it is used
+(an invariant, the laws of an `==`) is not followed: the prover checks it. The layout must be that of `rt fmt`.
 """
 
 import re
@@ -14,9 +14,9 @@ from collections import defaultdict, namedtuple
 
 from repository import crates, text_of, tracked
 
-PROGRAMS = ("filterset_cli", "filterset_command", "filterset_c")
-# What docs/PROVED.md promises of functions that no other crate can name.
-PROMISED = {"filterset_command": {"run", "status", "serve_editor", "task_of"}}
+PROGRAMS = ("filterset_cli", "filterset", "filterset_c")
+# What docs/PROVED.md promises of crates that nothing but a program is made of.
+PROMISED = {"filterset": {"run", "status", "serve_editor"}, "filterset_loading": {"task_of"}}
 # Members that prove something where they are used.
 PROVING = {"laws", "xor_laws", "total", "matches_partial_cmp", "matches_eq", "respects_eq", "coded", "invariant"}
 
@@ -152,7 +152,7 @@ class Sources:
         modules = (item.name for item in pub if item.kind == "mod" and item.path == root)
         paths = {root, *(f"crates/{crate}/src/{name}.rt" for name in modules)}
         exported = re.findall(r"\w+", " ".join(re.findall(r"(?m)^pub use ([^;]*);", self.texts.get(root, ""))))
-        names = promised.union(exported, (item.name for item in pub if item.path in paths))
+        names = promised or {*exported, *(item.name for item in pub if item.path in paths)}
         if lost := promised - {item.name for item in pub}:
             raise LookupError(f"{crate} has no public {', '.join(lost)}")
         for item in self.items[crate]:

@@ -3,7 +3,7 @@ use Rattle.std.proofs.Common.{◌≡◌, ◌<◌, ◌+◌, ℕ, zero, suc, List,
 use Rattle.std.proofs.lemmas.List.{map-append, take_more}
 use Rattle.std.specs.Borrow.{Bor}
 use Rattle.std.specs.List.{range_with_len}
-use Rattle.filterset_answers.specs.Checked.{TextRow}
+use Rattle.filterset_entries.specs.Checked.{TextRow}
 use Rattle.filterset_documents.specs.Joins.{Joins}
 use Rattle.filterset_documents.proofs.JoinLemmas.{Joins-push, rows_more}
 

@@ -4,8 +4,8 @@ use Rattle.std.specs.List.{range_with_len}
 use Rattle.std.specs.Str.{bytes_eq}
 use Rattle.serde_json.specs.Data.{Data, array, string, object, member, no_members}
 use Rattle.serde_json.specs.View.{items_of}
-use Rattle.filterset_answers.specs.Checked.{TextRow}
-use Rattle.filterset_answers.specs.Placements.{Placement}
+use Rattle.filterset_entries.specs.Checked.{TextRow}
+use Rattle.filterset_entries.specs.Placements.{Placement}
 use Rattle.filterset_documents.specs.Contents.{ContentRow}
 use Rattle.filterset_documents.specs.Diagnostics.{IsFaultAt, fault_span}
 use Rattle.filterset_documents.specs.Edits.{edit_data}

@@ -2,8 +2,8 @@
 use Rattle.std.specs.Prelude.{◌≡◌, ℕ, Bool, true, false, List, [], ◌∷◌, MatchOption, Option, None, Some, chars, map, slice_set, string_bytes}
 use Rattle.std.specs.Bool.{then_some}
 use Rattle.std.specs.List.{flat_map}
-use Rattle.filterset_answers.specs.Checked.{TextRow}
-use Rattle.filterset_answers.specs.Placements.{TextSpot, line, literal, span_in}
+use Rattle.filterset_entries.specs.Checked.{TextRow}
+use Rattle.filterset_entries.specs.Placements.{TextSpot, line, literal, span_in}
 use Rattle.filterset_documents.specs.Contents.{Becomes}
 use Rattle.filterset_documents.specs.Edits.{basic_char, quoted}
 use Rattle.filterset_documents.specs.Filtersets.{stretch_span}

@@ -1,6 +1,6 @@
 -- What may be done with a filterset.
 use Rattle.std.specs.Prelude.{◌≡◌, MatchBool, Option, None, Some, codes, length}
-use Rattle.filterset_answers.specs.Placements.{Placement}
+use Rattle.filterset_entries.specs.Placements.{Placement}
 use Rattle.filterset_documents.specs.Diagnostics.{fault_span}
 use Rattle.filterset_editor.specs.Positions.{Text}
 use Rattle.filterset_faults.specs.declared.error.ParseSingleError.{ParseSingleError}

@@ -1,8 +1,8 @@
 //! The actions for the filtersets of a document.
 ghost use Rattle.std.specs.Prelude.{◌<◌, IfOk, length, map, string_bytes};
 ghost use Rattle.serde_json.specs.View.{view};
-ghost use Rattle.filterset_answers.specs.Checked.{text_row};
-ghost use Rattle.filterset_answers.specs.Placements.{placement_of};
+ghost use Rattle.filterset_entries.specs.Checked.{text_row};
+ghost use Rattle.filterset_entries.specs.Placements.{placement_of};
 ghost use Rattle.filterset_documents.specs.Joins.{Joins};
 ghost use Rattle.filterset_language.specs.Views.{tree_of};
 ghost use Rattle.filterset_documents.specs.Contents.{content_row};
@@ -17,9 +17,9 @@ use crate::reading::{Reading, read_text};
 use crate::spelling::spelled_text;
 use crate::subject::{Subject, meets};
 use crate::values::range_actions;
-use filterset_answers::{FilePlace, TextEntry};
 use filterset_documents::{Content, Shown, is_same, stretch_at, stretch_span};
 use filterset_editor::{Change, Range};
+use filterset_entries::{FilePlace, TextEntry};
 use filterset_faults::ParseSingleError;
 use filterset_language::ParsedExpr;
 use filterset_rewriting::show_reading;

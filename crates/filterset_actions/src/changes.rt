@@ -1,7 +1,7 @@
 //! Whether a change of a file gives a filterset a new text, and changes no other.
 ghost use Rattle.std.specs.Prelude.{◌≡◌, ◌<◌, IfOk, length, map, slice_set};
-ghost use Rattle.filterset_answers.specs.Checked.{text_row};
-ghost use Rattle.filterset_answers.specs.Placements.{spot_of};
+ghost use Rattle.filterset_entries.specs.Checked.{text_row};
+ghost use Rattle.filterset_entries.specs.Placements.{spot_of};
 ghost use Rattle.filterset_actions.specs.Changes.{Gets, IsChosen, IsTried, texts_of};
 ghost use Rattle.filterset_actions.specs.Proposals.{proposal_row};
 ghost use Rattle.filterset_actions.specs.Subjects.{subject_row};
@@ -9,9 +9,9 @@ ghost use Rattle.filterset_actions.specs.Subjects.{subject_row};
 use crate::edits::change_for;
 use crate::proposals::Proposal;
 use crate::subject::Subject;
-use filterset_answers::{FilePlace, TextEntry};
 use filterset_documents::becomes;
 use filterset_editor::{Change, change_text};
+use filterset_entries::{FilePlace, TextEntry};
 use std::alloc::{AllocError, Global};
 use std::slice;
 

@@ -1,15 +1,15 @@
 //! Changes of files that give filtersets new texts.
 ghost use Rattle.std.specs.Prelude.{◌≡◌, IfOk, Some, string_bytes};
-ghost use Rattle.filterset_answers.specs.Placements.{spot_of};
+ghost use Rattle.filterset_entries.specs.Placements.{spot_of};
 ghost use Rattle.filterset_actions.specs.Changes.{IsChangeFor, changed_span, changed_text};
 ghost use Rattle.filterset_actions.specs.Proposals.{proposal_row};
 ghost use Rattle.filterset_actions.specs.Subjects.{subject_row};
 
 use crate::proposals::Proposal;
 use crate::subject::Subject;
-use filterset_answers::{FilePlace, Spot};
 use filterset_documents::{escape, quote, range_of, span_in, stretch_span};
 use filterset_editor::Change;
+use filterset_entries::{FilePlace, Spot};
 use filterset_faults::SourceSpan;
 use std::alloc::{AllocError, Global};
 

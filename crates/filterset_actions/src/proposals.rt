@@ -1,14 +1,14 @@
 //! What may be done with a filterset.
 ghost use Rattle.std.specs.Prelude.{◌≡◌, IfOk, option_map};
-ghost use Rattle.filterset_answers.specs.Placements.{placement_of};
+ghost use Rattle.filterset_entries.specs.Placements.{placement_of};
 ghost use Rattle.filterset_actions.specs.Proposals.{IsRepairIn, proposal_row, rewrite_row};
 ghost use Rattle.filterset_actions.specs.Repairs.{repair_row};
 ghost use Rattle.filterset_actions.specs.Subjects.{subject_row};
 
 use crate::repairs::{Repair, repair_of};
 use crate::subject::{Subject, meets};
-use filterset_answers::FilePlace;
 use filterset_documents::{Edit, fault_span};
+use filterset_entries::FilePlace;
 use filterset_faults::ParseSingleError;
 use filterset_places::Stretch;
 use std::alloc::{AllocError, Global};

@@ -2,7 +2,7 @@
 ghost use Rattle.std.specs.Prelude.{◌≡◌, ◌∷◌, [], IfOk, Some, map, string_bytes};
 ghost use Rattle.serde_json.specs.Data.{Data, member, no_members, object};
 ghost use Rattle.serde_json.specs.View.{view};
-ghost use Rattle.filterset_answers.specs.Placements.{placement_of};
+ghost use Rattle.filterset_entries.specs.Placements.{placement_of};
 ghost use Rattle.filterset_documents.specs.Edits.{edit_data};
 ghost use Rattle.filterset_documents.specs.Ranges.{range_data};
 ghost use Rattle.filterset_editor.specs.declared.positions.Range.{Range};
@@ -13,9 +13,9 @@ ghost use Rattle.filterset_actions.specs.Subjects.{subject_row};
 
 use crate::proposals::Proposal;
 use crate::subject::Subject;
-use filterset_answers::FilePlace;
 use filterset_documents::{fault_span, fault_value, range_value};
 use filterset_editor::{Change, Range};
+use filterset_entries::FilePlace;
 use filterset_faults::ParseSingleError;
 use serde_json::{Map, Value, json, put};
 use std::alloc::{AllocError, Global};

@@ -13,14 +13,15 @@ use Rattle.nextest_filtering.specs.Compiling.{IsRefusedWith, found, rejected, ba
 use Rattle.nextest_filtering.specs.declared.compile.context.KnownGroups.{KnownGroups}
 use Rattle.nextest_filtering.specs.declared.filterset.Filterset.{Filterset}
 use Rattle.filterset_answers.specs.Answers.{FaultsOf, TextFaults, no_texts}
-use Rattle.filterset_answers.specs.Checked.{HasRefusal, TextRow, text_row}
+use Rattle.filterset_entries.specs.Checked.{HasRefusal, TextRow, text_row}
 use Rattle.filterset_answers.specs.Compiled.{Compiles, HasMade, IsFilter, IsLogOf, IsMade, IsParsedAs}
-use Rattle.filterset_answers.specs.Entries.{filter_row}
+use Rattle.filterset_entries.specs.Entries.{filter_row}
 use Rattle.filterset_answers.specs.declared.compiling.Compiler.{Compiler}
 use Rattle.filterset_answers.specs.declared.compiling.FaultLog.{FaultLog}
-use Rattle.filterset_answers.specs.declared.setting.OverrideEntry.{OverrideEntry}
-use Rattle.filterset_answers.specs.declared.text.TextEntry.{TextEntry}
-use Rattle.filterset_answers.proofs.AnswersLemmas.{AllZip-push, FaultsOf-push, one_if, some_is}
+use Rattle.filterset_entries.specs.declared.setting.OverrideEntry.{OverrideEntry}
+use Rattle.filterset_entries.specs.declared.text.TextEntry.{TextEntry}
+use Rattle.filterset_entries.proofs.RowsLemmas.{AllZip-push}
+use Rattle.filterset_answers.proofs.AnswersLemmas.{FaultsOf-push, one_if, some_is}
 
 -- the faults that refuse a text are some
 refusal_some : (text : Text) (kind : FiltersetKind) (packages : List PackageMetadata) (groups : KnownGroups) (faults : List ParseSingleError)

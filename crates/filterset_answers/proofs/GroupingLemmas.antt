@@ -9,9 +9,9 @@ use Rattle.filterset_language.specs.Views.{tree_of}
 use Rattle.nextest_filtering.specs.declared.filterset.Filterset.{Filterset}
 use Rattle.filterset_answers.specs.Compiled.{IsCompiledText, IsFilterFor}
 use Rattle.filterset_answers.specs.Picking.{compiled_of}
-use Rattle.filterset_answers.specs.declared.setting.OverrideEntry.{OverrideEntry}
-use Rattle.filterset_answers.specs.declared.setting.Setting.{Setting}
-use Rattle.filterset_answers.specs.declared.text.TextEntry.{TextEntry}
+use Rattle.filterset_entries.specs.declared.setting.OverrideEntry.{OverrideEntry}
+use Rattle.filterset_entries.specs.declared.setting.Setting.{Setting}
+use Rattle.filterset_entries.specs.declared.text.TextEntry.{TextEntry}
 
 -- the expression of a filter is what its text is compiled to
 pub compiled_text : (setting : Setting) (entry : OverrideEntry) (made : Option Filterset) (filter : Option (Bor CompiledExpr))

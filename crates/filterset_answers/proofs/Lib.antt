@@ -1,14 +1,5 @@
 pub mod AnswersLemmas
 pub mod CompilingLemmas
 pub mod GroupingLemmas
-pub mod LineLemmas
 pub mod OverridingLemmas
-pub mod RowsLemmas
 pub mod PickingLemmas
-pub mod VerdictLemmas
-pub mod ListedLemmas
-pub mod VerdictJsonLemmas
-pub mod ReasonLemmas
-pub mod VerdictTextLemmas
-pub mod TreeLemmas
-pub mod UnreadLemmas

@@ -21,9 +21,9 @@ use Rattle.filterset_overrides.specs.declared.asked.AskedOverride.{AskedOverride
 use Rattle.nextest_filtering.specs.declared.filterset.Filterset.{Filterset}
 use Rattle.filterset_answers.specs.Compiled.{IsAskedFor, IsCompiledText, IsFilterFor, IsOverrideFor, sets_group}
 use Rattle.filterset_answers.specs.Overriding.{IsReason, IsReasonFor}
-use Rattle.filterset_answers.specs.declared.setting.OverrideEntry.{OverrideEntry}
-use Rattle.filterset_answers.specs.declared.setting.Setting.{Setting}
-use Rattle.filterset_answers.specs.declared.text.TextEntry.{TextEntry}
+use Rattle.filterset_entries.specs.declared.setting.OverrideEntry.{OverrideEntry}
+use Rattle.filterset_entries.specs.declared.setting.Setting.{Setting}
+use Rattle.filterset_entries.specs.declared.text.TextEntry.{TextEntry}
 
 -- what a text is compiled to is compiled from a tree
 one_compiled : (setting : Setting) (made : Option (Bor CompiledExpr)) (text : Option TextEntry) → IsCompiledText setting text made

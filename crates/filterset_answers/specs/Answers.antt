@@ -7,14 +7,14 @@ use Rattle.filterset_grammar.specs.Printing.{printed}
 use Rattle.filterset_grammar.specs.Tree.{Tree}
 use Rattle.filterset_language.specs.Parsed.{Reads}
 use Rattle.filterset_json.specs.Pieces.{Pieces}
-use Rattle.filterset_answers.specs.Checked.{HasFaults, HasReadingFaults, TextRow}
-use Rattle.filterset_answers.specs.Forms.{FaultPieces}
-use Rattle.filterset_answers.specs.declared.form.Form.{Form}
-use Rattle.filterset_answers.specs.declared.form.Form.TheVariants.{Drawn}
+use Rattle.filterset_entries.specs.Checked.{HasFaults, HasReadingFaults, TextRow}
+use Rattle.filterset_entries.specs.Forms.{FaultPieces}
+use Rattle.filterset_entries.specs.declared.form.Form.{Form}
+use Rattle.filterset_entries.specs.declared.form.Form.TheVariants.{Drawn}
 use Rattle.filterset_answers.specs.declared.formatting.Rewriting.{Rewriting}
 use Rattle.filterset_answers.specs.declared.formatting.Rewriting.TheVariants.{Printed, Simplified}
-use Rattle.filterset_answers.specs.declared.names.Names.{Names}
-use Rattle.filterset_simplifying.specs.Simplified.{IsSimplified}
+use Rattle.filterset_entries.specs.declared.names.Names.{Names}
+use Rattle.filterset_rewriting.specs.Simplifying.Simplified.{IsSimplified}
 
 -- ---- faults
 

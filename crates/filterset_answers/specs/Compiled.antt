@@ -18,20 +18,20 @@ use Rattle.nextest_filtering.specs.Compiling.{IsFiltersetOf, IsRefusedWith, pack
 use Rattle.nextest_filtering.specs.declared.compile.context.KnownGroups.{KnownGroups}
 use Rattle.nextest_filtering.specs.declared.filterset.Filterset.{Filterset}
 use Rattle.filterset_answers.specs.Answers.{FaultsOf}
-use Rattle.filterset_answers.specs.Checked.{HasRefusal, TextRow, text_row}
-use Rattle.filterset_answers.specs.Entries.{setting_rows}
-use Rattle.filterset_answers.specs.Forms.{FaultPieces}
+use Rattle.filterset_entries.specs.Checked.{HasRefusal, TextRow, text_row}
+use Rattle.filterset_entries.specs.Entries.{setting_rows}
+use Rattle.filterset_entries.specs.Forms.{FaultPieces}
 use Rattle.filterset_answers.specs.declared.compiling.CompiledTexts.{CompiledTexts}
 use Rattle.filterset_answers.specs.declared.compiling.CompiledTexts.TheVariants as texts
 use Rattle.filterset_answers.specs.declared.compiling.Compiler.{Compiler}
 use Rattle.filterset_answers.specs.declared.compiling.FaultLog.{FaultLog}
 use Rattle.filterset_answers.specs.declared.compiling.QuestionFiltersets.{QuestionFiltersets}
-use Rattle.filterset_answers.specs.declared.form.Form.{Form}
-use Rattle.filterset_answers.specs.declared.setting.OverrideEntry.{OverrideEntry}
-use Rattle.filterset_answers.specs.declared.setting.Setting.{Setting}
-use Rattle.filterset_answers.specs.declared.text.Ending.{Ending}
-use Rattle.filterset_answers.specs.declared.text.Ending.TheVariants.{Faulty}
-use Rattle.filterset_answers.specs.declared.text.TextEntry.{TextEntry}
+use Rattle.filterset_entries.specs.declared.form.Form.{Form}
+use Rattle.filterset_entries.specs.declared.setting.OverrideEntry.{OverrideEntry}
+use Rattle.filterset_entries.specs.declared.setting.Setting.{Setting}
+use Rattle.filterset_entries.specs.declared.text.Ending.{Ending}
+use Rattle.filterset_entries.specs.declared.text.Ending.TheVariants.{Faulty}
+use Rattle.filterset_entries.specs.declared.text.TextEntry.{TextEntry}
 
 -- ---- what is answered
 

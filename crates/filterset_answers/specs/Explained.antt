@@ -8,11 +8,11 @@ use Rattle.filterset_listing.specs.ExplanationText.{explanation_text}
 use Rattle.filterset_listing.specs.declared.explaining.Explanation.{Explanation}
 use Rattle.filterset_listing.specs.declared.explaining.candidate.Candidate.{Candidate}
 use Rattle.filterset_answers.specs.Compiled.{AnswersTexts, Basis, Telling}
-use Rattle.filterset_answers.specs.Endings.{unknown_ending}
-use Rattle.filterset_answers.specs.Entries.{test_row}
-use Rattle.filterset_answers.specs.declared.form.Form.{Form}
-use Rattle.filterset_answers.specs.declared.setting.Setting.{Setting}
-use Rattle.filterset_answers.specs.declared.text.Ending.{Ending}
+use Rattle.filterset_entries.specs.Endings.{unknown_ending}
+use Rattle.filterset_entries.specs.Entries.{test_row}
+use Rattle.filterset_entries.specs.declared.form.Form.{Form}
+use Rattle.filterset_entries.specs.declared.setting.Setting.{Setting}
+use Rattle.filterset_entries.specs.declared.text.Ending.{Ending}
 
 -- the value of each node of the tree, a line each, and the override that unknown ones hang on
 abbrev pub ExplainsTree : Candidate → (setting : Setting) → Basis setting → Tree SourceSpan → Ending → Text → Type 0

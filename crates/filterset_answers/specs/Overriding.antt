@@ -27,15 +27,15 @@ use Rattle.filterset_overrides.specs.declared.counting.OverrideRow.{OverrideRow}
 use Rattle.filterset_overrides.specs.declared.counting.OverrideTable.{OverrideTable}
 use Rattle.filterset_overrides.specs.declared.explaining.TestOverrides.{TestOverrides}
 use Rattle.nextest_filtering.specs.declared.filterset.Filterset.{Filterset}
-use Rattle.filterset_answers.specs.Checked.{text_row}
+use Rattle.filterset_entries.specs.Checked.{text_row}
 use Rattle.filterset_answers.specs.Compiled.{AnswersTexts, IsAskedFor, IsFilterFor, IsTreeOf, Telling}
-use Rattle.filterset_answers.specs.Endings.{unknown_ending}
+use Rattle.filterset_entries.specs.Endings.{unknown_ending}
 use Rattle.filterset_answers.specs.Picks.{ArePicks}
-use Rattle.filterset_answers.specs.declared.form.Form.{Form}
-use Rattle.filterset_answers.specs.declared.setting.OverrideEntry.{OverrideEntry}
-use Rattle.filterset_answers.specs.declared.setting.Setting.{Setting}
-use Rattle.filterset_answers.specs.declared.text.Ending.{Ending}
-use Rattle.filterset_answers.specs.declared.text.TextEntry.{TextEntry}
+use Rattle.filterset_entries.specs.declared.form.Form.{Form}
+use Rattle.filterset_entries.specs.declared.setting.OverrideEntry.{OverrideEntry}
+use Rattle.filterset_entries.specs.declared.setting.Setting.{Setting}
+use Rattle.filterset_entries.specs.declared.text.Ending.{Ending}
+use Rattle.filterset_entries.specs.declared.text.TextEntry.{TextEntry}
 
 -- ---- counting tests
 

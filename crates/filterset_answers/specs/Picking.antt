@@ -17,15 +17,15 @@ use Rattle.filterset_listing.specs.declared.comparing.BinaryDifference.{BinaryDi
 use Rattle.filterset_listing.specs.declared.listing.BinaryPicks.{BinaryPicks}
 use Rattle.nextest_filtering.specs.declared.filterset.Filterset.{Filterset}
 use Rattle.filterset_answers.specs.Compiled.{AnswersTexts, Telling}
-use Rattle.filterset_answers.specs.Endings.{differing_ending, unknown_ending}
-use Rattle.filterset_answers.specs.Entries.{question_rows}
+use Rattle.filterset_entries.specs.Endings.{differing_ending, unknown_ending}
+use Rattle.filterset_entries.specs.Entries.{question_rows}
 use Rattle.filterset_answers.specs.Overriding.{CountsOverrides}
 use Rattle.filterset_answers.specs.Picks.{ArePicks}
-use Rattle.filterset_answers.specs.declared.form.Form.{Form}
-use Rattle.filterset_answers.specs.declared.question.Question.{Question}
-use Rattle.filterset_answers.specs.declared.question.Question.TheVariants as questions
-use Rattle.filterset_answers.specs.declared.setting.Setting.{Setting}
-use Rattle.filterset_answers.specs.declared.text.Ending.{Ending}
+use Rattle.filterset_entries.specs.declared.form.Form.{Form}
+use Rattle.filterset_entries.specs.declared.question.Question.{Question}
+use Rattle.filterset_entries.specs.declared.question.Question.TheVariants as questions
+use Rattle.filterset_entries.specs.declared.setting.Setting.{Setting}
+use Rattle.filterset_entries.specs.declared.text.Ending.{Ending}
 
 abbrev pub compiled_of : Filterset → CompiledExpr
 compiled_of filterset = filterset.compiled

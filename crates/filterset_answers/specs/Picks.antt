@@ -9,7 +9,7 @@ use Rattle.filterset_listing.specs.Selection.{RunCanPick, RunPicks}
 use Rattle.filterset_listing.specs.declared.binary.AskedBinary.{AskedBinary}
 use Rattle.filterset_listing.specs.declared.listing.BinaryPicks.{BinaryPicks}
 use Rattle.filterset_answers.specs.Compiled.{Basis}
-use Rattle.filterset_answers.specs.declared.setting.Setting.{Setting}
+use Rattle.filterset_entries.specs.declared.setting.Setting.{Setting}
 
 -- of each binary the tests that the default filter picks, unless it is ignored, and one of the trees, if there are any
 abbrev pub ArePicks : (setting : Setting) → Bool → List AskedBinary → Basis setting → List (Tree SourceSpan) → List BinaryPicks → Type 0

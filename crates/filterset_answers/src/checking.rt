@@ -1,19 +1,27 @@
 //! The faults of texts.
-ghost use Rattle.std.specs.Prelude.{◌≡◌, ◌++◌, IfOk, List, OnOk, [], codes, if◌then◌else◌, ℕ, length, map, string_bytes};
+ghost use Rattle.std.specs.Prelude.{◌≡◌, ◌++◌, IfOk, OnOk, [], codes, if◌then◌else◌, ℕ, length, map, string_bytes};
 ghost use Rattle.filterset_drawing.specs.Columns.{Text};
 ghost use Rattle.filterset_faults.specs.declared.error.ParseSingleError.{ParseSingleError};
 ghost use Rattle.nextest_filtering.specs.Groups.{IsKnown};
 ghost use Rattle.filterset_answers.specs.Answers.{ChecksTexts, FaultsOf, TextFaults};
-ghost use Rattle.filterset_answers.specs.Answers.{counts_text, summary};
-ghost use Rattle.filterset_answers.specs.Checked.{HasFaults, text_row};
-ghost use Rattle.filterset_answers.specs.Endings.{ending_of};
+ghost use Rattle.filterset_answers.specs.Answers.{counts_text, has_some, summary};
+ghost use Rattle.filterset_entries.specs.Checked.{HasFaults, text_row};
+ghost use Rattle.filterset_entries.specs.Endings.{ending_of};
 
-use crate::faults::faults_of;
-use crate::form::{Form, has_some, push_faults};
-use crate::names::Names;
-use crate::text::{Answer, TextEntry, ending_of};
+use filterset_entries::{Answer, Form, Names, TextEntry, ending_of, faults_of, push_faults};
+use nextest_filtering::ParseSingleError;
 use std::alloc::{AllocError, Global};
 use std::fmt::Write;
+
+/// Returns whether there are faults.
+fn has_some(faults: &[ParseSingleError]) -> bool
+    ensures { result ≡ has_some faults.now }
+{
+    match faults {
+        [] => false,
+        [..] => true,
+    }
+}
 
 /// Writes the faults of a text, and returns whether it has any.
 fn push_text(

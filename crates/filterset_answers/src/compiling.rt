@@ -3,13 +3,11 @@ ghost use Rattle.std.specs.Prelude.{◌≡◌, ◌+◌, ◌++◌, ◌∷◌, [],
 ghost use Rattle.std.specs.List.{AllZip};
 ghost use Rattle.filterset_drawing.specs.Columns.{Text};
 ghost use Rattle.nextest_filtering.specs.Groups.{IsKnown};
-ghost use Rattle.filterset_answers.specs.Checked.{text_row};
+ghost use Rattle.filterset_entries.specs.Checked.{text_row};
 ghost use Rattle.filterset_answers.specs.Compiled.{AreCompiled, Compiles, CompilesAll, HasMade, IsFilter, IsMade, IsParsedAs};
-ghost use Rattle.filterset_answers.specs.Entries.{filter_row};
+ghost use Rattle.filterset_entries.specs.Entries.{filter_row};
 
-use crate::form::{Form, push_faults};
-use crate::setting::{OverrideEntry, Setting};
-use crate::text::TextEntry;
+use filterset_entries::{Form, OverrideEntry, Setting, TextEntry, push_faults};
 use nextest_filtering::{Filterset, KnownGroups, ParseContext};
 use std::alloc::{AllocError, Global};
 

@@ -8,16 +8,13 @@ ghost use Rattle.filterset_faults.specs.declared.span.SourceSpan.{SourceSpan};
 ghost use Rattle.filterset_grammar.specs.Tree.{Tree};
 ghost use Rattle.filterset_language.specs.Views.{tree_of};
 ghost use Rattle.nextest_filtering.specs.Groups.{IsKnown};
-ghost use Rattle.filterset_answers.specs.Checked.{TextRow};
+ghost use Rattle.filterset_entries.specs.Checked.{TextRow};
 ghost use Rattle.filterset_answers.specs.Compiled.{AreFiltersets, Basis, IsTreeOf};
 ghost use Rattle.filterset_answers.specs.Explained.{AnswersExplanation, Explains, ExplainsTree, ignored_line};
 
 use crate::compiling::{CompiledTexts, QuestionFiltersets, compile_texts};
-use crate::entries::entry_of;
-use crate::form::Form;
 use crate::grouping::group_overrides;
-use crate::setting::Setting;
-use crate::text::{Answer, Ending, unknown_ending};
+use filterset_entries::{Answer, Ending, Form, Setting, entry_of, unknown_ending};
 use filterset_listing::{Candidate, GroupOverride, explain, explain_text};
 use nextest_filtering::{EvalContext, Filterset, FiltersetKind};
 use std::alloc::{AllocError, Global};

@@ -3,14 +3,13 @@ ghost use Rattle.std.specs.Prelude.{◌≡◌, ◌≢◌, ◌++◌, IfOk, ℕ, m
 ghost use Rattle.filterset_drawing.specs.Columns.{Text};
 ghost use Rattle.filterset_json.specs.Pieces.{Pieces};
 ghost use Rattle.filterset_answers.specs.Answers.{FaultsOf, FormatsTexts, FormattedLine, FormattedPart, IsRewritten, RewritesTexts, SimplifiesTexts, TextFaults};
-ghost use Rattle.filterset_answers.specs.Checked.{HasReadingFaults, text_row};
-ghost use Rattle.filterset_answers.specs.Endings.{ending_of};
+ghost use Rattle.filterset_entries.specs.Checked.{HasReadingFaults, text_row};
+ghost use Rattle.filterset_entries.specs.Endings.{ending_of};
 ghost use Rattle.filterset_answers.specs.Readings.{IsReadingOf};
 ghost use Rattle.filterset_language.specs.Views.{tree_of};
 
-use crate::form::{Form, push_faults};
-use crate::text::{Answer, TextEntry, ending_of};
-use filterset_simplifying::simplify;
+use filterset_entries::{Answer, Form, TextEntry, ending_of, push_faults};
+use filterset_rewriting::simplifying::simplify;
 use nextest_filtering::{ParseSingleError, Parsed, ParsedExpr};
 use std::alloc::{AllocError, Global};
 use std::fmt::Write;

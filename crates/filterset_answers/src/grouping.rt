@@ -4,9 +4,9 @@ ghost use Rattle.std.specs.List.{AllZip};
 ghost use Rattle.filterset_listing.specs.declared.groups.GroupOverride as declared;
 ghost use Rattle.filterset_answers.specs.Compiled.{IsAskedFor, IsFilterFor, IsOverrideFor, sets_group};
 ghost use Rattle.filterset_answers.specs.Picking.{compiled_of};
-ghost use Rattle.filterset_answers.specs.declared.setting.Setting as settings;
+ghost use Rattle.filterset_entries.specs.declared.setting.Setting as settings;
 
-use crate::setting::OverrideEntry;
+use filterset_entries::OverrideEntry;
 use filterset_listing::GroupOverride;
 use filterset_overrides::AskedOverride;
 use nextest_filtering::{CompiledExpr, Filterset};

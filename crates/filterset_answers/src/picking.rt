@@ -10,19 +10,17 @@ ghost use Rattle.filterset_faults.specs.declared.span.SourceSpan.{SourceSpan};
 ghost use Rattle.filterset_grammar.specs.Tree.{Tree};
 ghost use Rattle.nextest_filtering.specs.Groups.{IsKnown};
 ghost use Rattle.filterset_answers.specs.Compiled.{AreFiltersets, Basis, IsTreeOf};
-ghost use Rattle.filterset_answers.specs.Entries.{question_rows};
+ghost use Rattle.filterset_entries.specs.Entries.{question_rows};
 ghost use Rattle.filterset_answers.specs.Picking.{AnswersQuestion, Compares, Lists, Tells, WritesList, compiled_of, parsed_of};
-ghost use Rattle.filterset_answers.specs.declared.setting.Setting as settings;
+ghost use Rattle.filterset_entries.specs.declared.setting.Setting as settings;
 
 use crate::compiling::{CompiledTexts, QuestionFiltersets, compile_texts};
-use crate::entries::question_entries;
-use crate::form::Form;
 use crate::grouping::{asked_overrides, group_overrides};
 use crate::overriding::answer_overrides;
 use crate::picks::picks_of;
-use crate::question::Question;
-use crate::setting::Setting;
-use crate::text::{Answer, Ending, differing_ending, unknown_ending};
+use filterset_entries::{
+    Answer, Ending, Form, Question, Setting, differing_ending, question_entries, unknown_ending,
+};
 use filterset_listing::{
     AskedBinary, BinaryPicks, GroupOverride, any_unknown, compare, comparison_text, differ,
     list_json, list_text, lists_unknown,

@@ -9,7 +9,7 @@ ghost use Rattle.filterset_grammar.specs.Tree.{Tree};
 ghost use Rattle.filterset_answers.specs.Compiled.{Basis};
 ghost use Rattle.filterset_answers.specs.Picking.{compiled_of};
 ghost use Rattle.filterset_answers.specs.Picks.{ArePicks};
-ghost use Rattle.filterset_answers.specs.declared.setting.Setting as settings;
+ghost use Rattle.filterset_entries.specs.declared.setting.Setting as settings;
 
 use filterset_listing::{AskedBinary, BinaryPicks, GroupOverride, list, selection_of};
 use nextest_filtering::{CompiledExpr, EvalContext, Filterset};

@@ -1,10 +1,4 @@
 //! The commands and their arguments, as `clap` takes them.
-ghost use Rattle.std.specs.Prelude.{◌≡◌, IfOk, string_bytes};
-ghost use Rattle.clap.specs.declared.builder.command.Command.{Command as ClapCommand};
-ghost use Rattle.filterset_arguments.specs.Scripts.{script_of};
-
-use crate::script::completion_script;
-use crate::shell::Shell;
 use clap::{Arg, ArgAction, Command};
 use std::alloc::{AllocError, Global};
 
@@ -481,12 +475,4 @@ pub fn arguments<'a>(alloc: Global) -> Result<Command<'a>, AllocError> {
     let command = with_command(command, partition(alloc))?;
     let command = with_command(command, lsp(alloc))?;
     with_command(command, completions(alloc))
-}
-
-/// Returns the script by which a shell completes command lines of the program.
-pub fn completions_for(alloc: Global, shell: Shell) -> Result<String, AllocError>
-    ensures { IfOk result (λ script. (command : ClapCommand) × (string_bytes script ≡ script_of shell command)) }
-{
-    let command = arguments(alloc)?;
-    completion_script(alloc, shell, &command)
 }

@@ -9,5 +9,6 @@ mod script;
 mod shell;
 mod table;
 
-pub use commands::{arguments, completions_for};
+pub use commands::arguments;
+pub use script::completion_script;
 pub use shell::Shell;

@@ -6,7 +6,7 @@ use Rattle.filterset_faults.specs.declared.span.SourceSpan.{SourceSpan}
 use Rattle.filterset_grammar.specs.Grammar.{Spells}
 use Rattle.filterset_grammar.specs.Tree.{Tree}
 use Rattle.filterset_language.specs.Views.{tree_of}
-use Rattle.filterset_nesting.specs.Depth.{depth}
+use Rattle.filterset_rewriting.specs.Nesting.Depth.{depth}
 use Rattle.nextest_filtering.specs.declared.filterset.Filterset.{Filterset}
 use Rattle.filterset_c.specs.Parsing.{IsAccepted, IsFiltersetWithin, IsWithin}
 use Rattle.filterset_c.specs.declared.failure.Failure.{Failure}

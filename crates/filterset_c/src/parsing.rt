@@ -4,7 +4,7 @@ ghost use Rattle.filterset_expression.specs.Expression.{has_leaf, is_default, is
 ghost use Rattle.filterset_faults.specs.declared.span.SourceSpan.{SourceSpan};
 ghost use Rattle.filterset_grammar.specs.Grammar.{Spells};
 ghost use Rattle.filterset_grammar.specs.Tree.{Tree};
-ghost use Rattle.filterset_nesting.specs.Depth.{depth};
+ghost use Rattle.filterset_rewriting.specs.Nesting.Depth.{depth};
 ghost use Rattle.filterset_c.specs.Parsing.{HasKind, IsAccepted, IsDefaultFilter, IsFiltersetWithin, IsRefused, IsTooDeep, IsWithin, ParsesIn};
 ghost use Rattle.std.specs.Str.{IsUtf8};
 ghost use Rattle.filterset_c.specs.Workspaces.{IsNoWorkspace, IsWorkspace};
@@ -15,7 +15,7 @@ use crate::failure::Failure;
 use crate::faults::Span;
 use crate::object::{BoundFilterset, Object, Refusal, Workspace};
 use crate::queries::text_of;
-use filterset_nesting::find_too_deep;
+use filterset_rewriting::nesting::find_too_deep;
 use nextest_filtering::{CompiledExpr, Filterset, FiltersetKind, ParseContext, ParseRefusal};
 use std::alloc::{AllocError, Global};
 

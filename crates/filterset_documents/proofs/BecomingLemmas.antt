@@ -9,9 +9,9 @@ use Rattle.std.specs.Cmp.Derive.Mapped.{pointwise-map}
 use Rattle.std.specs.Cmp.Lexicographic.{pointwise}
 use Rattle.std.specs.Prelude.{Vec, is_none, is_some, not}
 use Rattle.std.specs.Str.{bytes_eq}
-use Rattle.filterset_answers.specs.Checked.{TextRow}
-use Rattle.filterset_answers.specs.Entries.{line_rows, rows_in}
-use Rattle.filterset_answers.specs.declared.entries.ConfiguredTexts.{ConfiguredTexts}
+use Rattle.filterset_entries.specs.Checked.{TextRow}
+use Rattle.filterset_entries.specs.Entries.{line_rows, rows_in}
+use Rattle.filterset_entries.specs.declared.entries.ConfiguredTexts.{ConfiguredTexts}
 use Rattle.filterset_drawing.specs.declared.source.Source.{Source}
 use Rattle.filterset_faults.specs.declared.kind.FiltersetKind.TheVariants as kinds
 use Rattle.filterset_places.specs.declared.places.Places.{Places}

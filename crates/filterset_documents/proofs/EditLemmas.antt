@@ -7,9 +7,9 @@ use Rattle.std.proofs.lemmas.Str.{IsCharBoundary-from_rest}
 use Rattle.std.specs.List.Sorted.{IsNonDecreasingBy}
 use Rattle.std.specs.Str.{IsCharBoundary, bytes_eq}
 use Rattle.std.specs.Borrow.{Bor}
-use Rattle.filterset_answers.specs.Checked.{TextRow, text_row}
-use Rattle.filterset_answers.specs.declared.text.TextEntry.{TextEntry}
-use Rattle.filterset_answers.specs.Placements.{Placement}
+use Rattle.filterset_entries.specs.Checked.{TextRow, text_row}
+use Rattle.filterset_entries.specs.declared.text.TextEntry.{TextEntry}
+use Rattle.filterset_entries.specs.Placements.{Placement}
 use Rattle.filterset_editor.specs.Positions.{Text}
 use Rattle.filterset_places.specs.Numbers.{AreApart}
 use Rattle.filterset_places.specs.declared.stretch.Stretch.{Stretch}

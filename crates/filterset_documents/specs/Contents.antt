@@ -3,9 +3,9 @@ use Rattle.std.specs.Prelude.{◌≡◌, ◌⊎◌, Bool, false, List, [], ◌�
 use Rattle.std.specs.Bool.{Decides}
 use Rattle.std.specs.Borrow.{Bor}
 use Rattle.std.specs.declared.alloc.Global.{Global}
-use Rattle.filterset_answers.specs.Checked.{TextRow, text_row}
-use Rattle.filterset_answers.specs.Entries.{line_rows, rows_in}
-use Rattle.filterset_answers.specs.declared.entries.ConfiguredTexts.{ConfiguredTexts}
+use Rattle.filterset_entries.specs.Checked.{TextRow, text_row}
+use Rattle.filterset_entries.specs.Entries.{line_rows, rows_in}
+use Rattle.filterset_entries.specs.declared.entries.ConfiguredTexts.{ConfiguredTexts}
 use Rattle.filterset_drawing.specs.declared.source.Source.{Source}
 use Rattle.filterset_editor.specs.Positions.{Text}
 use Rattle.filterset_faults.specs.declared.kind.FiltersetKind.TheVariants as kinds

@@ -4,11 +4,11 @@ use Rattle.std.specs.List.{AllZip}
 use Rattle.std.specs.Option.{option_map_or}
 use Rattle.serde_json.specs.Data.{Data, number, unsigned, string, object, member, no_members}
 use Rattle.toml.specs.Errors.{span_start, span_end}
-use Rattle.filterset_answers.specs.Checked.{HasFaults, TextRow}
-use Rattle.filterset_answers.specs.Names.{KnowsNames}
-use Rattle.filterset_answers.specs.Placements.{Placement, file_part}
-use Rattle.filterset_answers.specs.Unread.{AreUnreadRemarks}
-use Rattle.filterset_answers.specs.declared.names.Names.{Names}
+use Rattle.filterset_entries.specs.Checked.{HasFaults, TextRow}
+use Rattle.filterset_entries.specs.Names.{KnowsNames}
+use Rattle.filterset_entries.specs.Placements.{Placement, file_part}
+use Rattle.filterset_entries.specs.Unread.{AreUnreadRemarks}
+use Rattle.filterset_entries.specs.declared.names.Names.{Names}
 use Rattle.filterset_drawing.specs.Remarks.{RemarkRow}
 use Rattle.filterset_drawing.specs.declared.source.FileSpan.{FileSpan}
 use Rattle.filterset_editor.specs.Positions.{Text}

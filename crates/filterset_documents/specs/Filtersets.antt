@@ -1,9 +1,9 @@
 -- The filtersets of documents.
 use Rattle.std.specs.Prelude.{◌≡◌, ◌-◌, ◌&&◌, ℕ, Bool, List, Option, None, Some, codes, false, nat_le}
 use Rattle.std.specs.Str.{bytes_eq}
-use Rattle.filterset_answers.specs.Checked.{TextRow}
-use Rattle.filterset_answers.specs.Placements.{Placement, TextSpot, line, literal}
-use Rattle.filterset_answers.specs.declared.entries.ConfiguredTexts.{ConfiguredTexts}
+use Rattle.filterset_entries.specs.Checked.{TextRow}
+use Rattle.filterset_entries.specs.Placements.{Placement, TextSpot, line, literal}
+use Rattle.filterset_entries.specs.declared.entries.ConfiguredTexts.{ConfiguredTexts}
 use Rattle.filterset_drawing.specs.declared.source.Source.{Source}
 use Rattle.filterset_editor.specs.Positions.{Text}
 use Rattle.filterset_faults.specs.Span.{length_of, offset_of, span}

@@ -1,12 +1,12 @@
 //! Whether a document holds the same as another, but with other texts.
 ghost use Rattle.std.specs.Prelude.{◌≡◌, [], IfOk, length, map, string_bytes, unwrap_or};
 ghost use Rattle.std.specs.Bool.{Decides, OnFalse, OnTrue};
-ghost use Rattle.filterset_answers.specs.Checked.{text_row};
+ghost use Rattle.filterset_entries.specs.Checked.{text_row};
 ghost use Rattle.filterset_documents.specs.Contents.{AreRewritten, Becomes, HasTexts, IsRewritten, content_row};
 
 use crate::content::{Content, OpenDocument};
 use crate::edits::is_same;
-use filterset_answers::TextEntry;
+use filterset_entries::TextEntry;
 use filterset_sources::SourceRefusal;
 use std::alloc::{AllocError, Global};
 

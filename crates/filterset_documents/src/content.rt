@@ -1,12 +1,12 @@
 //! What documents hold.
 ghost use Rattle.std.specs.Prelude.{◌≡◌, IfErr, IfOk, List, false, map};
-ghost use Rattle.filterset_answers.specs.Checked.{TextRow, text_row};
+ghost use Rattle.filterset_entries.specs.Checked.{TextRow, text_row};
 ghost use Rattle.filterset_sources.specs.Configurations.{RefusesConfiguration};
 ghost use Rattle.filterset_documents.specs.Contents.{AreRowsOf, Holds, content_row, names_in};
 ghost use Rattle.filterset_documents.specs.Filtersets.{AreTexts, SaysWhy};
 
-use filterset_answers::{ConfiguredTexts, TextEntry, configured_entries, line_entries};
 use filterset_drawing::Source;
+use filterset_entries::{ConfiguredTexts, TextEntry, configured_entries, line_entries};
 use filterset_places::Places;
 use filterset_sources::{Configuration, ConfiguredFilterset, SourceRefusal, read_configuration};
 use nextest_filtering::FiltersetKind;

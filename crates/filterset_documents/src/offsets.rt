@@ -1,13 +1,13 @@
 //! What is at an offset of a document.
 ghost use Rattle.std.specs.Prelude.{◌≡◌, find, option_map};
-ghost use Rattle.filterset_answers.specs.Checked.{text_row};
-ghost use Rattle.filterset_answers.specs.Placements.{placement_of};
+ghost use Rattle.filterset_entries.specs.Checked.{text_row};
+ghost use Rattle.filterset_entries.specs.Placements.{placement_of};
 ghost use Rattle.filterset_language.specs.Faults.{leaf_span};
 ghost use Rattle.filterset_language.specs.Views.{leaf_of};
 ghost use Rattle.filterset_documents.specs.Filtersets.{is_in, is_placed_at, is_row_at};
 
 use crate::places::{stretch_at, stretch_span};
-use filterset_answers::{FilePlace, TextEntry};
+use filterset_entries::{FilePlace, TextEntry};
 use filterset_faults::SourceSpan;
 use filterset_language::ParsedLeaf;
 

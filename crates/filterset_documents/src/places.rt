@@ -1,9 +1,9 @@
 //! Where filtersets are.
 ghost use Rattle.std.specs.Prelude.{◌≡◌, option_map};
-ghost use Rattle.filterset_answers.specs.Placements.{placement_of, span_in, spot_of};
+ghost use Rattle.filterset_entries.specs.Placements.{placement_of, span_in, spot_of};
 ghost use Rattle.filterset_documents.specs.Filtersets.{place_span, stretch_at, stretch_span};
 
-use filterset_answers::{FilePlace, Spot, file_part};
+use filterset_entries::{FilePlace, Spot, file_part};
 use filterset_faults::SourceSpan;
 use filterset_places::Stretch;
 

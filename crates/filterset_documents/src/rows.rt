@@ -1,8 +1,8 @@
 //! The diagnostics of filtersets.
 ghost use Rattle.std.specs.Prelude.{◌≡◌, IfOk, map, option_map};
 ghost use Rattle.serde_json.specs.View.{view};
-ghost use Rattle.filterset_answers.specs.Checked.{text_row};
-ghost use Rattle.filterset_answers.specs.Placements.{placement_of};
+ghost use Rattle.filterset_entries.specs.Checked.{text_row};
+ghost use Rattle.filterset_entries.specs.Placements.{placement_of};
 ghost use Rattle.nextest_filtering.specs.Groups.{IsKnown};
 ghost use Rattle.filterset_documents.specs.Contents.{names_in};
 ghost use Rattle.filterset_documents.specs.Diagnostics.{AreDiagnosed, IsFaultAt, DiagnosesContent, RowDiagnostics, fault_span};
@@ -13,7 +13,7 @@ use crate::message::fault_message;
 use crate::ranges::Shown;
 use crate::unread::diagnose_unread;
 use crate::values::diagnose_values;
-use filterset_answers::{FilePlace, Names, TextEntry, faults_of, file_part};
+use filterset_entries::{FilePlace, Names, TextEntry, faults_of, file_part};
 use filterset_faults::{ParseSingleError, SourceSpan};
 use filterset_graph::PackageGraph;
 use serde_json::Value;

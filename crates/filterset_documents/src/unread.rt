@@ -1,14 +1,14 @@
 //! The warnings of what nextest does not read of its configuration.
 ghost use Rattle.std.specs.Prelude.{◌≡◌, IfOk, map, string_bytes, unwrap_or};
 ghost use Rattle.serde_json.specs.View.{view};
-ghost use Rattle.filterset_answers.specs.Checked.{text_row};
+ghost use Rattle.filterset_entries.specs.Checked.{text_row};
 ghost use Rattle.filterset_drawing.specs.Remarks.{remark_row};
 ghost use Rattle.filterset_documents.specs.Diagnostics.{AreUnreadWarnings, IsUnreadWarning, remark_text};
 
 use crate::diagnostics::{Severity, diagnostic_at};
 use crate::ranges::Shown;
-use filterset_answers::{TextEntry, unread_remarks};
 use filterset_drawing::Remark;
+use filterset_entries::{TextEntry, unread_remarks};
 use filterset_faults::SourceSpan;
 use serde_json::Value;
 use std::alloc::{AllocError, Global};

@@ -4,8 +4,8 @@ use Rattle.std.specs.List.{AllZip}
 use Rattle.std.specs.Str.{IsCharBoundary}
 use Rattle.serde_json.specs.Data.{Data, array, boolean, member, no_members, null, number, object, string, unsigned}
 use Rattle.serde_json.specs.View.{items_of}
-use Rattle.filterset_answers.specs.Checked.{TextRow}
-use Rattle.filterset_answers.specs.Placements.{TextSpot, span_in}
+use Rattle.filterset_entries.specs.Checked.{TextRow}
+use Rattle.filterset_entries.specs.Placements.{TextSpot, span_in}
 use Rattle.filterset_documents.specs.Edits.{edit_data}
 use Rattle.filterset_documents.specs.Filtersets.{is_in, is_row_at}
 use Rattle.filterset_documents.specs.Ranges.{IsRange}

@@ -1,7 +1,7 @@
 -- The word at an offset of a text, which what is offered replaces.
 use Rattle.std.specs.Prelude.{ℕ, ◌+◌, ◌-◌, Bool, drop, length, nat_le, take}
 use Rattle.std.specs.List.{prefix_len, suffix_len}
-use Rattle.filterset_answers.specs.Placements.{TextSpot, line, literal}
+use Rattle.filterset_entries.specs.Placements.{TextSpot, line, literal}
 use Rattle.filterset_editor.specs.Positions.{Text}
 use Rattle.filterset_faults.specs.Span.{span}
 use Rattle.filterset_faults.specs.declared.span.SourceSpan.{SourceSpan}

@@ -1,8 +1,8 @@
 //! What is offered at a position of a document.
 ghost use Rattle.std.specs.Prelude.{◌≡◌, IfOk, map};
 ghost use Rattle.serde_json.specs.View.{view};
-ghost use Rattle.filterset_answers.specs.Checked.{text_row};
-ghost use Rattle.filterset_answers.specs.Placements.{spot_of};
+ghost use Rattle.filterset_entries.specs.Checked.{text_row};
+ghost use Rattle.filterset_entries.specs.Placements.{spot_of};
 ghost use Rattle.filterset_names.specs.Workspaces.{known_of};
 ghost use Rattle.filterset_offers.specs.Completion.{CompletesAt, CompletesGaps, CompletesIn, CompletesRow, CompletesRows, list_data};
 ghost use Rattle.filterset_offers.specs.Standing.{gap_rows};
@@ -13,9 +13,9 @@ use crate::items::items_of;
 use crate::names::{known_candidates, may_lack};
 use crate::offering::offered;
 use crate::standing::{Gaps, gaps_at};
-use filterset_answers::{FilePlace, TextEntry};
 use filterset_documents::{Shown, entry_at, is_in, span_in};
 use filterset_editor::Position;
+use filterset_entries::{FilePlace, TextEntry};
 use filterset_names::Workspace;
 use serde_json::{Value, json};
 use std::alloc::{AllocError, Global};

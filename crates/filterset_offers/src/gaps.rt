@@ -2,13 +2,13 @@
 ghost use Rattle.std.specs.Prelude.{◌≡◌, ◌≤◌, ◌+◌, ◌-◌, ◌↔◌, IfSome, IsSome, drop, length, take};
 ghost use Rattle.std.specs.List.{prefix_len, suffix_len};
 ghost use Rattle.std.specs.Str.{IsCharBoundary};
-ghost use Rattle.filterset_answers.specs.Placements.{spot_of};
+ghost use Rattle.filterset_entries.specs.Placements.{spot_of};
 ghost use Rattle.filterset_offers.specs.Candidates as bytes;
 ghost use Rattle.filterset_offers.specs.Gaps as spec;
 ghost use Rattle.filterset_offers.specs.Gaps.{gap_row};
 
 use crate::candidates::{is_name_byte, is_word_byte};
-use filterset_answers::Spot;
+use filterset_entries::Spot;
 use filterset_faults::SourceSpan;
 use filterset_places::Stretch;
 

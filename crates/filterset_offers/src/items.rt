@@ -2,7 +2,7 @@
 ghost use Rattle.std.specs.Prelude.{◌≡◌, ◌++◌, ◌∷◌, [], IfOk, List, OnOk, map};
 ghost use Rattle.std.specs.List.{AllZip};
 ghost use Rattle.serde_json.specs.View.{view};
-ghost use Rattle.filterset_answers.specs.Placements.{spot_of};
+ghost use Rattle.filterset_entries.specs.Placements.{spot_of};
 ghost use Rattle.filterset_documents.specs.Edits.{edit_data};
 ghost use Rattle.filterset_offers.specs.Candidates.{Row, row_of};
 ghost use Rattle.filterset_offers.specs.Completion.{IsItem, item_data};
@@ -12,8 +12,8 @@ ghost use Rattle.filterset_offers.specs.Standing.{gap_rows, inserted};
 use crate::candidates::Candidate;
 use crate::gaps::Gap;
 use crate::standing::{Gaps, gap_for, tail_in};
-use filterset_answers::FilePlace;
 use filterset_documents::{Shown, span_in, span_value};
+use filterset_entries::FilePlace;
 use serde_json::{Value, json};
 use std::alloc::{AllocError, Global};
 

@@ -2,7 +2,7 @@
 use Rattle.std.specs.Prelude.{◌≡◌, ◌⊎◌, Bool, List, MatchBool, MatchOption}
 use Rattle.std.specs.List.{AllZip}
 use Rattle.serde_json.specs.Data.{Data, null}
-use Rattle.filterset_answers.specs.Checked.{TextRow}
+use Rattle.filterset_entries.specs.Checked.{TextRow}
 use Rattle.filterset_editor.specs.Positions.{Text}
 use Rattle.filterset_editor.specs.declared.positions.Encoding.{Encoding}
 use Rattle.filterset_faults.specs.declared.span.SourceSpan.{SourceSpan}

@@ -1,8 +1,8 @@
 -- What the server shows of the predicate at a position.
 use Rattle.std.specs.Prelude.{◌≡◌, ◌⊎◌, ◌++◌, ℕ, Bool, List, MatchOption, Option, Some, None, codes, find, false}
 use Rattle.serde_json.specs.Data.{Data, string, object, member, no_members, null}
-use Rattle.filterset_answers.specs.Checked.{TextRow}
-use Rattle.filterset_answers.specs.Placements.{Placement, file_part}
+use Rattle.filterset_entries.specs.Checked.{TextRow}
+use Rattle.filterset_entries.specs.Placements.{Placement, file_part}
 use Rattle.filterset_drawing.specs.declared.source.FileSpan.{FileSpan}
 use Rattle.filterset_editor.specs.Positions.{IsOffset, Text}
 use Rattle.filterset_editor.specs.declared.positions.Encoding.{Encoding}

@@ -1,9 +1,9 @@
 -- What the server answers about documents.
-use Rattle.std.specs.Prelude.{◌≡◌, ◌⊎◌, Option, true}
+use Rattle.std.specs.Prelude.{◌≡◌, ◌⊎◌, Option}
 use Rattle.serde_json.specs.Data.{Data, null}
 use Rattle.filterset_editor.specs.Documents.{DocumentRow}
+use Rattle.filterset_editor.specs.Machine.{Says}
 use Rattle.filterset_editor.specs.Positions.{Text}
-use Rattle.filterset_editor.specs.declared.abilities.Abilities.{Abilities}
 use Rattle.filterset_editor.specs.declared.inquiry.Inquiry.{Inquiry}
 use Rattle.filterset_editor.specs.declared.inquiry.Inquiry.TheVariants.{CodeActions, Completion, FoldingRanges, Formatting, Hover, SemanticTokens, Symbols}
 use Rattle.filterset_editor.specs.declared.positions.Encoding.{Encoding}
@@ -17,18 +17,7 @@ use Rattle.filterset_server.specs.Formatting.{FormatsContent}
 use Rattle.filterset_server.specs.Hover.{HoversRows}
 use Rattle.filterset_server.specs.Symbols.{AreSymbols}
 use Rattle.filterset_server.specs.Highlights.{HighlightsRows}
-
--- what the server can do
-abbrev pub abilities : Abilities
-abilities = record {
-  hover = true;
-  completion = true;
-  code_actions = true;
-  formatting = true;
-  folding = true;
-  semantic_tokens = true;
-  symbols = true;
-}
+use Rattle.filterset_server.specs.Unmatched.{DiagnosesIn}
 
 -- the result of a request about a document, which has this address and content, where a workspace may be known
 abbrev pub RespondsContent : Option WorkspaceRow → Encoding → Text → Text → Inquiry → ContentRow → Data → Type 0
@@ -46,3 +35,7 @@ Responds w encoding document inquiry d =
     ((content : ContentRow) × Holds (is_list document.language) document.text content
     × RespondsContent w encoding document.uri document.text inquiry content d)
     ⊎ (HoldsNothing (is_list document.language) document.text × (d ≡ null))
+
+-- what the server says of documents, where a workspace may be known
+abbrev pub says : Option WorkspaceRow → Says
+says w = record { has = DiagnosesIn w; gives = Responds w }

@@ -3,7 +3,7 @@ use Rattle.std.specs.Prelude.{◌≡◌, List, codes}
 use Rattle.std.specs.List.{AllZip}
 use Rattle.serde_json.specs.Data.{Data, array, number, unsigned, string, object, member, no_members}
 use Rattle.serde_json.specs.View.{items_of}
-use Rattle.filterset_answers.specs.Checked.{TextRow}
+use Rattle.filterset_entries.specs.Checked.{TextRow}
 use Rattle.filterset_editor.specs.Positions.{Text}
 use Rattle.filterset_editor.specs.declared.positions.Encoding.{Encoding}
 use Rattle.filterset_editor.specs.declared.positions.Range.{Range}

@@ -2,8 +2,8 @@
 use Rattle.std.specs.Prelude.{◌≡◌, ◌↔◌, ◌⊎◌, ◌++◌, ℕ, Bool, true, false, IsTrue, List, [], ◌∷◌, MatchBool, MatchOption, Option, codes, filter, is_some}
 use Rattle.std.specs.List.{count_by}
 use Rattle.serde_json.specs.Data.{Data}
-use Rattle.filterset_answers.specs.Checked.{TextRow}
-use Rattle.filterset_answers.specs.Placements.{Placement}
+use Rattle.filterset_entries.specs.Checked.{TextRow}
+use Rattle.filterset_entries.specs.Placements.{Placement}
 use Rattle.filterset_documents.specs.Contents.{ContentRow, Holds}
 use Rattle.filterset_documents.specs.Diagnostics.{DiagnosesContent, IsDiagnostic, IsRefusalAt}
 use Rattle.filterset_documents.specs.Filtersets.{is_list}

@@ -1,12 +1,12 @@
 //! Filtersets that can be folded.
 ghost use Rattle.std.specs.Prelude.{◌≡◌, IfOk, map};
 ghost use Rattle.serde_json.specs.View.{view};
-ghost use Rattle.filterset_answers.specs.Checked.{text_row};
+ghost use Rattle.filterset_entries.specs.Checked.{text_row};
 ghost use Rattle.filterset_server.specs.Folding.{AreFolds, fold_data, folds_of};
 
-use filterset_answers::TextEntry;
 use filterset_documents::{Shown, place_span, range_of};
 use filterset_editor::Range;
+use filterset_entries::TextEntry;
 use serde_json::{Value, json};
 use std::alloc::{AllocError, Global};
 

@@ -2,14 +2,14 @@
 ghost use Rattle.std.specs.Prelude.{◌≡◌, IfOk, length, map, string_bytes};
 ghost use Rattle.std.specs.List.{AllZip};
 ghost use Rattle.serde_json.specs.View.{view};
-ghost use Rattle.filterset_answers.specs.Checked.{text_row};
+ghost use Rattle.filterset_entries.specs.Checked.{text_row};
 ghost use Rattle.filterset_documents.specs.Contents.{content_row};
 ghost use Rattle.filterset_server.specs.Formatting.{FormatsContent, IsFormatted, IsPrinted, RewritesContent};
 
-use filterset_answers::TextEntry;
 use filterset_documents::{
     Content, Shown, becomes, edit_text, edits_value, list_strings, ordered_edits, parse_text,
 };
+use filterset_entries::TextEntry;
 use serde_json::Value;
 use std::alloc::{AllocError, Global};
 

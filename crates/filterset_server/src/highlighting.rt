@@ -3,16 +3,16 @@ ghost use Rattle.std.specs.Prelude.{◌≡◌, ◌++◌, IfOk, List, OnOk, codes
 ghost use Rattle.std.specs.List.Sorted.{IsNonDecreasingBy, IsPermutation};
 ghost use Rattle.serde_json.specs.Data.{array, member, no_members, object};
 ghost use Rattle.serde_json.specs.View.{items_of, view};
-ghost use Rattle.filterset_answers.specs.Checked.{text_row};
-ghost use Rattle.filterset_answers.specs.Placements.{placement_of};
+ghost use Rattle.filterset_entries.specs.Checked.{text_row};
+ghost use Rattle.filterset_entries.specs.Placements.{placement_of};
 ghost use Rattle.filterset_documents.specs.Joins.{Joins};
 ghost use Rattle.filterset_server.specs.Highlights as spec;
 ghost use Rattle.filterset_server.specs.Highlights.{HighlightsRows, RowMarks, TextTokens, TokenMarks, mark_data, marks_data, marks_of, natural};
 
-use filterset_answers::{FilePlace, TextEntry, file_part};
 use filterset_documents::{Shown, parse_text, range_of};
 use filterset_editor::{Position, Range};
-use filterset_tokens::{Token, TokenKind, tokens_of};
+use filterset_entries::{FilePlace, TextEntry, file_part};
+use filterset_rewriting::tokens::{Token, TokenKind, tokens_of};
 use serde_json::{Value, json};
 use std::alloc::{AllocError, Global};
 

@@ -1,8 +1,8 @@
 //! What the predicate at a position means.
 ghost use Rattle.std.specs.Prelude.{◌≡◌, IfOk, filter, map, option_map};
 ghost use Rattle.serde_json.specs.View.{view};
-ghost use Rattle.filterset_answers.specs.Checked.{text_row};
-ghost use Rattle.filterset_answers.specs.Placements.{placement_of};
+ghost use Rattle.filterset_entries.specs.Checked.{text_row};
+ghost use Rattle.filterset_entries.specs.Placements.{placement_of};
 ghost use Rattle.filterset_grammar.specs.Tree.{tree_leaves};
 ghost use Rattle.filterset_language.specs.Views.{leaf_of, tree_of};
 ghost use Rattle.filterset_names.specs.Workspaces.{known_of};
@@ -11,10 +11,10 @@ ghost use Rattle.filterset_server.specs.Hover.{hover_data, is_in_part, is_leaf_a
 
 use crate::matches::leaf_matches;
 use crate::words::leaf_text;
-use filterset_answers::{FilePlace, TextEntry, file_part};
 use filterset_documents::{Shown, entry_at, is_in, leaf_span, parse_text, span_value};
 use filterset_drawing::FileSpan;
 use filterset_editor::Position;
+use filterset_entries::{FilePlace, TextEntry, file_part};
 use filterset_language::{ParsedExpr, ParsedLeaf};
 use filterset_names::Workspace;
 use serde_json::{Value, json};

@@ -1,7 +1,7 @@
 //! What the server says of documents.
 ghost use Rattle.std.specs.Prelude.{◌≡◌, IfOk, map, string_bytes};
 ghost use Rattle.serde_json.specs.View.{view};
-ghost use Rattle.filterset_answers.specs.Checked.{text_row};
+ghost use Rattle.filterset_entries.specs.Checked.{text_row};
 ghost use Rattle.filterset_documents.specs.Contents.{content_row, names_in};
 ghost use Rattle.filterset_documents.specs.Filtersets.{is_list};
 ghost use Rattle.filterset_names.specs.Workspaces.{known_of};
@@ -15,9 +15,9 @@ use crate::hover::hover_entries;
 use crate::symbols::symbols_value;
 use crate::unmatched::warn_entries;
 use filterset_actions::act_on;
-use filterset_answers::TextEntry;
 use filterset_documents::{Content, OpenDocument, Shown, diagnose_entries, diagnose_refusal};
-use filterset_editor::{Abilities, Document, Encoding, Inquiry, Language, Lines};
+use filterset_editor::{Document, Encoding, Inquiry, Language, Lines};
+use filterset_entries::TextEntry;
 use filterset_names::Workspace;
 use filterset_offers::complete_entries;
 use filterset_sources::SourceRefusal;
@@ -84,26 +84,9 @@ fn respond_to(
 
 impl Language for FiltersetLanguage<'_> {
     ghost use Rattle.filterset_names.specs.Workspaces.{known_of};
-    ghost use Rattle.filterset_server.specs.Responses.{Responds, abilities};
-    ghost use Rattle.filterset_server.specs.Unmatched.{DiagnosesIn};
+    ghost use Rattle.filterset_server.specs.Responses.{says};
 
-    ghost has = { λ language. DiagnosesIn (known_of language.workspace) };
-
-    ghost gives = { λ language. Responds (known_of language.workspace) };
-
-    ghost can = { λ _. abilities };
-
-    fn abilities(&self) -> Abilities {
-        Abilities {
-            hover: true,
-            completion: true,
-            code_actions: true,
-            formatting: true,
-            folding: true,
-            semantic_tokens: true,
-            symbols: true,
-        }
-    }
+    ghost says = { λ language. says (known_of language.workspace) };
 
     fn diagnose(
         &self,

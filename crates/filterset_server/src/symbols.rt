@@ -1,13 +1,13 @@
 //! The symbols of filtersets.
 ghost use Rattle.std.specs.Prelude.{◌≡◌, IfOk, map};
 ghost use Rattle.serde_json.specs.View.{view};
-ghost use Rattle.filterset_answers.specs.Checked.{text_row};
+ghost use Rattle.filterset_entries.specs.Checked.{text_row};
 ghost use Rattle.filterset_documents.specs.Ranges.{range_data};
 ghost use Rattle.filterset_server.specs.Symbols.{AreSymbols, symbol_data};
 
-use filterset_answers::TextEntry;
 use filterset_documents::{Shown, place_span, range_of, range_value};
 use filterset_editor::Range;
+use filterset_entries::TextEntry;
 use serde_json::{Value, json};
 use std::alloc::{AllocError, Global};
 

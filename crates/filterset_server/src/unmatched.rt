@@ -2,8 +2,8 @@
 ghost use Rattle.std.specs.Prelude.{◌≡◌, IfOk, filter, map, option_map};
 ghost use Rattle.std.specs.List.{count_by};
 ghost use Rattle.serde_json.specs.View.{view};
-ghost use Rattle.filterset_answers.specs.Checked.{text_row};
-ghost use Rattle.filterset_answers.specs.Placements.{placement_of};
+ghost use Rattle.filterset_entries.specs.Checked.{text_row};
+ghost use Rattle.filterset_entries.specs.Placements.{placement_of};
 ghost use Rattle.filterset_documents.specs.Joins.{Joins};
 ghost use Rattle.filterset_grammar.specs.Tree.{tree_leaves};
 ghost use Rattle.filterset_language.specs.Views.{leaf_of, tree_of};
@@ -11,8 +11,8 @@ ghost use Rattle.filterset_names.specs.Workspaces.{known_of, workspace_row};
 ghost use Rattle.filterset_server.specs.Unmatched.{LeafWarnings, RowWarnings, RowsWarnings, TreeWarnings, WarnsOfLeaf, has_part, is_skipped, skipped_for};
 
 use crate::hover::leaf_part;
-use filterset_answers::{FilePlace, TextEntry};
 use filterset_documents::{Severity, Shown, diagnostic_at, parse_text};
+use filterset_entries::{FilePlace, TextEntry};
 use filterset_hints::UnmatchedPredicate;
 use filterset_language::{ParsedExpr, ParsedLeaf};
 use filterset_names::{Workspace, WorkspaceIndex};

@@ -1,6 +1,6 @@
 //! How deeply texts nest that are no filtersets. Clauses speak of filtersets alone. In other texts each level counts from the
 //! first place on that is not spelled as a filterset.
-use filterset_nesting::find_too_deep;
+use filterset_rewriting::nesting::find_too_deep;
 use std::test::Fail;
 
 /// Texts, limits, and the offset of what passes the limit, if there is one.

@@ -1,12 +1,12 @@
 -- The warnings of a configuration's file.
 use Rattle.std.specs.Prelude.{◌≡◌, ℕ, List, None, Some, length}
 use Rattle.std.specs.Borrow.{Bor}
-use Rattle.filterset_answers.specs.Entries.{rows_in}
-use Rattle.filterset_answers.specs.Forms.{IsWritten, Writing, writing}
-use Rattle.filterset_answers.specs.Placements.{line}
-use Rattle.filterset_answers.specs.Unread.{AreUnreadRemarks}
-use Rattle.filterset_answers.specs.declared.entries.ConfiguredTexts.{ConfiguredTexts}
-use Rattle.filterset_answers.specs.declared.form.Form.{Form}
+use Rattle.filterset_entries.specs.Entries.{rows_in}
+use Rattle.filterset_entries.specs.Forms.{IsWritten, Writing, writing}
+use Rattle.filterset_entries.specs.Placements.{line}
+use Rattle.filterset_entries.specs.Unread.{AreUnreadRemarks}
+use Rattle.filterset_entries.specs.declared.entries.ConfiguredTexts.{ConfiguredTexts}
+use Rattle.filterset_entries.specs.declared.form.Form.{Form}
 use Rattle.filterset_drawing.specs.Columns.{Text}
 use Rattle.filterset_drawing.specs.Remarks.{RemarkRow}
 use Rattle.filterset_drawing.specs.declared.source.Source.{Source}

@@ -3,3 +3,8 @@ pub mod Spans
 pub mod Warnings
 pub mod Contexts
 pub mod Values
+pub mod Explaining
+pub mod Overriding
+pub mod Asking
+pub mod Warned
+pub mod Checking

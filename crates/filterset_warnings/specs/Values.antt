@@ -1,9 +1,9 @@
 -- What is written of the wrong values of a configuration.
 use Rattle.std.specs.Prelude.{◌++◌, Option, None, codes, length, option_map, string_bytes}
 use Rattle.std.specs.Borrow.{Bor}
-use Rattle.filterset_answers.specs.Forms.{IsWritten, writing}
-use Rattle.filterset_answers.specs.Placements.{Placement, literal}
-use Rattle.filterset_answers.specs.declared.form.Form.{Form}
+use Rattle.filterset_entries.specs.Forms.{IsWritten, writing}
+use Rattle.filterset_entries.specs.Placements.{Placement, literal}
+use Rattle.filterset_entries.specs.declared.form.Form.{Form}
 use Rattle.filterset_drawing.specs.Columns.{Text}
 use Rattle.filterset_drawing.specs.Remarks.{RemarkRow, said}
 use Rattle.filterset_drawing.specs.declared.remark.Severity.TheVariants.{Error}

@@ -2,15 +2,15 @@
 use Rattle.std.specs.Prelude.{◌≡◌, ◌≢◌, ◌⊎◌, ◌==◌, ◌+◌, ◌++◌, ℕ, suc, Bool, true, false, List, [], ◌∷◌, None, codes, decimal, if◌then◌else◌, length, map}
 use Rattle.std.specs.List.{count_by}
 use Rattle.filterset_answers.specs.Answers.{FaultsOf}
-use Rattle.filterset_answers.specs.Checked.{HasRefusal, TextRow}
+use Rattle.filterset_entries.specs.Checked.{HasRefusal, TextRow}
 use Rattle.filterset_answers.specs.Compiled.{Basis as SettingBasis}
-use Rattle.filterset_answers.specs.Entries.{setting_rows}
-use Rattle.filterset_answers.specs.Forms.{IsWritten, text_writing}
-use Rattle.filterset_answers.specs.declared.form.Form.{Form}
-use Rattle.filterset_answers.specs.declared.form.Form.TheVariants.{Drawn}
-use Rattle.filterset_answers.specs.declared.setting.Setting.{Setting}
-use Rattle.filterset_answers.specs.declared.text.Ending.{Ending}
-use Rattle.filterset_answers.specs.declared.text.Ending.TheVariants.{Faulty, Fine}
+use Rattle.filterset_entries.specs.Entries.{setting_rows}
+use Rattle.filterset_entries.specs.Forms.{IsWritten, text_writing}
+use Rattle.filterset_entries.specs.declared.form.Form.{Form}
+use Rattle.filterset_entries.specs.declared.form.Form.TheVariants.{Drawn}
+use Rattle.filterset_entries.specs.declared.setting.Setting.{Setting}
+use Rattle.filterset_entries.specs.declared.text.Ending.{Ending}
+use Rattle.filterset_entries.specs.declared.text.Ending.TheVariants.{Faulty, Fine}
 use Rattle.filterset_drawing.specs.Columns.{Text}
 use Rattle.filterset_drawing.specs.Remarks.{RemarkRow, said}
 use Rattle.filterset_drawing.specs.declared.remark.Severity.TheVariants.{Warning}
@@ -18,15 +18,15 @@ use Rattle.filterset_faults.specs.declared.error.ParseSingleError.{ParseSingleEr
 use Rattle.filterset_faults.specs.declared.span.SourceSpan.{SourceSpan}
 use Rattle.filterset_grammar.specs.Printing.{printed}
 use Rattle.filterset_grammar.specs.Tree.{Tree}
-use Rattle.filterset_hints.specs.Listed.{AreSubjects}
+use Rattle.filterset_listing.specs.Subjects.{AreSubjects}
 use Rattle.filterset_hints.specs.Needless.{AreNeedless, Found}
 use Rattle.filterset_hints.specs.Subjects.{Basis}
 use Rattle.filterset_hints.specs.Unmatched.{AreUnmatched, Unmatched, unmatched_message}
-use Rattle.filterset_hints.specs.declared.subject.Subject.{Subject}
+use Rattle.filterset_listing.specs.declared.subjects.Subject.{Subject}
 use Rattle.filterset_json.specs.Pieces.{Pieces}
 use Rattle.filterset_language.specs.Faults.{leaf_span}
 use Rattle.filterset_listing.specs.declared.binary.AskedBinary.{AskedBinary}
-use Rattle.filterset_warnings.specs.declared.setting.WarningEnd.{WarningEnd}
+use Rattle.filterset_entries.specs.declared.text.WarningEnd.{WarningEnd}
 use Rattle.nextest_filtering.specs.Compiling.{IsFiltersetOf, IsRefusedWith}
 use Rattle.nextest_filtering.specs.declared.compile.context.KnownGroups.{KnownGroups}
 use Rattle.filterset_warnings.specs.Spans.{tree_span}

@@ -2,7 +2,7 @@
 ghost use Rattle.std.specs.Prelude.{IfOk, string_bytes};
 ghost use Rattle.filterset_warnings.specs.Configured.{WarnsOfFile};
 
-use filterset_answers::{
+use filterset_entries::{
     ConfiguredTexts, FilePlace, Form, RemarkWriter, Spot, configured_entries, unread_remarks,
 };
 use filterset_places::Stretch;

@@ -1,16 +1,21 @@
-//! Warnings of filterset texts by a list of tests: the predicates that match none of its tests, and the operands that change
-//! nothing; and the wrong values of a configuration. They are drawn under their text, or written as JSON, or as commands of
-//! a workflow.
+//! Answers `list`, `compare`, `explain`, `overrides` and `check` about a workspace: under the profile of a configuration, and
+//! with the warnings that a list of tests gives. A request and files go in; a text and how the command ends come out.
+//! For the program `filterset`.
 #![tactic(auto)]
 
+mod asking;
+mod checking;
 mod configured;
+mod explaining;
 mod hints;
 mod overrides;
+mod overriding;
+mod profiled;
 mod setting;
 mod span;
 mod texts;
 mod values;
+mod warning;
 
-pub use configured::{FileWarnings, warn_configuration};
-pub use setting::{WarningEnd, count_warnings, warn_setting};
-pub use values::add_values;
+pub use asking::ask;
+pub use checking::check_texts;

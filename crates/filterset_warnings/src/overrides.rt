@@ -3,10 +3,10 @@ ghost use Rattle.std.specs.Prelude.{◌≡◌, ◌++◌, ◌∷◌, [], IfOk, Li
 ghost use Rattle.std.specs.List.{AllZip};
 ghost use Rattle.filterset_answers.specs.Compiled.{IsFilterFor, IsOverrideFor, sets_group};
 ghost use Rattle.filterset_answers.specs.Picking.{compiled_of};
-ghost use Rattle.filterset_answers.specs.declared.setting.Setting as settings;
+ghost use Rattle.filterset_entries.specs.declared.setting.Setting as settings;
 ghost use Rattle.filterset_listing.specs.declared.groups.GroupOverride as declared;
 
-use filterset_answers::OverrideEntry;
+use filterset_entries::OverrideEntry;
 use filterset_listing::GroupOverride;
 use nextest_filtering::{CompiledExpr, Filterset};
 use std::alloc::{AllocError, Global};

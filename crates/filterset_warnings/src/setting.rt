@@ -1,7 +1,7 @@
 //! The warnings of texts under a setting.
 ghost use Rattle.std.specs.Prelude.{◌≡◌, ◌==◌, ◌+◌, ◌++◌, [], IfOk, OnOk, if◌then◌else◌, map, string_bytes};
 ghost use Rattle.std.specs.List.{count_by};
-ghost use Rattle.filterset_answers.specs.Checked.{text_row};
+ghost use Rattle.filterset_entries.specs.Checked.{text_row};
 ghost use Rattle.filterset_answers.specs.Compiled.{AreFiltersets};
 ghost use Rattle.filterset_faults.specs.declared.kind.FiltersetKind.TheVariants as kinds;
 ghost use Rattle.nextest_filtering.specs.Groups.{IsKnown};
@@ -9,23 +9,12 @@ ghost use Rattle.filterset_warnings.specs.Warnings.{AnswersWarnings, is_skipped,
 
 use crate::overrides::group_overrides;
 use crate::texts::{WarningContext, warn_texts};
-use filterset_answers::{
-    Answer, CompiledTexts, Ending, Form, QuestionFiltersets, Setting, TextEntry, compile_texts,
-};
-use filterset_hints::subjects_of;
-use filterset_listing::AskedBinary;
+use filterset_answers::{CompiledTexts, QuestionFiltersets, compile_texts};
+use filterset_entries::{Answer, Ending, Form, Setting, TextEntry, WarningEnd};
+use filterset_listing::{AskedBinary, subjects_of};
 use nextest_filtering::{EvalContext, ParseContext};
 use std::alloc::{AllocError, Global};
 use std::fmt::Write;
-
-/// How warnings end a command.
-#[derive(Clone, Copy, Debug)]
-pub struct WarningEnd {
-    /// Whether the command fails if there are warnings.
-    pub denies: bool,
-    /// How many warnings come before.
-    pub before: usize,
-}
 
 /// Returns how a command ends after this many warnings, if they are denied or not.
 fn warned_ending(denies: bool, count: usize) -> Ending
@@ -79,15 +68,6 @@ fn push_summary(
             Ok(())
         }
         Form::Json | Form::Github => Ok(()),
-    }
-}
-
-impl WarningEnd {
-    /// Returns how many warnings there are with so many more.
-    fn total(self, count: usize) -> Result<usize, AllocError>
-        ensures { IfOk result (λ total. total ≡ self.before + count) }
-    {
-        self.before.checked_add(count).ok_or(AllocError)
     }
 }
 

@@ -1,11 +1,8 @@
 //! The warnings of texts.
 ghost use Rattle.std.specs.Prelude.{◌≡◌, ◌++◌, IfOk, map, string_bytes};
-ghost use Rattle.filterset_answers.specs.Checked.{text_row};
+ghost use Rattle.filterset_entries.specs.Checked.{text_row};
 ghost use Rattle.filterset_drawing.specs.Columns.{Text};
 ghost use Rattle.filterset_expression.specs.Meaning.{IsCompiled};
-ghost use Rattle.filterset_hints.specs.Finding.{found_of, unmatched_of};
-ghost use Rattle.filterset_hints.specs.Needless.{AreNeedless};
-ghost use Rattle.filterset_hints.specs.Unmatched.{AreUnmatched};
 ghost use Rattle.filterset_language.specs.Views.{tree_of};
 ghost use Rattle.nextest_filtering.specs.Compiling.{IsFiltersetOf, packages_of};
 ghost use Rattle.nextest_filtering.specs.Groups.{IsKnown};
@@ -13,9 +10,10 @@ ghost use Rattle.filterset_warnings.specs.Contexts.{basis_of};
 ghost use Rattle.filterset_warnings.specs.Warnings.{TextWarnings, WarningsOf};
 
 use crate::hints::remarks_of;
-use filterset_answers::{Form, RemarkWriter, TextEntry};
 use filterset_drawing::Source;
-use filterset_hints::{Subject, find_hints};
+use filterset_entries::{Form, RemarkWriter, TextEntry};
+use filterset_hints::find_hints;
+use filterset_listing::Subject;
 use nextest_filtering::{EvalContext, Filterset, KnownGroups, ParseContext};
 use std::alloc::{AllocError, Global};
 

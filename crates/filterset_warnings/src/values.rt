@@ -1,14 +1,14 @@
 //! The wrong values of a configuration.
 ghost use Rattle.std.specs.Prelude.{◌≡◌, ◌==◌, ◌++◌, IfOk, OnOk, if◌then◌else◌, length, option_map, string_bytes};
-ghost use Rattle.filterset_answers.specs.Placements.{placement_of};
-ghost use Rattle.filterset_answers.specs.declared.text.Ending.TheVariants.{Faulty};
+ghost use Rattle.filterset_entries.specs.Placements.{placement_of};
+ghost use Rattle.filterset_entries.specs.declared.text.Ending.TheVariants.{Faulty};
 ghost use Rattle.filterset_drawing.specs.Columns.{Text};
 ghost use Rattle.filterset_drawing.specs.Remarks.{remark_row};
 ghost use Rattle.filterset_json.specs.Pieces.{Pieces};
 ghost use Rattle.filterset_warnings.specs.Values.{IsValuePiece, value_place, value_remark};
 
-use filterset_answers::{Answer, Ending, FilePlace, Form, RemarkWriter, Spot};
 use filterset_drawing::{Remark, Severity, Source};
+use filterset_entries::{Answer, Ending, FilePlace, Form, RemarkWriter, Spot};
 use filterset_faults::SourceSpan;
 use filterset_profiles::WrongValue;
 use std::alloc::{AllocError, Global};

@@ -1,7 +1,7 @@
 use Rattle.std.proofs.Common.{Some, map, string_bytes, subst}
 use Rattle.std.proofs.lemmas.Result.{IfOk-weaker}
 use Rattle.serde_json.specs.View.{view}
-use Rattle.filterset_answers.specs.Placements.{placement_of}
+use Rattle.filterset_entries.specs.Placements.{placement_of}
 use Rattle.filterset_editor.specs.Positions.{Text}
 use Rattle.filterset_actions.specs.Actions.{NewActions}
 use Rattle.filterset_actions.specs.Proposals.{proposal_row}

@@ -1,6 +1,6 @@
 use Rattle.std.proofs.Common.{rules, arith, ◌≡◌, ◌<◌, length, get_or, refl}
 use Rattle.std.proofs.lemmas.List.{take_all}
-use Rattle.filterset_answers.specs.Checked.{text_row}
+use Rattle.filterset_entries.specs.Checked.{text_row}
 use Rattle.filterset_actions.proofs.ActionLemmas.{now_of, row_next, text_in}
 use Rattle.filterset_actions.proofs.changes.list_texts.Goals as goal
 

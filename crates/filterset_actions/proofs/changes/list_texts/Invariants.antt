@@ -1,5 +1,5 @@
 use Rattle.std.proofs.Common.{◌≡◌, map, take}
-use Rattle.filterset_answers.specs.Checked.{text_row}
+use Rattle.filterset_entries.specs.Checked.{text_row}
 use Rattle.filterset_actions.proofs.ActionLemmas.{now_of, text_in}
 use Rattle.filterset_actions.proofs.changes.list_texts.Given as goal
 

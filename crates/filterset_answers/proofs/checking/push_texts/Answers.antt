@@ -1,8 +1,9 @@
 use Rattle.std.proofs.Common.{rules, arith, ◌≡◌, ◌<◌, [], ◌++◌, length, get_or, map, subst, sym, take}
 use Rattle.filterset_answers.specs.Answers.{TextFaults, no_texts}
-use Rattle.filterset_answers.specs.Checked.{HasFaults, text_row}
+use Rattle.filterset_entries.specs.Checked.{HasFaults, text_row}
 use Rattle.filterset_json.proofs.PieceLemmas.{added_twice}
-use Rattle.filterset_answers.proofs.AnswersLemmas.{FaultsOf-push, one_if-le, next_number, number_of, rows_more}
+use Rattle.filterset_answers.proofs.AnswersLemmas.{FaultsOf-push, one_if-le, next_number, number_of}
+use Rattle.filterset_entries.proofs.RowsLemmas.{rows_more}
 use Rattle.std.proofs.lemmas.List.{append-nil}
 use Rattle.filterset_answers.proofs.checking.push_texts.Goals as goal
 

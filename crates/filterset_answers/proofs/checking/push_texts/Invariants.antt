@@ -1,7 +1,7 @@
 use Rattle.std.proofs.Common.{◌≡◌, ◌≤◌, ◌++◌, map, string_bytes, take}
 use Rattle.filterset_drawing.specs.Columns.{Text}
 use Rattle.filterset_answers.specs.Answers.{FaultsOf}
-use Rattle.filterset_answers.specs.Checked.{HasFaults, text_row}
+use Rattle.filterset_entries.specs.Checked.{HasFaults, text_row}
 use Rattle.filterset_answers.proofs.checking.push_texts.Given as goal
 
 -- the faults of the texts so far were written

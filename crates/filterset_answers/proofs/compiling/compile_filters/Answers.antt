@@ -1,6 +1,6 @@
 use Rattle.std.proofs.Common.{rules, arith, ◌≡◌, ◌<◌, ◌∷◌, [], length, get_or, map, take}
-use Rattle.filterset_answers.specs.Checked.{text_row}
-use Rattle.filterset_answers.proofs.AnswersLemmas.{rows_more}
+use Rattle.filterset_entries.specs.Checked.{text_row}
+use Rattle.filterset_entries.proofs.RowsLemmas.{rows_more}
 use Rattle.filterset_answers.proofs.CompilingLemmas.{compiles_both, made_more}
 use Rattle.filterset_answers.proofs.compiling.compile_filters.Goals as goal
 

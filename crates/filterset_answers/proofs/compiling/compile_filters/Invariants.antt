@@ -1,6 +1,6 @@
 use Rattle.std.proofs.Common.{map, take}
 use Rattle.std.specs.List.{AllZip}
-use Rattle.filterset_answers.specs.Checked.{text_row}
+use Rattle.filterset_entries.specs.Checked.{text_row}
 use Rattle.filterset_answers.specs.Compiled.{Compiles, IsMade}
 use Rattle.filterset_answers.proofs.compiling.compile_filters.Given as goal
 

@@ -2,8 +2,8 @@ use Rattle.std.proofs.Common.{rules, arith, ◌≡◌, ◌<◌, ◌∷◌, [], l
 use Rattle.std.specs.List.{filter_map}
 use Rattle.std.proofs.lemmas.List.Elements.{filter_map-append}
 use Rattle.filterset_answers.specs.Compiled.{IsFilter}
-use Rattle.filterset_answers.specs.Entries.{filter_row}
-use Rattle.filterset_answers.proofs.AnswersLemmas.{AllZip-push, one_more}
+use Rattle.filterset_entries.specs.Entries.{filter_row}
+use Rattle.filterset_entries.proofs.RowsLemmas.{AllZip-push, one_more}
 use Rattle.filterset_answers.proofs.CompilingLemmas.{compiles_both}
 use Rattle.filterset_answers.proofs.compiling.compile_overrides.Goals as goal
 

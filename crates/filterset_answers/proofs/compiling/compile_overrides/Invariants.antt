@@ -1,7 +1,7 @@
 use Rattle.std.proofs.Common.{take}
 use Rattle.std.specs.List.{AllZip, filter_map}
 use Rattle.filterset_answers.specs.Compiled.{Compiles, IsFilter}
-use Rattle.filterset_answers.specs.Entries.{filter_row}
+use Rattle.filterset_entries.specs.Entries.{filter_row}
 use Rattle.filterset_answers.proofs.compiling.compile_overrides.Given as goal
 
 -- the filters so far were compiled

@@ -1,6 +1,6 @@
 use Rattle.std.proofs.Common.{rules, ◌≡◌, Bool, true, false, ap, refl, sym}
 use Rattle.std.specs.Prelude.{is_none, if◌then◌else◌}
-use Rattle.filterset_answers.specs.Checked.{text_row}
+use Rattle.filterset_entries.specs.Checked.{text_row}
 use Rattle.filterset_answers.proofs.CompilingLemmas.{compiles_one}
 use Rattle.filterset_answers.proofs.compiling.compile_text.Goals as goal
 use Rattle.filterset_answers.proofs.compiling.compile_text.Goals.{then-is_none, else-is_none}

@@ -1,8 +1,8 @@
 use Rattle.std.proofs.Common.{rules, ◌≡◌, string_bytes, subst}
 use Rattle.nextest_filtering.specs.Compiling.{packages_of}
-use Rattle.filterset_answers.specs.Checked.{text_row}
-use Rattle.filterset_answers.specs.Forms.{FaultPieces}
-use Rattle.filterset_answers.proofs.AnswersLemmas.{refusal_faults}
+use Rattle.filterset_entries.specs.Checked.{text_row}
+use Rattle.filterset_entries.specs.Forms.{FaultPieces}
+use Rattle.filterset_entries.proofs.RowsLemmas.{refusal_faults}
 use Rattle.filterset_answers.proofs.compiling.parse_entry.Goals as goal
 
 pub returns-in_ok-push_faults-in-Err : goal.returns-in_ok-push_faults-in-Err

@@ -1,7 +1,7 @@
 use Rattle.std.proofs.Common.{◌∙◌, ap, subst, sym}
 use Rattle.filterset_language.specs.Views.{tree_of}
 use Rattle.filterset_listing.specs.Explaining.{IsExplanation}
-use Rattle.filterset_answers.specs.Endings.{unknown_ending}
+use Rattle.filterset_entries.specs.Endings.{unknown_ending}
 use Rattle.filterset_answers.proofs.explaining.explain_parsed.Goals as goal
 
 pub returns : goal.returns

@@ -5,8 +5,8 @@ use Rattle.filterset_grammar.specs.Printing.{printed}
 use Rattle.filterset_language.specs.Parsed.{IsUnreadWith, Reads}
 use Rattle.filterset_language.specs.Views.{tree_of}
 use Rattle.filterset_answers.specs.Answers.{has_some, IsRewritten}
-use Rattle.filterset_answers.specs.Checked.{text_row}
-use Rattle.filterset_answers.specs.Forms.{FaultPieces}
+use Rattle.filterset_entries.specs.Checked.{text_row}
+use Rattle.filterset_entries.specs.Forms.{FaultPieces}
 use Rattle.filterset_answers.proofs.formatting.push_text.Goals as goal
 
 pub returns-in_ok-writeln-in-Tree : goal.returns-in_ok-writeln-in-Tree

@@ -1,8 +1,9 @@
 use Rattle.std.proofs.Common.{rules, arith, ◌≡◌, ◌<◌, [], ◌++◌, length, get_or, map, subst, sym, take}
 use Rattle.filterset_answers.specs.Answers.{TextFaults, no_texts}
-use Rattle.filterset_answers.specs.Checked.{HasReadingFaults, text_row}
+use Rattle.filterset_entries.specs.Checked.{HasReadingFaults, text_row}
 use Rattle.filterset_json.proofs.PieceLemmas.{added_twice}
-use Rattle.filterset_answers.proofs.AnswersLemmas.{FaultsOf-push, FormattedLines-next, one_if-le, next_number, number_of, rows_more}
+use Rattle.filterset_answers.proofs.AnswersLemmas.{FaultsOf-push, FormattedLines-next, one_if-le, next_number, number_of}
+use Rattle.filterset_entries.proofs.RowsLemmas.{rows_more}
 use Rattle.std.proofs.lemmas.List.{append-nil}
 use Rattle.filterset_json.specs.Pieces.{no_pieces}
 use Rattle.filterset_answers.proofs.formatting.push_texts.Goals as goal

@@ -2,7 +2,7 @@ use Rattle.std.proofs.Common.{◌≡◌, ◌≤◌, ◌++◌, map, string_bytes,
 use Rattle.filterset_drawing.specs.Columns.{Text}
 use Rattle.filterset_json.specs.Pieces.{Pieces}
 use Rattle.filterset_answers.specs.Answers.{FaultsOf, FormattedLine}
-use Rattle.filterset_answers.specs.Checked.{HasReadingFaults, text_row}
+use Rattle.filterset_entries.specs.Checked.{HasReadingFaults, text_row}
 use Rattle.filterset_answers.proofs.formatting.push_texts.Given as goal
 
 -- the texts so far were written, or their faults

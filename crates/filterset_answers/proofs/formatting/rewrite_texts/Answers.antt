@@ -1,5 +1,5 @@
 use Rattle.std.proofs.Common.{rules, map, string_bytes, ap, ◌≡◌}
-use Rattle.filterset_answers.specs.Checked.{text_row}
+use Rattle.filterset_entries.specs.Checked.{text_row}
 use Rattle.filterset_answers.proofs.AnswersLemmas.{formats}
 use Rattle.filterset_answers.proofs.formatting.rewrite_texts.Goals as goal
 

@@ -2,7 +2,7 @@ use Rattle.std.proofs.Common.{rules, arith, get_or, length, refl, subst, sym, ta
 use Rattle.std.proofs.lemmas.List.{length_push, take_all}
 use Rattle.std.proofs.lemmas.Slice.Zip.{AllZip-long, zip_end, zip_turn}
 use Rattle.filterset_answers.specs.Compiled.{IsFilterFor, IsAskedFor}
-use Rattle.filterset_answers.proofs.AnswersLemmas.{AllZip-push, one_more}
+use Rattle.filterset_entries.proofs.RowsLemmas.{AllZip-push, one_more}
 use Rattle.filterset_answers.proofs.GroupingLemmas.{compiled_text, zipped_at}
 use Rattle.filterset_answers.proofs.grouping.asked_overrides.Goals as goal
 

@@ -1,7 +1,7 @@
 use Rattle.std.proofs.Common.{length, take}
 use Rattle.std.specs.List.{AllZip}
 use Rattle.filterset_answers.specs.Compiled.{IsFilterFor, IsAskedFor}
-use Rattle.filterset_answers.specs.declared.setting.Setting.{Setting}
+use Rattle.filterset_entries.specs.declared.setting.Setting.{Setting}
 use Rattle.filterset_answers.proofs.grouping.asked_overrides.Given as goal
 
 -- the overrides so far have their filters

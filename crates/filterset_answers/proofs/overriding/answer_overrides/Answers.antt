@@ -1,7 +1,7 @@
 use Rattle.std.proofs.Common.{◌∙◌, ◌++◌, ap, string_bytes, subst, sym}
 use Rattle.filterset_drawing.specs.Columns.{Text}
 use Rattle.filterset_expression.specs.declared.expression.CompiledExpr.{CompiledExpr}
-use Rattle.filterset_answers.specs.Endings.{unknown_ending}
+use Rattle.filterset_entries.specs.Endings.{unknown_ending}
 use Rattle.filterset_answers.specs.Overriding.{Counts, uncounted_text}
 use Rattle.filterset_answers.proofs.OverridingLemmas.{asked_compiled}
 use Rattle.filterset_answers.proofs.overriding.answer_overrides.Goals as goal

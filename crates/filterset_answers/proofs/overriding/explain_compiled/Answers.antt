@@ -1,5 +1,5 @@
 use Rattle.std.proofs.Common.{◌∙◌, [], ap, map, string_bytes}
-use Rattle.filterset_answers.specs.Endings.{unknown_ending}
+use Rattle.filterset_entries.specs.Endings.{unknown_ending}
 use Rattle.filterset_answers.proofs.OverridingLemmas.{asked_compiled, groups_of, reasons_for}
 use Rattle.filterset_answers.proofs.PickingLemmas.{basis_of}
 use Rattle.filterset_answers.proofs.overriding.explain_compiled.Goals as goal

@@ -1,7 +1,7 @@
 use Rattle.std.proofs.Common.{rules, arith, ◌≡◌, ◌<◌, length, get_or, refl, take}
 use Rattle.std.proofs.lemmas.List.{take_all}
 use Rattle.filterset_answers.specs.Overriding.{IsListed}
-use Rattle.filterset_answers.proofs.AnswersLemmas.{AllZip-push, one_more}
+use Rattle.filterset_entries.proofs.RowsLemmas.{AllZip-push, one_more}
 use Rattle.filterset_answers.proofs.overriding.listed_binaries.Goals as goal
 
 pub returns : goal.returns

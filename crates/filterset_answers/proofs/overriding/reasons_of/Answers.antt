@@ -3,7 +3,7 @@ use Rattle.std.proofs.lemmas.List.{take_all}
 use Rattle.filterset_expression.specs.Contexts.{default_of}
 use Rattle.nextest_filtering.specs.declared.filterset.Filterset.{Filterset}
 use Rattle.filterset_answers.specs.Overriding.{IsReasonFor}
-use Rattle.filterset_answers.proofs.AnswersLemmas.{AllZip-push, one_more}
+use Rattle.filterset_entries.proofs.RowsLemmas.{AllZip-push, one_more}
 use Rattle.filterset_answers.proofs.overriding.reasons_of.Goals as goal
 
 pub returns : goal.returns

@@ -1,5 +1,5 @@
 use Rattle.std.proofs.Common.{◌∙◌, ap}
-use Rattle.filterset_answers.specs.Endings.{unknown_ending}
+use Rattle.filterset_entries.specs.Endings.{unknown_ending}
 use Rattle.filterset_answers.proofs.picking.answer_list.Goals as goal
 
 pub returns : goal.returns

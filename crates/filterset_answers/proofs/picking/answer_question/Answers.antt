@@ -4,7 +4,7 @@ use Rattle.std.specs.List.{AllZip}
 use Rattle.std.proofs.lemmas.Result.{IfOk-weaker}
 use Rattle.serde_json.specs.View.{view}
 use Rattle.filterset_answers.specs.Compiled.{IsAskedFor}
-use Rattle.filterset_answers.specs.Entries.{question_rows}
+use Rattle.filterset_entries.specs.Entries.{question_rows}
 use Rattle.filterset_answers.specs.Picking.{Tells, parsed_of}
 use Rattle.filterset_answers.proofs.PickingLemmas.{basis_of, compiled_trees, trees_of}
 use Rattle.filterset_answers.proofs.picking.answer_question.Goals as goal

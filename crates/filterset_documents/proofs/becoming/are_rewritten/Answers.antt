@@ -1,6 +1,6 @@
 use Rattle.std.proofs.Common.{rules, arith, ◌≡◌, ◌<◌, ◌∙◌, ap, get_or, length, map, sym}
 use Rattle.std.proofs.lemmas.List.{drop_all, length-map}
-use Rattle.filterset_answers.specs.Checked.{text_row}
+use Rattle.filterset_entries.specs.Checked.{text_row}
 use Rattle.filterset_documents.proofs.BecomingLemmas.{now_of, rewritten_long, rewritten_more, rewritten_none, rewritten_rest, rewritten_unlike, rows_next, texts_next}
 use Rattle.filterset_documents.proofs.becoming.are_rewritten.Goals as goal
 

@@ -1,5 +1,5 @@
 use Rattle.std.proofs.Common.{drop, map}
-use Rattle.filterset_answers.specs.Checked.{text_row}
+use Rattle.filterset_entries.specs.Checked.{text_row}
 use Rattle.filterset_documents.specs.Contents.{AreRewritten}
 use Rattle.filterset_documents.proofs.becoming.are_rewritten.Given as goal
 

@@ -1,6 +1,6 @@
 use Rattle.std.proofs.Common.{◌≡◌, ◌∙◌, Bool, List, ap, inl, inr, map, refl, subst, sym}
 use Rattle.std.proofs.lemmas.Result.{IfOk-weaker}
-use Rattle.filterset_answers.specs.Checked.{TextRow, text_row}
+use Rattle.filterset_entries.specs.Checked.{TextRow, text_row}
 use Rattle.filterset_documents.specs.Contents.{ContentRow, Holds, content_row, names_in}
 use Rattle.filterset_documents.proofs.BecomingLemmas.{bytes_of, none_seen}
 use Rattle.filterset_documents.proofs.becoming.becomes.Goals as goal

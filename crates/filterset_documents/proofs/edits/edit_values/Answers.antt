@@ -1,8 +1,7 @@
 use Rattle.std.proofs.Common.{rules, arith, ◌≡◌, ◌<◌, length, get_or}
 use Rattle.std.proofs.lemmas.List.{take_all}
 use Rattle.serde_json.specs.View.{view}
-use Rattle.filterset_documents.specs.Edits.{edit_row}
-use Rattle.filterset_documents.specs.Edits.{IsEdit}
+use Rattle.filterset_documents.specs.Edits.{edit_row, IsEdit}
 use Rattle.filterset_documents.proofs.JoinLemmas.{Zips-rows}
 use Rattle.filterset_documents.proofs.edits.edit_values.Goals as goal
 

@@ -2,7 +2,7 @@ use Rattle.std.proofs.Common.{rules, All, List, map, subst, sym}
 use Rattle.std.proofs.lemmas.List.Sorted.{IsNonDecreasingBy-from_sort_by_key, IsPermutation-map}
 use Rattle.std.proofs.lemmas.Map.Views.{All-map-IsPermutation}
 use Rattle.std.specs.List.Sorted.{IsPermutation}
-use Rattle.filterset_answers.specs.Checked.{text_row}
+use Rattle.filterset_entries.specs.Checked.{text_row}
 use Rattle.filterset_documents.specs.Edits.{EditRow, ReplacesOne, edit_row}
 use Rattle.filterset_documents.specs.declared.edits.Edit.{Edit}
 use Rattle.filterset_documents.proofs.EditLemmas.{rewrites-replace, seen_in_order}

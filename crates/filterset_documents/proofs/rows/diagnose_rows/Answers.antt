@@ -1,7 +1,7 @@
 use Rattle.std.proofs.Common.{rules, arith, ◌≡◌, ◌<◌, length, get_or}
 use Rattle.std.proofs.lemmas.List.{take_all}
 use Rattle.serde_json.specs.View.{view}
-use Rattle.filterset_answers.specs.Checked.{text_row}
+use Rattle.filterset_entries.specs.Checked.{text_row}
 use Rattle.filterset_documents.specs.Diagnostics.{RowDiagnostics}
 use Rattle.filterset_documents.specs.Joins.{no_parts}
 use Rattle.filterset_documents.proofs.JoinLemmas.{Joins-more}

@@ -1,7 +1,7 @@
 use Rattle.std.proofs.Common.{arith, ◌<◌, length, option_map}
 use Rattle.std.proofs.lemmas.List.{take_all}
 use Rattle.serde_json.specs.View.{view}
-use Rattle.filterset_answers.specs.Placements.{placement_of}
+use Rattle.filterset_entries.specs.Placements.{placement_of}
 use Rattle.filterset_documents.specs.Diagnostics.{IsFaultAt, fault_span}
 use Rattle.filterset_documents.proofs.JoinLemmas.{Zips-next}
 use Rattle.filterset_documents.proofs.rows.fault_values.Goals as goal

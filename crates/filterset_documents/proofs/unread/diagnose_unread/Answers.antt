@@ -1,8 +1,8 @@
 use Rattle.std.proofs.Common.{rules, arith, ◌≡◌, ◌<◌, List, length, get_or, map, subst, sym}
 use Rattle.std.proofs.lemmas.List.{take_all}
 use Rattle.serde_json.specs.View.{view}
-use Rattle.filterset_answers.specs.Checked.{text_row}
-use Rattle.filterset_answers.specs.Unread.{AreUnreadRemarks}
+use Rattle.filterset_entries.specs.Checked.{text_row}
+use Rattle.filterset_entries.specs.Unread.{AreUnreadRemarks}
 use Rattle.filterset_drawing.specs.Remarks.{remark_row}
 use Rattle.filterset_drawing.specs.declared.remark.Remark.{Remark}
 use Rattle.filterset_documents.specs.Diagnostics.{IsUnreadWarning}

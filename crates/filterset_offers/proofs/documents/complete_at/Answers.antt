@@ -3,8 +3,8 @@ use Rattle.std.proofs.lemmas.Result.{IfOk-weaker}
 use Rattle.serde_json.specs.View.{view}
 use Rattle.serde_json.specs.declared.value.Value.{the_lemmas}
 use Rattle.serde_json.specs.declared.value.Value.TheVariants.{Null}
-use Rattle.filterset_answers.specs.Checked.{text_row}
-use Rattle.filterset_answers.specs.Placements.{span_in, spot_of}
+use Rattle.filterset_entries.specs.Checked.{text_row}
+use Rattle.filterset_entries.specs.Placements.{span_in, spot_of}
 use Rattle.filterset_documents.specs.Filtersets.{is_in}
 use Rattle.filterset_names.specs.Workspaces.{known_of}
 use Rattle.filterset_offers.specs.Completion.{CompletesIn, CompletesText}

@@ -3,7 +3,7 @@ use Rattle.std.specs.List.{AllZip}
 use Rattle.std.proofs.lemmas.List.{map-append}
 use Rattle.std.proofs.lemmas.Result.{IfOk-weaker}
 use Rattle.serde_json.specs.View.{view}
-use Rattle.filterset_answers.specs.Placements.{spot_of}
+use Rattle.filterset_entries.specs.Placements.{spot_of}
 use Rattle.filterset_offers.specs.Candidates.{Row, all_rows, row_of}
 use Rattle.filterset_offers.specs.Completion.{IsItem, list_data}
 use Rattle.filterset_offers.specs.Names.{may_lack}

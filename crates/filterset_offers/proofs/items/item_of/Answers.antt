@@ -2,7 +2,7 @@ use Rattle.std.proofs.Common.{◌≡◌, ap, subst, ◌∙◌}
 use Rattle.std.proofs.lemmas.Result.{IfOk-weaker}
 use Rattle.serde_json.specs.Data.{Data}
 use Rattle.serde_json.specs.View.{view}
-use Rattle.filterset_answers.specs.Placements.{span_in, spot_of}
+use Rattle.filterset_entries.specs.Placements.{span_in, spot_of}
 use Rattle.filterset_documents.specs.Edits.{edit_data}
 use Rattle.filterset_documents.specs.Ranges.{IsRange}
 use Rattle.filterset_faults.specs.declared.span.SourceSpan.{SourceSpan}

@@ -2,7 +2,7 @@ use Rattle.std.proofs.Common.{arith, ◌<◌, List, length, map, subst, sym, tak
 use Rattle.std.proofs.lemmas.List.{map_more}
 use Rattle.std.specs.List.{AllZip}
 use Rattle.serde_json.specs.View.{view}
-use Rattle.filterset_answers.specs.Placements.{spot_of}
+use Rattle.filterset_entries.specs.Placements.{spot_of}
 use Rattle.filterset_offers.specs.Candidates.{Row, row_of}
 use Rattle.filterset_offers.specs.Completion.{IsItem}
 use Rattle.filterset_offers.specs.Standing.{gap_rows}

@@ -1,5 +1,5 @@
 use Rattle.serde_json.specs.View.{view}
-use Rattle.filterset_answers.specs.Placements.{spot_of}
+use Rattle.filterset_entries.specs.Placements.{spot_of}
 use Rattle.filterset_offers.specs.Candidates.{row_of}
 use Rattle.filterset_offers.specs.Completion.{IsItem}
 use Rattle.filterset_offers.specs.Standing.{gap_rows}

@@ -1,6 +1,6 @@
 use Rattle.std.proofs.Common.{map, take}
 use Rattle.serde_json.specs.View.{view}
-use Rattle.filterset_answers.specs.Checked.{text_row}
+use Rattle.filterset_entries.specs.Checked.{text_row}
 use Rattle.filterset_documents.specs.Joins.{Joins}
 use Rattle.filterset_server.specs.Folding.{RowFolds}
 use Rattle.filterset_server.proofs.folding.folds_value.Given as goal

@@ -1,6 +1,6 @@
 use Rattle.std.proofs.Common.{map, string_bytes, take}
 use Rattle.std.specs.List.{AllZip}
-use Rattle.filterset_answers.specs.Checked.{text_row}
+use Rattle.filterset_entries.specs.Checked.{text_row}
 use Rattle.filterset_server.specs.Formatting.{IsFormatted}
 use Rattle.filterset_server.proofs.formatting.format_entries.Given as goal
 

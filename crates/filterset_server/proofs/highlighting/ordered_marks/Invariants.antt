@@ -1,5 +1,5 @@
 use Rattle.std.proofs.Common.{map, take}
-use Rattle.filterset_answers.specs.Checked.{text_row}
+use Rattle.filterset_entries.specs.Checked.{text_row}
 use Rattle.filterset_documents.specs.Joins.{Joins}
 use Rattle.filterset_server.specs.Highlights.{RowMarks}
 use Rattle.filterset_server.proofs.highlighting.ordered_marks.Given as goal

@@ -1,6 +1,6 @@
 use Rattle.std.proofs.Common.{take}
 use Rattle.std.specs.Prelude.{option_map}
-use Rattle.filterset_answers.specs.Placements.{placement_of}
+use Rattle.filterset_entries.specs.Placements.{placement_of}
 use Rattle.filterset_documents.specs.Joins.{Joins}
 use Rattle.filterset_server.specs.Highlights.{TokenMarks}
 use Rattle.filterset_server.proofs.highlighting.tokens_marks.Given as goal

@@ -2,7 +2,7 @@ use Rattle.std.proofs.Common.{◌≡◌, None, Some, map, rules}
 use Rattle.std.specs.Prelude.{find}
 use Rattle.std.proofs.lemmas.Result.{IfOk-weaker}
 use Rattle.serde_json.specs.declared.value.Value.{the_lemmas}
-use Rattle.filterset_answers.specs.Checked.{text_row}
+use Rattle.filterset_entries.specs.Checked.{text_row}
 use Rattle.filterset_documents.specs.Filtersets.{is_row_at}
 use Rattle.filterset_documents.proofs.FindLemmas.{find_seen}
 use Rattle.filterset_server.proofs.hover.hover_entries.Goals as goal

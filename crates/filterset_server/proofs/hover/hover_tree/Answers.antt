@@ -1,7 +1,7 @@
 use Rattle.std.proofs.Common.{◌≡◌, ◌∙◌, List, Option, None, Some, Bor, ap, option_map, rules}
 use Rattle.std.specs.Prelude.{find, slice_get}
 use Rattle.serde_json.specs.declared.value.Value.{the_lemmas}
-use Rattle.filterset_answers.specs.Placements.{placement_of}
+use Rattle.filterset_entries.specs.Placements.{placement_of}
 use Rattle.filterset_faults.specs.declared.span.SourceSpan.{SourceSpan}
 use Rattle.filterset_grammar.specs.Tree.{Leaf, tree_leaves}
 use Rattle.filterset_language.specs.Views.{leaf_of, tree_of}

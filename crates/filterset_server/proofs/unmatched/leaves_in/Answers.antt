@@ -1,5 +1,5 @@
 use Rattle.std.proofs.Common.{rules, option_map}
-use Rattle.filterset_answers.specs.Placements.{placement_of}
+use Rattle.filterset_entries.specs.Placements.{placement_of}
 use Rattle.filterset_server.specs.Unmatched.{has_part}
 use Rattle.filterset_server.proofs.unmatched.leaves_in.Goals as goal
 

@@ -1,7 +1,7 @@
 use Rattle.std.proofs.Common.{map, subst}
 use Rattle.std.proofs.lemmas.Result.{IfOk-weaker}
 use Rattle.serde_json.specs.View.{view}
-use Rattle.filterset_answers.specs.Checked.{text_row}
+use Rattle.filterset_entries.specs.Checked.{text_row}
 use Rattle.filterset_documents.specs.Joins.{Joins}
 use Rattle.filterset_names.specs.Workspaces.{workspace_row}
 use Rattle.filterset_names.specs.declared.workspace.Workspace.{Workspace}

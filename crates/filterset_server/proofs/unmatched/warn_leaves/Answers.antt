@@ -2,7 +2,7 @@ use Rattle.std.proofs.Common.{rules, arith, ◌≡◌, ◌<◌, length, get_or, 
 use Rattle.std.proofs.lemmas.List.{take_all}
 use Rattle.std.specs.Borrow.{Bor}
 use Rattle.serde_json.specs.View.{view}
-use Rattle.filterset_answers.specs.Placements.{placement_of}
+use Rattle.filterset_entries.specs.Placements.{placement_of}
 use Rattle.filterset_documents.specs.Joins.{no_parts}
 use Rattle.filterset_documents.proofs.JoinLemmas.{Joins-more}
 use Rattle.filterset_faults.specs.declared.span.SourceSpan.{SourceSpan}

@@ -1,6 +1,6 @@
 use Rattle.std.proofs.Common.{map, take, option_map}
 use Rattle.serde_json.specs.View.{view}
-use Rattle.filterset_answers.specs.Placements.{placement_of}
+use Rattle.filterset_entries.specs.Placements.{placement_of}
 use Rattle.filterset_documents.specs.Joins.{Joins}
 use Rattle.filterset_language.specs.Views.{leaf_of}
 use Rattle.filterset_names.specs.Workspaces.{workspace_row}

@@ -1,7 +1,7 @@
 use Rattle.std.proofs.Common.{filter, length, take}
 use Rattle.std.specs.List.{AllZip}
 use Rattle.filterset_answers.specs.Compiled.{IsFilterFor, IsOverrideFor, sets_group}
-use Rattle.filterset_answers.specs.declared.setting.Setting.{Setting}
+use Rattle.filterset_entries.specs.declared.setting.Setting.{Setting}
 use Rattle.filterset_warnings.proofs.overrides.group_overrides.Given as goal
 
 -- those of the overrides so far that set a group

@@ -1,11 +1,11 @@
 use Rattle.std.proofs.Common.{◌∙◌, ◌+◌, List, [], ◌++◌, ap, inl, map, subst}
-use Rattle.filterset_answers.specs.Checked.{text_row}
+use Rattle.filterset_entries.specs.Checked.{text_row}
 use Rattle.filterset_answers.proofs.PickingLemmas.{basis_of}
 use Rattle.filterset_drawing.specs.Columns.{Text}
 use Rattle.filterset_expression.specs.Contexts.{default_of}
 use Rattle.filterset_expression.specs.declared.expression.CompiledExpr.{CompiledExpr}
 use Rattle.filterset_graph.specs.declared.package.PackageMetadata.{PackageMetadata}
-use Rattle.filterset_hints.specs.Listed.{AreSubjects}
+use Rattle.filterset_listing.specs.Subjects.{AreSubjects}
 use Rattle.filterset_listing.specs.declared.groups.GroupOverride.{GroupOverride}
 use Rattle.filterset_warnings.specs.Warnings.{WarningsOf, summary}
 use Rattle.filterset_warnings.proofs.setting.warn_by.Goals as goal

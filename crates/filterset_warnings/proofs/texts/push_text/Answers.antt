@@ -1,7 +1,7 @@
 use Rattle.std.proofs.Common.{rules, ◌≡◌, [], refl, string_bytes, sym}
 use Rattle.std.proofs.lemmas.List.{append-nil}
 use Rattle.nextest_filtering.specs.Compiling.{packages_of}
-use Rattle.filterset_answers.proofs.AnswersLemmas.{refusal_faults}
+use Rattle.filterset_entries.proofs.RowsLemmas.{refusal_faults}
 use Rattle.filterset_warnings.specs.Warnings.{of_faulty}
 use Rattle.filterset_warnings.proofs.texts.push_text.Goals as goal
 

@@ -1,7 +1,8 @@
 use Rattle.std.proofs.Common.{rules, arith, ◌≡◌, ◌+◌, ◌<◌, [], ◌++◌, length, get_or, map, subst, sym, take}
 use Rattle.std.proofs.lemmas.List.{append-nil}
-use Rattle.filterset_answers.specs.Checked.{text_row}
-use Rattle.filterset_answers.proofs.AnswersLemmas.{next_number, rows_more}
+use Rattle.filterset_entries.specs.Checked.{text_row}
+use Rattle.filterset_answers.proofs.AnswersLemmas.{next_number}
+use Rattle.filterset_entries.proofs.RowsLemmas.{rows_more}
 use Rattle.filterset_json.proofs.PieceLemmas.{added_twice}
 use Rattle.filterset_warnings.specs.Contexts.{basis_of}
 use Rattle.filterset_warnings.specs.Warnings.{TextWarnings, no_texts}

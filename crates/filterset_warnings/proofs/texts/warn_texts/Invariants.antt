@@ -1,5 +1,5 @@
 use Rattle.std.proofs.Common.{◌≡◌, ◌++◌, map, string_bytes, take}
-use Rattle.filterset_answers.specs.Checked.{text_row}
+use Rattle.filterset_entries.specs.Checked.{text_row}
 use Rattle.filterset_drawing.specs.Columns.{Text}
 use Rattle.filterset_warnings.specs.Contexts.{basis_of}
 use Rattle.filterset_warnings.specs.Warnings.{WarningsOf}

@@ -1,0 +1,79 @@
+use Rattle.std.proofs.Common.{◌≡◌, ℕ, Option, string_bytes, subst, sym}
+use Rattle.std.proofs.lemmas.Result.{IfErr-weaker, IfOk-weaker}
+use Rattle.std.specs.Borrow.{Bor}
+use Rattle.std.specs.declared.io.Error.{Error}
+use Rattle.filterset_answers.specs.Answers.{FormatsTexts, SimplifiesTexts}
+use Rattle.filterset_entries.specs.Endings.{ending_of}
+use Rattle.filterset_entries.specs.declared.form.Form.{Form}
+use Rattle.filterset_entries.specs.declared.text.Ending.{Ending}
+use Rattle.filterset_drawing.specs.Columns.{Text}
+use Rattle.filterset_drawing.specs.declared.source.Source.{Source}
+use Rattle.filterset_faults.specs.declared.kind.FiltersetKind.{FiltersetKind}
+use Rattle.filterset_faults.specs.declared.kind.FiltersetKind.TheVariants as kinds
+use Rattle.filterset_warnings.specs.Checking.{AnswersCheck, IsCheckFault}
+use Rattle.filterset_loading.specs.Files.{content_of}
+use Rattle.filterset.specs.Requests.{Answers, Faults, IsInputFile, rows_of}
+use Rattle.filterset_loading.specs.declared.request.CheckPaths.{CheckPaths}
+use Rattle.filterset_loading.specs.declared.fault.CommandFault.{CommandFault}
+use Rattle.filterset_loading.specs.declared.request.Request.{Request}
+use Rattle.filterset_loading.specs.declared.request.Request.TheVariants.{Check, Format, Simplify}
+use Rattle.filterset_loading.specs.declared.request.Texts.{Texts}
+use Rattle.filterset_loading.proofs.FaultLemmas.{OrMemory-weaker}
+use Rattle.filterset.proofs.answering.answer_with.Goals as goal
+
+-- the answer to a check is about standard input as this file
+checked : (content : Text → Option Text) (input : Text) (kind : FiltersetKind) (form : Form) (texts : Texts) (paths : CheckPaths) (file : Bor Source)
+    (ending : Ending) (text : Text) (request : Request) → request ≡ Check kind form texts paths → IsInputFile input file.now
+    → AnswersCheck (content_of content input) form paths (rows_of kind texts file) ending text → Answers content input request ending text
+checked content input kind form texts paths file ending text request is named answers =
+    subst (λ r. Answers content input r ending text) (sym is) (file, named, answers)
+
+pub returns-in-Check-clause-answered : goal.returns-in-Check-clause-answered
+returns-in-Check-clause-answered g c =
+    let content = g.F.FileSource.content c.args.files.now in
+    IfOk-weaker c.check_given.result _ _ (λ answer.
+    checked content c.args.input.now c.in-Check.kind c.in-Check.form c.in-Check.texts c.in-Check.paths _ answer.ending (string_bytes answer.text) c.args.request.now
+    c.in-Check.is c.in_ok-file-in-Check.ensures)
+    c.check_given.ensures.answered
+
+-- and its fault is one of the files
+check_faults : (content : Text → Option Text) (fails : Text → Error → Type 0) (input : Text) (kind : FiltersetKind) (form : Form) (texts : Texts) (paths : CheckPaths) (request : Request) →
+    request ≡ Check kind form texts paths → (fault : CommandFault) → IsCheckFault (content_of content input) fails paths fault → Faults content fails input request fault
+check_faults content fails input kind form texts paths request is fault wrong = subst (λ r. Faults content fails input r fault) (sym is) wrong
+
+pub returns-in-Check-clause-refused : goal.returns-in-Check-clause-refused
+returns-in-Check-clause-refused g c =
+    let content = g.F.FileSource.content c.args.files.now in
+    let fails = g.F.FileSource.fails c.args.files.now in
+    let input = c.args.input.now in
+    let request = c.args.request.now in
+    IfErr-weaker c.check_given.result _ _ (OrMemory-weaker (IsCheckFault (content_of content input) fails c.in-Check.paths) (Faults content fails input request)
+    (check_faults content fails input c.in-Check.kind c.in-Check.form c.in-Check.texts c.in-Check.paths request c.in-Check.is)) c.check_given.ensures.refused
+
+-- the answer to a request to format is about standard input as this file
+formatted : (content : Text → Option Text) (input : Text) (form : Form) (texts : Texts) (file : Bor Source)
+    (ending : Ending) (text : Text) (request : Request) → request ≡ Format form texts → IsInputFile input file.now
+    → ((faulty : ℕ) × FormatsTexts form (rows_of kinds.Test texts file) faulty text × (ending ≡ ending_of faulty))
+    → Answers content input request ending text
+formatted content input form texts file ending text request is named answers =
+    subst (λ r. Answers content input r ending text) (sym is) (file, answers.0, named, answers.1, answers.2)
+
+pub returns-in-Format-clause-answered : goal.returns-in-Format-clause-answered
+returns-in-Format-clause-answered g c =
+    let answer = c.in_ok-format_given-in-Format.field-0 in
+    formatted (g.F.FileSource.content c.args.files.now) c.args.input.now c.in-Format.form c.in-Format.texts _ answer.ending (string_bytes answer.text) c.args.request.now
+    c.in-Format.is c.in_ok-file-in-Format.ensures c.in_ok-format_given-in-Format.ensures
+
+-- and so is that to a request to simplify
+simplified : (content : Text → Option Text) (input : Text) (form : Form) (texts : Texts) (file : Bor Source)
+    (ending : Ending) (text : Text) (request : Request) → request ≡ Simplify form texts → IsInputFile input file.now
+    → ((faulty : ℕ) × SimplifiesTexts form (rows_of kinds.Test texts file) faulty text × (ending ≡ ending_of faulty))
+    → Answers content input request ending text
+simplified content input form texts file ending text request is named answers =
+    subst (λ r. Answers content input r ending text) (sym is) (file, answers.0, named, answers.1, answers.2)
+
+pub returns-in-Simplify-clause-answered : goal.returns-in-Simplify-clause-answered
+returns-in-Simplify-clause-answered g c =
+    let answer = c.in_ok-simplify_given-in-Simplify.field-0 in
+    simplified (g.F.FileSource.content c.args.files.now) c.args.input.now c.in-Simplify.form c.in-Simplify.texts _ answer.ending (string_bytes answer.text) c.args.request.now
+    c.in-Simplify.is c.in_ok-file-in-Simplify.ensures c.in_ok-simplify_given-in-Simplify.ensures

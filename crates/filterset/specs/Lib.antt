@@ -1,0 +1,4 @@
+pub mod Ending
+pub mod Requests
+pub mod Written
+pub mod Serving

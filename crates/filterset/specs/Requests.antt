@@ -1,0 +1,74 @@
+-- What is answered to each request.
+use Rattle.std.specs.Prelude.{◌≡◌, ◌⊎◌, ◌<◌, Bool, ℕ, List, Option, codes, map}
+use Rattle.std.specs.Borrow.{Bor}
+use Rattle.std.specs.declared.io.Error.{Error}
+use Rattle.clap.specs.declared.error.kind.ErrorKind.{ErrorKind}
+use Rattle.clap.specs.declared.error.kind.ErrorKind.TheVariants.{DisplayHelp, DisplayVersion}
+use Rattle.filterset_answers.specs.Answers.{FormatsTexts, SimplifiesTexts}
+use Rattle.filterset_entries.specs.Checked.{TextRow}
+use Rattle.filterset_entries.specs.Endings.{ending_of}
+use Rattle.filterset_entries.specs.Entries.{input_rows, numbered_rows}
+use Rattle.filterset_entries.specs.declared.text.Ending.{Ending}
+use Rattle.filterset_entries.specs.declared.text.Ending.TheVariants.{Fine}
+use Rattle.filterset_drawing.specs.Columns.{Text}
+use Rattle.filterset_drawing.specs.declared.source.Source.{Source}
+use Rattle.filterset_faults.specs.declared.kind.FiltersetKind.{FiltersetKind}
+use Rattle.filterset_faults.specs.declared.kind.FiltersetKind.TheVariants as kinds
+use Rattle.filterset_json.specs.Runs.{AreLeft}
+use Rattle.filterset_warnings.specs.Asking.{AnswersAsked, IsAskedFault}
+use Rattle.filterset_warnings.specs.Checking.{AnswersCheck, IsCheckFault}
+use Rattle.filterset_verdicts.specs.Deciding.{AnswersDecision, IsDecisionFault}
+use Rattle.filterset_loading.specs.Files.{content_of, input_name}
+use Rattle.filterset_loading.specs.Words.{IsInputFault, input_count}
+use Rattle.filterset_loading.specs.declared.fault.CommandFault.{CommandFault}
+use Rattle.filterset_loading.specs.declared.request.Request.{Request}
+use Rattle.filterset_loading.specs.declared.request.Request.TheVariants.{Ask, Check, Decide, Format, Show, Simplify}
+use Rattle.filterset_loading.specs.declared.request.Texts.{Texts}
+use Rattle.filterset_loading.specs.declared.request.Texts.TheVariants.{Given, StandardInput}
+
+-- the text is what standard input had left, as far as that is known, if the request is about that
+abbrev pub IsInput : Request → Option Text → Text → Type 0
+IsInput request left input = 0 < input_count request → AreLeft left input
+
+-- standard input, which has this text, as a file in which faults are drawn
+abbrev pub IsInputFile : Text → Source → Type 0
+IsInputFile input file = (file.origin.now ≡ input_name) × (file.text.now ≡ input)
+
+-- the rows of the filtersets: the arguments, as `argument 2`, or the lines of standard input, as `line 7`
+abbrev pub rows_of : FiltersetKind → Texts → Bor Source → List TextRow
+rows_of kind (Given texts) file = numbered_rows (codes "argument") kind (map (λ t. t.now) texts.now)
+rows_of kind StandardInput file = input_rows file kind
+
+-- the words of the command line ask for the help or the version
+abbrev pub IsShown : ErrorKind → Type 0
+IsShown kind = (kind ≡ DisplayHelp) ⊎ (kind ≡ DisplayVersion)
+
+-- the answer to a request, and how the command ends, where files have these contents and standard input has this text
+abbrev pub Answers : (Text → Option Text) → Text → Request → Ending → Text → Type 0
+Answers content input (Check kind form texts paths) = λ ending text. (file : Bor Source) × IsInputFile input file.now
+    × AnswersCheck (content_of content input) form paths (rows_of kind texts file) ending text
+Answers content input (Format form texts) = λ ending text. (file : Bor Source) × (faulty : ℕ) × IsInputFile input file.now
+    × FormatsTexts form (rows_of kinds.Test texts file) faulty text × (ending ≡ ending_of faulty)
+Answers content input (Simplify form texts) = λ ending text. (file : Bor Source) × (faulty : ℕ) × IsInputFile input file.now
+    × SimplifiesTexts form (rows_of kinds.Test texts file) faulty text × (ending ≡ ending_of faulty)
+Answers content input (Ask asked) = AnswersAsked (content_of content input) asked
+Answers content input (Decide asked) = AnswersDecision (content_of content input) asked
+Answers content input (Show shown) = λ ending text. (ending ≡ Fine) × (text ≡ shown.now)
+
+-- the same, where this is left of standard input; if the bytes of that or of files are not known, it is the answer for some
+abbrev pub IsAnswered : (Text → Option Text) → Request → Option Text → Ending → Text → Type 0
+IsAnswered content request left ending text =
+    (input : Text) × IsInput request left input × Answers content input request ending text
+
+-- the fault of a request, where files have these contents, reading one fails with these errors, and standard input has this text
+abbrev pub Faults : (Text → Option Text) → (Text → Error → Type 0) → Text → Request → CommandFault → Type 0
+Faults content fails input (Check kind form texts paths) fault = IsCheckFault (content_of content input) fails paths fault
+Faults content fails input (Ask asked) fault = IsAskedFault (content_of content input) fails asked fault
+Faults content fails input (Decide asked) fault = IsDecisionFault (content_of content input) fails asked fault
+Faults content fails input _ fault = ⊥
+
+-- the fault of a request that is not answered, where this is left of standard input, and its reader has failed or not
+abbrev pub IsFaultOf : (Text → Option Text) → (Text → Error → Type 0) → Request → Option Text → Bool → CommandFault
+    → Type 0
+IsFaultOf content fails request left failed fault = ((0 < input_count request) × IsInputFault left failed fault)
+    ⊎ ((input : Text) × IsInput request left input × Faults content fails input request fault)

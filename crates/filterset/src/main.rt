@@ -1,0 +1,153 @@
+//! The program for people: checks filtersets and draws their faults, prints them, and shows which tests of a workspace they
+//! pick, how two differ, why one picks a test or not, and how the overrides of a profile apply to tests; decides questions
+//! about filtersets and every possible test; and serves editors and shells.
+#![tactic(auto)]
+
+mod answering;
+mod command_line;
+mod ending;
+mod finding;
+mod greeting;
+mod output;
+mod run;
+mod serving;
+mod texts;
+
+use command_line::CommandLine;
+use ending::{Ended, status};
+use filterset_arguments::{arguments, completion_script};
+use filterset_editor::Ending as SessionEnding;
+use filterset_entries::Ending;
+use filterset_json::{FromReader, RunFault, ToWriter};
+use filterset_loading::{CommandFault, HostFiles, Request, Task, WorkspacePaths};
+use finding::{find_configuration, lacks_texts, path_in, with_configuration};
+use output::HostOutput;
+use run::run;
+use serving::serve_editor;
+use std::alloc::AllocError;
+use std::process::ExitCode;
+use std::{env, io};
+
+/// Returns the words of the command line.
+fn words_of(rt: &HostRuntime) -> Result<Vec<String>, CommandFault> {
+    match env::args(rt) {
+        Ok(words) => Ok(words.collect(rt.alloc())?),
+        Err(error) if error.kind() == io::ErrorKind::OutOfMemory => {
+            Err(CommandFault::Run(RunFault::Memory(AllocError)))
+        }
+        Err(_) => Err(CommandFault::NoWords),
+    }
+}
+
+/// Answers a request on standard output, or writes on standard error what keeps it from that.
+fn answer_request(rt: &HostRuntime, request: &Request<'_>) -> Result<Ended, CommandFault> {
+    let files = HostFiles { runtime: rt };
+    let mut input = FromReader::new(rt.stdin());
+    let mut output = HostOutput::new(rt.stdout());
+    let mut errors = HostOutput::new(rt.stderr());
+    let run = run(
+        rt.alloc(),
+        request,
+        &files,
+        &mut input,
+        &mut output,
+        &mut errors,
+    )?;
+    match output.into_failure() {
+        Some(error) => Err(CommandFault::Unwritten(error)),
+        None => Ok(Ended::Answered(run.ending)),
+    }
+}
+
+/// Answers a request, which may be to check the nearest configuration, at this path, and says on standard error which file that
+/// is, or that a filterset with faults is the path of a file. Without a configuration the path is empty.
+fn answer_found<'w>(
+    rt: &HostRuntime,
+    request: &Request<'w>,
+    nearest: &'w str,
+) -> Result<Ended, CommandFault> {
+    if lacks_texts(request) {
+        if nearest.is_empty() {
+            return Err(CommandFault::NoConfiguration);
+        }
+        let _ = eprintln!(rt; "checks {nearest}");
+        return answer_request(rt, &with_configuration(request, nearest));
+    }
+    let ended = answer_request(rt, request)?;
+    if let Ended::Answered(Ending::Faulty) = ended
+        && let Some(path) = path_in(rt, request)
+    {
+        let _ = eprintln!(rt; "help: `{path}` is a file: did you mean `--config {path}`?");
+    }
+    Ok(ended)
+}
+
+/// Serves an editor on standard input and output.
+fn serve(rt: &HostRuntime, paths: Option<WorkspacePaths<'_>>) -> Result<Ended, CommandFault> {
+    let files = HostFiles { runtime: rt };
+    let mut input = FromReader::new(rt.stdin());
+    let mut output = ToWriter::new(rt.stdout());
+    Ok(Ended::Served(serve_editor(rt.alloc(), &files, paths, &mut input, &mut output)?))
+}
+
+/// Does what the command line asks for. The nearest configuration is at this path, which is empty if there is none.
+fn perform<'w>(rt: &HostRuntime, task: &Task<'w>, nearest: &'w str) -> Result<Ended, CommandFault> {
+    match task {
+        Task::Answer(request) => answer_found(rt, request, nearest),
+        Task::Complete(shell) => {
+            let command = arguments(rt.alloc())?;
+            let script = completion_script(rt.alloc(), *shell, &command)?;
+            answer_request(rt, &Request::Show(script.as_str()))
+        }
+        Task::Serve(paths) => serve(rt, *paths),
+    }
+}
+
+/// Returns the path of the nearest configuration, if the words are those of `check`, and else an empty one.
+fn nearest_for(rt: &HostRuntime, words: &[String]) -> Result<String, AllocError> {
+    match words.get(1) {
+        Some(word) if word.as_str() == "check" => find_configuration(rt),
+        _ => Ok(String::new(rt.alloc())),
+    }
+}
+
+/// Runs the command of a line. The nearest configuration is at this path, which is empty if there is none.
+fn run_line<'w>(
+    rt: &HostRuntime,
+    line: &'w CommandLine,
+    nearest: &'w str,
+) -> Result<Ended, CommandFault> {
+    let task = line.task()?;
+    perform(rt, &task, nearest)
+}
+
+/// Runs the command of these words.
+fn run_words(rt: &HostRuntime, words: &[String], nearest: &str) -> Result<Ended, CommandFault> {
+    let line = CommandLine::read(rt.alloc(), words)?;
+    run_line(rt, &line, nearest)
+}
+
+/// Runs the command of the command line.
+fn run_command(rt: &HostRuntime) -> Result<Ended, CommandFault> {
+    let words = words_of(rt)?;
+    let nearest = nearest_for(rt, words.as_slice())?;
+    run_words(rt, words.as_slice(), nearest.as_str())
+}
+
+/// Writes on standard error why a command failed, if it did. A failed write is ignored.
+fn report(rt: &HostRuntime, ended: &Result<Ended, CommandFault>) {
+    let _ = match ended {
+        Err(CommandFault::Words(error)) => error.print(rt),
+        Err(fault) => eprintln!(rt; "{fault}"),
+        Ok(Ended::Served(SessionEnding::Malformed)) => eprintln!(rt;
+            "error: standard input has no message of the Language Server Protocol\nhelp: `filterset lsp` is for editors, which start it",
+        ),
+        Ok(_) => Ok(()),
+    };
+}
+
+fn main(rt: HostRuntime) -> ExitCode {
+    let ended = run_command(&rt);
+    report(&rt, &ended);
+    ExitCode::from(status(&ended))
+}

@@ -1,3 +1,0 @@
-pub mod FaultLemmas
-pub mod NamingLemmas
-pub mod ServingLemmas

@@ -1,0 +1,55 @@
+//! Places of texts in files.
+ghost use Rattle.std.specs.Prelude.{◌≡◌, option_map};
+ghost use Rattle.filterset_entries.specs.Placements.{file_part, line_span, placement_of, span_in, spot_of};
+
+use filterset_drawing::{FileSpan, Source};
+use filterset_places::{Place, Stretch};
+use nextest_filtering::SourceSpan;
+
+/// Where a text is in its file.
+#[derive(Clone, Copy, Debug)]
+pub enum Spot<'t> {
+    /// A string of a configuration is read as the text.
+    Literal(&'t Place),
+    /// The text is a line, without its line break.
+    Line(Stretch),
+}
+
+/// The place of a text in a file.
+#[derive(Clone, Copy, Debug)]
+pub struct FilePlace<'t> {
+    pub file: &'t Source<'t>,
+    pub spot: Spot<'t>,
+}
+
+/// Returns the span of a file that a span of one of its lines is. It ends with the line if that ends first.
+fn line_span(line: Stretch, span: SourceSpan) -> SourceSpan
+    ensures { result ≡ line_span line span }
+{
+    let from = line.from.saturating_add(span.offset()).min(line.to);
+    let to = from.saturating_add(span.len()).min(line.to);
+    SourceSpan::new(from, to.saturating_sub(from))
+}
+
+/// Returns the span of a file that a span of the text at this spot was read from.
+fn span_in(spot: Spot<'_>, span: SourceSpan) -> SourceSpan
+    ensures { result ≡ span_in (spot_of spot.entry) span }
+{
+    match spot {
+        Spot::Literal(place) => place.file_span(span),
+        Spot::Line(line) => line_span(line, span),
+    }
+}
+
+/// Returns the span of its file that a span of a text was read from, if the text has a place.
+pub fn file_part<'t>(place: Option<FilePlace<'t>>, span: Option<SourceSpan>) -> Option<FileSpan<'t>>
+    ensures { result ≡ file_part (option_map placement_of place.entry) span }
+{
+    match (place, span) {
+        (Some(at), Some(span)) => Some(FileSpan {
+            file: at.file,
+            span: span_in(at.spot, span),
+        }),
+        _ => None,
+    }
+}

@@ -1,0 +1,21 @@
+use Rattle.std.proofs.Common.{refl, subst, sym}
+use Rattle.filterset_drawing.specs.Columns.{Text}
+use Rattle.filterset_profiles.specs.Profiles.{HasProfiles}
+use Rattle.filterset_sources.specs.Configurations.{IsConfiguration}
+use Rattle.filterset_loading.proofs.profile.read_profiles_file.Goals as goal
+
+pub profiles_in-requires : goal.profiles_in-requires
+profiles_in-requires g c =
+    let configuration = c.in_ok-text.field-0.configuration in
+    let IsHere : Text → Type 0 = λ bytes. IsConfiguration bytes configuration in
+    (configuration, subst IsHere (sym c.as_str.ensures.value) c.in_ok-text.ensures.read.1)
+
+pub returns-clause-read : goal.returns-clause-read
+returns-clause-read g c =
+    let AreHere : Text → Type 0 = λ bytes. HasProfiles bytes c.in_ok-profiles.profiles.items in (
+      c.in_ok-text.field-0.configuration,
+      c.in_ok-text.ensures.read,
+      refl,
+      c.in_ok-of.ensures.groups,
+      subst AreHere c.as_str.ensures.value c.in_ok-profiles.ensures.read,
+    )

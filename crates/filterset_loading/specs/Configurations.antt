@@ -1,0 +1,149 @@
+-- What files say of a configuration and its profiles, and of the platforms by which their overrides apply.
+use Rattle.std.specs.Prelude.{◌≡◌, ◌≢◌, ◌⊎◌, List, Option, Some, None, IsSomeAnd, Vec, alloc_error, map, string_bytes, Result, Ok, Err, codes, option_map}
+use Rattle.std.specs.Borrow.{Bor}
+use Rattle.std.specs.Global.{Global}
+use Rattle.std.specs.declared.io.Error.{Error}
+use Rattle.filterset_entries.specs.declared.entries.ConfiguredTexts.{ConfiguredTexts}
+use Rattle.filterset_drawing.specs.Columns.{Text}
+use Rattle.filterset_places.specs.Places.{ArePlaces}
+use Rattle.filterset_places.specs.declared.place.Place.{Place}
+use Rattle.filterset_places.specs.declared.places.Places.{Places}
+use Rattle.filterset_profiles.specs.PlatformReading as cfgs
+use Rattle.filterset_profiles.specs.PlatformTrees.{setting_of}
+use Rattle.filterset_profiles.specs.declared.platforms.fault.CfgRefusal.TheVariants.{OutOfMemory}
+use Rattle.filterset_profiles.specs.declared.platforms.settings.Cfg.{Cfg}
+use Rattle.filterset_profiles.specs.Lineages.{IsLineageFault, Lineage}
+use Rattle.filterset_profiles.specs.Profiles.{HasProfiles}
+use Rattle.filterset_profiles.specs.declared.fault.LineageFault.TheVariants as lineages
+use Rattle.filterset_profiles.specs.declared.profiles.Profile.{Profile}
+use Rattle.filterset_sources.specs.Configurations.{IsConfiguration, RefusesConfiguration, configured_rows}
+use Rattle.filterset_sources.specs.declared.configuration.Configuration.{Configuration}
+use Rattle.filterset_sources.specs.declared.configuration.ConfiguredFilterset.{ConfiguredFilterset}
+use Rattle.filterset_sources.specs.declared.platforms.BuildPlatforms.{BuildPlatforms}
+use Rattle.filterset_sources.specs.declared.refusal.SourceRefusal.TheVariants.{WrongValue}
+use Rattle.nextest_filtering.specs.Groups.{AreGroups}
+use Rattle.filterset_loading.specs.Files.{BySource, IsContent, IsFaultAt, IsFileFault, name_of}
+use Rattle.filterset_loading.specs.declared.fault.CommandFault.{CommandFault}
+use Rattle.filterset_loading.specs.declared.fault.CommandFault.TheVariants as faults
+use Rattle.filterset_loading.specs.declared.fault.FileFault.{FileFault}
+use Rattle.filterset_loading.specs.declared.fault.FileFault.TheVariants.{Refused, WrongCfg}
+use Rattle.filterset_loading.specs.declared.fault.FileRole.{FileRole}
+use Rattle.filterset_loading.specs.declared.fault.FileRole.TheVariants as roles
+use Rattle.filterset_loading.specs.declared.profile.KnownPlatforms.{KnownPlatforms}
+use Rattle.filterset_loading.specs.declared.profile.ProfileRequest.{ProfileRequest}
+use Rattle.filterset_loading.specs.declared.profile.ProfilesFile.{ProfilesFile}
+use Rattle.filterset_loading.specs.declared.request.WarningRequest.{WarningRequest}
+use Rattle.filterset_entries.specs.Checked.{TextRow, text_row}
+use Rattle.filterset_entries.specs.Entries.{default_row}
+use Rattle.filterset_entries.specs.Profile.{row_at}
+use Rattle.filterset_faults.specs.declared.kind.FiltersetKind.TheVariants.{DefaultFilter}
+use Rattle.filterset_profiles.specs.declared.defaults.DefaultFilter as defaults
+use Rattle.filterset_profiles.specs.declared.defaults.DefaultFilter.TheVariants.{All, Set, Unknown}
+use Rattle.filterset_loading.specs.declared.profile.ChosenFilter.{ChosenFilter}
+use Rattle.filterset_loading.specs.declared.profile.ChosenFilter.TheVariants as chosens
+
+-- the bytes of the file are this configuration, and its filtersets have these places in it
+abbrev pub IsConfigurationIn : Option Text → Text → Configuration → List (Option Place) → Type 0
+IsConfigurationIn content bytes configuration places = IsContent content bytes × IsConfiguration bytes configuration
+    × ArePlaces bytes (configured_rows configuration.filtersets.items) places
+
+-- the filtersets of a file with these bytes, and their places
+abbrev pub AreTextsOf : Text → Text → List ConfiguredFilterset → Places → ConfiguredTexts → Type 0
+AreTextsOf name bytes filtersets places texts =
+    (texts.file.now.origin.now ≡ name) × (texts.file.now.text.now ≡ bytes)
+    × (texts.filtersets.now ≡ filtersets) × (texts.places.now ≡ places)
+
+-- the file has these profiles
+abbrev pub AreProfilesIn : Option Text → ProfilesFile → Type 0
+AreProfilesIn content file = let bytes = string_bytes file.text in (configuration : Configuration)
+    × IsConfigurationIn content bytes configuration file.places.places.items
+    × (file.filtersets.items ≡ configuration.filtersets.items)
+    × AreGroups (map (λ s. string_bytes s) configuration.groups.items) file.groups
+    × HasProfiles bytes file.profiles.items
+
+-- what `rustc` sets for a platform, as a file says, if there is one
+abbrev pub AreSettings : (Text → Option Text) → Option (Bor Text) → Option (Vec Cfg Global) → Type 0
+AreSettings content None settings = settings ≡ None
+AreSettings content (Some path) settings = IsSomeAnd settings (λ all. (text : Text) × IsContent (content path.now) text
+    × cfgs.AreSettings text (map setting_of all.items))
+
+-- what is known of the platforms of a build
+abbrev pub AreKnown : (Text → Option Text) → ProfileRequest → BuildPlatforms → KnownPlatforms → Type 0
+AreKnown content request built known = (known.host.triple ≡ built.host) × (known.target.triple ≡ built.target)
+    × AreSettings content request.host_cfg known.host.cfg × AreSettings content request.target_cfg known.target.cfg
+
+-- the text has no profiles that are right
+abbrev pub RefusesProfiles : Text → FileFault → Type 0
+RefusesProfiles text (Refused (WrongValue wrong)) = ¬ ((profiles : List Profile) × HasProfiles text profiles)
+RefusesProfiles text fault = ⊥
+
+-- it is no configuration, or one with profiles that are wrong
+abbrev pub RefusesFile : Text → FileFault → Type 0
+RefusesFile text fault = BySource RefusesConfiguration text fault ⊎ RefusesProfiles text fault
+
+-- the text is not what `rustc` sets for a platform
+abbrev pub RefusesCfg : Text → FileFault → Type 0
+RefusesCfg text (WrongCfg refusal) = cfgs.Refuses text refusal × (refusal ≢ OutOfMemory alloc_error)
+RefusesCfg text fault = ⊥
+
+-- a file that says what `rustc` sets for a platform is not used
+abbrev pub IsSettingsFault : (Text → Option Text) → (Text → Error → Type 0) → FileRole → Option (Bor Text) → CommandFault → Type 0
+IsSettingsFault content fails role path fault =
+    IsSomeAnd path (λ p. IsFileFault content fails role RefusesCfg p.now fault)
+
+-- the fault names the file, says why there is no such profile, and names the profiles that there are
+abbrev pub LacksProfile : ProfileRequest → List Profile → CommandFault → Type 0
+LacksProfile request profiles (faults.Profile file fault known) =
+    (string_bytes file ≡ name_of request.configuration.now)
+    × IsLineageFault profiles request.name.now fault × (fault ≢ lineages.OutOfMemory alloc_error)
+    × (map (λ s. string_bytes s) known.items ≡ map (λ p. string_bytes p.name) profiles)
+LacksProfile request profiles _ = ⊥
+
+-- the configuration at a path lacks the profile of a name
+abbrev pub LacksName : Text → List Profile → Text → CommandFault → Type 0
+LacksName configuration profiles name fault = (asked : ProfileRequest) × (asked.configuration.now ≡ configuration)
+    × (asked.name.now ≡ name) × LacksProfile asked profiles fault
+
+-- the configuration with these bytes has a profile of the name, which falls back on these
+abbrev pub HasNamed : Text → Text → Type 0
+HasNamed bytes name =
+    (profiles : List Profile) × (chain : List Profile) × HasProfiles bytes profiles × Lineage profiles name chain
+
+-- what keeps a profile from being used: a file that is not, or a configuration without the profile
+abbrev pub IsProfileFault : (Text → Option Text) → (Text → Error → Type 0) → ProfileRequest → CommandFault → Type 0
+IsProfileFault content fails request fault =
+    IsFileFault content fails roles.Configuration RefusesFile request.configuration.now fault
+    ⊎ IsSettingsFault content fails roles.HostCfg request.host_cfg fault
+    ⊎ IsSettingsFault content fails roles.TargetCfg request.target_cfg fault
+    ⊎ ((file : ProfilesFile) × AreProfilesIn (content request.configuration.now) file
+    × LacksProfile request file.profiles.items fault)
+
+-- the text of the file at this path has no profiles that are right
+abbrev pub IsRefusedProfile : Text → Text → CommandFault → Type 0
+IsRefusedProfile text path fault =
+    (own : FileFault) × IsFaultAt roles.Configuration path own fault × RefusesProfiles text own
+
+-- the profile that is requested, of the configuration at this path
+abbrev pub profile_at : Bor Text → WarningRequest → ProfileRequest
+profile_at path request = record {
+  configuration = path;
+  name = request.profile;
+  target_cfg = request.target_cfg;
+  host_cfg = request.host_cfg;
+}
+
+abbrev pub given_row : Option (Bor Text) → Option TextRow
+given_row given = option_map (λ t. default_row t.now) given
+
+-- the default filter that is given, or else that of the profile, or all tests; or the path that it is not known by
+abbrev pub chosen : ConfiguredTexts → Option TextRow → defaults.DefaultFilter → Result TextRow Text
+chosen texts (Some row) filter = Ok row
+chosen texts None (Set path text) = Ok (row_at texts (string_bytes path) DefaultFilter text.now)
+chosen texts None (Unknown path) = Err (string_bytes path)
+chosen texts None All = Ok (default_row (codes "all()"))
+
+-- the default filter that is given, or else that of the profile or all tests; or the path that says why it is not known
+abbrev pub IsChosen : ConfiguredTexts → Option TextRow → defaults.DefaultFilter → ChosenFilter → Type 0
+IsChosen texts given filter (chosens.Entry entry) =
+    (chosen texts given filter ≡ Ok (text_row entry)) × (entry.kind ≡ DefaultFilter)
+IsChosen texts given filter (chosens.Unknown path) = chosen texts given filter ≡ Err (string_bytes path)

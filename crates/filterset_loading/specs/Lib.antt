@@ -1,0 +1,4 @@
+pub mod Files
+pub mod Configurations
+pub mod Workspaces
+pub mod Words

@@ -1,0 +1,237 @@
+//! What files say of the profiles of a configuration, and of the platforms by which their overrides apply.
+ghost use Rattle.std.specs.Prelude.{◌≡◌, ◌≢◌, ◌⊎◌, IfErr, IfOk, IfSome, alloc_error, map, option_map, string_bytes};
+ghost use Rattle.filterset_entries.specs.Checked.{text_row};
+ghost use Rattle.filterset_profiles.specs.Lineages.{IsLineageFault, Lineage};
+ghost use Rattle.filterset_profiles.specs.Profiles.{HasProfiles};
+ghost use Rattle.filterset_sources.specs.Configurations.{IsConfiguration};
+ghost use Rattle.filterset_sources.specs.declared.configuration.Configuration as configurations;
+ghost use Rattle.nextest_filtering.specs.Groups.{IsKnown};
+ghost use Rattle.filterset_loading.specs.Configurations.{AreKnown, AreProfilesIn, AreSettings, IsRefusedProfile, IsSettingsFault, LacksProfile, RefusesFile, IsChosen};
+ghost use Rattle.filterset_loading.specs.Files.{IsFileFault, OrMemory};
+
+use crate::configuration::{ConfigurationFile, read_configuration_file};
+use crate::fault::{CommandFault, FileFault, FileRole};
+use crate::files::{FileSource, read_text};
+use crate::input::name_of;
+use filterset_entries::{ConfiguredTexts, TextEntry, default_entry, entry_at};
+use filterset_places::Places;
+use filterset_profiles::{
+    Cfg, CfgRefusal, DefaultFilter, LineageFault, PlatformFacts, Profile, ProfileRefusal, lineage,
+    read_cfg, read_profiles,
+};
+use filterset_sources::{
+    BuildPlatforms, Configuration, ConfiguredFilterset, SourceRefusal, WrongValue,
+};
+use nextest_filtering::{FiltersetKind, KnownGroups};
+use std::alloc::{AllocError, Global};
+
+/// The profile that a command uses, by the paths of the files that say what it is.
+#[derive(Clone, Copy)]
+pub struct ProfileRequest<'w> {
+    /// Nextest's configuration.
+    pub configuration: &'w str,
+    pub name: &'w str,
+    /// What `rustc --print cfg` wrote of the platform that tests are built for.
+    pub target_cfg: Option<&'w str>,
+    /// What it wrote of the platform that runs the build.
+    pub host_cfg: Option<&'w str>,
+}
+
+/// The profiles of a configuration, with its text, its filtersets and their places in that, and its groups.
+#[derive(Drop)]
+pub struct ProfilesFile {
+    pub text: String,
+    pub filtersets: Vec<ConfiguredFilterset>,
+    pub places: Places,
+    pub groups: KnownGroups,
+    pub profiles: Vec<Profile>,
+}
+
+/// What is known of the platforms of a build.
+#[derive(Drop)]
+pub struct KnownPlatforms {
+    pub host: PlatformFacts,
+    pub target: PlatformFacts,
+}
+
+/// Reads the profiles of the configuration at a path, which is TOML.
+pub fn profiles_in(alloc: Global, path: &str, text: &str) -> Result<Vec<Profile>, CommandFault>
+    requires { (c : configurations.Configuration) × IsConfiguration text.now c }
+    ensures read { IfOk result (λ profiles. HasProfiles text.now profiles.items) }
+    ensures refused { IfErr result (OrMemory (IsRefusedProfile text.now path.now)) }
+{
+    match read_profiles(alloc, text) {
+        Ok(profiles) => Ok(profiles),
+        Err(ProfileRefusal::Wrong { path: at, expected }) => {
+            let wrong = SourceRefusal::WrongValue(WrongValue { path: at, expected });
+            Err(CommandFault::from_refusal(alloc, FileRole::Configuration, path, wrong))
+        }
+        Err(ProfileRefusal::OutOfMemory(refused)) => Err(CommandFault::from(refused)),
+        Err(ProfileRefusal::NotToml(_)) => unreachable!(),
+    }
+}
+
+/// Reads the profiles of the configuration at a path.
+pub fn read_profiles_file<F: FileSource>(
+    alloc: Global,
+    files: &F,
+    path: &str,
+) -> Result<ProfilesFile, CommandFault>
+    ensures read { IfOk result (AreProfilesIn (F.content files.now path.now)) }
+    ensures known { IfOk result (λ file. IsKnown file.groups) }
+    ensures refused { IfErr result (OrMemory (IsFileFault (F.content files.now) (F.fails files.now)
+        FileRole.Configuration RefusesFile path.now)) }
+{
+    let ConfigurationFile {
+        text,
+        configuration,
+        places,
+    } = read_configuration_file(alloc, files, path)?;
+    let profiles = profiles_in(alloc, path, text.as_str())?;
+    let Configuration { filtersets, groups } = configuration;
+    Ok(ProfilesFile {
+        groups: KnownGroups::of(alloc, groups)?,
+        text,
+        filtersets,
+        places,
+        profiles,
+    })
+}
+
+/// Reads what `rustc` sets for a platform, if there is a file that says so.
+fn read_settings<F: FileSource>(
+    alloc: Global,
+    files: &F,
+    role: FileRole,
+    path: Option<&str>,
+) -> Result<Option<Vec<Cfg>>, CommandFault>
+    ensures read { IfOk result (AreSettings (F.content files.now) path.entry) }
+    ensures refused { IfErr result (OrMemory (IsSettingsFault (F.content files.now) (F.fails files.now) role path.entry)) }
+{
+    let Some(path) = path else {
+        return Ok(None);
+    };
+    let text = read_text(alloc, files, role, path)?;
+    match read_cfg(alloc, text.as_str()) {
+        Ok(settings) => Ok(Some(settings)),
+        Err(CfgRefusal::OutOfMemory(refused)) => Err(CommandFault::from(refused)),
+        Err(refusal) => {
+            let wrong = FileFault::WrongCfg(refusal);
+            Err(CommandFault::in_file(alloc, role, path, wrong))
+        }
+    }
+}
+
+/// Reads what is known of the platforms of a build.
+pub fn read_facts<F: FileSource>(
+    alloc: Global,
+    files: &F,
+    request: &ProfileRequest<'_>,
+    built: BuildPlatforms,
+) -> Result<KnownPlatforms, CommandFault>
+    ensures read { IfOk result (AreKnown (F.content files.now) request.now built) }
+    ensures refused { IfErr result (OrMemory (λ fault.
+        IsSettingsFault (F.content files.now) (F.fails files.now) FileRole.HostCfg request.now.host_cfg fault
+        ⊎ IsSettingsFault (F.content files.now) (F.fails files.now) FileRole.TargetCfg request.now.target_cfg fault)) }
+{
+    let host_cfg = read_settings(alloc, files, FileRole::HostCfg, request.host_cfg)?;
+    let target_cfg = read_settings(alloc, files, FileRole::TargetCfg, request.target_cfg)?;
+    Ok(KnownPlatforms {
+        host: PlatformFacts {
+            triple: built.host,
+            cfg: host_cfg,
+        },
+        target: PlatformFacts {
+            triple: built.target,
+            cfg: target_cfg,
+        },
+    })
+}
+
+/// Copies the names of profiles.
+fn names_of(alloc: Global, profiles: &[Profile]) -> Result<Vec<String>, AllocError>
+    ensures { IfOk result (λ names. map (λ s. string_bytes s) names.items ≡ map (λ p. string_bytes p.name) profiles.now) }
+{
+    let mut names = Vec::with_capacity(alloc, profiles.len())?;
+    for profile in profiles {
+        names.push(String::from_str(alloc, profile.name.as_str())?)?;
+    }
+    Ok(names)
+}
+
+/// Makes the fault of a profile that there is not, or that falls back on none.
+fn wrong_profile(
+    alloc: Global,
+    request: &ProfileRequest<'_>,
+    profiles: &[Profile],
+    fault: LineageFault,
+) -> Result<CommandFault, AllocError>
+    ensures { IsLineageFault profiles.now request.now.name.now fault → fault ≢ LineageFault.OutOfMemory alloc_error
+        → IfOk result (LacksProfile request.now profiles.now) }
+{
+    Ok(CommandFault::Profile {
+        file: String::from_str(alloc, name_of(request.configuration))?,
+        fault,
+        known: names_of(alloc, profiles)?,
+    })
+}
+
+/// Returns the profile that is asked for, and those that it falls back on.
+pub fn lineage_of<'p>(
+    alloc: Global,
+    request: &ProfileRequest<'_>,
+    profiles: &'p [Profile],
+) -> Result<Vec<&'p Profile>, CommandFault>
+    ensures found { IfOk result (λ chain. Lineage profiles.entry.now request.now.name.now (map (λ p. p.now) chain.items)) }
+    ensures missing { IfErr result (OrMemory (LacksProfile request.now profiles.entry.now)) }
+{
+    match lineage(alloc, profiles, request.name) {
+        Ok(chain) => Ok(chain),
+        Err(LineageFault::OutOfMemory(refused)) => Err(CommandFault::from(refused)),
+        Err(fault) => Err(wrong_profile(alloc, request, profiles, fault)?),
+    }
+}
+
+/// Returns the profile with this name of the configuration at a path.
+pub fn request_of<'n>(configuration: &'n str, name: &'n str) -> ProfileRequest<'n>
+    ensures configuration { result.configuration.now ≡ configuration.entry.now }
+    ensures name { result.name.now ≡ name.entry.now }
+{
+    ProfileRequest {
+        configuration,
+        name,
+        target_cfg: None,
+        host_cfg: None,
+    }
+}
+
+/// What is known of a default filter.
+#[derive(Drop)]
+pub enum ChosenFilter<'t> {
+    Entry(TextEntry<'t>),
+    /// It hangs on the platform of the override at this path.
+    Unknown(String),
+}
+
+/// Makes the entry of the default filter that is given, or else of the profile's.
+pub fn choose<'t>(
+    alloc: Global,
+    texts: ConfiguredTexts<'t>,
+    given: Option<TextEntry<'t>>,
+    filter: DefaultFilter<'t>,
+) -> Result<ChosenFilter<'t>, AllocError>
+    requires { IfSome given (λ entry. entry.kind ≡ FiltersetKind.DefaultFilter) }
+    ensures { IfOk result (IsChosen texts.entry (option_map text_row given.entry) filter.entry) }
+{
+    if let Some(entry) = given {
+        return Ok(ChosenFilter::Entry(entry));
+    }
+    match filter {
+        DefaultFilter::Set { path, text } => {
+            let entry = entry_at(texts, path, FiltersetKind::DefaultFilter, text);
+            Ok(ChosenFilter::Entry(entry))
+        }
+        DefaultFilter::Unknown { path } => Ok(ChosenFilter::Unknown(path)),
+        DefaultFilter::All => Ok(ChosenFilter::Entry(default_entry(alloc, "all()")?)),
+    }
+}

@@ -1,0 +1,320 @@
+//! The commands `same`, `cover`, `disjoint` and `partition`: questions about filtersets and every possible test.
+ghost use Rattle.std.specs.Prelude.{◌≡◌, ◌<◌, [], IfErr, IfOk, IfSome, IsSomeAnd, codes, length, map, string_bytes, unwrap_or};
+ghost use Rattle.serde_json.specs.View.{view};
+ghost use Rattle.filterset_entries.specs.Checked.{text_row};
+ghost use Rattle.filterset_entries.specs.Entries.{default_row};
+ghost use Rattle.filterset_faults.specs.declared.kind.FiltersetKind.TheVariants as kinds;
+ghost use Rattle.filterset_sources.specs.Platforms.{ArePlatforms};
+ghost use Rattle.nextest_filtering.specs.Groups.{IsGlobalOnly, IsKnown};
+ghost use Rattle.nextest_filtering.specs.declared.compile.context.KnownGroups as contexts;
+ghost use Rattle.filterset_loading.specs.Configurations.{given_row};
+ghost use Rattle.filterset_verdicts.specs.Deciding.{AnswersDecision, AnswersKnown, AnswersListed, AnswersNamed, AnswersProfiles, AnswersRows, IsDecisionFault, IsDefaultKind, IsDefaultRow, IsListedFault, IsNamedFault, LacksNamed, naming_of, nowhere, outcome_of, request_rows, within_text};
+ghost use Rattle.filterset_loading.specs.Files.{OrMemory};
+ghost use Rattle.filterset_loading.specs.Workspaces.{IsPlatformsFault};
+
+use crate::answering::{TextQuestion, answer_texts};
+use crate::naming::{ResolvedEntries, filter_of, resolve, resolve_entries};
+use filterset_drawing::Source;
+use filterset_entries::{
+    Answer, ConfiguredTexts, Setting, TextEntry, answer_unknown, default_entry, entry_of,
+    given_entries,
+};
+use filterset_graph::PackageGraph;
+use filterset_loading::{
+    ChosenFilter, CommandFault, DecisionRequest, FileSource, KnownPlatforms, ProfileRequest,
+    ProfilesFile, configured_texts, known_packages, name_of, platforms_of, read_facts, read_list,
+    read_profiles_file,
+};
+use filterset_profiles::Profile;
+use filterset_sources::{BuildPlatforms, Suite};
+use nextest_filtering::{FiltersetKind, KnownGroups};
+use serde_json::Value;
+use std::alloc::{AllocError, Global};
+
+/// What is known of a workspace: its packages, and the test binaries of nextest's list.
+#[derive(Clone, Copy)]
+struct KnownWorkspace<'k> {
+    graph: &'k PackageGraph,
+    suites: &'k [Suite],
+}
+
+/// Returns the filterset of the tests that the question is about: the given one, or else that of all tests of the workspace,
+/// or of all tests if no workspace is given.
+fn within_text<'w>(request: &DecisionRequest<'w>) -> &'w str
+    ensures { result.now ≡ within_text request.now }
+{
+    match (request.within, request.metadata) {
+        (Some(text), _) => text,
+        (None, Some(_)) => "package(#*)",
+        (None, None) => "all()",
+    }
+}
+
+/// Makes the entries of a request: that of the tests that the question is about, and then the filtersets.
+fn request_entries<'w>(
+    alloc: Global,
+    request: &DecisionRequest<'w>,
+) -> Result<Vec<TextEntry<'w>>, AllocError>
+    ensures { IfOk result (λ entries. map text_row entries.items ≡ request_rows request.now) }
+{
+    let within = entry_of(alloc, "--within", FiltersetKind::Test, within_text(request))?;
+    let mut entries = given_entries(alloc, "argument", FiltersetKind::Test, request.texts)?;
+    entries.insert(0, within)?;
+    Ok(entries)
+}
+
+/// Returns the setting without overrides and profiles.
+fn plain_setting<'s>(
+    graph: &'s PackageGraph,
+    groups: &'s KnownGroups,
+    default: &'s TextEntry<'s>,
+) -> Setting<'s>
+    ensures graph { result.graph.now ≡ graph.entry.now }
+    ensures groups { result.groups.now ≡ groups.entry.now }
+    ensures default { result.default.now ≡ default.entry.now }
+    ensures overrides { result.overrides.now ≡ [] }
+    ensures profiles { result.profiles.now ≡ [] }
+{
+    Setting {
+        graph,
+        groups,
+        default,
+        overrides: &[],
+        profiles: &[],
+    }
+}
+
+/// Answers the question of a request about these entries, for this workspace and these groups and under this default filter.
+fn decide_entries(
+    alloc: Global,
+    request: &DecisionRequest<'_>,
+    workspace: KnownWorkspace<'_>,
+    groups: &KnownGroups,
+    default: &TextEntry<'_>,
+    entries: &[TextEntry<'_>],
+) -> Result<Answer, AllocError>
+    requires some { 0 < length entries.now }
+    requires kind { default.now.kind ≡ kinds.DefaultFilter }
+    requires groups { IsKnown groups.now }
+    ensures { IfOk result (λ answer. AnswersRows request.now workspace.entry.graph.now workspace.entry.suites.now groups.now (text_row default.now)
+        (map text_row entries.now) answer.ending (string_bytes answer.text)) }
+{
+    let setting = plain_setting(workspace.graph, groups, default);
+    let asked = TextQuestion {
+        question: request.question,
+        entries,
+        suites: workspace.suites,
+        budget: request.budget,
+    };
+    answer_texts(alloc, request.form, &setting, &asked)
+}
+
+/// Returns the text of the default filter without a profile: the given one, or else that of all tests.
+fn default_text<'w>(request: &DecisionRequest<'w>) -> &'w str
+    ensures { default_row result.now ≡ unwrap_or (given_row request.now.default_filter) (default_row (codes "all()")) }
+{
+    match request.default_filter {
+        Some(text) => text,
+        None => "all()",
+    }
+}
+
+/// Answers without a profile: under the default filter that is given, or else all tests.
+fn decide_plainly(
+    alloc: Global,
+    request: &DecisionRequest<'_>,
+    workspace: KnownWorkspace<'_>,
+    entries: &[TextEntry<'_>],
+) -> Result<Answer, AllocError>
+    requires some { 0 < length entries.now }
+    ensures { IfOk result (λ answer. (groups : contexts.KnownGroups) × IsGlobalOnly groups
+        × AnswersRows request.now workspace.entry.graph.now workspace.entry.suites.now groups (unwrap_or (given_row request.now.default_filter) (default_row (codes "all()")))
+        (map text_row entries.now) answer.ending (string_bytes answer.text)) }
+{
+    let groups = KnownGroups::global_only(alloc);
+    let default = default_entry(alloc, default_text(request))?;
+    decide_entries(alloc, request, workspace, &groups, &default, entries)
+}
+
+/// Returns the default filter under profiles: the given one, or else that of the profile.
+fn default_of<'p>(
+    alloc: Global,
+    request: &DecisionRequest<'p>,
+    profile: &ProfileRequest<'_>,
+    profiles: &'p [Profile],
+    known: &KnownPlatforms,
+    texts: ConfiguredTexts<'p>,
+) -> Result<ChosenFilter<'p>, CommandFault>
+    ensures found { IfOk result (λ filter. IsDefaultRow (naming_of profiles.entry.now known.now texts.entry)
+        profile.now.name.now (given_row request.now.default_filter) (outcome_of filter)) }
+    ensures kind { IfOk result IsDefaultKind }
+    ensures missing { IfErr result (OrMemory (LacksNamed request.now profile.now profiles.entry.now)) }
+{
+    let path = profile.configuration;
+    match request.default_filter {
+        Some(text) => {
+            let entry = default_entry(alloc, text)?;
+            resolve(alloc, path, profiles, known, texts, entry)
+        }
+        None => filter_of(alloc, path, profiles, known, texts, profile.name),
+    }
+}
+
+/// Answers under the default filters of profiles.
+fn decide_named<'p>(
+    alloc: Global,
+    request: DecisionRequest<'p>,
+    workspace: KnownWorkspace<'_>,
+    groups: &KnownGroups,
+    profile: &ProfileRequest<'_>,
+    profiles: &'p [Profile],
+    known: &KnownPlatforms,
+    texts: ConfiguredTexts<'p>,
+    entries: Vec<TextEntry<'p>>,
+) -> Result<Answer, CommandFault>
+    requires groups { IsKnown groups.now }
+    requires rows { map text_row entries.items ≡ request_rows request }
+    ensures answered { IfOk result (λ answer. AnswersNamed request.entry workspace.entry.graph.now workspace.entry.suites.now groups.now
+        (naming_of profiles.entry.now known.now texts.entry) profile.now.name.now answer.ending (string_bytes answer.text)) }
+    ensures missing { IfErr result (OrMemory (LacksNamed request.entry profile.now profiles.entry.now)) }
+{
+    let default = match default_of(alloc, &request, profile, profiles, known, texts)? {
+        ChosenFilter::Entry(default) => default,
+        ChosenFilter::Unknown(path) => return Ok(answer_unknown(alloc, path.as_str())?),
+    };
+    let path = profile.configuration;
+    match resolve_entries(alloc, path, profiles, known, texts, entries)? {
+        ResolvedEntries::Entries(entries) => {
+            let entries = entries.as_slice();
+            Ok(decide_entries(alloc, &request, workspace, groups, &default, entries)?)
+        }
+        ResolvedEntries::Unknown(path) => Ok(answer_unknown(alloc, path.as_str())?),
+    }
+}
+
+/// The platforms of a build of which nothing is known.
+fn nowhere() -> BuildPlatforms
+    ensures { result ≡ nowhere }
+{
+    BuildPlatforms {
+        host: None,
+        target: None,
+    }
+}
+
+/// Answers under the profiles of a configuration, on these platforms.
+fn decide_configured<F: FileSource>(
+    alloc: Global,
+    files: &F,
+    request: &DecisionRequest<'_>,
+    workspace: KnownWorkspace<'_>,
+    profile: &ProfileRequest<'_>,
+    built: BuildPlatforms,
+    entries: Vec<TextEntry<'_>>,
+) -> Result<Answer, CommandFault>
+    requires { map text_row entries.items ≡ request_rows request.now }
+    ensures answered { IfOk result (λ answer. AnswersProfiles (F.content files.now) request.now
+        workspace.entry.graph.now workspace.entry.suites.now profile.now built answer.ending (string_bytes answer.text)) }
+    ensures refused { IfErr result (OrMemory
+        (IsNamedFault (F.content files.now) (F.fails files.now) request.now profile.now)) }
+{
+    let ProfilesFile {
+        text,
+        filtersets,
+        places,
+        groups,
+        profiles,
+    } = read_profiles_file(alloc, files, profile.configuration)?;
+    let known = read_facts(alloc, files, profile, built)?;
+    let source = Source::new(alloc, name_of(profile.configuration), text.as_str())?;
+    let texts = configured_texts(&source, filtersets.as_slice(), &places);
+    let profiles = profiles.as_slice();
+    decide_named(
+        alloc, *request, workspace, &groups, profile, profiles, &known, texts, entries,
+    )
+}
+
+/// Answers for a workspace, under profiles on these platforms or without one.
+fn decide_known<F: FileSource>(
+    alloc: Global,
+    files: &F,
+    request: &DecisionRequest<'_>,
+    workspace: KnownWorkspace<'_>,
+    built: BuildPlatforms,
+) -> Result<Answer, CommandFault>
+    ensures answered { IfOk result (λ answer. AnswersKnown (F.content files.now) request.now
+        workspace.entry.graph.now workspace.entry.suites.now built answer.ending (string_bytes answer.text)) }
+    ensures refused { IfErr result (OrMemory (λ fault. IsSomeAnd request.now.profile
+        (λ profile. IsNamedFault (F.content files.now) (F.fails files.now) request.now profile fault))) }
+{
+    let entries = request_entries(alloc, request)?;
+    match &request.profile {
+        None => Ok(decide_plainly(alloc, request, workspace, entries.as_slice())?),
+        Some(profile) => decide_configured(
+            alloc, files, request, workspace, profile, built, entries,
+        ),
+    }
+}
+
+/// Reads the platforms of the build in nextest's list, the file at this path with this JSON value, if there is a profile.
+fn platforms_for(
+    alloc: Global,
+    request: &DecisionRequest<'_>,
+    path: &str,
+    list: &Value,
+) -> Result<BuildPlatforms, CommandFault>
+    ensures read { IfOk result (λ built. IfSome request.now.profile (λ _. ArePlatforms (view list.now) built)) }
+    ensures refused { IfErr result (OrMemory (λ fault. IsSomeAnd request.now.profile
+        (λ _. IsPlatformsFault path.now (view list.now) fault))) }
+{
+    match request.profile {
+        Some(_) => platforms_of(alloc, path, list),
+        None => Ok(nowhere()),
+    }
+}
+
+/// Answers for the packages of a workspace, and nextest's list at this path.
+fn decide_listed<F: FileSource>(
+    alloc: Global,
+    files: &F,
+    request: &DecisionRequest<'_>,
+    graph: &PackageGraph,
+    path: &str,
+) -> Result<Answer, CommandFault>
+    ensures answered { IfOk result (λ answer. AnswersListed (F.content files.now) request.now graph.now path.now
+        answer.ending (string_bytes answer.text)) }
+    ensures refused { IfErr result (OrMemory
+        (IsListedFault (F.content files.now) (F.fails files.now) request.now graph.now path.now)) }
+{
+    let (list, value) = read_list(alloc, files, path, graph, request.run_ignored)?;
+    let built = platforms_for(alloc, request, path, &value)?;
+    let workspace = KnownWorkspace {
+        graph,
+        suites: list.suites.as_slice(),
+    };
+    decide_known(alloc, files, request, workspace, built)
+}
+
+/// Answers a question about filtersets and every possible test.
+pub fn decide_given<F: FileSource>(
+    alloc: Global,
+    files: &F,
+    request: &DecisionRequest<'_>,
+) -> Result<Answer, CommandFault>
+    ensures answered { IfOk result (λ answer. AnswersDecision (F.content files.now) request.now
+        answer.ending (string_bytes answer.text)) }
+    ensures refused { IfErr result (OrMemory
+        (IsDecisionFault (F.content files.now) (F.fails files.now) request.now)) }
+{
+    let graph = known_packages(alloc, files, request.metadata)?;
+    match request.list {
+        Some(path) => decide_listed(alloc, files, request, &graph, path),
+        None => {
+            let workspace = KnownWorkspace {
+                graph: &graph,
+                suites: &[],
+            };
+            decide_known(alloc, files, request, workspace, nowhere())
+        }
+    }
+}
