@@ -6,7 +6,7 @@ use Rattle.std.proofs.lemmas.List.Folds.{list_any-append}
 use Rattle.std.proofs.Math.Bool.{or-false}
 use Rattle.filterset_expression.specs.Connectives.{Connective}
 use Rattle.filterset_expression.specs.Expression as compiled
-use Rattle.filterset_expression.specs.Expression.{CompiledLeaf, compiled_leaf, formula, is_default, is_group, leaf_with_default, with_default, has_leaf}
+use Rattle.filterset_expression.specs.Expression.{CompiledLeaf, formula, is_default, is_group, leaf_with_default, with_default, has_leaf}
 use Rattle.filterset_expression.specs.FlatExpressions.{leaf_passes}
 use Rattle.filterset_expression.specs.Formula.{Formula, Leaf, Negation, Compound, leaves, replaced}
 use Rattle.filterset_expression.specs.Running.{leaf_or, one_less, height_after, finds_operands, leaves_one, greatest_height}
@@ -14,7 +14,6 @@ use Rattle.filterset_expression.specs.FlatSteps.{Step, Negate, Combine, steps_by
 use Rattle.filterset_expression.specs.declared.expression.CompiledExpr.{CompiledExpr}
 use Rattle.filterset_expression.specs.declared.flat.steps.FlatStep.{FlatStep}
 use Rattle.filterset_expression.specs.declared.flat.steps.FlatStep.TheVariants as step
-use Rattle.filterset_expression.specs.declared.leaves.FiltersetLeaf.{FiltersetLeaf}
 use Rattle.filterset_expression.specs.declared.leaves.FiltersetLeaf.TheVariants as leaf
 
 pub one_less-is : (n : ℕ) → one_less n ≡ n - 1
@@ -207,16 +206,3 @@ no_default_with_default default none _ = refl
 pub no_default_step : (steps : List FlatStep) (e default : CompiledExpr) → steps_of steps ≡ postfix (with_default default e) → has_leaf is_default default ≡ false → list_any (λ s. leaf_passes is_default (step_of s)) steps ≡ false
 no_default_step steps e default same none =
     any_of_flat is_default steps (with_default default e) same ∙ none_replaced (λ l. false) is_default (leaf_with_default default) (λ l e. no_default_with_default default none l) (formula e) (none_of_all (formula e))
-
--- a leaf that is no `default` leaf is its own step
-pub own_step : (others : List (Step CompiledLeaf)) (l : FiltersetLeaf) → (l ≡ leaf.Default → ⊥) → leaf_or others (compiled_leaf l) ≡ push_leaf (compiled_leaf l)
-own_step others leaf.Default apart = absurd (apart refl)
-own_step others (leaf.Packages ids) apart = refl
-own_step others (leaf.Kind m s) apart = refl
-own_step others (leaf.Platform p s) apart = refl
-own_step others (leaf.Binary m s) apart = refl
-own_step others (leaf.BinaryId m s) apart = refl
-own_step others (leaf.Test m s) apart = refl
-own_step others (leaf.Group m s) apart = refl
-own_step others leaf.All apart = refl
-own_step others leaf.None apart = refl

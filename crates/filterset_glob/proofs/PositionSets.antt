@@ -35,11 +35,6 @@ Has-word ws k i is =
     let e : bit_at (get_or ws (i / 64) 0) (i % 64) ≡ bit_at (get_or ws k 0) (i % 64) = ap (λ k. bit_at (get_or ws k 0) (i % 64)) is in
     (λ h. sym e ∙ h, λ h. e ∙ h)
 
--- words that agree there have the same position
-pub Has-same : (ws vs : List ℕ) (i : ℕ) → get_or ws (i / 64) 0 ≡ get_or vs (i / 64) 0 → Has ws i → Has vs i
-unfolding Has
-Has-same ws vs i is h = ap (λ w. bit_at w (i % 64)) (sym is) ∙ h
-
 -- another word was written
 pub Has-set_other : (ws : List ℕ) (k v i : ℕ) → i / 64 ≢ k → Has (set ws k v) i ↔ Has ws i
 unfolding Has

@@ -107,9 +107,6 @@ joiner_self (Both Ampersand) = refl
 joiner_self (Without Minus) = refl
 joiner_self (ExactlyOne Caret) = refl
 
-pub same_span_equiv : IsEquivalence same_span
-same_span_equiv = decided same_span same_span_Decides
-
 pub same_platform_equiv : IsEquivalence same_platform
 same_platform_equiv = decided same_platform same_platform_Decides
 

@@ -36,18 +36,6 @@ marked-set_kept marks position k h m = grind (arith, common_steps, gets)
 pub unmarked-set : (marks : List Bool) (position : ℕ) → position < length marks → get_or marks position false ≡ false → unmarked (set marks position true) + 1 ≡ unmarked marks
 unmarked-set marks position h e = grind (arith, common_steps, sum_by-set)
 
-pub MarksAll-none : (marks : List Bool) (pending : List ℕ) → MarksAll [] marks marks pending pending
-MarksAll-none marks pending = record {
-  size = refl;
-  kept = λ k m. m;
-  marked = λ k c. absurd (omega (arith, c.1));
-  only = λ k m. inl m;
-  pending = λ k m. inl m;
-  pending_kept = λ k c. c;
-  pending_marked = λ k c. inl c;
-  falls = omega arith;
-}
-
 pub MarksAll-again : (positions : List ℕ) (old new : List Bool) (before after : List ℕ) (position : ℕ) → MarksAll positions old new before after → IsMarked new position → MarksAll (positions ++ position ∷ []) old new before after
 MarksAll-again positions old new before after position done marked = record {
   size = done.size;
@@ -152,13 +140,3 @@ Spreads-done edges starts marks pending empty far = λ k. (
 -- what a slice wrote over a whole list leaves
 pub take-append_all : {X : Type 0} (n : ℕ) (xs ys : List X) → n ≡ length xs → take n (xs ++ ys) ≡ xs
 take-append_all n xs ys e = rw e (take-append_seam xs ys)
-
--- the search before its first step
-pub Spreads-none : (edges : List (Vec ℕ Global)) (starts : List Bool) (pending : List ℕ) → length starts ≡ length edges → ((k : ℕ) → Contains pending k ↔ IsMarked starts k) → Spreads edges starts starts pending
-Spreads-none edges starts pending size all = record {
-  size = size;
-  started = λ k m. m;
-  sound = λ k m. (k, m, ([], refl));
-  pending_marked = λ k c. (all k).0 c;
-  closed = λ k m. inl ((all k).1 m);
-}

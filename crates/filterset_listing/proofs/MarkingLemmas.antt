@@ -3,7 +3,7 @@ use Rattle.std.proofs.Common.{◌≡◌, ℕ, ◌+◌, ◌<◌, Bool, true, fals
 use Rattle.std.proofs.lemmas.List.{take_more, map-append}
 use Rattle.std.proofs.lemmas.List.Elements.{Contains-append_left, Contains-push, Contains-push_cases}
 use Rattle.std.proofs.lemmas.Slice.Eq.{bytes_eq-Decides}
-use Rattle.std.specs.Prelude.{◌≢◌, Contains, Option, unwrap_or}
+use Rattle.std.specs.Prelude.{Contains, Option, unwrap_or}
 use Rattle.std.specs.Bool.{Decides}
 use Rattle.std.specs.Borrow.{Bor}
 use Rattle.std.specs.Str.{bytes_eq}
@@ -67,9 +67,6 @@ pub data Made (Before After : Members → Members → Type 0) (whole : Members) 
   made_of : IsStrictlySortedBy string_cmp (keys_of made ++ keys_of left)
       → ((later : Members) → After (members_view left) later → Before whole (followed (members_view made) later))
       → Made Before After whole made left
-
-pub made_none : {Marks : Members → Members → Type 0} (left : List Entry) → IsStrictlySortedBy string_cmp (keys_of left) → Made Marks Marks (members_view left) [] left
-made_none left sorted = made_of sorted (λ later marks. marks)
 
 pub made_one : {Before After Later : Members → Members → Type 0} (whole : Members) (made left rest new : List Entry) (key : String Global) (old value : Value)
     → Made Before After whole made left → left ≡ (key, old) ∷ rest → new ≡ insert_entry string_cmp made key value
@@ -189,9 +186,6 @@ suite_marked uncounted picked unknown answers are = weaker_object (λ _ _. weake
 -- what stands under a name that is the key, or another one
 pub under : (Marks : Data → Data → Type 0) (key name : Text) (before after : Data) → name ≡ key → Marks before after → MarksUnder key Marks name before after
 under Marks key name before after is marks = (λ e. marks, λ apart. absurd (apart is))
-
-pub under_other : (Marks : Data → Data → Type 0) (key name : Text) (before : Data) → name ≢ key → MarksUnder key Marks name before before
-under_other Marks key name before apart = (λ e. absurd (apart e), λ apart. refl)
 
 -- an object became another one
 pub marked_object : {Marks : Members → Members → Type 0} (value : Data) (before : Members) (marked : BTreeMap (String Global) Value) → value ≡ object before

@@ -22,11 +22,10 @@ use Rattle.filterset_expression.proofs.Folding.{decides_not}
 use Rattle.filterset_expression.proofs.Operands.{Takes, compound_takes, negation_takes}
 use Rattle.filterset_listing.specs.Asking.{in_group}
 use Rattle.filterset_listing.specs.Operands.{left_of, negated_by, right_of}
-use Rattle.filterset_listing.specs.NamedPackages.{NamesOf, NamesPackages, set_of, stands_for_packages}
+use Rattle.filterset_listing.specs.NamedPackages.{set_of, stands_for_packages}
 use Rattle.filterset_listing.specs.Values.{HasValueIn}
 use Rattle.filterset_listing.specs.declared.explaining.candidate.Candidate.{Candidate}
 use Rattle.filterset_listing.specs.declared.explaining.candidate.Candidate.TheVariants.{Binary, Test}
-use Rattle.filterset_listing.specs.declared.explaining.packages.NamedPackages.{NamedPackages}
 
 -- of two known values a connective makes a known one
 kleene_some : (c : Connective) (p q : Bool) → kleene c (Some p) (Some q) ≡ Some (connected c p q)
@@ -93,15 +92,3 @@ plain packages _ _ none are = refl
 is_set : (l : CompiledLeaf) (set : List Text) → set_of (formulas.Leaf l) ≡ Some set → l ≡ compiled.Packages set
 is_set (compiled.Packages ids) set e = let same : Some ids ≡ Some set = e in cc
 is_set _ set e = absurd (let clash : None ≡ Some set = e in cc)
-
-names_leaf : (packages : List PackageMetadata) (leaf : Leaf SourceSpan) (l : CompiledLeaf) (r : Option (List Text)) (named : Option NamedPackages) → set_of (formulas.Leaf l) ≡ r → IsCompiledLeaf packages leaf l → NamesOf packages r named → NamesPackages packages (Set leaf) named
-names_leaf packages leaf l None None e are names = plain packages leaf l e are
-names_leaf packages leaf l None (Some n) e are names = absurd names
-names_leaf packages leaf l (Some set) None e are names = absurd names
-names_leaf packages leaf l (Some set) (Some n) e are names =
-    (leaf, set, refl, subst (IsCompiledLeaf packages leaf) (is_set l set e) are, names)
-
--- what is named of a predicate's expression is what the predicate stands for
-pub names_predicate : (packages : List PackageMetadata) (leaf : Leaf SourceSpan) (f : Formula CompiledLeaf) (named : Option NamedPackages) → SameShape (IsCompiledLeaf packages) (formulas.Leaf leaf) f → NamesOf packages (set_of f) named → NamesPackages packages (Set leaf) named
-names_predicate packages leaf (formulas.Leaf l) named are names = names_leaf packages leaf l (set_of (formulas.Leaf l)) named refl are names
-names_predicate packages leaf _ named are names = absurd are

@@ -1,12 +1,8 @@
 -- Characters of a text.
-use Rattle.std.proofs.Common.{◌≡◌, ℕ, List, [], ◌∷◌, ◌++◌, refl, ap, Bool, true, cond, IsUtf8}
-use Rattle.std.specs.Prelude.{map, chars, encode_utf8}
+use Rattle.std.proofs.Common.{◌≡◌, ℕ, List, [], ◌∷◌, ◌++◌, refl, Bool, true, cond, IsUtf8}
+use Rattle.std.specs.Prelude.{chars, encode_utf8}
 use Rattle.std.proofs.lemmas.Str.{chars_past_char}
 use Rattle.filterset_matchers.specs.PrintedMatcher.{printed_first, printed_value, printed_implicit}
-
-pub mapped_same : (xs : List ℕ) → map (λ x. x) xs ≡ xs
-mapped_same [] = refl
-mapped_same (x ∷ xs) = ap (λ (ys : List ℕ). x ∷ ys) (mapped_same xs)
 
 -- what prints without a sign: its first character, and the rest
 pub implicit_text : (value rest behind : List ℕ) (c : ℕ) (implicit : Bool) (sign : List ℕ) → IsUtf8 value → value ≡ encode_utf8 c ++ rest → behind ≡ rest → implicit ≡ true

@@ -16,11 +16,10 @@ use Rattle.regex_syntax.specs.Verdict.{Refuses}
 use Rattle.regex_syntax.specs.declared.error.Error as parser
 use Rattle.regex_syntax.specs.declared.error.ErrorKind.{ErrorKind}
 use Rattle.regex_syntax.specs.declared.error.ErrorKind.TheVariants as kinds
-use Rattle.regex_compile.specs.declared.error.Error as compiler
 use Rattle.regex_compile.specs.declared.error.Error.TheVariants as compiled
 use Rattle.regex.specs.declared.error.Error.{Error}
-use Rattle.regex.specs.declared.error.Error.TheVariants.{Syntax, CompiledTooBig, Internal, OutOfMemory}
-use Rattle.regex.specs.Failures.{IsOfParser, IsRightKind, of_compiler}
+use Rattle.regex.specs.declared.error.Error.TheVariants.{Syntax, CompiledTooBig, OutOfMemory}
+use Rattle.regex.specs.Failures.{IsOfParser, IsRightKind}
 use Rattle.regex.specs.Sources.{IsRefusal}
 use Rattle.regex_syntax.proofs.CapturesLemmas.{spans, find_str_alike}
 use Rattle.regex_syntax.proofs.Written.{is_some-option_map}
@@ -150,15 +149,6 @@ IsErrorFor-of_parser pattern given error refuses of = record {
       let not_memory : given.kind ≢ kinds.OutOfMemory = λ memory. absurd (let both : CompiledTooBig ≡ OutOfMemory = sym is ∙ of.0 memory in cc) in
       absurd (let both : CompiledTooBig ≡ Syntax given = sym is ∙ of.1 not_memory in cc);
 }
-
--- the errors of the compiler
-pub IsErrorFor-of_compiler : (pattern : List ℕ) (given : compiler.Error) (error : Error) → IsPattern pattern → error ≡ of_compiler given → IsErrorFor pattern error
-IsErrorFor-of_compiler pattern compiled.TooBig error reads of =
-    record { syntax = λ e is. absurd (let both : Syntax e ≡ CompiledTooBig = sym is ∙ of in cc); size = λ is. reads }
-IsErrorFor-of_compiler pattern compiled.Malformed error reads of =
-    record { syntax = λ e is. absurd (let both : Syntax e ≡ Internal = sym is ∙ of in cc); size = λ is. reads }
-IsErrorFor-of_compiler pattern compiled.OutOfMemory error reads of =
-    record { syntax = λ e is. absurd (let both : Syntax e ≡ OutOfMemory = sym is ∙ of in cc); size = λ is. reads }
 
 -- the error of a text with too many groups
 pub IsErrorFor-of_groups : (pattern : List ℕ) → IsPattern pattern → IsErrorFor pattern CompiledTooBig

@@ -16,7 +16,7 @@ use Rattle.std.proofs.lemmas.Slice.Eq.{bytes_eq-Decides}
 use Rattle.filterset_json.specs.Shape.{Text}
 use Rattle.filterset_report.specs.declared.record.binaries.TestEntry.{TestEntry}
 use Rattle.filterset_columns.specs.Columns.{IsAt}
-use Rattle.filterset_report.specs.Index.{group_with, HasFirsts, HasGroups, IsIndexOf, entry_at}
+use Rattle.filterset_report.specs.Index.{group_with, HasGroups, IsIndexOf, entry_at}
 
 module _ {A V : Type 0} (text_of : A → Text) (item_of : V → A) where
   -- the first item with a text, among one more
@@ -70,10 +70,6 @@ module _ {A V : Type 0} (text_of : A → Text) (item_of : V → A) where
       let same : text_of item ≡ text = (bytes_eq-Decides (text_of item) text).0 equal in
       sym (is text) ∙ ap (λ (t : Text). option_map item_of (entry_at old t)) (sym same) ∙ mapped_none (entry_at old (text_of item)) absent) in
       ap (option_map item_of) (updates text) ∙ now ∙ sym (first_more items i item text lt at)
-
--- an index of all tests has first ones
-pub all_firsts : (tests : List TestEntry) (index : BTreeMap (Bor Text) (Bor TestEntry)) → IsIndexOf (λ (t : TestEntry). t.name) (λ (t : Bor TestEntry). t.now) tests index → HasFirsts tests index
-all_firsts tests index is name test at = sym (is name) ∙ ap (option_map (λ (t : Bor TestEntry). t.now)) at
 
 -- ---- groups by position
 

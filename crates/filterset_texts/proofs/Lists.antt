@@ -13,9 +13,6 @@ any_left P xs ys (k, x, short, is, p) =
 pub any_weaker : {X : Type 0} (P Q : X → Type 0) (xs : List X) → ((x : X) → P x → Q x) → Any P xs → Any Q xs
 any_weaker P Q xs f (k, x, short, is, p) = (k, x, short, is, f x p)
 
-pub at_any : {X : Type 0} (P Q : X → Type 0) (xs : List X) → All P xs → Any Q xs → Any (λ x. P x × Q x) xs
-at_any P Q xs all (k, x, short, is, q) = (k, x, short, is, (subst P is (all k x short), q))
-
 pub none_of : {X : Type 0} (P : X → Type 0) (xs : List X) (n : ℕ) → length xs ≤ n → All (λ x. P x → ⊥) (take n xs) → Any P xs → ⊥
 none_of P xs n long all (k, x, short, is, p) =
     let same : take n xs ≡ xs = take_all n xs long in

@@ -69,16 +69,6 @@ marked_next places text i place known reached next told marks more short is same
     (subst (λ (p : List Part). IsTrue told ↔ Fits p text) (sym parts) here) in
     subst (IsMarkedTo row text (i + 1) next) (sym pushed) (marked_more row text i reached next marks count m fits)
 
-pub all_marked : (row : List (Option Part)) (text : List ℕ) (i : ℕ) (reached : Bool) (marks : List Bool) → length marks ≡ i → i ≡ length row
-    → IsMarkedTo row text i reached marks → LeadsTo row text marks
-all_marked row text i reached marks count whole m = record {
-  same_length = count ∙ whole;
-  each = λ k below. m.each k (subst (λ n. k < n) (sym whole) below);
-}
-
-pub none_marked : (row : List (Option Part)) (text : List ℕ) (reached : Bool) → IsTrue reached ↔ Fits [] text → IsMarkedTo row text 0 reached []
-none_marked row text reached last = record { each = λ k below. absurd (omega (arith, below)); last = last }
-
 -- the start
 
 no_end : (front : List ℕ) (c : ℕ) → [] ≡ front ++ c ∷ [] → ⊥

@@ -1,15 +1,11 @@
 -- Matchers and the names of known groups.
-use Rattle.std.proofs.Common.{◌↔◌, inl, inr, ⊎_elim, refl, sym, subst}
+use Rattle.std.proofs.Common.{◌↔◌, inr, ⊎_elim, refl, sym, subst}
 use Rattle.std.specs.Prelude.{Any, codes, string_bytes}
 use Rattle.std.specs.HashSet.{keys}
 use Rattle.filterset_matchers.specs.Matcher.{Matcher, MatchesName}
 use Rattle.nextest_filtering.specs.Checks.{MatchesSomeName}
 use Rattle.nextest_filtering.specs.Groups.{IsGroupName}
 use Rattle.nextest_filtering.specs.declared.compile.context.KnownGroups.TheVariants as groups
-
--- where the global group matches, some group is
-pub global_match : (matcher : Matcher) (custom : _) → MatchesName matcher (codes "@global") → MatchesSomeName matcher (IsGroupName (groups.Known custom))
-global_match matcher custom matched = (codes "@global", inl refl, matched)
 
 -- where it is not, some group is where a custom one is
 pub custom_match : (matcher : Matcher) (custom : _) → ¬ MatchesName matcher (codes "@global")
@@ -19,7 +15,3 @@ custom_match matcher custom missed = (
   (λ h. ⊎_elim (λ global. absurd (missed (subst (MatchesName matcher) global h.2)))
       (λ one. (one.1.0, one.0, one.1.1, one.1.2, subst (MatchesName matcher) (sym one.2) h.2)) h.1),
 )
-
--- where the groups are not known, none is
-pub none_match : (matcher : Matcher) → ¬ MatchesSomeName matcher (IsGroupName groups.Unavailable)
-none_match matcher h = h.1
