@@ -12,7 +12,7 @@ use Rattle.filterset_faults.specs.declared.span.SourceSpan.{SourceSpan}
 use Rattle.filterset_grammar.specs.Tree.{Tree}
 use Rattle.filterset_language.specs.Parsed.{IsUnreadWith, Reads}
 use Rattle.filterset_language.specs.Views.{tree_of}
-use Rattle.filterset_places.specs.declared.stretch.Stretch.{Stretch}
+use Rattle.filterset_configuration.specs.declared.stretch.Stretch.{Stretch}
 use Rattle.filterset_actions.specs.declared.reading.Reading.{Reading}
 use Rattle.filterset_actions.specs.declared.reading.Reading.TheVariants as readings
 

@@ -10,7 +10,7 @@ use Rattle.filterset_faults.specs.declared.error.ParseSingleError.TheVariants as
 use Rattle.filterset_faults.specs.declared.span.SourceSpan.{SourceSpan}
 use Rattle.filterset_grammar.specs.Printing.{printed}
 use Rattle.filterset_grammar.specs.Tree.{Tree}
-use Rattle.filterset_places.specs.declared.stretch.Stretch.{Stretch}
+use Rattle.filterset_configuration.specs.declared.stretch.Stretch.{Stretch}
 use Rattle.filterset_rewriting.specs.Calls.{IsCall, NoCall}
 use Rattle.filterset_actions.specs.declared.repairs.Repair.{Repair}
 

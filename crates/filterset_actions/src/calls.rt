@@ -8,7 +8,7 @@ use crate::repairs::Repair;
 use filterset_documents::Edit;
 use filterset_faults::SourceSpan;
 use filterset_language::ParsedExpr;
-use filterset_places::Stretch;
+use filterset_configuration::Stretch;
 use filterset_rewriting::{Front, read_call};
 use std::alloc::{AllocError, Global};
 

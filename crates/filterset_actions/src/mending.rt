@@ -7,7 +7,7 @@ ghost use Rattle.filterset_actions.specs.Mending.{IsApplied, IsBetween, IsClear,
 use crate::reading::{Reading, read_text};
 use filterset_documents::Edit;
 use filterset_faults::ParseSingleError;
-use filterset_places::Stretch;
+use filterset_configuration::Stretch;
 use std::alloc::{AllocError, Global};
 
 /// Makes a text with an edit. Returns `None` if the edit begins or ends in a character.

@@ -6,7 +6,7 @@ ghost use Rattle.filterset_actions.specs.Repairs.{IsRepairOf, gap_beside, repair
 use crate::calls::repair_call;
 use filterset_documents::Edit;
 use filterset_faults::{ParseSingleError, SourceSpan};
-use filterset_places::Stretch;
+use filterset_configuration::Stretch;
 use std::alloc::{AllocError, Global};
 
 /// An edit of a filterset's text, and what it is called.

@@ -14,7 +14,7 @@ use Rattle.filterset_entries.specs.Entries.{line_rows, rows_in}
 use Rattle.filterset_entries.specs.declared.entries.ConfiguredTexts.{ConfiguredTexts}
 use Rattle.filterset_drawing.specs.declared.source.Source.{Source}
 use Rattle.filterset_faults.specs.declared.kind.FiltersetKind.TheVariants as kinds
-use Rattle.filterset_places.specs.declared.places.Places.{Places}
+use Rattle.filterset_configuration.specs.declared.places.Places.{Places}
 use Rattle.filterset_sources.specs.declared.configuration.ConfiguredFilterset.{ConfiguredFilterset}
 use Rattle.filterset_documents.specs.Contents.{AreRewritten, AreRowsOf, IsRewritten}
 use Rattle.filterset_documents.specs.Filtersets.{AreTexts}

@@ -11,8 +11,8 @@ use Rattle.filterset_entries.specs.Checked.{TextRow, text_row}
 use Rattle.filterset_entries.specs.declared.text.TextEntry.{TextEntry}
 use Rattle.filterset_entries.specs.Placements.{Placement}
 use Rattle.filterset_editor.specs.Positions.{Text}
-use Rattle.filterset_places.specs.Numbers.{AreApart}
-use Rattle.filterset_places.specs.declared.stretch.Stretch.{Stretch}
+use Rattle.filterset_configuration.specs.Numbers.{AreApart}
+use Rattle.filterset_configuration.specs.declared.stretch.Stretch.{Stretch}
 use Rattle.filterset_documents.specs.Edits.{EditRow, IsBetween, IsWithin, ReplacesOne, edited_from, place_edits, rewrites, row_edits, written_at}
 use Rattle.filterset_documents.specs.Filtersets.{stretch_at}
 use Rattle.filterset_documents.proofs.BecomingLemmas.{now_of}

@@ -2,7 +2,7 @@
 use Rattle.std.proofs.Common.{◌≡◌, ℕ, zero, suc, arith, ◌+◌, ◌<◌, List, [], ◌∷◌, ◌++◌, length, map, take, get_or, ◌∙◌, sym, ap, subst, append_assoc}
 use Rattle.std.proofs.lemmas.List.{append-nil, map-append, take_more}
 use Rattle.std.specs.List.{AllZip}
-use Rattle.filterset_profiles.proofs.Zips.{zip_push}
+use Rattle.filterset_configuration.proofs.Zips.{zip_push}
 use Rattle.filterset_documents.specs.Joins.{Joins, no_parts, next_part}
 
 -- the rows of one element more

@@ -17,9 +17,9 @@ use Rattle.filterset_faults.specs.Faults.{code_of, help_of, label_of, message_of
 use Rattle.filterset_faults.specs.Span.{span}
 use Rattle.filterset_faults.specs.declared.error.ParseSingleError.{ParseSingleError}
 use Rattle.filterset_faults.specs.declared.span.SourceSpan.{SourceSpan}
-use Rattle.filterset_places.specs.Places.{file_span}
-use Rattle.filterset_profiles.specs.Wrong.{AreWrongValues}
-use Rattle.filterset_profiles.specs.declared.wrong.WrongValue.{WrongValue}
+use Rattle.filterset_configuration.specs.Places.{file_span}
+use Rattle.filterset_configuration.specs.Wrong.{AreWrongValues}
+use Rattle.filterset_configuration.specs.declared.wrong.WrongValue.{WrongValue}
 use Rattle.filterset_sources.specs.declared.refusal.SourceRefusal.{SourceRefusal}
 use Rattle.filterset_sources.specs.declared.refusal.SourceRefusal.TheVariants as sources
 use Rattle.filterset_sources.specs.declared.refusal.SourceRefusal.TheVariants.{NotToml}

@@ -10,8 +10,8 @@ use Rattle.filterset_entries.specs.Placements.{Placement, TextSpot, line, litera
 use Rattle.filterset_editor.specs.Positions.{Text}
 use Rattle.filterset_editor.specs.declared.positions.Encoding.{Encoding}
 use Rattle.filterset_editor.specs.declared.positions.Range.{Range}
-use Rattle.filterset_places.specs.Numbers.{AreApart}
-use Rattle.filterset_places.specs.declared.stretch.Stretch.{Stretch}
+use Rattle.filterset_configuration.specs.Numbers.{AreApart}
+use Rattle.filterset_configuration.specs.declared.stretch.Stretch.{Stretch}
 use Rattle.filterset_documents.specs.Filtersets.{stretch_at, stretch_span}
 use Rattle.filterset_documents.specs.Ranges.{IsRangeOf, range_data}
 use Rattle.filterset_documents.specs.declared.edits.Edit.{Edit}

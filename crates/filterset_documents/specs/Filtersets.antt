@@ -12,9 +12,9 @@ use Rattle.filterset_faults.specs.declared.span.SourceSpan.{SourceSpan}
 use Rattle.filterset_language.specs.Parsed.{IsUnreadWith, Reads}
 use Rattle.filterset_language.specs.Views.{tree_of}
 use Rattle.filterset_language.specs.declared.tree.ParsedExpr.{ParsedExpr}
-use Rattle.filterset_places.specs.Places.{ArePlaces}
-use Rattle.filterset_places.specs.declared.places.Places.{Places}
-use Rattle.filterset_places.specs.declared.stretch.Stretch.{Stretch}
+use Rattle.filterset_configuration.specs.Places.{ArePlaces}
+use Rattle.filterset_configuration.specs.declared.places.Places.{Places}
+use Rattle.filterset_configuration.specs.declared.stretch.Stretch.{Stretch}
 use Rattle.filterset_sources.specs.Configurations.{configured_rows}
 use Rattle.filterset_sources.specs.declared.configuration.Configuration.{Configuration}
 use Rattle.filterset_sources.specs.declared.configuration.ConfiguredFilterset.{ConfiguredFilterset}

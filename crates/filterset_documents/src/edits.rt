@@ -14,7 +14,7 @@ use crate::quoting::{needs_escapes, quote};
 use crate::ranges::{Shown, range_of, range_value};
 use filterset_editor::Range;
 use filterset_entries::{Spot, TextEntry};
-use filterset_places::Stretch;
+use filterset_configuration::Stretch;
 use serde_json::{Value, json};
 use std::alloc::{AllocError, Global};
 

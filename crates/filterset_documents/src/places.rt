@@ -5,7 +5,7 @@ ghost use Rattle.filterset_documents.specs.Filtersets.{place_span, stretch_at, s
 
 use filterset_entries::{FilePlace, Spot, file_part};
 use filterset_faults::SourceSpan;
-use filterset_places::Stretch;
+use filterset_configuration::Stretch;
 
 /// Returns where the string is that is read as a filterset, or the line.
 pub fn stretch_at(spot: Spot<'_>) -> Stretch

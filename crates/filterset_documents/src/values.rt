@@ -7,7 +7,7 @@ use crate::diagnostics::{Severity, diagnostic_at};
 use crate::message::wrong_message;
 use crate::ranges::Shown;
 use filterset_faults::SourceSpan;
-use filterset_profiles::{WrongValue, find_wrong_values};
+use filterset_configuration::{WrongValue, find_wrong_values};
 use serde_json::Value;
 use std::alloc::{AllocError, Global};
 

@@ -10,7 +10,7 @@ use Rattle.filterset_drawing.specs.declared.source.Source.{Source}
 use Rattle.filterset_faults.specs.declared.kind.FiltersetKind.{FiltersetKind}
 use Rattle.filterset_faults.specs.declared.kind.FiltersetKind.TheVariants as kinds
 use Rattle.filterset_sources.specs.declared.configuration.ConfiguredFilterset.{ConfiguredFilterset}
-use Rattle.filterset_places.specs.Places.{place_at}
+use Rattle.filterset_configuration.specs.Places.{place_at}
 use Rattle.filterset_entries.specs.Checked.{TextRow, row_of, text_row}
 use Rattle.filterset_entries.specs.Placements.{Placement, line, literal}
 use Rattle.filterset_entries.specs.declared.entries.ConfiguredTexts.{ConfiguredTexts}

@@ -5,9 +5,9 @@ use Rattle.filterset_drawing.specs.declared.source.FileSpan.{FileSpan}
 use Rattle.filterset_drawing.specs.declared.source.Source.{Source}
 use Rattle.filterset_faults.specs.Span.{length_of, offset_of, span}
 use Rattle.filterset_faults.specs.declared.span.SourceSpan.{SourceSpan}
-use Rattle.filterset_places.specs.Places.{file_span}
-use Rattle.filterset_places.specs.declared.place.Place.{Place}
-use Rattle.filterset_places.specs.declared.stretch.Stretch.{Stretch}
+use Rattle.filterset_configuration.specs.Places.{file_span}
+use Rattle.filterset_configuration.specs.declared.place.Place.{Place}
+use Rattle.filterset_configuration.specs.declared.stretch.Stretch.{Stretch}
 use Rattle.filterset_entries.specs.declared.place.FilePlace.{FilePlace}
 use Rattle.filterset_entries.specs.declared.place.Spot.{Spot}
 use Rattle.filterset_entries.specs.declared.place.Spot.TheVariants.{Line, Literal}

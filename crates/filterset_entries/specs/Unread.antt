@@ -4,8 +4,8 @@ use Rattle.filterset_drawing.specs.Columns.{Text}
 use Rattle.filterset_drawing.specs.Remarks.{RemarkRow, said}
 use Rattle.filterset_drawing.specs.declared.remark.Severity.TheVariants.{Warning}
 use Rattle.filterset_faults.specs.declared.span.SourceSpan.{SourceSpan}
-use Rattle.filterset_places.specs.Keys.{AreUnknownKeys}
-use Rattle.filterset_places.specs.declared.unknown.UnknownKey.{UnknownKey}
+use Rattle.filterset_configuration.specs.Keys.{AreUnknownKeys}
+use Rattle.filterset_configuration.specs.declared.unknown.UnknownKey.{UnknownKey}
 use Rattle.filterset_rewriting.specs.Tokens.{HasCarets}
 use Rattle.filterset_entries.specs.Checked.{TextRow}
 use Rattle.filterset_entries.specs.Placements.{Placement, file_part}

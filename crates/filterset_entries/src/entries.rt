@@ -9,7 +9,7 @@ use crate::place::{FilePlace, Spot};
 use crate::question::Question;
 use crate::text::TextEntry;
 use filterset_drawing::Source;
-use filterset_places::{Places, Stretch};
+use filterset_configuration::{Places, Stretch};
 use filterset_sources::ConfiguredFilterset;
 use nextest_filtering::FiltersetKind;
 use std::alloc::{AllocError, Global};

@@ -12,7 +12,7 @@ use crate::place::FilePlace;
 use crate::setting::OverrideEntry;
 use crate::text::TextEntry;
 use filterset_overrides::AskedProfile;
-use filterset_profiles::{Profile, RankedOverride};
+use filterset_configuration::{Profile, RankedOverride};
 use filterset_sources::ConfiguredFilterset;
 use nextest_filtering::FiltersetKind;
 use std::alloc::{AllocError, Global};

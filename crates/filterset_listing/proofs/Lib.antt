@@ -17,3 +17,8 @@ pub mod NodeLemmas
 pub mod PossibleLemmas
 pub mod AmongLemmas
 pub mod SubjectLemmas
+pub mod Values
+pub mod ColumnLemmas
+pub mod DecidingLemmas
+pub mod FindingLemmas
+pub mod LawLemmas

@@ -15,7 +15,6 @@ ghost use Rattle.filterset_listing.specs.declared.groups.GroupOverride as declar
 
 pub mod candidate;
 mod joining;
-mod operands;
 pub mod packages;
 pub mod possible;
 pub mod text;
@@ -24,7 +23,7 @@ mod values;
 use crate::counting::add_count;
 use crate::explaining::candidate::Candidate;
 use crate::explaining::joining::join_nodes;
-use crate::explaining::operands::{negated_by, operands_of};
+use crate::operands::{negated_by, operands_of};
 use crate::explaining::packages::{NamedPackages, named_packages};
 use crate::explaining::possible::{PossibleGroups, groups_of};
 use crate::explaining::values::Inquiry;

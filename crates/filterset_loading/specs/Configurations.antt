@@ -5,17 +5,17 @@ use Rattle.std.specs.Global.{Global}
 use Rattle.std.specs.declared.io.Error.{Error}
 use Rattle.filterset_entries.specs.declared.entries.ConfiguredTexts.{ConfiguredTexts}
 use Rattle.filterset_drawing.specs.Columns.{Text}
-use Rattle.filterset_places.specs.Places.{ArePlaces}
-use Rattle.filterset_places.specs.declared.place.Place.{Place}
-use Rattle.filterset_places.specs.declared.places.Places.{Places}
-use Rattle.filterset_profiles.specs.PlatformReading as cfgs
-use Rattle.filterset_profiles.specs.PlatformTrees.{setting_of}
-use Rattle.filterset_profiles.specs.declared.platforms.fault.CfgRefusal.TheVariants.{OutOfMemory}
-use Rattle.filterset_profiles.specs.declared.platforms.settings.Cfg.{Cfg}
-use Rattle.filterset_profiles.specs.Lineages.{IsLineageFault, Lineage}
-use Rattle.filterset_profiles.specs.Profiles.{HasProfiles}
-use Rattle.filterset_profiles.specs.declared.fault.LineageFault.TheVariants as lineages
-use Rattle.filterset_profiles.specs.declared.profiles.Profile.{Profile}
+use Rattle.filterset_configuration.specs.Places.{ArePlaces}
+use Rattle.filterset_configuration.specs.declared.place.Place.{Place}
+use Rattle.filterset_configuration.specs.declared.places.Places.{Places}
+use Rattle.filterset_configuration.specs.PlatformReading as cfgs
+use Rattle.filterset_configuration.specs.PlatformTrees.{setting_of}
+use Rattle.filterset_configuration.specs.declared.platforms.fault.CfgRefusal.TheVariants.{OutOfMemory}
+use Rattle.filterset_configuration.specs.declared.platforms.settings.Cfg.{Cfg}
+use Rattle.filterset_configuration.specs.Lineages.{IsLineageFault, Lineage}
+use Rattle.filterset_configuration.specs.Profiles.{HasProfiles}
+use Rattle.filterset_configuration.specs.declared.fault.LineageFault.TheVariants as lineages
+use Rattle.filterset_configuration.specs.declared.profiles.Profile.{Profile}
 use Rattle.filterset_sources.specs.Configurations.{IsConfiguration, RefusesConfiguration, configured_rows}
 use Rattle.filterset_sources.specs.declared.configuration.Configuration.{Configuration}
 use Rattle.filterset_sources.specs.declared.configuration.ConfiguredFilterset.{ConfiguredFilterset}
@@ -37,8 +37,8 @@ use Rattle.filterset_entries.specs.Checked.{TextRow, text_row}
 use Rattle.filterset_entries.specs.Entries.{default_row}
 use Rattle.filterset_entries.specs.Profile.{row_at}
 use Rattle.filterset_faults.specs.declared.kind.FiltersetKind.TheVariants.{DefaultFilter}
-use Rattle.filterset_profiles.specs.declared.defaults.DefaultFilter as defaults
-use Rattle.filterset_profiles.specs.declared.defaults.DefaultFilter.TheVariants.{All, Set, Unknown}
+use Rattle.filterset_configuration.specs.declared.defaults.DefaultFilter as defaults
+use Rattle.filterset_configuration.specs.declared.defaults.DefaultFilter.TheVariants.{All, Set, Unknown}
 use Rattle.filterset_loading.specs.declared.profile.ChosenFilter.{ChosenFilter}
 use Rattle.filterset_loading.specs.declared.profile.ChosenFilter.TheVariants as chosens
 

@@ -8,7 +8,7 @@ use crate::fault::{CommandFault, FileRole};
 use crate::files::{FileSource, read_text};
 use filterset_drawing::Source;
 use filterset_entries::ConfiguredTexts;
-use filterset_places::Places;
+use filterset_configuration::Places;
 use filterset_sources::{Configuration, ConfiguredFilterset, read_configuration};
 use std::alloc::Global;
 

@@ -1,8 +1,8 @@
 //! What files say of the profiles of a configuration, and of the platforms by which their overrides apply.
 ghost use Rattle.std.specs.Prelude.{◌≡◌, ◌≢◌, ◌⊎◌, IfErr, IfOk, IfSome, alloc_error, map, option_map, string_bytes};
 ghost use Rattle.filterset_entries.specs.Checked.{text_row};
-ghost use Rattle.filterset_profiles.specs.Lineages.{IsLineageFault, Lineage};
-ghost use Rattle.filterset_profiles.specs.Profiles.{HasProfiles};
+ghost use Rattle.filterset_configuration.specs.Lineages.{IsLineageFault, Lineage};
+ghost use Rattle.filterset_configuration.specs.Profiles.{HasProfiles};
 ghost use Rattle.filterset_sources.specs.Configurations.{IsConfiguration};
 ghost use Rattle.filterset_sources.specs.declared.configuration.Configuration as configurations;
 ghost use Rattle.nextest_filtering.specs.Groups.{IsKnown};
@@ -14,8 +14,8 @@ use crate::fault::{CommandFault, FileFault, FileRole};
 use crate::files::{FileSource, read_text};
 use crate::input::name_of;
 use filterset_entries::{ConfiguredTexts, TextEntry, default_entry, entry_at};
-use filterset_places::Places;
-use filterset_profiles::{
+use filterset_configuration::Places;
+use filterset_configuration::{
     Cfg, CfgRefusal, DefaultFilter, LineageFault, PlatformFacts, Profile, ProfileRefusal, lineage,
     read_cfg, read_profiles,
 };

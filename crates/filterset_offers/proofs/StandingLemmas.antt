@@ -3,7 +3,7 @@ use Rattle.std.proofs.Common.{◌≡◌, ◌==◌, Bool, true, false, not, List,
 use Rattle.std.proofs.lemmas.List.{length-map, map-append}
 use Rattle.std.specs.Prelude.{MatchBool}
 use Rattle.std.specs.List.{AllZip}
-use Rattle.filterset_profiles.proofs.Zips.{zip_push}
+use Rattle.filterset_configuration.proofs.Zips.{zip_push}
 
 pub false-true : false ≡ true → ⊥
 false-true e = let P : Bool → Type 0 = λ b. MatchBool b (Unit {0}) ⊥ in subst P (sym e) tt

@@ -5,7 +5,7 @@ use Rattle.filterset_entries.specs.Placements.{TextSpot, line, literal}
 use Rattle.filterset_editor.specs.Positions.{Text}
 use Rattle.filterset_faults.specs.Span.{span}
 use Rattle.filterset_faults.specs.declared.span.SourceSpan.{SourceSpan}
-use Rattle.filterset_places.specs.declared.stretch.Stretch.{Stretch}
+use Rattle.filterset_configuration.specs.declared.stretch.Stretch.{Stretch}
 use Rattle.filterset_offers.specs.Candidates.{is_name_byte, is_word_byte}
 use Rattle.filterset_offers.specs.declared.gaps.Gap.{Gap}
 use Rattle.filterset_offers.specs.declared.gaps.Word.{Word}

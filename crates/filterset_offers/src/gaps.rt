@@ -10,7 +10,7 @@ ghost use Rattle.filterset_offers.specs.Gaps.{gap_row};
 use crate::candidates::{is_name_byte, is_word_byte};
 use filterset_entries::Spot;
 use filterset_faults::SourceSpan;
-use filterset_places::Stretch;
+use filterset_configuration::Stretch;
 
 /// A word of a text.
 #[derive(Clone, Copy, Debug)]

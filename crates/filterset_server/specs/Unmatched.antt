@@ -16,7 +16,7 @@ use Rattle.filterset_faults.specs.declared.error.ParseSingleError.{ParseSingleEr
 use Rattle.filterset_faults.specs.declared.span.SourceSpan.{SourceSpan}
 use Rattle.filterset_grammar.specs.Tree.{Leaf, Matching, Tree, tree_leaves}
 use Rattle.filterset_grammar.specs.declared.predicate.Predicate.TheVariants.{Test}
-use Rattle.filterset_hints.specs.Unmatched.{Unmatched, unmatched_message}
+use Rattle.filterset_listing.specs.Unmatched.{Unmatched, unmatched_message}
 use Rattle.filterset_language.specs.Parsed.{IsUnreadWith, Reads}
 use Rattle.filterset_names.specs.Something.{MatchesSomething}
 use Rattle.filterset_names.specs.Workspaces.{WorkspaceRow}

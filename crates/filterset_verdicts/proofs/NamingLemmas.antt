@@ -5,7 +5,7 @@ use Rattle.std.specs.List.{Contains}
 use Rattle.std.proofs.lemmas.List.{get_or-map, length-map}
 use Rattle.filterset_entries.specs.Checked.{TextRow}
 use Rattle.filterset_entries.specs.declared.entries.ConfiguredTexts.{ConfiguredTexts}
-use Rattle.filterset_profiles.specs.declared.defaults.DefaultFilter.{DefaultFilter}
+use Rattle.filterset_configuration.specs.declared.defaults.DefaultFilter.{DefaultFilter}
 use Rattle.filterset_loading.specs.Configurations.{IsChosen, chosen}
 use Rattle.filterset_verdicts.specs.Deciding.{IsDefaultKind, outcome_of}
 use Rattle.filterset_loading.specs.declared.profile.ChosenFilter.{ChosenFilter}

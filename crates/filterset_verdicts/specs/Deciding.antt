@@ -13,12 +13,12 @@ use Rattle.filterset_entries.specs.declared.text.Ending.{Ending}
 use Rattle.filterset_drawing.specs.Columns.{Text}
 use Rattle.filterset_faults.specs.declared.kind.FiltersetKind.TheVariants as kinds
 use Rattle.filterset_graph.specs.declared.package.PackageMetadata.{PackageMetadata}
-use Rattle.filterset_profiles.specs.PlatformTrees.{facts_of}
-use Rattle.filterset_profiles.specs.Lineages.{Lineage}
-use Rattle.filterset_profiles.specs.Ranking.{IsDefaultFilter, IsRanked, placed}
-use Rattle.filterset_profiles.specs.declared.defaults.DefaultFilter.{DefaultFilter}
-use Rattle.filterset_profiles.specs.declared.profiles.Profile.{Profile}
-use Rattle.filterset_profiles.specs.declared.ranking.RankedOverride.{RankedOverride}
+use Rattle.filterset_configuration.specs.PlatformTrees.{facts_of}
+use Rattle.filterset_configuration.specs.Lineages.{Lineage}
+use Rattle.filterset_configuration.specs.Ranking.{IsDefaultFilter, IsRanked, placed}
+use Rattle.filterset_configuration.specs.declared.defaults.DefaultFilter.{DefaultFilter}
+use Rattle.filterset_configuration.specs.declared.profiles.Profile.{Profile}
+use Rattle.filterset_configuration.specs.declared.ranking.RankedOverride.{RankedOverride}
 use Rattle.filterset_sources.specs.Metadata.{RefusesMetadata}
 use Rattle.filterset_sources.specs.Platforms.{ArePlatforms}
 use Rattle.filterset_sources.specs.declared.list.Suite.{Suite}

@@ -25,7 +25,7 @@ use filterset_loading::{
     ProfilesFile, configured_texts, known_packages, name_of, platforms_of, read_facts, read_list,
     read_profiles_file,
 };
-use filterset_profiles::Profile;
+use filterset_configuration::Profile;
 use filterset_sources::{BuildPlatforms, Suite};
 use nextest_filtering::{FiltersetKind, KnownGroups};
 use serde_json::Value;

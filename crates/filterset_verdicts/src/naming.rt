@@ -11,7 +11,7 @@ use filterset_entries::{ConfiguredTexts, TextEntry};
 use filterset_loading::{
     ChosenFilter, CommandFault, KnownPlatforms, choose, lineage_of, request_of,
 };
-use filterset_profiles::{Profile, default_filter, rank_overrides};
+use filterset_configuration::{Profile, default_filter, rank_overrides};
 use std::alloc::{AllocError, Global};
 
 /// What texts stand for.

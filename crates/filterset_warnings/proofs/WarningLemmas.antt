@@ -4,7 +4,7 @@ use Rattle.std.proofs.lemmas.List.{append-nil}
 use Rattle.filterset_entries.specs.Checked.{TextRow}
 use Rattle.filterset_entries.specs.declared.form.Form.{Form}
 use Rattle.filterset_drawing.specs.Columns.{Text}
-use Rattle.filterset_hints.specs.Subjects.{Basis}
+use Rattle.filterset_listing.specs.SubjectValues.{Basis}
 use Rattle.filterset_listing.specs.declared.subjects.Subject.{Subject}
 use Rattle.nextest_filtering.specs.declared.compile.context.KnownGroups.{KnownGroups}
 use Rattle.filterset_warnings.specs.Warnings.{TextWarnings, WarningsOf, no_texts, next_text}

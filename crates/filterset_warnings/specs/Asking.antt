@@ -24,12 +24,12 @@ use Rattle.filterset_graph.specs.declared.package.PackageMetadata.{PackageMetada
 use Rattle.filterset_listing.specs.declared.binary.AskedBinary.{AskedBinary}
 use Rattle.filterset_listing.specs.declared.explaining.candidate.Candidate.{Candidate}
 use Rattle.filterset_overrides.specs.declared.asked.AskedProfile.{AskedProfile}
-use Rattle.filterset_profiles.specs.PlatformTrees.{facts_of}
-use Rattle.filterset_profiles.specs.Lineages.{Lineage}
-use Rattle.filterset_profiles.specs.Ranking.{IsDefaultFilter, IsRanked, placed}
-use Rattle.filterset_profiles.specs.declared.defaults.DefaultFilter as defaults
-use Rattle.filterset_profiles.specs.declared.profiles.Profile.{Profile}
-use Rattle.filterset_profiles.specs.declared.ranking.RankedOverride.{RankedOverride}
+use Rattle.filterset_configuration.specs.PlatformTrees.{facts_of}
+use Rattle.filterset_configuration.specs.Lineages.{Lineage}
+use Rattle.filterset_configuration.specs.Ranking.{IsDefaultFilter, IsRanked, placed}
+use Rattle.filterset_configuration.specs.declared.defaults.DefaultFilter as defaults
+use Rattle.filterset_configuration.specs.declared.profiles.Profile.{Profile}
+use Rattle.filterset_configuration.specs.declared.ranking.RankedOverride.{RankedOverride}
 use Rattle.filterset_sources.specs.Platforms.{ArePlatforms}
 use Rattle.filterset_sources.specs.declared.list.Suite.{Suite}
 use Rattle.filterset_sources.specs.declared.platforms.BuildPlatforms.{BuildPlatforms}

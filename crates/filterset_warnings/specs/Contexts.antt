@@ -1,6 +1,6 @@
 -- What filtersets are evaluated by.
 use Rattle.filterset_expression.specs.Contexts.{default_of}
-use Rattle.filterset_hints.specs.Subjects.{Basis}
+use Rattle.filterset_listing.specs.SubjectValues.{Basis}
 use Rattle.nextest_filtering.specs.Compiling.{packages_of}
 use Rattle.filterset_warnings.specs.declared.texts.WarningContext.{WarningContext}
 

@@ -9,7 +9,7 @@ use Rattle.filterset_drawing.specs.Remarks.{RemarkRow, said}
 use Rattle.filterset_drawing.specs.declared.remark.Severity.TheVariants.{Error}
 use Rattle.filterset_drawing.specs.declared.source.Source.{Source}
 use Rattle.filterset_faults.specs.Span.{span}
-use Rattle.filterset_profiles.specs.declared.wrong.WrongValue.{WrongValue}
+use Rattle.filterset_configuration.specs.declared.wrong.WrongValue.{WrongValue}
 
 -- what is said of a value: of the whole of it, if it was found
 abbrev pub value_remark : WrongValue → RemarkRow

@@ -14,9 +14,9 @@ use Rattle.filterset_entries.specs.declared.text.Ending.TheVariants.{Fine}
 use Rattle.filterset_drawing.specs.Columns.{Text}
 use Rattle.filterset_graph.specs.declared.package.PackageMetadata.{PackageMetadata}
 use Rattle.filterset_listing.specs.declared.binary.AskedBinary.{AskedBinary}
-use Rattle.filterset_profiles.specs.Profiles.{HasProfiles}
-use Rattle.filterset_profiles.specs.declared.profiles.Profile.{Profile}
-use Rattle.filterset_profiles.specs.declared.wrong.WrongValue.{WrongValue}
+use Rattle.filterset_configuration.specs.Profiles.{HasProfiles}
+use Rattle.filterset_configuration.specs.declared.profiles.Profile.{Profile}
+use Rattle.filterset_configuration.specs.declared.wrong.WrongValue.{WrongValue}
 use Rattle.filterset_sources.specs.Configurations.{IsConfiguration}
 use Rattle.filterset_sources.specs.Platforms.{ArePlatforms}
 use Rattle.filterset_sources.specs.declared.configuration.Configuration.{Configuration}

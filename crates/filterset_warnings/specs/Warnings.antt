@@ -19,9 +19,9 @@ use Rattle.filterset_faults.specs.declared.span.SourceSpan.{SourceSpan}
 use Rattle.filterset_grammar.specs.Printing.{printed}
 use Rattle.filterset_grammar.specs.Tree.{Tree}
 use Rattle.filterset_listing.specs.Subjects.{AreSubjects}
-use Rattle.filterset_hints.specs.Needless.{AreNeedless, Found}
-use Rattle.filterset_hints.specs.Subjects.{Basis}
-use Rattle.filterset_hints.specs.Unmatched.{AreUnmatched, Unmatched, unmatched_message}
+use Rattle.filterset_listing.specs.Needless.{AreNeedless, Found}
+use Rattle.filterset_listing.specs.SubjectValues.{Basis}
+use Rattle.filterset_listing.specs.Unmatched.{AreUnmatched, Unmatched, unmatched_message}
 use Rattle.filterset_listing.specs.declared.subjects.Subject.{Subject}
 use Rattle.filterset_json.specs.Pieces.{Pieces}
 use Rattle.filterset_language.specs.Faults.{leaf_span}

@@ -24,7 +24,7 @@ use filterset_loading::{
     configured_texts, known_packages, lineage_of, name_of, profiles_in, read_configuration_file,
     request_of,
 };
-use filterset_profiles::{WrongValue, find_wrong_values};
+use filterset_configuration::{WrongValue, find_wrong_values};
 use filterset_sources::Configuration;
 use std::alloc::{AllocError, Global};
 

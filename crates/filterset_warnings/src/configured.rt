@@ -5,7 +5,7 @@ ghost use Rattle.filterset_warnings.specs.Configured.{WarnsOfFile};
 use filterset_entries::{
     ConfiguredTexts, FilePlace, Form, RemarkWriter, Spot, configured_entries, unread_remarks,
 };
-use filterset_places::Stretch;
+use filterset_configuration::Stretch;
 use std::alloc::{AllocError, Global};
 
 /// The warnings of a configuration's file, and how many there are.

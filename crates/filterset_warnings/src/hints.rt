@@ -1,13 +1,13 @@
 //! The warnings of a filterset.
 ghost use Rattle.std.specs.Prelude.{◌≡◌, ◌++◌, IfOk, OnOk, map};
 ghost use Rattle.filterset_drawing.specs.Remarks.{remark_row};
-ghost use Rattle.filterset_hints.specs.Finding.{found_of, unmatched_of};
+ghost use Rattle.filterset_listing.specs.Finding.{found_of, unmatched_of};
 ghost use Rattle.filterset_language.specs.Views.{leaf_of, tree_of};
 ghost use Rattle.filterset_warnings.specs.Warnings.{constant_text, needless_remark, remarks_of, unmatched_remark};
 
 use crate::span::{leaf_span, span_of};
 use filterset_drawing::{Remark, Severity};
-use filterset_hints::{Hints, NeedlessOperand, UnmatchedPredicate};
+use filterset_listing::{Hints, NeedlessOperand, UnmatchedPredicate};
 use std::alloc::{AllocError, Global};
 
 /// Returns what there is to say of a predicate that matches no test.

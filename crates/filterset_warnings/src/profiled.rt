@@ -2,8 +2,8 @@
 ghost use Rattle.std.specs.Prelude.{◌≡◌, ◌⊎◌, IfErr, IfOk, IfSome, map, option_map, string_bytes};
 ghost use Rattle.serde_json.specs.View.{view};
 ghost use Rattle.filterset_entries.specs.Checked.{text_row};
-ghost use Rattle.filterset_profiles.specs.Ranking.{IsDefaultFilter};
-ghost use Rattle.filterset_profiles.specs.declared.defaults.DefaultFilter as filters;
+ghost use Rattle.filterset_configuration.specs.Ranking.{IsDefaultFilter};
+ghost use Rattle.filterset_configuration.specs.declared.defaults.DefaultFilter as filters;
 ghost use Rattle.nextest_filtering.specs.Groups.{IsKnown};
 ghost use Rattle.filterset_warnings.specs.Asking.{AnswersBy, AnswersConfigured, AnswersIn, AnswersProfile, AnswersWith, Lacks};
 ghost use Rattle.filterset_loading.specs.Configurations.{IsProfileFault, LacksProfile};
@@ -18,7 +18,7 @@ use filterset_loading::{
     ChosenFilter, CommandFault, FileSource, KnownPlatforms, ProfileRequest, ProfilesFile, choose,
     configured_texts, lineage_of, name_of, read_facts, read_profiles_file,
 };
-use filterset_profiles::{DefaultFilter, Profile, RankedOverride, default_filter, rank_overrides};
+use filterset_configuration::{DefaultFilter, Profile, RankedOverride, default_filter, rank_overrides};
 use filterset_sources::BuildPlatforms;
 use nextest_filtering::{FiltersetKind, KnownGroups};
 use serde_json::Value;

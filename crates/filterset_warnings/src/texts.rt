@@ -12,7 +12,7 @@ ghost use Rattle.filterset_warnings.specs.Warnings.{TextWarnings, WarningsOf};
 use crate::hints::remarks_of;
 use filterset_drawing::Source;
 use filterset_entries::{Form, RemarkWriter, TextEntry};
-use filterset_hints::find_hints;
+use filterset_listing::find_hints;
 use filterset_listing::Subject;
 use nextest_filtering::{EvalContext, Filterset, KnownGroups, ParseContext};
 use std::alloc::{AllocError, Global};

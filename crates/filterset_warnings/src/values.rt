@@ -10,7 +10,7 @@ ghost use Rattle.filterset_warnings.specs.Values.{IsValuePiece, value_place, val
 use filterset_drawing::{Remark, Severity, Source};
 use filterset_entries::{Answer, Ending, FilePlace, Form, RemarkWriter, Spot};
 use filterset_faults::SourceSpan;
-use filterset_profiles::WrongValue;
+use filterset_configuration::WrongValue;
 use std::alloc::{AllocError, Global};
 
 /// Returns where a value is in the file, if it was found.

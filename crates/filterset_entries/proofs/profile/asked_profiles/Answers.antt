@@ -1,6 +1,6 @@
 use Rattle.std.proofs.Common.{arith, ◌<◌, Bor, length, map, sym, take}
 use Rattle.std.proofs.lemmas.List.{take_all}
-use Rattle.filterset_profiles.specs.declared.profiles.Profile.{Profile}
+use Rattle.filterset_configuration.specs.declared.profiles.Profile.{Profile}
 use Rattle.filterset_entries.specs.Profile.{IsProfileOf}
 use Rattle.filterset_entries.proofs.RowsLemmas.{AllZip-push, rows_more}
 use Rattle.filterset_entries.proofs.profile.asked_profiles.Goals as goal

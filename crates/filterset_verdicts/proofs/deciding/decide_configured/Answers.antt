@@ -4,7 +4,7 @@ use Rattle.std.proofs.lemmas.Result.{IfErr-weaker, IfOk-weaker, err_from_is_err_
 use Rattle.filterset_drawing.specs.Columns.{Text}
 use Rattle.filterset_drawing.specs.declared.source.Source.{Source}
 use Rattle.filterset_entries.specs.declared.text.Answer.{Answer}
-use Rattle.filterset_profiles.specs.declared.profiles.Profile.{Profile}
+use Rattle.filterset_configuration.specs.declared.profiles.Profile.{Profile}
 use Rattle.filterset_loading.specs.Configurations.{IsSettingsFault}
 use Rattle.filterset_verdicts.specs.Deciding.{AnswersNamed, IsNamedFault, LacksNamed, naming_of}
 use Rattle.filterset_loading.specs.declared.fault.CommandFault.{CommandFault}

@@ -4,7 +4,7 @@ use Rattle.std.specs.List.{Contains}
 use Rattle.std.specs.Prelude.{codes}
 use Rattle.filterset_entries.specs.Checked.{TextRow, text_row}
 use Rattle.filterset_drawing.specs.Columns.{Text}
-use Rattle.filterset_profiles.specs.declared.profiles.Profile.{Profile}
+use Rattle.filterset_configuration.specs.declared.profiles.Profile.{Profile}
 use Rattle.filterset_verdicts.specs.Deciding.{LacksAny, LacksNamed, request_rows}
 use Rattle.filterset_loading.specs.declared.request.DecisionRequest.{DecisionRequest}
 use Rattle.filterset_loading.specs.declared.fault.CommandFault.{CommandFault}

@@ -1,7 +1,7 @@
 use Rattle.std.proofs.Common.{List, [], ◌∷◌, inl, string_bytes}
 use Rattle.std.proofs.lemmas.Result.{err_from_is_err_and}
 use Rattle.std.specs.Prelude.{IsSomeAnd, Option}
-use Rattle.filterset_profiles.specs.declared.wrong.WrongValue.{WrongValue}
+use Rattle.filterset_configuration.specs.declared.wrong.WrongValue.{WrongValue}
 use Rattle.filterset_warnings.specs.Checking.{IsUnchecked}
 use Rattle.filterset_warnings.specs.Warned.{IsWarnedFault, request_after}
 use Rattle.filterset_loading.specs.declared.request.WarningRequest.{WarningRequest}

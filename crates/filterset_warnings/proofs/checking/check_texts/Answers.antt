@@ -4,7 +4,7 @@ use Rattle.std.specs.Borrow.{Bor}
 use Rattle.std.specs.Prelude.{IfSome, None, Option, Some, is_some}
 use Rattle.filterset_drawing.specs.Columns.{Text}
 use Rattle.filterset_drawing.specs.declared.source.Source.{Source}
-use Rattle.filterset_places.specs.declared.place.Place.{Place}
+use Rattle.filterset_configuration.specs.declared.place.Place.{Place}
 use Rattle.filterset_sources.specs.Configurations.{IsConfiguration}
 use Rattle.filterset_sources.specs.declared.configuration.Configuration.{Configuration}
 use Rattle.filterset_warnings.specs.Checking.{IsCheckFault, IsUnchecked, KnownConfiguration}

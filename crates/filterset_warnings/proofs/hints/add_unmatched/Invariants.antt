@@ -1,6 +1,6 @@
 use Rattle.std.proofs.Common.{◌≡◌, ◌++◌, map, take}
 use Rattle.filterset_drawing.specs.Remarks.{remark_row}
-use Rattle.filterset_hints.specs.Finding.{unmatched_of}
+use Rattle.filterset_listing.specs.Finding.{unmatched_of}
 use Rattle.filterset_warnings.specs.Warnings.{unmatched_remark}
 use Rattle.filterset_warnings.proofs.hints.add_unmatched.Given as goal
 

@@ -2,7 +2,7 @@ use Rattle.std.proofs.Common.{arith, ◌≡◌, ap, length, map}
 use Rattle.std.proofs.lemmas.List.{length-map}
 use Rattle.nextest_filtering.specs.Compiling.{packages_of}
 use Rattle.filterset_drawing.specs.Remarks.{remark_row}
-use Rattle.filterset_hints.specs.Finding.{found_of, unmatched_of}
+use Rattle.filterset_listing.specs.Finding.{found_of, unmatched_of}
 use Rattle.filterset_language.specs.Views.{tree_of}
 use Rattle.filterset_warnings.specs.Warnings.{of_filterset, remarks_of}
 use Rattle.filterset_warnings.proofs.texts.push_filterset.Goals as goal

@@ -2,7 +2,7 @@ use Rattle.std.proofs.Common.{rules, arith, ◌≡◌, ◌∙◌, ◌<◌, ◌+�
 use Rattle.std.proofs.lemmas.List.{take_more}
 use Rattle.filterset_json.proofs.PieceLemmas.{Pieces-push}
 use Rattle.filterset_json.specs.Pieces.{Pieces, no_pieces}
-use Rattle.filterset_profiles.specs.declared.wrong.WrongValue.{WrongValue}
+use Rattle.filterset_configuration.specs.declared.wrong.WrongValue.{WrongValue}
 use Rattle.filterset_drawing.specs.Columns.{Text}
 use Rattle.filterset_warnings.specs.Values.{IsValuePiece}
 use Rattle.filterset_warnings.proofs.values.add_values.Goals as goal

@@ -1,0 +1,164 @@
+//! Checks the values of profiles.
+ghost use Rattle.std.specs.Prelude.{◌≡◌, ◌++◌, List, IfOk, OnOk};
+ghost use Rattle.std.specs.Bool.{OnFalse, OnTrue};
+ghost use Rattle.toml.specs.View.{view};
+ghost use Rattle.filterset_configuration.specs.Keys.{Finds};
+ghost use Rattle.filterset_configuration.specs.PlatformGrammar.{Spells};
+ghost use Rattle.filterset_configuration.specs.PlatformTrees.{Spec};
+ghost use Rattle.filterset_configuration.specs.Circles.{IsInCircle};
+ghost use Rattle.filterset_configuration.specs.Wrong.{AreWrongValues, IsKnown, IsRight, IsWrongValue, Judged, value_row, value_rows, values_of};
+ghost use Rattle.filterset_configuration.specs.declared.wrong.WrongValue.{WrongValue};
+
+use crate::circles::mark_circles;
+use crate::names::is_built_in;
+use crate::placing::{NumberedValues, numbered_values, place_in};
+use crate::platforms::{PlatformRefusal, PlatformSpec};
+use crate::values::{has_member, is_group};
+use crate::walking::values_of;
+use crate::wrong::{ProfileValue, ValueRole, WrongValue};
+use filterset_sources::{SourceRefusal, file_of};
+use std::alloc::{AllocError, Global};
+use toml::Value;
+
+/// Returns whether a text is a platform.
+fn is_platform(alloc: Global, text: &str) -> Result<bool, AllocError>
+    ensures right { IfOk result (λ is. OnTrue is ((spec : Spec) × Spells text.now spec)) }
+    ensures wrong { IfOk result (λ is. OnFalse is (¬ ((spec : Spec) × Spells text.now spec))) }
+{
+    match PlatformSpec::parse(alloc, text) {
+        Ok(_) => Ok(true),
+        Err(PlatformRefusal::OutOfMemory(refused)) => Err(refused),
+        Err(PlatformRefusal::Fault(_)) => Ok(false),
+    }
+}
+
+/// A file whose values are checked.
+#[derive(Drop)]
+struct CheckedFile<'f> {
+    text: &'f str,
+    file: &'f Value,
+    /// Which of its profiles fall back on themselves.
+    circles: Vec<bool>,
+    /// Its values, with numbers in place of their texts.
+    numbered: Option<NumberedValues>,
+}
+
+/// Returns whether the profile at a position does not fall back on itself.
+fn is_in_no_circle(file: &CheckedFile<'_>, at: usize) -> bool
+    requires { IsKnown file.now }
+    ensures right { OnTrue result (¬ IsInCircle (view file.now.file.now) at) }
+    ensures wrong { OnFalse result (IsInCircle (view file.now.file.now) at) }
+{
+    match file.circles.get(at) {
+        Some(is_in_circle) => !*is_in_circle,
+        None => true,
+    }
+}
+
+/// Returns whether a value of a file is right.
+fn is_right(
+    alloc: Global,
+    file: &CheckedFile<'_>,
+    role: ValueRole,
+    text: &str,
+) -> Result<bool, AllocError>
+    requires { IsKnown file.now }
+    ensures right { IfOk result (λ is. OnTrue is (IsRight (view file.now.file.now) role text.now)) }
+    ensures wrong { IfOk result (λ is. OnFalse is (¬ IsRight (view file.now.file.now) role text.now)) }
+{
+    match role {
+        ValueRole::Parent => Ok(is_built_in(text) || has_member(file.file, "profile", text)),
+        ValueRole::NoCircle(at) => Ok(is_in_no_circle(file, at)),
+        ValueRole::Group => Ok(is_group(file.file, text)),
+        ValueRole::Platform => is_platform(alloc, text),
+        ValueRole::NoText | ValueRole::ForNothing | ValueRole::ForBoth => Ok(false),
+        ValueRole::ReservedProfile | ValueRole::ReservedGroup => Ok(false),
+    }
+}
+
+/// Says what is wrong with the value at a position of a file's values.
+fn wrong_value(
+    alloc: Global,
+    file: &CheckedFile<'_>,
+    at: usize,
+    value: &ProfileValue,
+) -> Result<WrongValue, AllocError>
+    requires { IsKnown file.now }
+    ensures { IfOk result (IsWrongValue file.now.text.now at (value_row value.now)) }
+{
+    let place = match &file.numbered {
+        Some(numbered) => place_in(alloc, file.text, numbered, at, value)?,
+        None => None,
+    };
+    Ok(WrongValue {
+        path: String::from_str(alloc, value.path.as_str())?,
+        expected: value.role.expected(),
+        text: String::from_str(alloc, value.text.as_str())?,
+        place,
+    })
+}
+
+/// Adds the value at a position of a file's values, if it is wrong.
+fn push_wrong(
+    found: &mut Vec<WrongValue>,
+    alloc: Global,
+    file: &CheckedFile<'_>,
+    at: usize,
+    value: &ProfileValue,
+) -> Result<(), AllocError>
+    requires { IsKnown file.now }
+    ensures { OnOk result ((front : List WrongValue) × (found.new.items ≡ found.old.items ++ front)
+        × Judged file.now.text.now (view file.now.file.now) at (value_row value.now) front) }
+{
+    if is_right(alloc, file, value.role, value.text.as_str())? {
+        return Ok(());
+    }
+    found.push(wrong_value(alloc, file, at, value)?)?;
+    Ok(())
+}
+
+/// Finds the wrong ones of a file's values.
+fn wrong_among(
+    alloc: Global,
+    file: &CheckedFile<'_>,
+    values: &[ProfileValue],
+) -> Result<Vec<WrongValue>, AllocError>
+    requires { IsKnown file.now }
+    ensures { IfOk result (λ found. Finds (Judged file.now.text.now (view file.now.file.now)) 0 (value_rows values.now)
+        found.items) }
+{
+    let mut found = Vec::new(alloc);
+    for (at, value) in values.iter().enumerate() {
+        push_wrong(&mut found, alloc, file, at, value)?;
+    }
+    Ok(found)
+}
+
+/// Finds the wrong values of a file.
+fn wrong_in(alloc: Global, text: &str, file: &Value) -> Result<Vec<WrongValue>, AllocError>
+    ensures { IfOk result (λ found. Finds (Judged text.now (view file.now)) 0 (values_of (view file.now)) found.items) }
+{
+    let values = values_of(alloc, file)?;
+    let file = CheckedFile {
+        text,
+        file,
+        circles: mark_circles(alloc, file)?,
+        numbered: numbered_values(alloc, text, values.as_slice())?,
+    };
+    wrong_among(alloc, &file, values.as_slice())
+}
+
+/// Finds the values of a configuration that are wrong, other than its filtersets, each with its place: what a profile
+/// inherits from if it is no profile, or falls back on that profile; a group that the file lacks; what is no platform; an
+/// override that is for nothing; and a name of a profile or of a group that is reserved.
+///
+/// Each place is right. That each text has one is tested only. Returns an error only if out of memory.
+pub fn find_wrong_values(alloc: Global, text: &str) -> Result<Vec<WrongValue>, AllocError>
+    ensures { IfOk result (λ found. AreWrongValues text.now found.items) }
+{
+    match file_of(alloc, text) {
+        Ok(file) => wrong_in(alloc, text, &Value::Table(file)),
+        Err(SourceRefusal::OutOfMemory(refused)) => Err(refused),
+        Err(_) => Ok(Vec::new(alloc)),
+    }
+}

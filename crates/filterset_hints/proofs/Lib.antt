@@ -1,5 +1,0 @@
-pub mod Values
-pub mod ColumnLemmas
-pub mod DecidingLemmas
-pub mod FindingLemmas
-pub mod LawLemmas

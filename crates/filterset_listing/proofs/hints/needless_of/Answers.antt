@@ -1,0 +1,31 @@
+use Rattle.std.proofs.Common.{◌≡◌, true, false, List, [], ◌∷◌, ◌++◌, map, refl, sym, ◌∙◌, ap, subst}
+use Rattle.filterset_language.specs.Views.{tree_of}
+use Rattle.filterset_listing.specs.Columns.{values_of}
+use Rattle.filterset_listing.specs.Finding.{AreDeciding, found_of, unmatched_of}
+use Rattle.filterset_listing.specs.Needless.{AreFound, picks_by_all}
+use Rattle.filterset_listing.specs.SubjectValues.{Basis}
+use Rattle.filterset_listing.specs.declared.subjects.Subject.{Subject}
+use Rattle.filterset_listing.proofs.ColumnLemmas.{own_column}
+use Rattle.filterset_listing.proofs.hints.needless_of.Goals as goal
+
+-- the whole tree decides what is said of each subject
+all_decide : (basis : Basis) (subjects : List Subject) → AreDeciding basis subjects [] (map (λ s. true) subjects)
+all_decide basis [] = tt
+all_decide basis (s ∷ subjects) = ((λ h. tt, λ h. refl), all_decide basis subjects)
+
+pub returns-then-picks_by_all : goal.returns-then-picks_by_all
+returns-then-picks_by_all c = λ basis fits.
+    let subjects = c.args.subjects.now in
+    let tree = tree_of c.args.tree.now in
+    let columns = c.args.columns.now in
+    let picks : picks_by_all (unmatched_of c.args.unmatched.now) (values_of columns) ≡ true = sym c.picks_by_all.ensures ∙ c.if-picks_by_all.true in
+    let deciding = subst (AreDeciding basis subjects []) (sym (c.deref.ensures.value ∙ c.in_ok-deciding.ensures)) (all_decide basis subjects) in
+    let (added, same, are) = c.in_ok-find_needless.ensures basis subjects [] fits deciding in
+    let found = subst (AreFound basis subjects false [] tree) (sym (same ∙ ap (λ xs. found_of xs ++ added) c.new-found.ensures.items)) are in
+    (values_of columns, own_column basis subjects tree columns fits, rw picks found)
+
+pub returns : goal.returns
+returns c = λ basis fits.
+    let columns = c.args.columns.now in
+    let picks : picks_by_all (unmatched_of c.args.unmatched.now) (values_of columns) ≡ false = sym c.picks_by_all.ensures ∙ c.if-picks_by_all.false in
+    (values_of columns, own_column basis c.args.subjects.now (tree_of c.args.tree.now) columns fits, rw picks (ap found_of c.new-found.ensures.items))

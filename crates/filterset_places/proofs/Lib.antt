@@ -1,5 +1,0 @@
-mod PieceLemmas
-mod StringLemmas
-mod PlaceLemmas
-pub mod EditLemmas
-pub mod KeyLemmas

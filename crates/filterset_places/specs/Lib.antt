@@ -1,6 +1,0 @@
-pub mod Pieces
-pub mod Strings
-pub mod Numbers
-pub mod Places
-pub mod Edits
-pub mod Keys

@@ -1,7 +1,0 @@
-use Rattle.std.proofs.Common.{map, take}
-use Rattle.filterset_profiles.specs.Circles.{IsIndex}
-use Rattle.filterset_profiles.proofs.circles.positions_of.Given as goal
-
--- the names so far have their positions
-abbrev pub invariant-loop-at : goal.invariant-loop-at
-invariant-loop-at l = IsIndex (map (λ k. k.name.now) (take l.at l.links)) l.positions

@@ -1,6 +1,0 @@
-use Rattle.std.proofs.Common.{◌≡◌, drop}
-use Rattle.filterset_profiles.specs.Lineages.{first_named}
-use Rattle.filterset_profiles.proofs.inheritance.find_named.Given as goal
-
-abbrev pub invariant-loop-at : goal.invariant-loop-at
-invariant-loop-at l = first_named (drop l.at l.profiles) l.name ≡ first_named l.profiles l.name
