@@ -15,8 +15,8 @@ use Rattle.filterset_drawing.specs.declared.source.Source.{Source}
 use Rattle.filterset_faults.specs.declared.kind.FiltersetKind.{FiltersetKind}
 use Rattle.filterset_faults.specs.declared.kind.FiltersetKind.TheVariants as kinds
 use Rattle.filterset_json.specs.Runs.{AreLeft}
-use Rattle.filterset_warnings.specs.Asking.{AnswersAsked, IsAskedFault}
-use Rattle.filterset_warnings.specs.Checking.{AnswersCheck, IsCheckFault}
+use Rattle.filterset_asking.specs.Asking.{AnswersAsked, IsAskedFault}
+use Rattle.filterset_asking.specs.Checking.{AnswersCheck, IsCheckFault}
 use Rattle.filterset_verdicts.specs.Deciding.{AnswersDecision, IsDecisionFault}
 use Rattle.filterset_loading.specs.Files.{content_of, input_name}
 use Rattle.filterset_loading.specs.Words.{IsInputFault, input_count}

@@ -5,11 +5,11 @@ ghost use Rattle.filterset_loading.specs.Words.{IsInputFault, input_count};
 ghost use Rattle.filterset.specs.Requests.{Answers, Faults, IsAnswered, IsFaultOf, IsInput};
 
 use crate::texts::{check_given, format_given, input_file, simplify_given};
+use filterset_asking::ask;
 use filterset_entries::{Answer, Ending};
 use filterset_json::Source;
 use filterset_loading::{CommandFault, FileSource, Request, WithInput, read_input};
 use filterset_verdicts::decide_given;
-use filterset_warnings::ask;
 use std::alloc::Global;
 
 /// Answers a request. It may read standard input and files.

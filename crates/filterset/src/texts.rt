@@ -3,15 +3,15 @@ ghost use Rattle.std.specs.Prelude.{◌≡◌, IfErr, IfOk, ℕ, map, string_byt
 ghost use Rattle.filterset_answers.specs.Answers.{FormatsTexts, SimplifiesTexts};
 ghost use Rattle.filterset_entries.specs.Checked.{text_row};
 ghost use Rattle.filterset_entries.specs.Endings.{ending_of};
-ghost use Rattle.filterset_warnings.specs.Checking.{AnswersCheck, IsCheckFault};
+ghost use Rattle.filterset_asking.specs.Checking.{AnswersCheck, IsCheckFault};
 ghost use Rattle.filterset_loading.specs.Files.{OrMemory};
 ghost use Rattle.filterset.specs.Requests.{IsInputFile, rows_of};
 
 use filterset_answers::{format_texts, simplify_texts};
+use filterset_asking::check_texts;
 use filterset_drawing::Source;
 use filterset_entries::{Answer, Form, TextEntry, given_entries, input_entries};
 use filterset_loading::{CheckPaths, CommandFault, FileSource, INPUT_NAME, Texts};
-use filterset_warnings::check_texts;
 use nextest_filtering::FiltersetKind;
 use std::alloc::{AllocError, Global};
 

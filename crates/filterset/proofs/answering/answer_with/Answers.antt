@@ -10,7 +10,7 @@ use Rattle.filterset_drawing.specs.Columns.{Text}
 use Rattle.filterset_drawing.specs.declared.source.Source.{Source}
 use Rattle.filterset_faults.specs.declared.kind.FiltersetKind.{FiltersetKind}
 use Rattle.filterset_faults.specs.declared.kind.FiltersetKind.TheVariants as kinds
-use Rattle.filterset_warnings.specs.Checking.{AnswersCheck, IsCheckFault}
+use Rattle.filterset_asking.specs.Checking.{AnswersCheck, IsCheckFault}
 use Rattle.filterset_loading.specs.Files.{content_of}
 use Rattle.filterset.specs.Requests.{Answers, Faults, IsInputFile, rows_of}
 use Rattle.filterset_loading.specs.declared.request.CheckPaths.{CheckPaths}

@@ -1,7 +1,7 @@
 use Rattle.std.proofs.Common.{List, string_bytes, subst}
 use Rattle.std.proofs.lemmas.Result.{IfOk-weaker}
 use Rattle.filterset_entries.specs.Checked.{TextRow}
-use Rattle.filterset_warnings.specs.Checking.{AnswersCheck}
+use Rattle.filterset_asking.specs.Checking.{AnswersCheck}
 use Rattle.filterset.proofs.texts.check_given.Goals as goal
 
 -- the rows of the entries that are checked are those of the texts

@@ -1,0 +1,7 @@
+use Rattle.filterset_asking.proofs.asking.answer_asked.Goals as goal
+
+-- a test is explained as one that counts, or as one that does not
+pub returns-in_ok-explain_filterset-in-Explanation-clause-answered : goal.returns-in_ok-explain_filterset-in-Explanation-clause-answered
+returns-in_ok-explain_filterset-in-Explanation-clause-answered c =
+    let explained = rw c.is_uncounted-is_ignored.ensures at c.in_ok-explain_filterset-in-Explanation.ensures in
+    rw c.in-Explanation.is (c.in_ok-candidate-in-Explanation.candidate, c.in_ok-candidate-in-Explanation.ensures.found, explained)

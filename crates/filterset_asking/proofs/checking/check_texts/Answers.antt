@@ -1,0 +1,78 @@
+use Rattle.std.proofs.Common.{rules, ◌≡◌, ◌∙◌, List, ap, inr, string_bytes, subst, sym}
+use Rattle.std.proofs.lemmas.Result.{IfErr-weaker, IfOk-weaker}
+use Rattle.std.specs.Borrow.{Bor}
+use Rattle.std.specs.Prelude.{IfSome, None, Option, Some, is_some}
+use Rattle.filterset_drawing.specs.Columns.{Text}
+use Rattle.filterset_drawing.specs.declared.source.Source.{Source}
+use Rattle.filterset_configuration.specs.declared.place.Place.{Place}
+use Rattle.filterset_sources.specs.Configurations.{IsConfiguration}
+use Rattle.filterset_sources.specs.declared.configuration.Configuration.{Configuration}
+use Rattle.filterset_asking.specs.Checking.{IsCheckFault, IsUnchecked, KnownConfiguration}
+use Rattle.filterset_loading.proofs.FaultLemmas.{OrMemory-weaker}
+use Rattle.filterset_asking.proofs.checking.check_texts.Goals as goal
+
+-- what is known as a configuration is one, if there is a file
+known_is : (content : Text → Option Text) (path : Option (Bor Text)) (bytes : Text) (configuration : Configuration) (places : List (Option Place))
+    → KnownConfiguration content path bytes configuration places → IfSome path (λ p. (c : Configuration) × IsConfiguration bytes c)
+known_is content None bytes configuration places is = tt
+known_is content (Some p) bytes configuration places is = (configuration, is.1)
+
+abbrev origin_of : Source → Text
+origin_of s = s.origin.now
+
+abbrev text_of : Source → Text
+text_of s = s.text.now
+
+pub check_all-requires-clause-configuration : goal.check_all-requires-clause-configuration
+check_all-requires-clause-configuration g c =
+    let file = c.in_ok-text.field-0 in
+    let path = c.args.paths.now.configuration in
+    let bytes = ap text_of c.configured_texts-configured.ensures.file ∙ c.in_ok-file.ensures.text ∙ c.as_str.ensures.value in
+    subst (λ t. IfSome path (λ p. (c : Configuration) × IsConfiguration t c)) (sym bytes) (known_is _ path (string_bytes file.text) file.configuration file.places.places.items c.in_ok-text.ensures.known)
+
+pub returns-clause-answered : goal.returns-clause-answered
+returns-clause-answered g c =
+    let file = c.in_ok-text.field-0 in
+    let texts = c.configured_texts-configured.result in
+    let parts = c.configured_texts-configured.ensures in
+    let packages : c.is_some-has_packages.result ≡ is_some c.args.paths.now.metadata = search rules in
+    let groups : c.is_some-has_groups.result ≡ is_some c.args.paths.now.configuration = search rules in
+    let names = rw (packages, groups) at c.in_ok-names.ensures.names in
+    IfOk-weaker c.check_all.result _ _ (λ answer checked. (
+      c.in_ok-graph.graph,
+      string_bytes file.text,
+      file.configuration,
+      file.places,
+      texts,
+      c.in_ok-names.names,
+      c.in_ok-graph.ensures.known,
+      c.in_ok-text.ensures.known,
+      (
+        ap origin_of parts.file ∙ c.in_ok-file.ensures.origin ∙ c.file_name.ensures,
+        ap text_of parts.file ∙ c.in_ok-file.ensures.text ∙ c.as_str.ensures.value,
+        parts.filtersets ∙ c.as_slice.ensures.value,
+        parts.places,
+      ),
+      names,
+      checked,
+    )) c.check_all.ensures.answered
+
+pub returns-clause-refused : goal.returns-clause-refused
+returns-clause-refused g c =
+    let content = g.F.FileSource.content c.args.files.now in
+    let fails = g.F.FileSource.fails c.args.files.now in
+    let paths = c.args.paths.now in
+    let file = c.in_ok-text.field-0 in
+    let graph = c.in_ok-graph.graph in
+    let bytes = ap text_of c.configured_texts-configured.ensures.file ∙ c.in_ok-file.ensures.text ∙ c.as_str.ensures.value in
+    IfErr-weaker c.check_all.result _ _ (OrMemory-weaker (IsUnchecked content fails graph paths c.configured_texts-configured.result.file.now.text.now)
+    (IsCheckFault content fails paths)
+    (λ fault wrong. inr (inr (
+      graph,
+      string_bytes file.text,
+      file.configuration,
+      file.places,
+      c.in_ok-graph.ensures.known,
+      c.in_ok-text.ensures.known,
+      rw bytes at wrong,
+    )))) c.check_all.ensures.refused

@@ -1,0 +1,156 @@
+-- What `list`, `compare`, `explain` and `overrides` answer about the workspace that files describe.
+use Rattle.std.specs.Prelude.{◌≡◌, ◌⊎◌, List, [], Option, Some, None, MatchOption, MatchResult, IsSomeAnd, codes, flat_map, map, string_bytes, unwrap_or}
+use Rattle.std.specs.List.{AllZip}
+use Rattle.std.specs.declared.io.Error.{Error}
+use Rattle.serde_json.specs.Data.{Data}
+use Rattle.serde_json.specs.View.{view}
+use Rattle.filterset_answers.specs.Binaries.{IsAsked}
+use Rattle.filterset_entries.specs.Checked.{TextRow, text_row}
+use Rattle.filterset_entries.specs.Endings.{AnswersUnknown}
+use Rattle.filterset_entries.specs.Entries.{default_row}
+use Rattle.filterset_answers.specs.Explained.{AnswersExplanation}
+use Rattle.filterset_answers.specs.Picking.{AnswersQuestion}
+use Rattle.filterset_entries.specs.Profile.{IsEntryOf, IsProfileOf}
+use Rattle.filterset_entries.specs.declared.entries.ConfiguredTexts.{ConfiguredTexts}
+use Rattle.filterset_entries.specs.declared.form.Form.{Form}
+use Rattle.filterset_entries.specs.declared.form.Form.TheVariants.{Json}
+use Rattle.filterset_entries.specs.declared.setting.OverrideEntry.{OverrideEntry}
+use Rattle.filterset_entries.specs.declared.setting.Setting.{Setting}
+use Rattle.filterset_entries.specs.declared.text.Ending.{Ending}
+use Rattle.filterset_entries.specs.declared.text.TextEntry.{TextEntry}
+use Rattle.filterset_drawing.specs.Columns.{Text}
+use Rattle.filterset_faults.specs.declared.kind.FiltersetKind.TheVariants.{DefaultFilter}
+use Rattle.filterset_graph.specs.declared.package.PackageMetadata.{PackageMetadata}
+use Rattle.filterset_listing.specs.declared.binary.AskedBinary.{AskedBinary}
+use Rattle.filterset_listing.specs.declared.explaining.candidate.Candidate.{Candidate}
+use Rattle.filterset_overrides.specs.declared.asked.AskedProfile.{AskedProfile}
+use Rattle.filterset_configuration.specs.PlatformTrees.{facts_of}
+use Rattle.filterset_configuration.specs.Lineages.{Lineage}
+use Rattle.filterset_configuration.specs.Ranking.{IsDefaultFilter, IsRanked, placed}
+use Rattle.filterset_configuration.specs.declared.defaults.DefaultFilter as defaults
+use Rattle.filterset_configuration.specs.declared.profiles.Profile.{Profile}
+use Rattle.filterset_configuration.specs.declared.ranking.RankedOverride.{RankedOverride}
+use Rattle.filterset_sources.specs.Platforms.{ArePlatforms}
+use Rattle.filterset_sources.specs.declared.list.Suite.{Suite}
+use Rattle.filterset_sources.specs.declared.platforms.BuildPlatforms.{BuildPlatforms}
+use Rattle.filterset_asking.specs.Warnings.{AnswersWarnings}
+use Rattle.nextest_filtering.specs.Groups.{IsGlobalOnly}
+use Rattle.nextest_filtering.specs.declared.compile.context.KnownGroups.{KnownGroups}
+use Rattle.filterset_loading.specs.Configurations.{AreKnown, AreProfilesIn, AreTextsOf, IsProfileFault, chosen, given_row}
+use Rattle.filterset_asking.specs.Explaining.{IsCandidate, IsMissing, is_uncounted}
+use Rattle.filterset_loading.specs.Files.{name_of}
+use Rattle.filterset_asking.specs.Overriding.{AnswersOverridesOf, LacksTests}
+use Rattle.filterset_loading.specs.Workspaces.{IsPlatformsFault, IsWorkspaceFault, IsWorkspaceIn}
+use Rattle.filterset_loading.specs.declared.request.Asked.{Asked}
+use Rattle.filterset_loading.specs.declared.request.Asked.TheVariants.{Explanation, Overrides, Question, Warnings}
+use Rattle.filterset_asking.specs.declared.asking.AskedWorkspace.{AskedWorkspace}
+use Rattle.filterset_loading.specs.declared.request.WorkspaceRequest.{WorkspaceRequest}
+use Rattle.filterset_loading.specs.declared.fault.CommandFault.{CommandFault}
+use Rattle.filterset_loading.specs.declared.profile.KnownPlatforms.{KnownPlatforms}
+use Rattle.filterset_loading.specs.declared.profile.ProfileRequest.{ProfileRequest}
+use Rattle.filterset_loading.specs.declared.profile.ProfilesFile.{ProfilesFile}
+use Rattle.filterset_loading.specs.declared.workspace.Workspace.{Workspace}
+
+-- what nextest wrote of the list, where an answer of this form is in its shape
+abbrev pub kept_of : Form → Data → Option Data
+kept_of Json list = Some list
+kept_of form list = None
+
+-- the answer under a setting: to a question, or why the filterset picks the binary with the id, or its test with the name;
+-- or how overrides apply to tests; or what the tests say of texts
+abbrev pub AnswersOf : Form → Asked → Setting → List AskedBinary → Option Data → Ending → Text → Type 0
+AnswersOf form (Question question) setting binaries kept = AnswersQuestion form setting question kept binaries
+AnswersOf form (Explanation filter id test) setting binaries kept = λ ending text.
+    (candidate : Candidate) × IsCandidate binaries id.now test candidate
+    × AnswersExplanation form setting filter.now candidate (is_uncounted binaries id.now test) ending text
+AnswersOf form (Overrides filters binary test) setting binaries kept =
+    AnswersOverridesOf form setting binaries filters binary test
+AnswersOf form (Warnings texts) setting binaries kept =
+    AnswersWarnings form texts.end setting (map text_row texts.entries.now) binaries
+
+abbrev pub AnswersUnder : WorkspaceRequest → List Suite → Option Data → Setting → Ending → Text → Type 0
+AnswersUnder request suites kept setting ending text = (binaries : List AskedBinary) × AllZip IsAsked suites binaries
+    × AnswersOf request.form request.asked setting binaries kept ending text
+
+-- without a profile: under the default filter that is given, or else all tests, and no overrides or profiles
+abbrev pub IsPlain : List PackageMetadata → Option TextRow → Setting → Type 0
+IsPlain packages given setting = (setting.graph.now ≡ packages) × IsGlobalOnly setting.groups.now
+    × (text_row setting.default.now ≡ unwrap_or given (default_row (codes "all()"))) × (setting.overrides.now ≡ [])
+    × (setting.profiles.now ≡ [])
+
+-- under a setting with this default filter and these groups, with the overrides, and with the profiles of the lineage
+abbrev pub AnswersWith : (Setting → Ending → Text → Type 0) → List PackageMetadata → KnownGroups → ConfiguredTexts
+    → List Profile → List RankedOverride → TextRow → Ending → Text → Type 0
+AnswersWith Answers packages groups texts lineage ranked row ending text = (setting : Setting)
+    × (setting.graph.now ≡ packages) × (setting.groups.now ≡ groups) × (text_row setting.default.now ≡ row)
+    × AllZip (IsEntryOf texts) ranked setting.overrides.now × AllZip IsProfileOf lineage setting.profiles.now
+    × Answers setting ending text
+
+-- under the default filter that is given, or that follows from overrides
+abbrev pub AnswersBy : (Setting → Ending → Text → Type 0) → List PackageMetadata → Option TextRow → KnownGroups
+    → ConfiguredTexts → List Profile → List RankedOverride → defaults.DefaultFilter → Ending → Text → Type 0
+AnswersBy Answers packages given groups texts lineage ranked filter ending text = MatchResult (chosen texts given filter)
+    (λ row. AnswersWith Answers packages groups texts lineage ranked row ending text)
+    (λ path. AnswersUnknown path ending text)
+
+-- under the profile of this name: by its lineage, the overrides of that in their order, and the default filter that follows
+abbrev pub AnswersProfile : (Setting → Ending → Text → Type 0) → List PackageMetadata → Option TextRow → Text
+    → List Profile → KnownGroups → ConfiguredTexts → KnownPlatforms → Ending → Text → Type 0
+AnswersProfile Answers packages given name profiles groups texts known ending text =
+    (lineage : List Profile) × (ranked : List RankedOverride) × (filter : defaults.DefaultFilter)
+    × Lineage profiles name lineage
+    × AllZip (IsRanked (facts_of known.host) (facts_of known.target)) (flat_map placed lineage) ranked
+    × IsDefaultFilter ranked lineage filter
+    × AnswersBy Answers packages given groups texts lineage ranked filter ending text
+
+-- under the profile that is asked for, of the configuration and for the platforms that the files describe
+abbrev pub AnswersConfigured : (Text → Option Text) → (Setting → Ending → Text → Type 0) → List PackageMetadata
+    → Option TextRow → ProfileRequest → BuildPlatforms → Ending → Text → Type 0
+AnswersConfigured content Answers packages given profile built ending text =
+    (file : ProfilesFile) × (known : KnownPlatforms) × (texts : ConfiguredTexts)
+    × AreProfilesIn (content profile.configuration.now) file × AreKnown content profile built known
+    × AreTextsOf (name_of profile.configuration.now) (string_bytes file.text) file.filtersets.items file.places texts
+    × AnswersProfile Answers packages given profile.name.now file.profiles.items file.groups texts known ending text
+
+-- what is answered of the workspace that the files describe: under no profile, or under the one that is asked for, on the
+-- platforms of the list
+abbrev pub AnswersAsked : (Text → Option Text) → WorkspaceRequest → Ending → Text → Type 0
+AnswersAsked content request ending text = (workspace : Workspace) × IsWorkspaceIn content request.paths workspace
+    × (let Answers = AnswersUnder request workspace.list.suites.items (kept_of request.form (view workspace.value)) in
+    MatchOption request.profile
+    ((setting : Setting) × IsPlain workspace.graph (given_row request.default_filter) setting × Answers setting ending text)
+    (λ profile. (built : BuildPlatforms) × ArePlatforms (view workspace.value) built
+    × AnswersConfigured content Answers workspace.graph (given_row request.default_filter) profile built ending text))
+
+-- the binaries lack the one that is asked about, or its test
+abbrev pub LacksOf : Text → Asked → List AskedBinary → CommandFault → Type 0
+LacksOf list (Question question) binaries fault = ⊥
+LacksOf list (Explanation filter id test) binaries fault = IsMissing list binaries id.now test fault
+LacksOf list (Overrides filters binary test) binaries fault = LacksTests list binaries binary test fault
+LacksOf list (Warnings texts) binaries fault = ⊥
+
+-- so do the binaries of the suites
+abbrev pub LacksIn : Text → Asked → List Suite → CommandFault → Type 0
+LacksIn list asked suites fault =
+    (binaries : List AskedBinary) × AllZip IsAsked suites binaries × LacksOf list asked binaries fault
+
+-- the setting has these parts
+abbrev pub HasParts : List PackageMetadata → KnownGroups → TextEntry → List OverrideEntry → List AskedProfile → Setting → Type 0
+HasParts packages groups default overrides profiles setting = (setting.graph.now ≡ packages) × (setting.groups.now ≡ groups)
+    × (setting.default.now ≡ default) × (setting.overrides.now ≡ overrides) × (setting.profiles.now ≡ profiles)
+
+-- the same of what is asked of a workspace
+abbrev pub AnswersIn : AskedWorkspace → Option Data → Setting → Ending → Text → Type 0
+AnswersIn asked kept = AnswersUnder asked.request.now asked.suites.now kept
+
+abbrev pub Lacks : AskedWorkspace → CommandFault → Type 0
+Lacks asked = LacksIn (name_of asked.request.now.paths.list.now) asked.request.now.asked asked.suites.now
+
+-- a file is not used, or the configuration lacks the profile, or the workspace the binary or the test; or the platforms of
+-- the list are wrong, and there is a profile
+abbrev pub IsAskedFault : (Text → Option Text) → (Text → Error → Type 0) → WorkspaceRequest → CommandFault → Type 0
+IsAskedFault content fails request fault = IsWorkspaceFault content fails request.paths fault
+    ⊎ IsSomeAnd request.profile (λ profile. IsProfileFault content fails profile fault)
+    ⊎ ((workspace : Workspace) × IsWorkspaceIn content request.paths workspace
+    × (LacksIn (name_of request.paths.list.now) request.asked workspace.list.suites.items fault
+    ⊎ IsSomeAnd request.profile (λ profile. IsPlatformsFault request.paths.list.now (view workspace.value) fault)))

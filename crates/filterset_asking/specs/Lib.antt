@@ -1,0 +1,10 @@
+pub mod Asking
+pub mod Checking
+pub mod Configured
+pub mod Contexts
+pub mod Explaining
+pub mod Overriding
+pub mod Spans
+pub mod Values
+pub mod Warned
+pub mod Warnings

@@ -1,0 +1,203 @@
+//! The command `check`: the faults of texts and of a configuration's filtersets, by the names that files give.
+ghost use Rattle.std.specs.Prelude.{◌≡◌, ◌++◌, IfErr, IfOk, IfSome, IsSomeAnd, OnOk, map, string_bytes};
+ghost use Rattle.filterset_entries.specs.Checked.{text_row};
+ghost use Rattle.filterset_entries.specs.Entries.{rows_in};
+ghost use Rattle.nextest_filtering.specs.Groups.{IsKnown};
+ghost use Rattle.filterset_sources.specs.Configurations.{IsConfiguration, RefusesConfiguration};
+ghost use Rattle.filterset_sources.specs.declared.configuration.Configuration as configurations;
+ghost use Rattle.filterset_asking.specs.Checking.{AnswersCheck, ChecksAll, ChecksKnown, HasAsked, IsCheckFault, IsUnchecked, KnownConfiguration, LacksAsked, file_name};
+ghost use Rattle.filterset_loading.specs.Configurations.{HasNamed};
+ghost use Rattle.filterset_loading.specs.Files.{BySource, IsFileFault, OrMemory};
+ghost use Rattle.filterset_asking.specs.Warned.{request_after};
+
+use crate::configured::warn_configuration;
+use crate::values::add_values;
+use crate::warning::{CheckedTexts, join_answers, warn_checked};
+use filterset_answers::check;
+use filterset_configuration::{WrongValue, find_wrong_values};
+use filterset_drawing::Source;
+use filterset_entries::{
+    Answer, ConfiguredTexts, Form, Names, TextEntry, WarningEnd, configured_entries,
+};
+use filterset_graph::PackageGraph;
+use filterset_loading::{
+    CheckPaths, CommandFault, ConfigurationFile, FileRole, FileSource, WarningRequest,
+    configured_texts, known_packages, lineage_of, name_of, profiles_in, read_configuration_file,
+    request_of,
+};
+use filterset_sources::Configuration;
+use std::alloc::{AllocError, Global};
+
+/// Reads the configuration. Without a file it has no filtersets and no groups.
+fn known_configuration<F: FileSource>(
+    alloc: Global,
+    files: &F,
+    path: Option<&str>,
+) -> Result<ConfigurationFile, CommandFault>
+    ensures known { IfOk result (λ file. KnownConfiguration (F.content files.now) path.entry
+        (string_bytes file.text) file.configuration file.places.places.items) }
+    ensures refused { IfErr result (OrMemory (λ fault. IsSomeAnd path.entry (λ path. IsFileFault
+        (F.content files.now) (F.fails files.now) FileRole.Configuration (BySource RefusesConfiguration) path.now fault))) }
+{
+    match path {
+        Some(path) => read_configuration_file(alloc, files, path),
+        None => Ok(ConfigurationFile::empty(alloc)),
+    }
+}
+
+/// Returns what faults in the configuration call its file.
+fn file_name(path: Option<&str>) -> &str
+    ensures { result.now ≡ file_name path.entry }
+{
+    match path {
+        Some(path) => name_of(path),
+        None => "",
+    }
+}
+
+/// Makes the entries of a configuration's filtersets, and after them those of other texts.
+fn all_entries<'t>(
+    alloc: Global,
+    configured: ConfiguredTexts<'t>,
+    given: Vec<TextEntry<'t>>,
+) -> Result<Vec<TextEntry<'t>>, AllocError>
+    ensures { IfOk result (λ all.
+        map text_row all.items ≡ rows_in configured.entry ++ map text_row given.entry.items) }
+{
+    let mut given = given;
+    let mut all = configured_entries(alloc, configured)?;
+    all.append(&mut given)?;
+    Ok(all)
+}
+
+/// Answers the wrong values of the configuration, and the faults of texts.
+fn check_known(
+    alloc: Global,
+    names: &Names<'_>,
+    texts: &CheckedTexts<'_>,
+    values: &[WrongValue],
+) -> Result<Answer, AllocError>
+    requires { IsKnown names.now.known_groups }
+    ensures { IfOk result (λ answer. ChecksKnown names.now texts.now.form texts.now.configured.file
+        (map text_row texts.now.entries.now) values.now answer.ending (string_bytes answer.text)) }
+{
+    let answer = check(alloc, names, texts.form, texts.entries)?;
+    add_values(alloc, texts.form, texts.configured.file, values, answer)
+}
+
+/// Returns the request for warnings, if the configuration has no wrong values.
+fn request_after<'w>(
+    values: &[WrongValue],
+    request: Option<WarningRequest<'w>>,
+) -> Option<WarningRequest<'w>>
+    ensures { result ≡ request_after values.now request.entry }
+{
+    match values {
+        [] => request,
+        [..] => None,
+    }
+}
+
+/// Finds the profile of a name in the configuration at a path, which has this text.
+fn find_named(alloc: Global, path: &str, name: &str, text: &str) -> Result<(), CommandFault>
+    requires { (c : configurations.Configuration) × IsConfiguration text.now c }
+    ensures found { OnOk result (HasNamed text.now name.now) }
+    ensures refused { IfErr result (OrMemory (LacksAsked path.now name.now text.now)) }
+{
+    let profiles = profiles_in(alloc, path, text)?;
+    let request = request_of(path, name);
+    match lineage_of(alloc, &request, profiles.as_slice()) {
+        Ok(_) => Ok(()),
+        Err(fault) => Err(fault),
+    }
+}
+
+/// Finds the profile of the configuration, which has this text, if it has no wrong values.
+fn find_asked(
+    alloc: Global,
+    paths: &CheckPaths<'_>,
+    text: &str,
+    values: &[WrongValue],
+) -> Result<(), CommandFault>
+    requires { IfSome paths.now.configuration
+        (λ path. (c : configurations.Configuration) × IsConfiguration text.now c) }
+    ensures found { OnOk result (HasAsked paths.now text.now values.now) }
+    ensures refused { IfErr result (OrMemory (λ fault. IsSomeAnd paths.now.configuration
+        (λ path. LacksAsked path.now paths.now.profile.now text.now fault))) }
+{
+    match (values, paths.configuration) {
+        ([], Some(path)) => find_named(alloc, path, paths.profile, text),
+        _ => Ok(()),
+    }
+}
+
+/// Checks the values of a configuration, then its filtersets, and after them other texts; then warns of the configuration, and
+/// of all these texts.
+fn check_all<'c, F: FileSource>(
+    alloc: Global,
+    files: &F,
+    form: Form,
+    paths: CheckPaths<'c>,
+    graph: &'c PackageGraph,
+    names: &'c Names<'_>,
+    configured: ConfiguredTexts<'c>,
+    given: Vec<TextEntry<'c>>,
+) -> Result<Answer, CommandFault>
+    requires groups { IsKnown names.now.known_groups }
+    requires configuration { IfSome paths.configuration (λ path. (c : configurations.Configuration)
+        × IsConfiguration configured.file.now.text.now c) }
+    ensures answered { IfOk result (λ answer. ChecksAll (F.content files.now) form graph.now names.now paths.entry
+        configured.entry (map text_row given.entry.items) answer.ending (string_bytes answer.text)) }
+    ensures refused { IfErr result (OrMemory (IsUnchecked (F.content files.now) (F.fails files.now) graph.now
+        paths.entry configured.entry.file.now.text.now)) }
+{
+    let entries = all_entries(alloc, configured, given)?;
+    let own = warn_configuration(alloc, form, configured)?;
+    let texts = CheckedTexts {
+        form,
+        graph,
+        groups: &names.known_groups,
+        path: paths.configuration,
+        configured,
+        entries: entries.as_slice(),
+        end: WarningEnd {
+            denies: paths.denies,
+            before: own.count,
+        },
+    };
+    let values = find_wrong_values(alloc, configured.file.text)?;
+    let answer = check_known(alloc, names, &texts, values.as_slice())?;
+    let request = request_after(values.as_slice(), paths.warnings);
+    find_asked(alloc, &paths, configured.file.text, values.as_slice())?;
+    let warnings = warn_checked(alloc, files, request, &texts)?;
+    Ok(join_answers(alloc, answer, own.text.as_str(), warnings)?)
+}
+
+/// Checks the values of the configuration, then its filtersets, and after them the texts that are given; then warns of these
+/// by the list of tests, if one is given.
+pub fn check_texts<F: FileSource>(
+    alloc: Global,
+    files: &F,
+    form: Form,
+    paths: &CheckPaths<'_>,
+    given: Vec<TextEntry<'_>>,
+) -> Result<Answer, CommandFault>
+    ensures answered { IfOk result (λ answer. AnswersCheck (F.content files.now) form paths.now
+        (map text_row given.entry.items) answer.ending (string_bytes answer.text)) }
+    ensures refused { IfErr result (OrMemory (IsCheckFault (F.content files.now) (F.fails files.now) paths.now)) }
+{
+    let ConfigurationFile {
+        text,
+        configuration,
+        places,
+    } = known_configuration(alloc, files, paths.configuration)?;
+    let Configuration { filtersets, groups } = configuration;
+    let graph = known_packages(alloc, files, paths.metadata)?;
+    let (has_packages, has_groups) = (paths.metadata.is_some(), paths.configuration.is_some());
+    let names = Names::new(alloc, &graph, has_packages, groups, has_groups)?;
+    let file = Source::new(alloc, file_name(paths.configuration), text.as_str())?;
+    let configured = configured_texts(&file, filtersets.as_slice(), &places);
+    check_all(
+        alloc, files, form, *paths, &graph, &names, configured, given,
+    )
+}

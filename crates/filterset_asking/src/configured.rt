@@ -1,0 +1,49 @@
+//! The warnings of a configuration's file: what nextest does not read of it.
+ghost use Rattle.std.specs.Prelude.{IfOk, string_bytes};
+ghost use Rattle.filterset_asking.specs.Configured.{WarnsOfFile};
+
+use filterset_configuration::Stretch;
+use filterset_entries::{
+    ConfiguredTexts, FilePlace, Form, RemarkWriter, Spot, configured_entries, unread_remarks,
+};
+use std::alloc::{AllocError, Global};
+
+/// The warnings of a configuration's file, and how many there are.
+#[derive(Drop)]
+pub struct FileWarnings {
+    pub text: String,
+    pub count: usize,
+}
+
+/// Writes what nextest does not read of a configuration.
+///
+/// Returns an error only if out of memory.
+pub fn warn_configuration(
+    alloc: Global,
+    form: Form,
+    configured: ConfiguredTexts<'_>,
+) -> Result<FileWarnings, AllocError>
+    ensures { IfOk result (λ warnings.
+        WarnsOfFile form configured.entry warnings.count (string_bytes warnings.text)) }
+{
+    let source = configured.file;
+    let entries = configured_entries(alloc, configured)?;
+    let remarks = unread_remarks(alloc, source.text, entries.as_slice())?;
+    let whole = Stretch {
+        from: 0,
+        to: source.text.len(),
+    };
+    let writer = RemarkWriter {
+        form,
+        source,
+        place: Some(FilePlace {
+            file: source,
+            spot: Spot::Line(whole),
+        }),
+        number: None,
+    };
+    let mut text = String::new(alloc);
+    writer.push_all(&mut text, alloc, remarks.as_slice())?;
+    let count = remarks.len();
+    Ok(FileWarnings { text, count })
+}

@@ -1,0 +1,61 @@
+//! Spans of the parts of a filterset.
+ghost use Rattle.std.specs.Prelude.{◌≡◌};
+ghost use Rattle.filterset_language.specs.Faults.{leaf_span};
+ghost use Rattle.filterset_language.specs.Views.{leaf_of, tree_of};
+ghost use Rattle.filterset_asking.specs.Spans.{cover, joined, tree_span};
+
+use filterset_faults::SourceSpan;
+use filterset_language::{ParsedExpr, ParsedLeaf};
+
+/// Returns the span of a predicate, if it has one.
+pub fn leaf_span(leaf: &ParsedLeaf) -> Option<SourceSpan>
+    ensures { result ≡ leaf_span (leaf_of leaf.now) }
+{
+    match leaf {
+        ParsedLeaf::Package(_, span)
+        | ParsedLeaf::Deps(_, span)
+        | ParsedLeaf::Rdeps(_, span)
+        | ParsedLeaf::Kind(_, span)
+        | ParsedLeaf::Binary(_, span)
+        | ParsedLeaf::BinaryId(_, span)
+        | ParsedLeaf::Test(_, span)
+        | ParsedLeaf::Group(_, span)
+        | ParsedLeaf::Platform(_, span)
+        | ParsedLeaf::Default(span) => Some(*span),
+        ParsedLeaf::All | ParsedLeaf::None => None,
+    }
+}
+
+/// Returns the span from the start of one span to the end of another.
+fn cover(first: SourceSpan, last: SourceSpan) -> SourceSpan
+    ensures { result ≡ cover first last }
+{
+    let end = last.offset().saturating_add(last.len());
+    SourceSpan::new(first.offset(), end.saturating_sub(first.offset()))
+}
+
+/// Returns the span of two operands, the left one first.
+fn join(left: Option<SourceSpan>, right: Option<SourceSpan>) -> Option<SourceSpan>
+    ensures { result ≡ joined left right }
+{
+    match (left, right) {
+        (Some(first), Some(last)) => Some(cover(first, last)),
+        (Some(span), None) | (None, Some(span)) => Some(span),
+        (None, None) => None,
+    }
+}
+
+/// Returns the span from the argument of a tree's first predicate to that of its last. `all()` and `none()` have no span.
+pub fn span_of(tree: &ParsedExpr) -> Option<SourceSpan>
+    ensures { result ≡ tree_span (tree_of tree.now) }
+{
+    match tree {
+        ParsedExpr::Not(_, operand) => span_of(operand),
+        ParsedExpr::Union(_, left, right)
+        | ParsedExpr::Intersection(_, left, right)
+        | ParsedExpr::Difference(_, left, right)
+        | ParsedExpr::SymmetricDifference(_, left, right) => join(span_of(left), span_of(right)),
+        ParsedExpr::Parens(inner) => span_of(inner),
+        ParsedExpr::Set(leaf) => leaf_span(leaf),
+    }
+}

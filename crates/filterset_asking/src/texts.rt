@@ -1,0 +1,106 @@
+//! The warnings of texts.
+ghost use Rattle.std.specs.Prelude.{◌≡◌, ◌++◌, IfOk, map, string_bytes};
+ghost use Rattle.filterset_entries.specs.Checked.{text_row};
+ghost use Rattle.filterset_drawing.specs.Columns.{Text};
+ghost use Rattle.filterset_expression.specs.Meaning.{IsCompiled};
+ghost use Rattle.filterset_language.specs.Views.{tree_of};
+ghost use Rattle.nextest_filtering.specs.Compiling.{IsFiltersetOf, packages_of};
+ghost use Rattle.nextest_filtering.specs.Groups.{IsKnown};
+ghost use Rattle.filterset_asking.specs.Contexts.{basis_of};
+ghost use Rattle.filterset_asking.specs.Warnings.{TextWarnings, WarningsOf};
+
+use crate::hints::remarks_of;
+use filterset_drawing::Source;
+use filterset_entries::{Form, RemarkWriter, TextEntry};
+use filterset_listing::{Subject, find_hints};
+use nextest_filtering::{EvalContext, Filterset, KnownGroups, ParseContext};
+use std::alloc::{AllocError, Global};
+
+/// What texts are parsed against, and what the filtersets are asked about.
+#[derive(Drop)]
+pub struct WarningContext<'c, 'e, 's> {
+    /// How warnings are written.
+    pub form: Form,
+    pub parse_context: ParseContext<'c>,
+    pub known_groups: &'c KnownGroups,
+    pub eval_context: EvalContext<'e>,
+    pub subjects: Vec<Subject<'s>>,
+}
+
+/// Writes the warnings of a filterset, which the text with this number is, and returns how many.
+fn push_filterset(
+    output: &mut String,
+    alloc: Global,
+    cx: &WarningContext<'_, '_, '_>,
+    number: usize,
+    entry: &TextEntry<'_>,
+    filterset: &Filterset,
+) -> Result<usize, AllocError>
+    requires accepted { let row = text_row entry.now in IsFiltersetOf row.text row.kind
+        (packages_of cx.now.parse_context) cx.now.known_groups.now (tree_of filterset.now.parsed) }
+    requires compiled { IsCompiled (packages_of cx.now.parse_context) (tree_of filterset.now.parsed)
+        filterset.now.compiled }
+    ensures { IfOk result (λ count. (piece : Text) × (string_bytes output.new ≡ string_bytes output.old ++ piece)
+        × TextWarnings cx.now.form cx.now.known_groups.now (basis_of cx.now) cx.now.subjects.items number
+        (text_row entry.now) count piece) }
+{
+    let (tree, compiled) = (&filterset.parsed, &filterset.compiled);
+    let subjects = cx.subjects.as_slice();
+    let hints = find_hints(alloc, tree, compiled, &cx.eval_context, subjects)?;
+    let source = Source::new(alloc, entry.origin.as_str(), entry.text)?;
+    let writer = RemarkWriter {
+        form: cx.form,
+        source: &source,
+        place: entry.place,
+        number: Some(number),
+    };
+    let remarks = remarks_of(alloc, &hints)?;
+    writer.push_all(output, alloc, remarks.as_slice())?;
+    Ok(remarks.len())
+}
+
+/// Writes the warnings of the text with this number, and returns how many. A text with faults has none.
+fn push_text(
+    output: &mut String,
+    alloc: Global,
+    cx: &WarningContext<'_, '_, '_>,
+    number: usize,
+    entry: &TextEntry<'_>,
+) -> Result<usize, AllocError>
+    requires { IsKnown cx.now.known_groups.now }
+    ensures { IfOk result (λ count. (piece : Text) × (string_bytes output.new ≡ string_bytes output.old ++ piece)
+        × TextWarnings cx.now.form cx.now.known_groups.now (basis_of cx.now) cx.now.subjects.items number
+        (text_row entry.now) count piece) }
+{
+    let input = String::from_str(alloc, entry.text)?;
+    match Filterset::parse(alloc, input, &cx.parse_context, entry.kind, cx.known_groups) {
+        Ok(filterset) => push_filterset(output, alloc, cx, number, entry, &filterset),
+        Err(refusal) => {
+            let _refused = refusal.into_faults()?;
+            Ok(0)
+        }
+    }
+}
+
+/// Writes the warnings of texts, which are numbered from 1, and returns how many: of each predicate that matches no test, and
+/// of each operand in whose place `all()` or `none()` changes nothing. A text with faults has no warnings.
+///
+/// Returns an error only if out of memory.
+pub fn warn_texts(
+    output: &mut String,
+    alloc: Global,
+    cx: &WarningContext<'_, '_, '_>,
+    texts: &[TextEntry<'_>],
+) -> Result<usize, AllocError>
+    requires { IsKnown cx.now.known_groups.now }
+    ensures { IfOk result (λ count. (piece : Text) × (string_bytes output.new ≡ string_bytes output.old ++ piece)
+        × WarningsOf cx.now.form cx.now.known_groups.now (basis_of cx.now) cx.now.subjects.items 1
+        (map text_row texts.now) count piece) }
+{
+    let mut count: usize = 0;
+    for (i, entry) in texts.iter().enumerate() {
+        let more = push_text(output, alloc, cx, i + 1, entry)?;
+        count = count.checked_add(more).ok_or(AllocError)?;
+    }
+    Ok(count)
+}
