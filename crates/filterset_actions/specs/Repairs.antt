@@ -46,12 +46,12 @@ stretch_in text s = record { from = from_of text s; to = to_of text s }
 abbrev pub is_blank : Text → Bool
 is_blank text = length (trim_start text) == 0
 
--- what is meant, in parentheses unless there is nothing before and behind it
+-- what is meant, in parentheses unless there is nothing before and after it
 abbrev pub call_text : Text → Text → Text → Text
 call_text front meant behind =
     if is_blank front && is_blank behind then meant else codes "(" ++ (meant ++ codes ")")
 
--- the operator at the span and its operands become the expression that is meant, up to this text behind them
+-- the operator at the span and its operands become the expression that is meant, up to this text after them
 abbrev pub call_row : Text → SourceSpan → Tree SourceSpan → Text → RepairRow
 call_row text s e behind = record {
   title = codes "Write the operator between its operands";

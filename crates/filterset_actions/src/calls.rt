@@ -5,10 +5,10 @@ ghost use Rattle.filterset_language.specs.Views.{tree_of};
 ghost use Rattle.filterset_actions.specs.Repairs.{IsCallRepair, call_text, is_blank, repair_row};
 
 use crate::repairs::Repair;
+use filterset_configuration::Stretch;
 use filterset_documents::Edit;
 use filterset_faults::SourceSpan;
 use filterset_language::ParsedExpr;
-use filterset_configuration::Stretch;
 use filterset_rewriting::{Front, read_call};
 use std::alloc::{AllocError, Global};
 
@@ -19,7 +19,7 @@ fn is_blank(text: &str) -> bool
     text.trim_start().is_empty()
 }
 
-/// Makes what is meant, in parentheses unless there is nothing before and behind it.
+/// Makes what is meant, in parentheses unless there is nothing before and after it.
 fn call_text(
     alloc: Global,
     front: &str,

@@ -5,9 +5,9 @@ ghost use Rattle.filterset_documents.specs.Edits.{edit_row};
 ghost use Rattle.filterset_actions.specs.Mending.{IsApplied, IsBetween, IsClear, IsMending, begins_in};
 
 use crate::reading::{Reading, read_text};
+use filterset_configuration::Stretch;
 use filterset_documents::Edit;
 use filterset_faults::ParseSingleError;
-use filterset_configuration::Stretch;
 use std::alloc::{AllocError, Global};
 
 /// Makes a text with an edit. Returns `None` if the edit begins or ends in a character.

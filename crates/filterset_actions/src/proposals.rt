@@ -7,10 +7,10 @@ ghost use Rattle.filterset_actions.specs.Subjects.{subject_row};
 
 use crate::repairs::{Repair, repair_of};
 use crate::subject::{Subject, meets};
+use filterset_configuration::Stretch;
 use filterset_documents::{Edit, fault_span};
 use filterset_entries::FilePlace;
 use filterset_faults::ParseSingleError;
-use filterset_configuration::Stretch;
 use std::alloc::{AllocError, Global};
 
 /// An edit of a filterset's text, and the fault that it mends. Without one it writes the whole filterset anew.

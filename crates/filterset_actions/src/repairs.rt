@@ -4,9 +4,9 @@ ghost use Rattle.filterset_actions.specs.Repairs as spec;
 ghost use Rattle.filterset_actions.specs.Repairs.{IsRepairOf, gap_beside, repair_row, spaced, stretch_in};
 
 use crate::calls::repair_call;
+use filterset_configuration::Stretch;
 use filterset_documents::Edit;
 use filterset_faults::{ParseSingleError, SourceSpan};
-use filterset_configuration::Stretch;
 use std::alloc::{AllocError, Global};
 
 /// An edit of a filterset's text, and what it is called.
@@ -26,7 +26,7 @@ fn gap_beside(byte: u8) -> &'static str
     }
 }
 
-/// Returns the byte at an offset, or 0 behind the end.
+/// Returns the byte at an offset, or 0 after the end.
 fn byte_at(text: &[u8], at: usize) -> u8
     ensures { result ≡ slice_index text.now at }
 {

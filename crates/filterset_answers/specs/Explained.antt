@@ -14,7 +14,7 @@ use Rattle.filterset_entries.specs.declared.form.Form.{Form}
 use Rattle.filterset_entries.specs.declared.setting.Setting.{Setting}
 use Rattle.filterset_entries.specs.declared.text.Ending.{Ending}
 
--- the value of each node of the tree, a line each, and the override that unknown ones hang on
+-- the value of each node of the tree, a line each, and the override that unknown ones depend on
 abbrev pub ExplainsTree : Candidate → (setting : Setting) → Basis setting → Tree SourceSpan → Ending → Text → Type 0
 ExplainsTree candidate setting basis tree ending text = (explanation : Explanation)
     × IsExplanation candidate basis.overrides setting.graph.now basis.default tree explanation

@@ -59,6 +59,6 @@ abbrev pub IsTextAt : Option Object → ℕ → ℕ → List ℕ → Type 0
 IsTextAt (Some (Refused refusal)) index part text = IsTextOf refusal index part text
 IsTextAt _ index part text = ⊥
 
--- as much of the text as there is room for, and what was behind it
+-- as much of the text as there is room for, and what was after it
 abbrev pub written : List ℕ → List ℕ → List ℕ
 written text room = take (min (length text) (length room)) text ++ drop (min (length text) (length room)) room

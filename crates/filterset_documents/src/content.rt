@@ -5,9 +5,9 @@ ghost use Rattle.filterset_sources.specs.Configurations.{RefusesConfiguration};
 ghost use Rattle.filterset_documents.specs.Contents.{AreRowsOf, Holds, content_row, names_in};
 ghost use Rattle.filterset_documents.specs.Filtersets.{AreTexts, SaysWhy};
 
+use filterset_configuration::Places;
 use filterset_drawing::Source;
 use filterset_entries::{ConfiguredTexts, TextEntry, configured_entries, line_entries};
-use filterset_configuration::Places;
 use filterset_sources::{Configuration, ConfiguredFilterset, SourceRefusal, read_configuration};
 use nextest_filtering::FiltersetKind;
 use std::alloc::{AllocError, Global};

@@ -12,9 +12,9 @@ ghost use Rattle.filterset_documents.specs.Ranges.{range_data};
 use crate::places::{stretch_at, stretch_span};
 use crate::quoting::{needs_escapes, quote};
 use crate::ranges::{Shown, range_of, range_value};
+use filterset_configuration::Stretch;
 use filterset_editor::Range;
 use filterset_entries::{Spot, TextEntry};
-use filterset_configuration::Stretch;
 use serde_json::{Value, json};
 use std::alloc::{AllocError, Global};
 
@@ -110,7 +110,7 @@ pub fn ordered_edits(
     Ok(edits)
 }
 
-/// Cuts a stretch out of the rest of a text from an offset on, and returns what is before and behind it. Returns `None` if
+/// Cuts a stretch out of the rest of a text from an offset on, and returns what is before and after it. Returns `None` if
 /// it does not begin and end between characters of the rest.
 fn cut_out(rest: &str, at: usize, stretch: Stretch) -> Option<(&str, &str)>
     ensures within { IsSome result ↔ IsWithin at rest.now stretch }

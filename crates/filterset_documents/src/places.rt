@@ -3,9 +3,9 @@ ghost use Rattle.std.specs.Prelude.{◌≡◌, option_map};
 ghost use Rattle.filterset_entries.specs.Placements.{placement_of, span_in, spot_of};
 ghost use Rattle.filterset_documents.specs.Filtersets.{place_span, stretch_at, stretch_span};
 
+use filterset_configuration::Stretch;
 use filterset_entries::{FilePlace, Spot, file_part};
 use filterset_faults::SourceSpan;
-use filterset_configuration::Stretch;
 
 /// Returns where the string is that is read as a filterset, or the line.
 pub fn stretch_at(spot: Spot<'_>) -> Stretch

@@ -6,8 +6,8 @@ ghost use Rattle.filterset_documents.specs.Diagnostics.{AreValueWarnings, IsValu
 use crate::diagnostics::{Severity, diagnostic_at};
 use crate::message::wrong_message;
 use crate::ranges::Shown;
-use filterset_faults::SourceSpan;
 use filterset_configuration::{WrongValue, find_wrong_values};
+use filterset_faults::SourceSpan;
 use serde_json::Value;
 use std::alloc::{AllocError, Global};
 

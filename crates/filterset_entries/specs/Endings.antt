@@ -17,6 +17,6 @@ unknown_ending is_unknown = if is_unknown then Unknown else Fine
 abbrev pub differing_ending : Bool → Bool → Ending
 differing_ending differ is_unknown = if differ then Differing else unknown_ending is_unknown
 
--- the answer if the default filter hangs on the platform of the override at this path
+-- the answer if the default filter depends on the platform of the override at this path
 abbrev pub AnswersUnknown : Text → Ending → Text → Type 0
 AnswersUnknown path ending text = (text ≡ codes "unknown: platform of " ++ (path ++ codes "\n")) × (ending ≡ Unknown)

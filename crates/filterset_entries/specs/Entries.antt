@@ -28,7 +28,7 @@ abbrev pub numbered_rows : Text → FiltersetKind → List Text → List TextRow
 numbered_rows word kind texts =
     map (λ (numbered : ℕ × Text). numbered_row word kind numbered.0 numbered.1) (enumerate_from 1 texts)
 
--- where a line begins: behind this many line feeds
+-- where a line begins: after this many line feeds
 abbrev pub line_start : Text → ℕ → ℕ
 line_start text feeds = sum_by (λ piece. length piece + 1) (take feeds (pieces text))
 

@@ -2,8 +2,8 @@
 ghost use Rattle.std.specs.Prelude.{◌≡◌, option_map};
 ghost use Rattle.filterset_entries.specs.Placements.{file_part, line_span, placement_of, span_in, spot_of};
 
-use filterset_drawing::{FileSpan, Source};
 use filterset_configuration::{Place, Stretch};
+use filterset_drawing::{FileSpan, Source};
 use nextest_filtering::SourceSpan;
 
 /// Where a text is in its file.

@@ -25,7 +25,7 @@ pub enum Ending {
     Faulty,
     /// The two filtersets that were compared differ, or may differ on a binary that nextest skipped.
     Differing,
-    /// Some of the answer hangs on a platform that is not known.
+    /// Some of the answer depends on a platform that is not known.
     Unknown,
 }
 
@@ -97,7 +97,7 @@ pub fn differing_ending(differ: bool, is_unknown: bool) -> Ending
     }
 }
 
-/// Answers that the default filter is unknown, because it hangs on the platform of the override at this path.
+/// Answers that the default filter is unknown, because it depends on the platform of the override at this path.
 ///
 /// Returns an error only if out of memory.
 pub fn answer_unknown(alloc: Global, path: &str) -> Result<Answer, AllocError>

@@ -7,9 +7,9 @@ ghost use Rattle.filterset_entries.specs.Unread.{AreCaretRemarks, AreUnreadRemar
 
 use crate::place::{FilePlace, file_part};
 use crate::text::TextEntry;
+use filterset_configuration::{UnknownKey, find_unknown_keys};
 use filterset_drawing::{Remark, Severity};
 use filterset_faults::SourceSpan;
-use filterset_configuration::{UnknownKey, find_unknown_keys};
 use filterset_rewriting::tokens::carets_in;
 use std::alloc::{AllocError, Global};
 

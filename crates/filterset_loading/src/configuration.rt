@@ -6,9 +6,9 @@ ghost use Rattle.filterset_loading.specs.Files.{BySource, IsFileFault, OrMemory}
 
 use crate::fault::{CommandFault, FileRole};
 use crate::files::{FileSource, read_text};
+use filterset_configuration::Places;
 use filterset_drawing::Source;
 use filterset_entries::ConfiguredTexts;
-use filterset_configuration::Places;
 use filterset_sources::{Configuration, ConfiguredFilterset, read_configuration};
 use std::alloc::Global;
 

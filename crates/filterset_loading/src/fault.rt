@@ -6,8 +6,8 @@ ghost use Rattle.filterset_loading.specs.Files.{IsFaultAt, OrMemory};
 
 use crate::input::{INPUT_NAME, name_of};
 use clap::Error;
-use filterset_json::RunFault;
 use filterset_configuration::{CfgRefusal, LineageFault};
+use filterset_json::RunFault;
 use filterset_sources::SourceRefusal;
 use std::alloc::{AllocError, Global};
 use std::{fmt, io};

@@ -13,12 +13,11 @@ use crate::configuration::{ConfigurationFile, read_configuration_file};
 use crate::fault::{CommandFault, FileFault, FileRole};
 use crate::files::{FileSource, read_text};
 use crate::input::name_of;
-use filterset_entries::{ConfiguredTexts, TextEntry, default_entry, entry_at};
-use filterset_configuration::Places;
 use filterset_configuration::{
-    Cfg, CfgRefusal, DefaultFilter, LineageFault, PlatformFacts, Profile, ProfileRefusal, lineage,
-    read_cfg, read_profiles,
+    Cfg, CfgRefusal, DefaultFilter, LineageFault, Places, PlatformFacts, Profile, ProfileRefusal,
+    lineage, read_cfg, read_profiles,
 };
+use filterset_entries::{ConfiguredTexts, TextEntry, default_entry, entry_at};
 use filterset_sources::{
     BuildPlatforms, Configuration, ConfiguredFilterset, SourceRefusal, WrongValue,
 };
@@ -209,7 +208,7 @@ pub fn request_of<'n>(configuration: &'n str, name: &'n str) -> ProfileRequest<'
 #[derive(Drop)]
 pub enum ChosenFilter<'t> {
     Entry(TextEntry<'t>),
-    /// It hangs on the platform of the override at this path.
+    /// It depends on the platform of the override at this path.
     Unknown(String),
 }
 

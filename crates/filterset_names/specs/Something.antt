@@ -50,6 +50,6 @@ CountsTheSame w leaf = (found : Option Matched) → MatchesLeaf w leaf found →
 abbrev pub has_line_break : Text → Bool
 has_line_break text = list_any (λ b. b == 10) text
 
--- texts, each with a line break behind it
+-- texts, each with a line break after it
 abbrev pub lines_of : List Text → Text
 lines_of texts = flat_map (λ text. text ++ 10 ∷ []) texts

@@ -23,13 +23,13 @@ pub struct WorkspaceIndex<'w> {
     pub workspace: Workspace<'w>,
     /// The names of the tests.
     names: Vec<&'w str>,
-    /// The names of the tests, each with a line break behind it.
+    /// The names of the tests, each with a line break after it.
     lines: String,
     ghost named: { map (λ n. n.now) names.items ≡ tests_of (workspace_row workspace) },
     ghost written: { string_bytes lines ≡ lines_of (tests_of (workspace_row workspace)) },
 }
 
-/// Writes texts with a line break behind each.
+/// Writes texts with a line break after each.
 fn lines_of(alloc: Global, texts: &[&str]) -> Result<String, AllocError>
     ensures { IfOk result (λ lines. string_bytes lines ≡ lines_of (map (λ t. t.now) texts.now)) }
 {

@@ -9,7 +9,7 @@ use Rattle.filterset_offers.specs.declared.candidates.Mark.TheVariants.{Begins, 
 use Rattle.filterset_offers.specs.declared.candidates.Owner.{Owner}
 use Rattle.filterset_offers.specs.declared.candidates.Owner.TheVariants as owners
 
--- what may be offered: its name, what is put behind it, what may follow both (`sample`), how it shows that it stands where it may,
+-- what may be offered: its name, what is put after it, what may follow both (`sample`), how it shows that it stands where it may,
 -- the protocol's number of what it is, and what it means
 pub record Row : Type 0 where
   pub label : Text
@@ -28,11 +28,11 @@ row_of c = row c.label.now c.tail.now c.sample.now c.mark c.kind c.detail.now
 
 -- ---- where operands may begin
 
--- a predicate with an argument, which this one may be: a function (3), whose span begins behind its parenthesis
+-- a predicate with an argument, which this one may be: a function (3), whose span begins after its parenthesis
 abbrev pub calling : Text → Text → Text → Row
 calling label sample detail = row label (codes "(") sample (Begins (length label + 1)) 3 detail
 
--- a predicate without an argument, behind which an operand shows that it stands where it may
+-- a predicate without an argument, after which an operand shows that it stands where it may
 abbrev pub whole : Text → Text → Row
 whole label detail = row label (codes "()") (codes " and default()") (Precedes (length label + 7)) 3 detail
 

@@ -11,7 +11,7 @@ use Rattle.filterset_offers.specs.declared.gaps.Gap.{Gap}
 use Rattle.filterset_offers.specs.declared.gaps.Word.{Word}
 use Rattle.filterset_offers.specs.declared.gaps.Word.TheVariants.{Name, Plain}
 
--- a text before a word, the part of the word that is typed, which is before the cursor, where the word is, and the text behind it
+-- a text before a word, the part of the word that is typed, which is before the cursor, where the word is, and the text after it
 pub record GapRow : Type 0 where
   pub before : Text
   pub typed : Text
@@ -25,7 +25,7 @@ abbrev pub is_of : Word → ℕ → Bool
 is_of Plain b = is_word_byte b
 is_of Name b = is_name_byte b
 
--- the word of such bytes at an offset of a text: as many as are before it without a gap, and behind it
+-- the word of such bytes at an offset of a text: as many as are before it without a gap, and after it
 abbrev pub gap_at : (ℕ → Bool) → Text → ℕ → GapRow
 gap_at is text offset =
     let front = take offset text in

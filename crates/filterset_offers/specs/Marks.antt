@@ -35,7 +35,7 @@ owner_name owners.Kind = codes "kind"
 owner_name owners.Platform = codes "platform"
 owner_name owners.Group = codes "group"
 
--- the span begins so far behind an offset
+-- the span begins so far after an offset
 abbrev pub is_behind : Option SourceSpan → ℕ → ℕ → Bool
 is_behind None at far = false
 is_behind (Some s) at far = nat_le at (offset_of s) && offset_of s - at == far

@@ -44,7 +44,7 @@ gap_for row gaps = replaced row.mark gaps
 abbrev pub is_called : GapRow → Bool
 is_called gap = slice_index gap.behind 0 == 40
 
--- what is put behind the name of a candidate: no parenthesis where one follows
+-- what is put after the name of a candidate: no parenthesis where one follows
 abbrev pub tail_in : Row → GapRow → Text
 tail_in row gap = if is_called gap then [] else row.tail
 
@@ -56,7 +56,7 @@ sample_in row gap = if is_called gap && not (length row.tail == 0) then [] else 
 abbrev pub inserted : Row → GapRow → Text
 inserted row gap = row.label ++ tail_in row gap
 
--- the text with a candidate in place of the word, and with this behind it
+-- the text with a candidate in place of the word, and with this after it
 abbrev pub text_with : Row → GapRow → Text → Text
 text_with row gap behind = gap.before ++ (row.label ++ (tail_in row gap ++ (sample_in row gap ++ behind)))
 
@@ -68,7 +68,7 @@ Stands kind row gap behind answer =
     ((e : Tree SourceSpan) × Reads (text_with row gap behind) e × (answer ≡ shows kind row (offset_of gap.at) e))
     ⊎ (IsUnread (text_with row gap behind) × (answer ≡ false))
 
--- ---- what is behind the word
+-- ---- what is after the word
 
 -- as many closing parentheses as a text has more opening ones
 abbrev pub closing : Text → Text
@@ -95,7 +95,7 @@ AreFitting kind gaps is_closed rows found =
     Sieves (λ row. Fits kind gaps is_closed row true) (λ row. Fits kind gaps is_closed row false) rows found
 
 -- What is offered: the candidates that fit with the rest of the text. If none does, the rest has a fault of its own, and those are
--- offered that fit without it, with the text closed behind them.
+-- offered that fit without it, with the text closed after them.
 abbrev pub AreOffered : FiltersetKind → GapRows → List Row → List Row → Type 0
 AreOffered kind gaps rows found =
     (whole : List Row) × AreFitting kind gaps false rows whole

@@ -17,9 +17,9 @@ pub enum Owner {
 /// How a text with a candidate shows that the candidate stands where it may.
 #[derive(Clone, Copy, Debug, PartialEq, Eq)]
 pub enum Mark {
-    /// By a predicate of its name, whose span begins so many bytes behind where it begins.
+    /// By a predicate of its name, whose span begins so many bytes after where it begins.
     Begins(usize),
-    /// By an operand behind it: `default()`, so many bytes behind where it begins.
+    /// By an operand after it: `default()`, so many bytes after where it begins.
     Precedes(usize),
     /// By a predicate in whose argument it is.
     Inside(Owner),
@@ -32,7 +32,7 @@ pub enum Mark {
 pub struct Candidate<'n> {
     /// What is shown, and what has to begin with what is typed.
     pub label: &'n str,
-    /// What is put behind the label.
+    /// What is put after the label.
     pub tail: &'static str,
     /// What makes a filterset of both, where one is to be tried.
     pub sample: &'static str,

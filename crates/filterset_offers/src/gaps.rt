@@ -8,9 +8,9 @@ ghost use Rattle.filterset_offers.specs.Gaps as spec;
 ghost use Rattle.filterset_offers.specs.Gaps.{gap_row};
 
 use crate::candidates::{is_name_byte, is_word_byte};
+use filterset_configuration::Stretch;
 use filterset_entries::Spot;
 use filterset_faults::SourceSpan;
-use filterset_configuration::Stretch;
 
 /// A word of a text.
 #[derive(Clone, Copy, Debug)]
@@ -19,7 +19,7 @@ pub struct Gap<'t> {
     pub before: &'t str,
     /// The part of the word that is before the cursor.
     pub typed: &'t str,
-    /// What is behind the word.
+    /// What is after the word.
     pub behind: &'t str,
     /// Where the word is in the text.
     pub at: SourceSpan,

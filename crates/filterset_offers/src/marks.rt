@@ -53,7 +53,7 @@ fn owner_name(owner: Owner) -> &'static str
     }
 }
 
-/// Returns whether a span begins so many bytes behind an offset.
+/// Returns whether a span begins so many bytes after an offset.
 fn is_behind(span: Option<SourceSpan>, at: usize, far: usize) -> bool
     ensures { result ≡ spec.is_behind span at far }
 {

@@ -49,7 +49,7 @@ fn is_called(gap: &Gap<'_>) -> bool
     !behind.is_empty() && behind[0] == b'('
 }
 
-/// Returns what is put behind the name of a candidate.
+/// Returns what is put after the name of a candidate.
 pub fn tail_in(candidate: &Candidate<'_>, gap: &Gap<'_>) -> &'static str
     ensures { result.now ≡ spec.tail_in (row_of candidate.now) (gap_row gap.now) }
 {
@@ -67,7 +67,7 @@ fn sample_in(candidate: &Candidate<'_>, gap: &Gap<'_>) -> &'static str
     }
 }
 
-/// Makes the text with a candidate in place of a word, and with this behind it.
+/// Makes the text with a candidate in place of a word, and with this after it.
 fn text_with(
     alloc: Global,
     candidate: &Candidate<'_>,
@@ -81,7 +81,7 @@ fn text_with(
     format!(in alloc; "{before}{label}{tail}{sample}{behind}")
 }
 
-/// Returns whether a candidate stands in place of a word, with this behind it.
+/// Returns whether a candidate stands in place of a word, with this after it.
 fn stands(
     alloc: Global,
     kind: FiltersetKind,

@@ -47,7 +47,7 @@ words_before BinaryId = codes "Tests of binaries whose id "
 words_before Test = codes "Tests whose name "
 words_before Group = codes "Tests in groups whose name "
 
--- what comes behind them
+-- what comes after them
 abbrev pub words_behind : Predicate → Text
 words_behind Deps = codes ", and of workspace packages that these depend on, directly or not."
 words_behind Rdeps = codes ", and of workspace packages that depend on these, directly or not."

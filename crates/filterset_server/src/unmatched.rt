@@ -13,8 +13,8 @@ ghost use Rattle.filterset_server.specs.Unmatched.{LeafWarnings, RowWarnings, Ro
 use crate::hover::leaf_part;
 use filterset_documents::{Severity, Shown, diagnostic_at, parse_text};
 use filterset_entries::{FilePlace, TextEntry};
-use filterset_listing::UnmatchedPredicate;
 use filterset_language::{ParsedExpr, ParsedLeaf};
+use filterset_listing::UnmatchedPredicate;
 use filterset_names::{Workspace, WorkspaceIndex};
 use filterset_sources::{Suite, SuiteStatus};
 use serde_json::Value;

@@ -80,7 +80,7 @@ fn words_before(predicate: Predicate) -> &'static str
     }
 }
 
-/// Returns what comes behind the words of a matcher.
+/// Returns what comes after the words of a matcher.
 fn words_behind(predicate: Predicate) -> &'static str
     ensures { result.now ≡ words_behind predicate }
 {

@@ -101,7 +101,7 @@ abbrev pub IsDefaultRow : Naming → Text → Option TextRow → Result TextRow 
 IsDefaultRow named profile None outcome = IsFilterOf named profile outcome
 IsDefaultRow named profile (Some row) outcome = ResolvesTo named row outcome
 
--- under the default filters of profiles; or one that the question hangs on is not known, by the platform of this path
+-- under the default filters of profiles; or one that the question depends on is not known, by the platform of this path
 abbrev pub AnswersNamed : DecisionRequest → List PackageMetadata → List Suite → KnownGroups → Naming → Text → Ending → Text
     → Type 0
 AnswersNamed request packages suites groups named profile ending text =

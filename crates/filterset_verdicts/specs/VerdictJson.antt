@@ -44,11 +44,11 @@ test_data name test = object (member (codes "binary") (string (string_bytes test
 abbrev pub demand_item : TestField → Demand → Data
 demand_item field demand = string (demand_text field demand)
 
--- what an unknown answer hangs on
+-- what an unknown answer depends on
 abbrev pub doubt_data : Doubt → Data
 doubt_data doubt = array (items_of (map (demand_item doubt.field) doubt.demands.items))
 
--- the answer, whether the budget was spent, what the answer hangs on, whether the test is one of the list, which filtersets
+-- the answer, whether the budget was spent, what the answer depends on, whether the test is one of the list, which filtersets
 -- pick it, the question, and the test
 abbrev pub verdict_data : Text → Bool → Data → Data → Data → Question → Data → Data
 verdict_data answer is_spent doubt listed picks question test = object (member (codes "answer") (string answer)

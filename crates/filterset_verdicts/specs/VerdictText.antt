@@ -101,7 +101,7 @@ demand_text field demand =
 abbrev pub demand_line : TestField → Demand → Text
 demand_line field demand = codes "  " ++ (demand_text field demand ++ codes "\n")
 
--- the answer is unknown, and what it hangs on
+-- the answer is unknown, and what it depends on
 abbrev pub doubt_text : Question → Doubt → Text
 doubt_text question doubt =
     open_text question ++ (codes "it hangs on whether some test is in all of:\n" ++ flat_map (demand_line doubt.field) doubt.demands.items)

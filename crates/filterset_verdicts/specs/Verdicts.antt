@@ -48,7 +48,7 @@ IsShown question given default exprs groups tests found = (names : List (Bor Tex
     × MatchOption found (IsMetByAll question given default exprs tests names)
     (λ witness. IsFirstUnmet question given default exprs tests names witness.test witness.picks.items)
 
--- The answer to the question about the trees behind the first, and the tests that the first one picks, by the expressions that
+-- The answer to the question about the trees after the first, and the tests that the first one picks, by the expressions that
 -- they are compiled to: the first test of the list for which it is no, or else a right verdict.
 abbrev pub Decides : Form → TextQuestion → (setting : Setting) → Telling setting
 Decides form asked setting basis [] ending text = ⊥

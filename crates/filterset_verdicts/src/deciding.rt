@@ -14,6 +14,7 @@ ghost use Rattle.filterset_loading.specs.Workspaces.{IsPlatformsFault};
 
 use crate::answering::{TextQuestion, answer_texts};
 use crate::naming::{ResolvedEntries, filter_of, resolve, resolve_entries};
+use filterset_configuration::Profile;
 use filterset_drawing::Source;
 use filterset_entries::{
     Answer, ConfiguredTexts, Setting, TextEntry, answer_unknown, default_entry, entry_of,
@@ -25,7 +26,6 @@ use filterset_loading::{
     ProfilesFile, configured_texts, known_packages, name_of, platforms_of, read_facts, read_list,
     read_profiles_file,
 };
-use filterset_configuration::Profile;
 use filterset_sources::{BuildPlatforms, Suite};
 use nextest_filtering::{FiltersetKind, KnownGroups};
 use serde_json::Value;

@@ -71,7 +71,7 @@ fn demand_values(
 struct Parts<'a> {
     answer: &'a str,
     is_spent: bool,
-    /// What an unknown answer hangs on.
+    /// What an unknown answer depends on.
     doubt: Value,
     /// Whether the test is one of the list.
     listed: Value,

@@ -7,18 +7,18 @@ ghost use Rattle.filterset_verdicts.specs.Deciding.{AreResolved, IsDefaultKind, 
 ghost use Rattle.filterset_loading.specs.Configurations.{LacksName};
 ghost use Rattle.filterset_loading.specs.Files.{OrMemory};
 
+use filterset_configuration::{Profile, default_filter, rank_overrides};
 use filterset_entries::{ConfiguredTexts, TextEntry};
 use filterset_loading::{
     ChosenFilter, CommandFault, KnownPlatforms, choose, lineage_of, request_of,
 };
-use filterset_configuration::{Profile, default_filter, rank_overrides};
 use std::alloc::{AllocError, Global};
 
 /// What texts stand for.
 #[derive(Drop)]
 pub enum ResolvedEntries<'t> {
     Entries(Vec<TextEntry<'t>>),
-    /// One is a default filter that hangs on the platform of the override at this path.
+    /// One is a default filter that depends on the platform of the override at this path.
     Unknown(String),
 }
 

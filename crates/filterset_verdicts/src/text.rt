@@ -216,7 +216,7 @@ fn push_demands(
     Ok(())
 }
 
-/// Writes that the answer is unknown, and what it hangs on.
+/// Writes that the answer is unknown, and what it depends on.
 fn doubt_text(alloc: Global, question: Question, doubt: &Doubt<'_>) -> Result<String, AllocError>
     ensures { IfOk result (λ text. string_bytes text ≡ doubt_text question doubt.now) }
 {
