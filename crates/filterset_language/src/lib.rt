@@ -13,4 +13,5 @@ pub use filterset_grammar::{
 };
 pub use parsing::{ParseStop, Parsed};
 pub use reference::FILTERSET_REFERENCE_MD;
-pub use tree::{ParsedExpr, ParsedLeaf};
+pub use tree::nodes::ParsedNode;
+pub use tree::{ParsedExpr, ParsedLeaf, nodes};

@@ -5,7 +5,7 @@ ghost use Rattle.filterset_language.specs.Views.{leaf_of, tree_of};
 
 use filterset_faults::SourceSpan;
 use filterset_grammar::{
-    AndOperator, DifferenceOperator, Joiner, NotOperator, OrOperator, SymmetricDifferenceOperator,
+    AndOperator, DifferenceOperator, NotOperator, OrOperator, SymmetricDifferenceOperator,
 };
 use filterset_graph::BuildPlatform;
 use filterset_matchers::NameMatcher;
@@ -13,11 +13,11 @@ use std::alloc::{AllocError, Global};
 
 mod equality;
 mod leaves;
-pub(crate) mod nodes;
+pub mod nodes;
 mod parens;
 mod well_formed;
 
-use nodes::{copy_set, enclose, join, negate, unite};
+use nodes::{ParsedNode, copy_set, enclose, join, negate, unite};
 
 /// A predicate of a filterset.
 ///
@@ -138,42 +138,17 @@ impl<S: Copy> ParsedExpr<S> {
 fn copy_tree<S: Copy>(alloc: Global, expr: &ParsedExpr<S>) -> Result<Box<ParsedExpr<S>>, AllocError>
     ensures { IfOk result (λ copy. tree_of copy.value ≡ tree_of expr.now) }
 {
-    match expr {
-        ParsedExpr::Not(operator, operand) => {
-            negate(alloc, *operator, copy_tree(alloc, operand)?)
-        }
-        ParsedExpr::Union(operator, left, right) => {
+    match expr.node() {
+        ParsedNode::Not(operator, operand) => negate(alloc, operator, copy_tree(alloc, operand)?),
+        ParsedNode::Union(operator, left, right) => {
             let left = copy_tree(alloc, left)?;
-            unite(alloc, *operator, left, copy_tree(alloc, right)?)
+            unite(alloc, operator, left, copy_tree(alloc, right)?)
         }
-        ParsedExpr::Intersection(operator, left, right) => {
+        ParsedNode::Join(joiner, left, right) => {
             let left = copy_tree(alloc, left)?;
-            join(
-                alloc,
-                Joiner::Both(*operator),
-                left,
-                copy_tree(alloc, right)?,
-            )
+            join(alloc, joiner, left, copy_tree(alloc, right)?)
         }
-        ParsedExpr::Difference(operator, left, right) => {
-            let left = copy_tree(alloc, left)?;
-            join(
-                alloc,
-                Joiner::Without(*operator),
-                left,
-                copy_tree(alloc, right)?,
-            )
-        }
-        ParsedExpr::SymmetricDifference(operator, left, right) => {
-            let left = copy_tree(alloc, left)?;
-            join(
-                alloc,
-                Joiner::ExactlyOne(*operator),
-                left,
-                copy_tree(alloc, right)?,
-            )
-        }
-        ParsedExpr::Parens(inner) => enclose(alloc, copy_tree(alloc, inner)?),
-        ParsedExpr::Set(leaf) => copy_set(alloc, leaf),
+        ParsedNode::Parens(inner) => enclose(alloc, copy_tree(alloc, inner)?),
+        ParsedNode::Set(leaf) => copy_set(alloc, leaf),
     }
 }

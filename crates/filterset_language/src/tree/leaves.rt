@@ -4,6 +4,7 @@ ghost use Rattle.std.specs.List.{filter};
 ghost use Rattle.filterset_grammar.specs.Tree.{Leaf, tree_leaves, runtime_only};
 ghost use Rattle.filterset_language.specs.Views.{leaf_of, tree_of, AnswersAs};
 
+use crate::tree::nodes::ParsedNode;
 use crate::tree::{ParsedExpr, ParsedLeaf};
 use std::alloc::{AllocError, Global};
 
@@ -43,18 +44,15 @@ fn add_leaves<'e, S, F: Fn(&ParsedLeaf<S>) -> bool>(
         map (λ leaf. leaf_of leaf.now) found.new.items
         ≡ map (λ leaf. leaf_of leaf.now) found.old.items ++ filter kept (tree_leaves (tree_of expr.now))) }
 {
-    match expr {
-        ParsedExpr::Not(_, operand) | ParsedExpr::Parens(operand) => {
+    match expr.node() {
+        ParsedNode::Not(_, operand) | ParsedNode::Parens(operand) => {
             add_leaves(operand, keep, found)
         }
-        ParsedExpr::Union(_, left, right)
-        | ParsedExpr::Intersection(_, left, right)
-        | ParsedExpr::Difference(_, left, right)
-        | ParsedExpr::SymmetricDifference(_, left, right) => {
+        ParsedNode::Union(_, left, right) | ParsedNode::Join(_, left, right) => {
             add_leaves(left, keep, found)?;
             add_leaves(right, keep, found)
         }
-        ParsedExpr::Set(leaf) => {
+        ParsedNode::Set(leaf) => {
             if keep(leaf) {
                 found.push(leaf)?;
             }

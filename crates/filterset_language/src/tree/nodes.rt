@@ -4,11 +4,48 @@
 //! each of their frames; built here, it is in a frame that ends before the next level begins.
 ghost use Rattle.std.specs.Prelude.{◌≡◌, IfOk};
 ghost use Rattle.filterset_grammar.specs.Tree.{Not, Union, Join, Parens, Set};
+ghost use Rattle.filterset_language.specs.Nodes.{IsNode};
 ghost use Rattle.filterset_language.specs.Views.{leaf_of, tree_of};
 
 use crate::tree::{ParsedExpr, ParsedLeaf};
+use filterset_faults::SourceSpan;
 use filterset_grammar::{Joiner, NotOperator, OrOperator};
 use std::alloc::{AllocError, Global};
+
+/// A node of a tree, by its shape.
+#[derive_where(Clone, Copy)]
+pub enum ParsedNode<'e, S = SourceSpan> {
+    Not(NotOperator, &'e ParsedExpr<S>),
+    /// Two operands and an operator of the level of `or`.
+    Union(OrOperator, &'e ParsedExpr<S>, &'e ParsedExpr<S>),
+    /// Two operands and an operator of the level of `and`.
+    Join(Joiner, &'e ParsedExpr<S>, &'e ParsedExpr<S>),
+    Parens(&'e ParsedExpr<S>),
+    Set(&'e ParsedLeaf<S>),
+}
+
+impl<S> ParsedExpr<S> {
+    /// Returns the root of the tree, for walks that treat all operators of a level alike.
+    pub fn node(&self) -> ParsedNode<'_, S>
+        ensures { IsNode self.now result }
+    {
+        match self {
+            ParsedExpr::Not(operator, operand) => ParsedNode::Not(*operator, operand),
+            ParsedExpr::Union(operator, left, right) => ParsedNode::Union(*operator, left, right),
+            ParsedExpr::Intersection(operator, left, right) => {
+                ParsedNode::Join(Joiner::Both(*operator), left, right)
+            }
+            ParsedExpr::Difference(operator, left, right) => {
+                ParsedNode::Join(Joiner::Without(*operator), left, right)
+            }
+            ParsedExpr::SymmetricDifference(operator, left, right) => {
+                ParsedNode::Join(Joiner::ExactlyOne(*operator), left, right)
+            }
+            ParsedExpr::Parens(inner) => ParsedNode::Parens(inner),
+            ParsedExpr::Set(leaf) => ParsedNode::Set(leaf),
+        }
+    }
+}
 
 /// Negates an operand.
 #[inline(never)]

@@ -10,8 +10,7 @@ ghost use Rattle.filterset_language.specs.Levels.{IsOfLevel, IsOperand};
 
 use crate::laws::held::prove_held;
 use crate::tree::ParsedExpr;
-use crate::tree::nodes::{copy_set, enclose, join, negate, unite};
-use filterset_grammar::Joiner;
+use crate::tree::nodes::{ParsedNode, copy_set, enclose, join, negate, unite};
 use std::alloc::{AllocError, Global};
 
 /// The level of the grammar that an operand must have, by its position.
@@ -52,36 +51,22 @@ fn add_parens<S: Copy>(
     ensures tree { let e = tree_of expr.now in
         IfOk result (λ new. IsOperand (IsOfLevel level e) e (tree_of new.value)) }
 {
-    let copy = match expr {
-        ParsedExpr::Not(operator, operand) => {
-            negate(alloc, *operator, add_parens(alloc, operand, Level::Basic)?)?
+    let copy = match expr.node() {
+        ParsedNode::Not(operator, operand) => {
+            negate(alloc, operator, add_parens(alloc, operand, Level::Basic)?)?
         }
-        ParsedExpr::Union(operator, left, right) => {
+        ParsedNode::Union(operator, left, right) => {
             let left = add_parens(alloc, left, Level::Or)?;
-            unite(
-                alloc,
-                *operator,
-                left,
-                add_parens(alloc, right, Level::And)?,
-            )?
+            let right = add_parens(alloc, right, Level::And)?;
+            unite(alloc, operator, left, right)?
         }
-        ParsedExpr::Intersection(operator, left, right) => {
+        ParsedNode::Join(joiner, left, right) => {
             let left = add_parens(alloc, left, Level::And)?;
             let right = add_parens(alloc, right, Level::Basic)?;
-            join(alloc, Joiner::Both(*operator), left, right)?
+            join(alloc, joiner, left, right)?
         }
-        ParsedExpr::Difference(operator, left, right) => {
-            let left = add_parens(alloc, left, Level::And)?;
-            let right = add_parens(alloc, right, Level::Basic)?;
-            join(alloc, Joiner::Without(*operator), left, right)?
-        }
-        ParsedExpr::SymmetricDifference(operator, left, right) => {
-            let left = add_parens(alloc, left, Level::And)?;
-            let right = add_parens(alloc, right, Level::Basic)?;
-            join(alloc, Joiner::ExactlyOne(*operator), left, right)?
-        }
-        ParsedExpr::Parens(inner) => enclose(alloc, add_parens(alloc, inner, Level::Or)?)?,
-        ParsedExpr::Set(leaf) => copy_set(alloc, leaf)?,
+        ParsedNode::Parens(inner) => enclose(alloc, add_parens(alloc, inner, Level::Or)?)?,
+        ParsedNode::Set(leaf) => copy_set(alloc, leaf)?,
     };
     fit_to_level(alloc, expr, level, copy)
 }

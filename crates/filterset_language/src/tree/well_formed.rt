@@ -5,6 +5,7 @@ ghost use Rattle.filterset_grammar.specs.Printing.{IsOwn, IsWellFormedMatcher, I
 ghost use Rattle.filterset_grammar.specs.Text.{ends_in_backslash};
 ghost use Rattle.filterset_language.specs.Views.{leaf_of, tree_of};
 
+use crate::tree::nodes::ParsedNode;
 use crate::tree::parens::{Level, is_of_level};
 use crate::tree::{ParsedExpr, ParsedLeaf};
 use filterset_grammar::{Predicate, TextMatching};
@@ -39,23 +40,21 @@ impl<S> ParsedExpr<S> {
     pub fn is_well_formed(&self) -> bool
         ensures { IsTrue result ↔ WellFormed (tree_of self.now) }
     {
-        match self {
-            ParsedExpr::Not(_, operand) => {
+        match self.node() {
+            ParsedNode::Not(_, operand) => {
                 is_of_level(operand, Level::Basic) && operand.is_well_formed()
             }
-            ParsedExpr::Union(_, left, right) => {
+            ParsedNode::Union(_, left, right) => {
                 is_of_level(right, Level::And) && left.is_well_formed() && right.is_well_formed()
             }
-            ParsedExpr::Intersection(_, left, right)
-            | ParsedExpr::Difference(_, left, right)
-            | ParsedExpr::SymmetricDifference(_, left, right) => {
+            ParsedNode::Join(_, left, right) => {
                 is_of_level(left, Level::And)
                     && is_of_level(right, Level::Basic)
                     && left.is_well_formed()
                     && right.is_well_formed()
             }
-            ParsedExpr::Parens(inner) => inner.is_well_formed(),
-            ParsedExpr::Set(leaf) => leaf.is_well_formed(),
+            ParsedNode::Parens(inner) => inner.is_well_formed(),
+            ParsedNode::Set(leaf) => leaf.is_well_formed(),
         }
     }
 }
