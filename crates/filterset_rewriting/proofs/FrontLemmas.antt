@@ -14,7 +14,7 @@ use Rattle.filterset_rewriting.specs.Calls.{Begins, Lacks}
 use Rattle.filterset_rewriting.specs.Fronts.{IsMore, NoExpression}
 
 -- faults of a parse refuse the text
-refused : (text : List ℕ) (p : Parsed) → All (FaultStands text) p.faults.items
+pub refused : (text : List ℕ) (p : Parsed) → All (FaultStands text) p.faults.items
     → ((e : Tree SourceSpan) → Spells text e → (Comes p e × (p.faults.items ≡ [])) ⊎ HasRefusedBodies text e p)
     → p.faults.items ≢ [] → IsUnreadWith text p.faults.items
 refused text p stand spelled some = record { some = some; stand = stand; bodies = λ e spells. ⊎_elim (λ clean. absurd (some clean.1)) (λ refuses. refuses.bodies) (spelled e spells) }
@@ -22,7 +22,7 @@ refused text p stand spelled some = record { some = some; stand = stand; bodies 
 told : (text : List ℕ) (faults : List ParseSingleError) → (faults ≡ [] → (e : Tree SourceSpan) × Reads text e)
     → (faults ≢ [] → IsUnreadWith text faults) → IsMore text faults → NoExpression text
 told text [] reads unread more = inl (reads refl)
-told text (f ∷ fs) reads unread more = inr (f ∷ fs, unread (λ e. cc), more)
+told text (f ∷ fs) reads unread more = inr (inl (f ∷ fs, unread (λ e. cc), more))
 
 -- no text goes on behind an expression by these faults
 pub nothing_in_front : (text : List ℕ) (p : Parsed)

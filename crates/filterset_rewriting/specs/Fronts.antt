@@ -8,6 +8,7 @@ use Rattle.filterset_faults.specs.declared.span.SourceSpan.{SourceSpan}
 use Rattle.filterset_grammar.specs.Grammar.{Spells}
 use Rattle.filterset_grammar.specs.Tree.{Tree}
 use Rattle.filterset_language.specs.Parsed.{IsUnreadWith, Reads}
+use Rattle.filterset_rewriting.specs.Nesting.Depth.{IsTooDeep, most_levels}
 
 -- the text begins with an expression, and goes on with the other text
 pub record IsExpression (text : List ℕ) (e : Tree SourceSpan) (behind : List ℕ) : Type 0 where
@@ -19,8 +20,9 @@ pub record IsExpression (text : List ℕ) (e : Tree SourceSpan) (behind : List �
 abbrev pub IsMore : List ℕ → List ParseSingleError → Type 0
 IsMore text faults = (s : SourceSpan) → faults ≡ ExpectedEndOfExpression s ∷ [] → IsCharBoundary text (offset_of s) → ⊥
 
--- the text is an expression as a whole, or has other faults
+-- the text is an expression as a whole, or has other faults, or nests too deeply
 abbrev pub NoExpression : List ℕ → Type 0
 NoExpression text =
     ((e : Tree SourceSpan) × Reads text e)
     ⊎ ((faults : List ParseSingleError) × IsUnreadWith text faults × IsMore text faults)
+    ⊎ ((place : ℕ) × IsTooDeep most_levels text place)

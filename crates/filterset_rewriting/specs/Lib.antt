@@ -2,6 +2,7 @@ pub mod Calls
 pub mod Fronts
 pub mod Links
 pub mod Nesting
+pub mod Reading
 pub mod Showing
 pub mod Simplifying
 pub mod Spelling

@@ -1,17 +1,15 @@
 -- The tokens of filtersets: their words, operators and arguments.
-use Rattle.std.specs.Prelude.{◌≡◌, ◌≢◌, ◌⊎◌, ◌==◌, ◌+◌, ◌-◌, ◌++◌, ◌<◌, ◌&&◌, ◌||◌, ℕ, All, Bool, List, [], ◌∷◌, MatchBool, MatchOption, None, Option, Some, codes, drop, false, length, map, min, slice_index, take, true, if◌then◌else◌}
+use Rattle.std.specs.Prelude.{◌≡◌, ◌⊎◌, ◌==◌, ◌+◌, ◌-◌, ◌++◌, ◌<◌, ◌&&◌, ◌||◌, ℕ, Bool, List, [], ◌∷◌, MatchBool, MatchOption, None, Option, Some, codes, drop, false, length, map, min, slice_index, take, true, if◌then◌else◌}
 use Rattle.std.specs.List.{filter, list_any, take_while}
 use Rattle.std.specs.Str.{bytes_eq}
 use Rattle.filterset_faults.specs.Span.{length_of, offset_of, span}
 use Rattle.filterset_faults.specs.declared.span.SourceSpan.{SourceSpan}
 use Rattle.filterset_glob.specs.Signs.{◌∈◌}
 use Rattle.filterset_graph.specs.Packages.{Text}
-use Rattle.filterset_faults.specs.declared.error.ParseSingleError.{ParseSingleError}
 use Rattle.filterset_grammar.specs.Text.{is_word_byte}
 use Rattle.filterset_grammar.specs.Tree.{Leaf, Matching, Platform, Tree, tree_leaves}
-use Rattle.filterset_language.specs.Faults.{FaultStands}
-use Rattle.filterset_language.specs.Parsed.{Reads}
 use Rattle.filterset_matchers.specs.Matcher.{Matcher, Equal, Contains, Glob, Regex}
+use Rattle.filterset_rewriting.specs.Reading.{IsRead, IsUnread}
 use Rattle.filterset_rewriting.specs.declared.tokens.arguments.Argument.{Argument}
 use Rattle.filterset_rewriting.specs.declared.tokens.arguments.ArgumentForm.{ArgumentForm}
 use Rattle.filterset_rewriting.specs.declared.tokens.arguments.ArgumentForm.TheVariants as forms
@@ -132,12 +130,8 @@ abbrev pub AreCarets : Text → Tree SourceSpan → List SourceSpan → Type 0
 AreCarets text e spans =
     (tokens : List Token) × AreTokens text e tokens × (spans ≡ map (λ t. t.span) (filter (is_caret text) tokens))
 
-abbrev pub has_caret : Text → Bool
-has_caret text = list_any (λ b. b == 94) text
-
--- the spans of the operators `^` of a text: of one that reads as a tree; one with faults has none
+-- the spans of the operators `^` of a text that reads as a tree; another has none
 abbrev pub HasCarets : Text → List SourceSpan → Type 0
-HasCarets text spans = MatchBool (has_caret text)
-    (((e : Tree SourceSpan) × Reads text e × AreCarets text e spans)
-    ⊎ ((faults : List ParseSingleError) × (faults ≢ []) × All (FaultStands text) faults × (spans ≡ [])))
+HasCarets text spans = MatchBool (list_any (λ b. b == 94) text)
+    (((e : Tree SourceSpan) × IsRead text e × AreCarets text e spans) ⊎ (IsUnread text × (spans ≡ [])))
     (spans ≡ [])

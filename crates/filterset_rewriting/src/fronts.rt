@@ -5,6 +5,7 @@ ghost use Rattle.filterset_faults.specs.declared.span.SourceSpan.{SourceSpan};
 ghost use Rattle.filterset_language.specs.Views.{tree_of};
 ghost use Rattle.filterset_rewriting.specs.Fronts.{IsExpression, NoExpression};
 
+use crate::nesting::{MOST_LEVELS, find_deep_place};
 use filterset_faults::{ParseSingleError, SourceSpan};
 use filterset_language::{Parsed, ParsedExpr};
 use std::alloc::{AllocError, Global};
@@ -44,6 +45,9 @@ pub fn read_expression<'t>(alloc: Global, text: &'t str) -> Result<Option<Front<
         (λ f. IsExpression text.entry.now (tree_of f.tree) f.behind.now)) }
     ensures within { IfOk result (λ o. IfSome o (λ f. length f.behind.now ≤ length text.entry.now)) }
 {
+    if let Some(_place) = find_deep_place(alloc, text, MOST_LEVELS)? {
+        return Ok(None);
+    }
     let Parsed { tree, faults } = ParsedExpr::parse_with_faults(alloc, text)?;
     let Some(span) = only_end(faults.as_slice()) else {
         return Ok(None);

@@ -8,6 +8,7 @@ mod fronts;
 mod links;
 pub mod nesting;
 mod operands;
+mod reading;
 mod showing;
 pub mod simplifying;
 mod spelling;
@@ -15,5 +16,6 @@ pub mod tokens;
 
 pub use calls::read_call;
 pub use fronts::Front;
+pub use reading::{TextRefusal, read_text};
 pub use showing::show_reading;
 pub use spelling::{caret_count, spell_out};

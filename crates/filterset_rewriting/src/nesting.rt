@@ -2,22 +2,28 @@
 //! level.
 //!
 //! A level is an open parenthesis of an expression, or a negation whose operand has not ended. Arguments of predicates are
-//! passed over. From a place on where the text is not spelled as a filterset, nothing is taken to end: each `(`, `!` and
-//! `not` counts. So the parser is never nested more deeply than what is counted.
-ghost use Rattle.std.specs.Prelude.{◌≡◌, ◌<◌, ◌≤◌, Bool, IfOk, IfSome, List, MatchOption, drop, length, ℕ};
+//! passed over. From a place on where the text is not spelled as a filterset, each `!` and `not` counts, and each `(` that
+//! begins no argument, so the parser is never nested more deeply than what is counted. The braces that are open in an
+//! argument are counted apart (`groups`).
+ghost use Rattle.std.specs.Prelude.{◌≡◌, ◌<◌, ◌≤◌, Bool, IfNone, IfOk, IfSome, List, MatchOption, length, ℕ};
 ghost use Rattle.filterset_faults.specs.declared.span.SourceSpan.{SourceSpan};
 ghost use Rattle.filterset_grammar.specs.Grammar.{Spells};
 ghost use Rattle.filterset_grammar.specs.Tree.{Tree};
-ghost use Rattle.filterset_rewriting.specs.Nesting.Depth.{depth};
+ghost use Rattle.filterset_rewriting.specs.Nesting.Depth.{IsTooDeep, depth};
 ghost use Rattle.filterset_rewriting.specs.Nesting.Levels.{After, Passes};
 ghost use Rattle.filterset_rewriting.specs.declared.nesting.tokens.Lexeme.TheVariants as kinds;
 
 use std::alloc::{AllocError, Global};
 
 mod arguments;
+mod groups;
 mod tokens;
 
+use groups::find_deep_group;
 use tokens::{Lexeme, next_token};
+
+/// The most levels that a text may have, for people and for editors.
+pub const MOST_LEVELS: usize = 512;
 
 /// What comes of moving past a token.
 #[derive(Clone, Copy)]
@@ -137,24 +143,58 @@ pub fn find_too_deep(alloc: Global, text: &[u8], limit: usize) -> Result<Option<
     Ok(None)
 }
 
-/// Counts each `(`, `!` and `not` from a position on. Returns the offset of the first that passes the limit.
+/// Returns the offset of the parenthesis, the negation or the brace of a glob's group that is nested more deeply than `limit`
+/// levels, if there is one. The only error is out of memory. Two passes.
+pub fn find_deep_place(alloc: Global, text: &str, limit: usize) -> Result<Option<usize>, AllocError>
+    ensures shallow { IfOk result (λ found.
+        IfNone found ((e : Tree SourceSpan) → Spells text.now e → depth e ≤ limit)) }
+    ensures deep { IfOk result (λ found. IfSome found (IsTooDeep limit text.now)) }
+{
+    let bytes = text.as_bytes();
+    match find_too_deep(alloc, bytes, limit)? {
+        Some(at) => Ok(Some(at)),
+        None => Ok(find_deep_group(bytes, limit)),
+    }
+}
+
+/// Counts levels from a position on. Returns the offset of the first that passes the limit.
 fn count_on(text: &[u8], start: usize, level: usize, limit: usize) -> Option<usize>
     requires { start ≤ length text.now }
     ensures { IfSome result (λ at. at < length text.now) }
 {
+    let is_plain = !text.contains(&b'/') && !text.contains(&b'\\');
     let mut reached = level;
     for at in start..text.len() {
-        if may_go_down(&text[at..]) {
+        let (front, rest) = text.split_at(at);
+        if may_go_down(front, rest) {
             if reached >= limit {
                 return Some(at);
             }
             reached += 1;
+        } else if is_plain && goes_up(front, rest) {
+            reached = reached.saturating_sub(1);
         }
     }
     None
 }
 
-/// Returns whether a text begins with what may be a parenthesis or a negation.
-fn may_go_down(text: &[u8]) -> bool {
-    matches!(text, [b'(' | b'!', ..] | [b'n', b'o', b't', ..])
+/// Returns whether what follows may be a parenthesis or a negation.
+fn may_go_down(front: &[u8], rest: &[u8]) -> bool {
+    match rest {
+        [b'!', ..] | [b'n', b'o', b't', ..] => true,
+        [b'(', ..] => !ends_with_name(front),
+        _ => false,
+    }
+}
+
+/// Returns whether a text ends with a word that is no operator. A `(` behind it begins an argument.
+fn ends_with_name(text: &[u8]) -> bool {
+    let is_operator = text.ends_with(b"not") || text.ends_with(b"and") || text.ends_with(b"or");
+    matches!(text, [.., b'a'..=b'z']) && !is_operator
+}
+
+/// Returns whether what follows is a `)` that ends no argument, in a text without slashes and backslashes: those that do are
+/// the first behind their predicates.
+fn goes_up(front: &[u8], rest: &[u8]) -> bool {
+    front.ends_with(b")") && rest.starts_with(b")")
 }

@@ -5,8 +5,7 @@ use Rattle.std.specs.Str.{bytes_eq}
 use Rattle.filterset_glob.specs.Equality.{same_tokens}
 use Rattle.filterset_grammar.specs.Equality.{same_platform, same_predicate}
 use Rattle.filterset_grammar.specs.Tree.{Leaf, Matching, Platform, Default, All, None, Tree, Not, Union, Join, Set}
-use Rattle.filterset_grammar.specs.declared.operators.Joiner.{Joiner}
-use Rattle.filterset_grammar.specs.declared.operators.Joiner.TheVariants.{Both, Without, ExactlyOne}
+use Rattle.filterset_rewriting.specs.Showing.{are_one_sort}
 use Rattle.filterset_grammar.specs.declared.predicate.Predicate.TheVariants.{Group}
 use Rattle.filterset_matchers.specs.Matcher.{Matcher, Equal, Contains, Glob, Regex}
 
@@ -37,17 +36,10 @@ alike_leaves All All = true
 alike_leaves None None = true
 alike_leaves _ _ = false
 
--- whether operators do the same, however they are spelled
-abbrev pub alike_joiners : Joiner → Joiner → Bool
-alike_joiners (Both op) (Both other) = true
-alike_joiners (Without op) (Without other) = true
-alike_joiners (ExactlyOne op) (ExactlyOne other) = true
-alike_joiners _ _ = false
-
 -- whether trees without parentheses are the same but for that
 abbrev pub alike : {S : Type 0} → Tree S → Tree S → Bool
 alike (Not op a) (Not other b) = alike a b
 alike (Union op a b) (Union other c d) = alike a c && alike b d
-alike (Join op a b) (Join other c d) = alike_joiners op other && alike a c && alike b d
+alike (Join op a b) (Join other c d) = are_one_sort op other && alike a c && alike b d
 alike (Set leaf) (Set other) = alike_leaves leaf other
 alike _ _ = false

@@ -2,7 +2,7 @@
 use Rattle.std.specs.Prelude.{◌≡◌, ◌⊎◌, Contains, false}
 use Rattle.filterset_grammar.specs.AddedParens.{IsWithParens}
 use Rattle.filterset_grammar.specs.Tree as tree
-use Rattle.filterset_grammar.specs.Tree.{Leaf, Tree, Not, Union, Join, Parens, Set}
+use Rattle.filterset_grammar.specs.Tree.{Tree, Not, Union, Join, Parens, Set}
 use Rattle.filterset_grammar.specs.declared.operators.Joiner.TheVariants.{Both, Without, ExactlyOne}
 use Rattle.filterset_rewriting.specs.Simplifying.Alike.{alike}
 use Rattle.filterset_rewriting.specs.Simplifying.Implying.{disjuncts, conjuncts, facts, says, admits, implies}

@@ -4,10 +4,11 @@ ghost use Rattle.filterset_language.specs.Views.{tree_of};
 ghost use Rattle.filterset_rewriting.specs.Tokens as spec;
 ghost use Rattle.filterset_rewriting.specs.Tokens.{AreCarets, HasCarets};
 
+use crate::reading::read_text;
 use crate::tokens::leaves::tokens_of;
 use crate::tokens::{Token, TokenKind};
 use filterset_faults::SourceSpan;
-use filterset_language::{Parsed, ParsedExpr};
+use filterset_language::ParsedExpr;
 use std::alloc::{AllocError, Global};
 
 /// Returns whether a token of a text is an operator `^`.
@@ -39,9 +40,8 @@ pub fn carets_in(alloc: Global, text: &str) -> Result<Vec<SourceSpan>, AllocErro
     if !text.as_bytes().contains(&b'^') {
         return Ok(Vec::new(alloc));
     }
-    let Parsed { tree, faults } = ParsedExpr::parse_with_faults(alloc, text)?;
-    match tree {
-        Some(tree) if faults.is_empty() => carets_of(alloc, text, &tree),
-        _ => Ok(Vec::new(alloc)),
+    match read_text(alloc, text)? {
+        Ok(tree) => carets_of(alloc, text, &tree),
+        Err(_faults) => Ok(Vec::new(alloc)),
     }
 }
