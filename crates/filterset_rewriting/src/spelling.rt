@@ -11,25 +11,23 @@ ghost use Rattle.filterset_language.specs.Views.{tree_of};
 ghost use Rattle.filterset_rewriting.specs.Spelling as spec;
 ghost use Rattle.filterset_rewriting.specs.Spelling.{MeanTheSame, spelled_out};
 
-use crate::showing::{enclose_if, join};
-use filterset_language::{DifferenceOperator, Joiner, OrOperator, ParsedExpr};
+use filterset_language::nodes::{copy_set, enclose, join, negate, unite};
+use filterset_language::{DifferenceOperator, Joiner, OrOperator, ParsedExpr, ParsedNode};
 use std::alloc::{AllocError, Global};
 
 /// Returns how many operators `^` are in a tree, or `usize::MAX` if they are more.
 pub fn caret_count<S>(expr: &ParsedExpr<S>) -> usize
     ensures { result ≡ min (spec.caret_count (tree_of expr.now)) (2 ^ 64 - 1) }
 {
-    match expr {
-        ParsedExpr::Not(_, operand) | ParsedExpr::Parens(operand) => caret_count(operand),
-        ParsedExpr::Union(_, left, right)
-        | ParsedExpr::Intersection(_, left, right)
-        | ParsedExpr::Difference(_, left, right) => {
-            caret_count(left).saturating_add(caret_count(right))
-        }
-        ParsedExpr::SymmetricDifference(_, left, right) => caret_count(left)
+    match expr.node() {
+        ParsedNode::Not(_, operand) | ParsedNode::Parens(operand) => caret_count(operand),
+        ParsedNode::Join(Joiner::ExactlyOne(_), left, right) => caret_count(left)
             .saturating_add(caret_count(right))
             .saturating_add(1),
-        ParsedExpr::Set(_) => 0,
+        ParsedNode::Union(_, left, right) | ParsedNode::Join(_, left, right) => {
+            caret_count(left).saturating_add(caret_count(right))
+        }
+        ParsedNode::Set(_) => 0,
     }
 }
 
@@ -43,58 +41,33 @@ fn subtract<S: Drop>(
     ensures { IfOk result (λ made. tree_of made.value
         ≡ Parens (Join (Without Minus) (tree_of left.value) (tree_of right.value))) }
 {
-    let difference = join(
-        alloc,
-        Joiner::Without(DifferenceOperator::Minus),
-        left,
-        right,
-    )?;
-    enclose_if(alloc, true, difference)
+    let minus = Joiner::Without(DifferenceOperator::Minus);
+    enclose(alloc, join(alloc, minus, left, right)?)
 }
 
 /// Copies a tree, with `(l - r) or (r - l)` in the place of each `l ^ r`, but adds no parentheses that operands need.
 fn spell<S: Copy>(alloc: Global, expr: &ParsedExpr<S>) -> Result<Box<ParsedExpr<S>>, AllocError>
     ensures { IfOk result (λ new. tree_of new.value ≡ spelled_out (tree_of expr.now)) }
 {
-    match expr {
-        ParsedExpr::Not(operator, operand) => {
-            let operand = spell(alloc, operand)?;
-            Ok(Box::new(alloc, ParsedExpr::Not(*operator, operand))?)
-        }
-        ParsedExpr::Union(operator, left, right) => {
+    match expr.node() {
+        ParsedNode::Not(operator, operand) => negate(alloc, operator, spell(alloc, operand)?),
+        ParsedNode::Union(operator, left, right) => {
             let left = spell(alloc, left)?;
-            let right = spell(alloc, right)?;
-            Ok(Box::new(alloc, ParsedExpr::Union(*operator, left, right))?)
+            unite(alloc, operator, left, spell(alloc, right)?)
         }
-        ParsedExpr::Intersection(operator, left, right) => {
-            let left = spell(alloc, left)?;
-            join(alloc, Joiner::Both(*operator), left, spell(alloc, right)?)
-        }
-        ParsedExpr::Difference(operator, left, right) => {
-            let left = spell(alloc, left)?;
-            join(
-                alloc,
-                Joiner::Without(*operator),
-                left,
-                spell(alloc, right)?,
-            )
-        }
-        ParsedExpr::SymmetricDifference(_, left, right) => {
+        ParsedNode::Join(Joiner::ExactlyOne(_), left, right) => {
             let first = spell(alloc, left)?;
             let first = subtract(alloc, first, spell(alloc, right)?)?;
             let second = spell(alloc, right)?;
             let second = subtract(alloc, second, spell(alloc, left)?)?;
-            let union = ParsedExpr::Union(OrOperator::LiteralOr, first, second);
-            Ok(Box::new(alloc, union)?)
+            unite(alloc, OrOperator::LiteralOr, first, second)
         }
-        ParsedExpr::Parens(inner) => {
-            let inner = spell(alloc, inner)?;
-            Ok(Box::new(alloc, ParsedExpr::Parens(inner))?)
+        ParsedNode::Join(joiner, left, right) => {
+            let left = spell(alloc, left)?;
+            join(alloc, joiner, left, spell(alloc, right)?)
         }
-        ParsedExpr::Set(leaf) => {
-            let leaf = leaf.try_clone(alloc)?;
-            Ok(Box::new(alloc, ParsedExpr::Set(leaf))?)
-        }
+        ParsedNode::Parens(inner) => enclose(alloc, spell(alloc, inner)?),
+        ParsedNode::Set(leaf) => copy_set(alloc, leaf),
     }
 }
 

@@ -1,7 +1,7 @@
 //! What operators make of what is left of their operands.
 ghost use Rattle.std.specs.Prelude.{◌≡◌, IfOk};
 ghost use Rattle.filterset_language.specs.Views.{tree_of};
-ghost use Rattle.filterset_rewriting.specs.Simplifying.Reducing.{reduction_of, Reduced};
+ghost use Rattle.filterset_rewriting.specs.Simplifying.Reducing.{reduction_of};
 ghost use Rattle.filterset_rewriting.specs.Simplifying.Reducing.{negated, united, united_trees, intersected, intersected_trees, subtracted, differing};
 
 use crate::simplifying::alike::are_alike;
@@ -9,17 +9,10 @@ use crate::simplifying::implying::implies;
 use crate::simplifying::keeping::{keep_conjuncts, keep_disjuncts};
 use crate::simplifying::reduction::Reduction;
 use filterset_language::{
-    AndOperator, DifferenceOperator, NotOperator, OrOperator, ParsedExpr,
-    SymmetricDifferenceOperator,
+    AndOperator, DifferenceOperator, Joiner, NotOperator, OrOperator, ParsedExpr,
+    SymmetricDifferenceOperator, nodes,
 };
 use std::alloc::{AllocError, Global};
-
-/// Boxes a tree.
-fn boxed<S: Drop>(alloc: Global, expr: ParsedExpr<S>) -> Result<Reduction<S>, AllocError>
-    ensures { IfOk result (λ made. reduction_of made ≡ Reduced (tree_of expr)) }
-{
-    Ok(Reduction::Tree(Box::new(alloc, expr)?))
-}
 
 /// Negates what is left of an operand.
 pub fn negate<S: Drop>(
@@ -35,7 +28,7 @@ pub fn negate<S: Drop>(
             ParsedExpr::Not(_, inner) => Ok(Reduction::Tree(inner)),
             operand => {
                 let operand = Box::new(alloc, operand)?;
-                boxed(alloc, ParsedExpr::Not(operator, operand))
+                Ok(Reduction::Tree(nodes::negate(alloc, operator, operand)?))
             }
         },
     }
@@ -55,7 +48,7 @@ fn unite_trees<S: Drop>(
         None => Ok(Reduction::Tree(left)),
         Some(right) => match keep_disjuncts(alloc, left, &right)? {
             None => Ok(Reduction::Tree(right)),
-            Some(left) => boxed(alloc, ParsedExpr::Union(operator, left, right)),
+            Some(left) => Ok(Reduction::Tree(nodes::unite(alloc, operator, left, right)?)),
         },
     }
 }
@@ -95,7 +88,10 @@ fn intersect_trees<S: Drop>(
         None => Ok(Reduction::Tree(left)),
         Some(right) => match keep_conjuncts(alloc, left, &right)? {
             None => Ok(Reduction::Tree(right)),
-            Some(left) => boxed(alloc, ParsedExpr::Intersection(operator, left, right)),
+            Some(left) => {
+                let tree = nodes::join(alloc, Joiner::Both(operator), left, right)?;
+                Ok(Reduction::Tree(tree))
+            }
         },
     }
 }
@@ -141,7 +137,8 @@ pub fn subtract<S: Drop>(
                 if implies(&left, &right) {
                     return Ok(Reduction::Constant(false));
                 }
-                boxed(alloc, ParsedExpr::Difference(operator, left, right))
+                let tree = nodes::join(alloc, Joiner::Without(operator), left, right)?;
+                Ok(Reduction::Tree(tree))
             }
         },
     }
@@ -169,10 +166,8 @@ pub fn differ<S: Drop>(
                 if are_alike(&left, &right) {
                     return Ok(Reduction::Constant(false));
                 }
-                boxed(
-                    alloc,
-                    ParsedExpr::SymmetricDifference(operator, left, right),
-                )
+                let tree = nodes::join(alloc, Joiner::ExactlyOne(operator), left, right)?;
+                Ok(Reduction::Tree(tree))
             }
         },
     }

@@ -4,7 +4,8 @@ ghost use Rattle.filterset_language.specs.Views.{tree_of};
 ghost use Rattle.filterset_rewriting.specs.Simplifying.Reducing.{kept_disjuncts, kept_conjuncts};
 
 use crate::simplifying::implying::{admits_fact_of, says_one_of};
-use filterset_language::ParsedExpr;
+use filterset_language::nodes::{join, unite};
+use filterset_language::{Joiner, ParsedExpr};
 use std::alloc::{AllocError, Global};
 
 /// Returns the tree without the disjuncts that say a disjunct of the other tree, or nothing if all of them do.
@@ -20,10 +21,7 @@ pub fn keep_disjuncts<S: Drop>(
         ParsedExpr::Union(operator, left, right) => {
             let left = keep_disjuncts(alloc, left, beside)?;
             match (left, keep_disjuncts(alloc, right, beside)?) {
-                (Some(left), Some(right)) => Ok(Some(Box::new(
-                    alloc,
-                    ParsedExpr::Union(operator, left, right),
-                )?)),
+                (Some(left), Some(right)) => Ok(Some(unite(alloc, operator, left, right)?)),
                 (Some(kept), None) | (None, Some(kept)) => Ok(Some(kept)),
                 (None, None) => Ok(None),
             }
@@ -50,10 +48,9 @@ pub fn keep_conjuncts<S: Drop>(
         ParsedExpr::Intersection(operator, left, right) => {
             let left = keep_conjuncts(alloc, left, beside)?;
             match (left, keep_conjuncts(alloc, right, beside)?) {
-                (Some(left), Some(right)) => Ok(Some(Box::new(
-                    alloc,
-                    ParsedExpr::Intersection(operator, left, right),
-                )?)),
+                (Some(left), Some(right)) => {
+                    Ok(Some(join(alloc, Joiner::Both(operator), left, right)?))
+                }
                 (Some(kept), None) | (None, Some(kept)) => Ok(Some(kept)),
                 (None, None) => Ok(None),
             }

@@ -5,7 +5,8 @@ ghost use Rattle.filterset_rewriting.specs.Simplifying.Reducing.{reduction_of, r
 
 use crate::simplifying::joining::{differ, intersect, negate, subtract, unite};
 use crate::simplifying::reduction::Reduction;
-use filterset_language::{ParsedExpr, ParsedLeaf};
+use filterset_language::nodes::copy_set;
+use filterset_language::{Joiner, ParsedExpr, ParsedLeaf, ParsedNode};
 use std::alloc::{AllocError, Global};
 
 /// Returns what is left of a predicate: a constant, or a copy.
@@ -15,10 +16,7 @@ fn reduce_leaf<S: Copy>(alloc: Global, leaf: &ParsedLeaf<S>) -> Result<Reduction
     match leaf {
         ParsedLeaf::All => Ok(Reduction::Constant(true)),
         ParsedLeaf::None => Ok(Reduction::Constant(false)),
-        other => {
-            let copy = other.try_clone(alloc)?;
-            Ok(Reduction::Tree(Box::new(alloc, ParsedExpr::Set(copy))?))
-        }
+        other => Ok(Reduction::Tree(copy_set(alloc, other)?)),
     }
 }
 
@@ -26,32 +24,22 @@ fn reduce_leaf<S: Copy>(alloc: Global, leaf: &ParsedLeaf<S>) -> Result<Reduction
 pub fn reduce<S: Copy>(alloc: Global, expr: &ParsedExpr<S>) -> Result<Reduction<S>, AllocError>
     ensures { IfOk result (λ made. reduction_of made ≡ reduced (tree_of expr.now)) }
 {
-    match expr {
-        ParsedExpr::Not(operator, operand) => {
-            let operand = reduce(alloc, operand)?;
-            negate(alloc, *operator, operand)
+    match expr.node() {
+        ParsedNode::Not(operator, operand) => negate(alloc, operator, reduce(alloc, operand)?),
+        ParsedNode::Union(operator, left, right) => {
+            let left = reduce(alloc, left)?;
+            unite(alloc, operator, left, reduce(alloc, right)?)
         }
-        ParsedExpr::Union(operator, left, right) => {
+        ParsedNode::Join(joiner, left, right) => {
             let left = reduce(alloc, left)?;
             let right = reduce(alloc, right)?;
-            unite(alloc, *operator, left, right)
+            match joiner {
+                Joiner::Both(operator) => intersect(alloc, operator, left, right),
+                Joiner::Without(operator) => subtract(alloc, operator, left, right),
+                Joiner::ExactlyOne(operator) => differ(alloc, operator, left, right),
+            }
         }
-        ParsedExpr::Intersection(operator, left, right) => {
-            let left = reduce(alloc, left)?;
-            let right = reduce(alloc, right)?;
-            intersect(alloc, *operator, left, right)
-        }
-        ParsedExpr::Difference(operator, left, right) => {
-            let left = reduce(alloc, left)?;
-            let right = reduce(alloc, right)?;
-            subtract(alloc, *operator, left, right)
-        }
-        ParsedExpr::SymmetricDifference(operator, left, right) => {
-            let left = reduce(alloc, left)?;
-            let right = reduce(alloc, right)?;
-            differ(alloc, *operator, left, right)
-        }
-        ParsedExpr::Parens(inner) => reduce(alloc, inner),
-        ParsedExpr::Set(leaf) => reduce_leaf(alloc, leaf),
+        ParsedNode::Parens(inner) => reduce(alloc, inner),
+        ParsedNode::Set(leaf) => reduce_leaf(alloc, leaf),
     }
 }
