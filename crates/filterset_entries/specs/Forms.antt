@@ -1,15 +1,14 @@
 -- How remarks are written.
-use Rattle.std.specs.Prelude.{◌≡◌, ◌++◌, ℕ, List, Option, Some, None, codes, map, option_map}
+use Rattle.std.specs.Prelude.{◌≡◌, ◌++◌, ℕ, List, Option, Some, None, codes, option_map}
 use Rattle.serde_json.specs.Data.{Data}
 use Rattle.serde_json.specs.Written.{compact_text}
 use Rattle.filterset_drawing.specs.Annotations.{Annotation}
 use Rattle.filterset_drawing.specs.Columns.{Text}
 use Rattle.filterset_drawing.specs.Drawings.{Drawing}
 use Rattle.filterset_drawing.specs.Json.{RemarkData}
-use Rattle.filterset_drawing.specs.Remarks.{RemarkRow, fault_remark}
+use Rattle.filterset_drawing.specs.Remarks.{RemarkRow}
 use Rattle.filterset_drawing.specs.declared.color.Color.{Color}
 use Rattle.filterset_drawing.specs.declared.source.FileSpan.{FileSpan}
-use Rattle.filterset_faults.specs.declared.error.ParseSingleError.{ParseSingleError}
 use Rattle.filterset_json.specs.Pieces.{Pieces}
 use Rattle.filterset_entries.specs.Checked.{TextRow}
 use Rattle.filterset_entries.specs.Placements.{Placement, TextSpot, file_part, line, literal, placement_of}
@@ -71,5 +70,5 @@ abbrev pub text_writing : Form → TextRow → ℕ → Writing
 text_writing form row number = writing form row.origin row.text row.place (Some number)
 
 -- what is written of faults of the text with this number, one after the other
-abbrev pub FaultPieces : Form → TextRow → ℕ → List ParseSingleError → Text → Type 0
-FaultPieces form row number faults = Pieces (IsWritten (text_writing form row number)) (map fault_remark faults)
+abbrev pub FaultPieces : Form → TextRow → ℕ → List RemarkRow → Text → Type 0
+FaultPieces form row number remarks = Pieces (IsWritten (text_writing form row number)) remarks

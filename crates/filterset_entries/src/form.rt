@@ -14,7 +14,6 @@ use crate::text::TextEntry;
 use filterset_drawing::{
     Canvas, Color, FileSpan, Remark, Source, draw_remark, push_annotation, remark_json,
 };
-use nextest_filtering::ParseSingleError;
 use std::alloc::{AllocError, Global};
 
 /// How remarks are written.
@@ -135,22 +134,18 @@ impl RemarkWriter<'_> {
     }
 }
 
-/// Writes the faults of the text with this number.
+/// Writes the remarks on the faults of the text with this number.
 pub fn push_faults(
     output: &mut String,
     alloc: Global,
     form: Form,
     entry: &TextEntry<'_>,
     number: usize,
-    faults: &[ParseSingleError],
+    remarks: &[Remark],
 ) -> Result<(), AllocError>
     ensures { OnOk result ((piece : Text) × (string_bytes output.new ≡ string_bytes output.old ++ piece)
-        × FaultPieces form (text_row entry.now) number faults.now piece) }
+        × FaultPieces form (text_row entry.now) number (map remark_row remarks.now) piece) }
 {
-    let mut remarks = Vec::with_capacity(alloc, faults.len())?;
-    for fault in faults {
-        remarks.push(Remark::of_fault(alloc, fault)?)?;
-    }
     let source = Source::new(alloc, entry.origin.as_str(), entry.text)?;
     let writer = RemarkWriter {
         form,
@@ -158,5 +153,5 @@ pub fn push_faults(
         place: entry.place,
         number: Some(number),
     };
-    writer.push_all(output, alloc, remarks.as_slice())
+    writer.push_all(output, alloc, remarks)
 }

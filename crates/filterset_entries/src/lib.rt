@@ -18,7 +18,7 @@ pub use entries::{
     ConfiguredTexts, configured_entries, default_entry, entry_of, given_entries, input_entries,
     line_entries, question_entries,
 };
-pub use faults::faults_of;
+pub use faults::{fault_remarks, faults_of, parse_entry};
 pub use form::{Form, RemarkWriter, push_faults};
 pub use names::Names;
 pub use place::{FilePlace, Spot, file_part};

@@ -1,6 +1,6 @@
 use Rattle.std.proofs.Common.{◌≡◌, map, take}
 use Rattle.filterset_drawing.specs.Remarks.{fault_remark, remark_row}
-use Rattle.filterset_entries.proofs.form.push_faults.Given as goal
+use Rattle.filterset_entries.proofs.faults.found_remarks.Given as goal
 
 -- the remarks on the faults so far
 abbrev pub invariant-loop-fault : goal.invariant-loop-fault
