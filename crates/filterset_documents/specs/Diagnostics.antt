@@ -10,12 +10,12 @@ use Rattle.filterset_entries.specs.Placements.{Placement, file_part}
 use Rattle.filterset_entries.specs.Unread.{AreUnreadRemarks}
 use Rattle.filterset_entries.specs.declared.names.Names.{Names}
 use Rattle.filterset_drawing.specs.Remarks.{RemarkRow}
+use Rattle.filterset_drawing.specs.declared.remark.Severity.{Severity}
+use Rattle.filterset_drawing.specs.declared.remark.Severity.TheVariants.{Error, Warning}
 use Rattle.filterset_drawing.specs.declared.source.FileSpan.{FileSpan}
 use Rattle.filterset_editor.specs.Positions.{Text}
 use Rattle.filterset_editor.specs.declared.positions.Encoding.{Encoding}
-use Rattle.filterset_faults.specs.Faults.{code_of, help_of, label_of, message_of, span_of}
 use Rattle.filterset_faults.specs.Span.{span}
-use Rattle.filterset_faults.specs.declared.error.ParseSingleError.{ParseSingleError}
 use Rattle.filterset_faults.specs.declared.span.SourceSpan.{SourceSpan}
 use Rattle.filterset_configuration.specs.Places.{file_span}
 use Rattle.filterset_configuration.specs.Wrong.{AreWrongValues}
@@ -26,8 +26,6 @@ use Rattle.filterset_sources.specs.declared.refusal.SourceRefusal.TheVariants.{N
 use Rattle.filterset_documents.specs.Contents.{ContentRow}
 use Rattle.filterset_documents.specs.Joins.{Joins}
 use Rattle.filterset_documents.specs.Ranges.{IsRange}
-use Rattle.filterset_documents.specs.declared.diagnostics.Severity.{Severity}
-use Rattle.filterset_documents.specs.declared.diagnostics.Severity.TheVariants.{Error, Warning}
 
 -- ---- a diagnostic
 
@@ -50,40 +48,32 @@ IsDiagnostic encoding text severity at code message d =
 
 -- ---- faults
 
-abbrev pub label_line : Option Text → Text
-label_line None = []
-label_line (Some label) = codes "\n" ++ label
+-- a text in a line of its own, after these words
+abbrev pub further_line : Text → Option Text → Text
+further_line words None = []
+further_line words (Some text) = codes "\n" ++ (words ++ text)
 
-abbrev pub help_line : Option Text → Text
-help_line None = []
-help_line (Some help) = codes "\nhelp: " ++ help
+-- the message of a remark, and below it the label and the help, if there are any, a line each
+abbrev pub remark_text : RemarkRow → Text
+remark_text r = r.message ++ further_line [] r.label ++ further_line (codes "help: ") r.help
 
--- the message of a fault, and below it the label and the help, if there are any, a line each
-abbrev pub fault_text : ParseSingleError → Text
-fault_text fault = message_of fault ++ label_line (label_of fault) ++ help_line (help_of fault)
+-- the diagnostic of a remark at a span of the text
+abbrev pub IsRemarkAt : Encoding → Text → SourceSpan → RemarkRow → Data → Type 0
+IsRemarkAt encoding text at r d = IsDiagnostic encoding text r.severity at r.code (remark_text r) d
 
--- the diagnostic of a fault at a span of the text
-abbrev pub IsFaultAt : Encoding → Text → SourceSpan → ParseSingleError → Data → Type 0
-IsFaultAt encoding text at fault d = IsDiagnostic encoding text Error at (code_of fault) (fault_text fault) d
-
--- the span of a part of the file; the start of the file for nothing
-abbrev pub part_span : Option FileSpan → SourceSpan
-part_span None = span 0 0
-part_span (Some part) = part.span
-
--- where a fault is in the text, if its filterset is at this place
-abbrev pub fault_span : Option Placement → ParseSingleError → SourceSpan
-fault_span place fault = part_span (file_part place (span_of fault))
+-- where a span of a filterset at this place is in the file; the start of the file for nothing
+abbrev pub fault_span : Option Placement → Option SourceSpan → SourceSpan
+fault_span place at = option_map_or (λ (part : FileSpan). part.span) (file_part place at) (span 0 0)
 
 -- a diagnostic for each fault of a filterset that is at this place, in their order
-abbrev pub AreDiagnosed : Encoding → Text → Option Placement → List ParseSingleError → List Data → Type 0
+abbrev pub AreDiagnosed : Encoding → Text → Option Placement → List RemarkRow → List Data → Type 0
 AreDiagnosed encoding text place faults ds =
-    AllZip (λ fault d. IsFaultAt encoding text (fault_span place fault) fault d) faults ds
+    AllZip (λ fault d. IsRemarkAt encoding text (fault_span place fault.span) fault d) faults ds
 
 -- the diagnostics of a filterset: of its faults, as far as names are known
 abbrev pub RowDiagnostics : Encoding → Text → Names → TextRow → List Data → Type 0
 RowDiagnostics encoding text names row ds =
-    (faults : List ParseSingleError) × HasFaults names row faults × AreDiagnosed encoding text row.place faults ds
+    (faults : List RemarkRow) × HasFaults names row faults × AreDiagnosed encoding text row.place faults ds
 
 -- ---- wrong values
 
@@ -107,19 +97,11 @@ AreValueWarnings encoding text ds =
 
 -- ---- what nextest does not read
 
--- what a remark says: its message and its help, a line each
-abbrev pub remark_text : RemarkRow → Text
-remark_text r = r.message ++ help_line r.help
-
--- the warning that says it, at its span of the file, or at the start
-abbrev pub IsUnreadWarning : Encoding → Text → RemarkRow → Data → Type 0
-IsUnreadWarning encoding text r d =
-    IsDiagnostic encoding text Warning (unwrap_or r.span (span 0 0)) r.code (remark_text r) d
-
--- a warning for each remark on what nextest does not read of a configuration with these filtersets, in their order
+-- a warning for each remark on what nextest does not read of a configuration with these filtersets, in their order, at its
+-- span of the file, or at the start
 abbrev pub AreUnreadWarnings : Encoding → Text → List TextRow → List Data → Type 0
 AreUnreadWarnings encoding text rows ds = (remarks : List RemarkRow) × AreUnreadRemarks text rows remarks
-    × AllZip (IsUnreadWarning encoding text) remarks ds
+    × AllZip (λ r d. IsRemarkAt encoding text (unwrap_or r.span (span 0 0)) r d) remarks ds
 
 -- ---- documents
 

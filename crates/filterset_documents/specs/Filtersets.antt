@@ -1,5 +1,5 @@
 -- The filtersets of documents.
-use Rattle.std.specs.Prelude.{◌≡◌, ◌-◌, ◌&&◌, ℕ, Bool, List, Option, None, Some, codes, false, nat_le}
+use Rattle.std.specs.Prelude.{◌≡◌, ◌⊎◌, ◌-◌, ◌&&◌, ℕ, Bool, List, Option, None, Some, codes, false, nat_le}
 use Rattle.std.specs.Str.{bytes_eq}
 use Rattle.filterset_entries.specs.Checked.{TextRow}
 use Rattle.filterset_entries.specs.Placements.{Placement, TextSpot, line, literal}
@@ -7,10 +7,10 @@ use Rattle.filterset_entries.specs.declared.entries.ConfiguredTexts.{ConfiguredT
 use Rattle.filterset_drawing.specs.declared.source.Source.{Source}
 use Rattle.filterset_editor.specs.Positions.{Text}
 use Rattle.filterset_faults.specs.Span.{length_of, offset_of, span}
-use Rattle.filterset_faults.specs.declared.error.ParseSingleError.{ParseSingleError}
 use Rattle.filterset_faults.specs.declared.span.SourceSpan.{SourceSpan}
-use Rattle.filterset_language.specs.Parsed.{IsUnreadWith, Reads}
+use Rattle.filterset_grammar.specs.Tree.{Tree}
 use Rattle.filterset_language.specs.Views.{tree_of}
+use Rattle.filterset_rewriting.specs.Reading.{IsRead, IsUnread}
 use Rattle.filterset_language.specs.declared.tree.ParsedExpr.{ParsedExpr}
 use Rattle.filterset_configuration.specs.Places.{ArePlaces}
 use Rattle.filterset_configuration.specs.declared.places.Places.{Places}
@@ -71,11 +71,11 @@ is_row_at offset row = is_placed_at row.place offset
 
 -- ---- trees
 
--- no tree is read from the text, since it has faults
-abbrev pub IsUnread : Text → Type 0
-IsUnread text = (faults : List ParseSingleError) × IsUnreadWith text faults
+-- what is made of the tree that the text reads as, or this if it reads as none
+abbrev pub OfTree : {A : Type 0} → Text → (Tree SourceSpan → A → Type 0) → A → A → Type 0
+OfTree text Is none made = ((e : Tree SourceSpan) × IsRead text e × Is e made) ⊎ (IsUnread text × (made ≡ none))
 
 -- the text reads as the tree, or as none
 abbrev pub IsParsed : Text → Option (ParsedExpr SourceSpan) → Type 0
 IsParsed text None = IsUnread text
-IsParsed text (Some tree) = Reads text (tree_of tree)
+IsParsed text (Some tree) = IsRead text (tree_of tree)

@@ -1,29 +1,24 @@
 //! Diagnostics.
 ghost use Rattle.std.specs.Prelude.{◌≡◌, IfOk};
 ghost use Rattle.serde_json.specs.View.{view};
-ghost use Rattle.filterset_documents.specs.Diagnostics.{IsDiagnostic, diagnostic_data, severity_number};
+ghost use Rattle.filterset_documents.specs.Diagnostics as spec;
+ghost use Rattle.filterset_documents.specs.Diagnostics.{IsDiagnostic, IsRemarkAt, diagnostic_data};
+ghost use Rattle.filterset_drawing.specs.Remarks.{remark_row};
 
+use crate::message::remark_message;
 use crate::ranges::{Shown, span_value};
+use filterset_drawing::{Remark, Severity};
 use filterset_faults::SourceSpan;
 use serde_json::{Value, json};
 use std::alloc::{AllocError, Global};
 
-/// How bad it is what a diagnostic says.
-#[derive(Clone, Copy, Debug, PartialEq, Eq)]
-pub enum Severity {
-    Error,
-    Warning,
-}
-
-impl Severity {
-    /// Returns the protocol's number of a severity.
-    fn number(self) -> u8
-        ensures { result ≡ severity_number self }
-    {
-        match self {
-            Severity::Error => 1,
-            Severity::Warning => 2,
-        }
+/// Returns the protocol's number of a severity.
+fn severity_number(severity: Severity) -> u8
+    ensures { result ≡ spec.severity_number severity }
+{
+    match severity {
+        Severity::Error => 1,
+        Severity::Warning => 2,
     }
 }
 
@@ -37,7 +32,7 @@ fn diagnostic_value(
 ) -> Result<Value, AllocError>
     ensures { IfOk result (λ value. view value ≡ diagnostic_data severity code.now message.now (view range)) }
 {
-    let severity = severity.number();
+    let severity = severity_number(severity);
     json!(in alloc; {
         "code": code,
         "message": message,
@@ -62,4 +57,19 @@ pub fn diagnostic_at(
 {
     let range = span_value(alloc, shown, span)?;
     diagnostic_value(alloc, severity, code, message, range)
+}
+
+/// Makes the diagnostic of a remark, at a span.
+pub fn remark_value(
+    alloc: Global,
+    shown: &Shown<'_>,
+    span: SourceSpan,
+    remark: &Remark,
+) -> Result<Value, AllocError>
+    ensures { IfOk result (λ value.
+        IsRemarkAt shown.now.encoding shown.now.lines.text.now span (remark_row remark.now) (view value)) }
+{
+    let message = remark_message(alloc, remark)?;
+    let message = message.as_str();
+    diagnostic_at(alloc, shown, remark.severity, span, remark.code, message)
 }

@@ -19,12 +19,12 @@ mod values;
 
 pub use becoming::{becomes, list_strings};
 pub use content::{Content, Filtersets, OpenDocument};
-pub use diagnostics::{Severity, diagnostic_at};
+pub use diagnostics::{diagnostic_at, remark_value};
 pub use edits::{Edit, edit_text, edits_value, is_same, ordered_edits};
 pub use offsets::{entry_at, is_in, leaf_span};
 pub use places::{place_span, span_in, stretch_at, stretch_span};
 pub use quoting::{escape, quote};
 pub use ranges::{Shown, range_of, range_value, span_value};
 pub use refusals::diagnose_refusal;
-pub use rows::{diagnose_entries, fault_span, fault_value};
+pub use rows::{diagnose_entries, fault_span};
 pub use trees::parse_text;

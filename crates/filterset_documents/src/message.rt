@@ -1,39 +1,30 @@
 //! What diagnostics say.
-ghost use Rattle.std.specs.Prelude.{◌≡◌, ◌++◌, IfOk, OnOk, string_bytes};
-ghost use Rattle.filterset_faults.specs.Faults.{help_of, label_of};
-ghost use Rattle.filterset_documents.specs.Diagnostics.{fault_text, help_line, label_line, wrong_text};
+ghost use Rattle.std.specs.Prelude.{◌≡◌, ◌++◌, IfOk, OnOk, option_map, string_bytes};
+ghost use Rattle.filterset_drawing.specs.Remarks.{remark_row};
+ghost use Rattle.filterset_documents.specs.Diagnostics.{further_line, remark_text, wrong_text};
 
-use filterset_faults::ParseSingleError;
+use filterset_drawing::Remark;
 use std::alloc::{AllocError, Global};
 use std::fmt::Write;
 
-/// Adds the label of a fault, if there is one, as a line.
-fn push_label(message: &mut String, fault: &ParseSingleError) -> Result<(), AllocError>
-    ensures { OnOk result (string_bytes message.new ≡ string_bytes message.old ++ label_line (label_of fault.now)) }
+/// Adds a text, if there is one, in a line of its own, after these words.
+fn push_line(message: &mut String, words: &str, text: &Option<String>) -> Result<(), AllocError>
+    ensures { OnOk result (string_bytes message.new
+        ≡ string_bytes message.old ++ further_line words.now (option_map (λ t. string_bytes t) text.now)) }
 {
-    match fault.label() {
-        Some(label) => write!(message, "\n{label}"),
+    match text {
+        Some(text) => write!(message, "\n{words}{text}"),
         None => Ok(()),
     }
 }
 
-/// Adds the help of a fault, if there is any, as a line.
-fn push_help(message: &mut String, fault: &ParseSingleError) -> Result<(), AllocError>
-    ensures { OnOk result (string_bytes message.new ≡ string_bytes message.old ++ help_line (help_of fault.now)) }
+/// Makes the text of a remark: its message, its label and its help, a line each.
+pub(crate) fn remark_message(alloc: Global, remark: &Remark) -> Result<String, AllocError>
+    ensures { IfOk result (λ message. string_bytes message ≡ remark_text (remark_row remark.now)) }
 {
-    match fault.help() {
-        Some(help) => write!(message, "\nhelp: {help}"),
-        None => Ok(()),
-    }
-}
-
-/// Makes the text of a fault: its message, its label and its help, a line each.
-pub(crate) fn fault_message(alloc: Global, fault: &ParseSingleError) -> Result<String, AllocError>
-    ensures { IfOk result (λ message. string_bytes message ≡ fault_text fault.now) }
-{
-    let mut message = format!(in alloc; "{fault}")?;
-    push_label(&mut message, fault)?;
-    push_help(&mut message, fault)?;
+    let mut message = String::from_str(alloc, remark.message.as_str())?;
+    push_line(&mut message, "", &remark.label)?;
+    push_line(&mut message, "help: ", &remark.help)?;
     Ok(message)
 }
 

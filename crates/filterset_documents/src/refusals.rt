@@ -8,9 +8,10 @@ ghost use Rattle.filterset_faults.specs.Span.{span};
 ghost use Rattle.filterset_sources.specs.Configurations.{RefusesConfiguration};
 ghost use Rattle.filterset_documents.specs.Diagnostics.{IsDiagnostic, IsRefusalAt, wrong_text};
 
-use crate::diagnostics::{Severity, diagnostic_at};
+use crate::diagnostics::diagnostic_at;
 use crate::message::wrong_message;
 use crate::ranges::Shown;
+use filterset_drawing::Severity;
 use filterset_faults::SourceSpan;
 use filterset_sources::{SourceRefusal, WrongValue};
 use serde_json::Value;

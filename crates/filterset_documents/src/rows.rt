@@ -5,49 +5,29 @@ ghost use Rattle.filterset_entries.specs.Checked.{text_row};
 ghost use Rattle.filterset_entries.specs.Placements.{placement_of};
 ghost use Rattle.nextest_filtering.specs.Groups.{IsKnown};
 ghost use Rattle.filterset_documents.specs.Contents.{names_in};
-ghost use Rattle.filterset_documents.specs.Diagnostics.{AreDiagnosed, IsFaultAt, DiagnosesContent, RowDiagnostics, fault_span};
+ghost use Rattle.filterset_documents.specs.Diagnostics.{AreDiagnosed, DiagnosesContent, RowDiagnostics, fault_span};
+ghost use Rattle.filterset_drawing.specs.Remarks.{remark_row};
 ghost use Rattle.filterset_documents.specs.Joins.{Joins};
 
-use crate::diagnostics::{Severity, diagnostic_at};
-use crate::message::fault_message;
+use crate::diagnostics::remark_value;
 use crate::ranges::Shown;
 use crate::unread::diagnose_unread;
 use crate::values::diagnose_values;
+use filterset_drawing::Remark;
 use filterset_entries::{FilePlace, Names, TextEntry, faults_of, file_part};
-use filterset_faults::{ParseSingleError, SourceSpan};
+use filterset_faults::SourceSpan;
 use filterset_graph::PackageGraph;
 use serde_json::Value;
 use std::alloc::{AllocError, Global};
 
-/// Returns where a fault is in the text, if its filterset is at this place.
-pub fn fault_span(place: Option<FilePlace<'_>>, fault: &ParseSingleError) -> SourceSpan
-    ensures { result ≡ fault_span (option_map placement_of place.entry) fault.now }
+/// Returns where a span of a filterset at this place is in the file, or its start if it is not known.
+pub fn fault_span(place: Option<FilePlace<'_>>, span: Option<SourceSpan>) -> SourceSpan
+    ensures { result ≡ fault_span (option_map placement_of place.entry) span }
 {
-    match file_part(place, fault.span()) {
+    match file_part(place, span) {
         Some(part) => part.span,
         None => SourceSpan::new(0, 0),
     }
-}
-
-/// Makes the diagnostic of a fault at a span.
-pub fn fault_value(
-    alloc: Global,
-    shown: &Shown<'_>,
-    span: SourceSpan,
-    fault: &ParseSingleError,
-) -> Result<Value, AllocError>
-    ensures { IfOk result (λ value.
-        IsFaultAt shown.now.encoding shown.now.lines.text.now span fault.now (view value)) }
-{
-    let message = fault_message(alloc, fault)?;
-    diagnostic_at(
-        alloc,
-        shown,
-        Severity::Error,
-        span,
-        fault.code(),
-        message.as_str(),
-    )
 }
 
 /// Makes the diagnostics of faults of a filterset that is at this place.
@@ -55,14 +35,15 @@ fn fault_values(
     alloc: Global,
     shown: &Shown<'_>,
     place: Option<FilePlace<'_>>,
-    faults: &[ParseSingleError],
+    faults: &[Remark],
 ) -> Result<Vec<Value>, AllocError>
     ensures { IfOk result (λ values. AreDiagnosed shown.now.encoding shown.now.lines.text.now
-        (option_map placement_of place.entry) faults.now (map view values.items)) }
+        (option_map placement_of place.entry) (map remark_row faults.now) (map view values.items)) }
 {
     let mut values = Vec::with_capacity(alloc, faults.len())?;
     for fault in faults {
-        values.push(fault_value(alloc, shown, fault_span(place, fault), fault)?)?;
+        let span = fault_span(place, fault.span);
+        values.push(remark_value(alloc, shown, span, fault)?)?;
     }
     Ok(values)
 }

@@ -3,10 +3,11 @@ ghost use Rattle.std.specs.Prelude.{◌≡◌, IfOk, map};
 ghost use Rattle.serde_json.specs.View.{view};
 ghost use Rattle.filterset_documents.specs.Diagnostics.{AreValueWarnings, IsValueWarning, value_span};
 
-use crate::diagnostics::{Severity, diagnostic_at};
+use crate::diagnostics::diagnostic_at;
 use crate::message::wrong_message;
 use crate::ranges::Shown;
 use filterset_configuration::{WrongValue, find_wrong_values};
+use filterset_drawing::Severity;
 use filterset_faults::SourceSpan;
 use serde_json::Value;
 use std::alloc::{AllocError, Global};

@@ -6,7 +6,7 @@ use Rattle.serde_json.specs.View.{view}
 use Rattle.filterset_faults.specs.Span.{span}
 use Rattle.filterset_faults.specs.declared.span.SourceSpan.{SourceSpan}
 use Rattle.filterset_documents.specs.Diagnostics.{IsDiagnostic}
-use Rattle.filterset_documents.specs.declared.diagnostics.Severity.TheVariants.{Error}
+use Rattle.filterset_drawing.specs.declared.remark.Severity.TheVariants.{Error}
 use Rattle.filterset_documents.proofs.refusals.toml_value.Goals as goal
 
 pub returns : goal.returns

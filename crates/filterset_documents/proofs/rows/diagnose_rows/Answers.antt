@@ -1,6 +1,7 @@
-use Rattle.std.proofs.Common.{rules, arith, ◌≡◌, ◌<◌, length, get_or}
+use Rattle.std.proofs.Common.{rules, arith, ◌≡◌, ◌<◌, length, get_or, map}
 use Rattle.std.proofs.lemmas.List.{take_all}
 use Rattle.serde_json.specs.View.{view}
+use Rattle.filterset_drawing.specs.Remarks.{remark_row}
 use Rattle.filterset_entries.specs.Checked.{text_row}
 use Rattle.filterset_documents.specs.Diagnostics.{RowDiagnostics}
 use Rattle.filterset_documents.specs.Joins.{no_parts}
@@ -23,7 +24,7 @@ loop-entry-preserved c =
     let entry = c.entry-item.result in
     let lt : i < length entries = omega (arith, c.loop-entry-test.true) in
     let at : get_or entries i entry ≡ entry = search (rules, c.entry-item.is) in
-    let faults = c.in_ok-faults.faults.items in
+    let faults = map remark_row c.in_ok-faults.faults.items in
     let diagnosed = rw c.as_slice.ensures.value at c.in_ok-more.ensures in
     rw c.in_ok-append.ensures.items
     (Joins-more (RowDiagnostics shown.encoding shown.lines.text.now c.args.names.now) text_row view entries i entry

@@ -1,9 +1,10 @@
-use Rattle.std.proofs.Common.{arith, ◌<◌, length, option_map}
+use Rattle.std.proofs.Common.{rules, arith, ◌≡◌, ◌<◌, get_or, length, option_map}
 use Rattle.std.proofs.lemmas.List.{take_all}
 use Rattle.serde_json.specs.View.{view}
+use Rattle.filterset_drawing.specs.Remarks.{remark_row}
 use Rattle.filterset_entries.specs.Placements.{placement_of}
-use Rattle.filterset_documents.specs.Diagnostics.{IsFaultAt, fault_span}
-use Rattle.filterset_documents.proofs.JoinLemmas.{Zips-next}
+use Rattle.filterset_documents.specs.Diagnostics.{IsRemarkAt, fault_span}
+use Rattle.filterset_documents.proofs.JoinLemmas.{Zips-rows}
 use Rattle.filterset_documents.proofs.rows.fault_values.Goals as goal
 
 pub returns : goal.returns
@@ -15,9 +16,12 @@ pub loop-fault-preserved : goal.loop-fault-preserved
 loop-fault-preserved c =
     let shown = c.args.shown.now in
     let place = option_map placement_of c.args.place in
+    let faults = c.args.faults.now in
     let i = c.loop-fault.fault-index in
-    let lt : i < length c.args.faults.now = omega (arith, c.loop-fault-test.true) in
-    let is = rw c.fault_span.ensures at c.in_ok-fault_value.ensures in
+    let fault = c.fault-item.result in
+    let lt : i < length faults = omega (arith, c.loop-fault-test.true) in
+    let at : get_or faults i fault ≡ fault = search (rules, c.fault-item.is) in
+    let is = rw c.fault_span-span.ensures at c.in_ok-remark_value.ensures in
     rw c.in_ok-push.ensures.items
-    (Zips-next (λ fault d. IsFaultAt shown.encoding shown.lines.text.now (fault_span place fault) fault d) view c.args.faults.now i _
-    c.loop-fault.values.items _ lt c.loop-fault.invariant is)
+    (Zips-rows (λ fault d. IsRemarkAt shown.encoding shown.lines.text.now (fault_span place fault.span) fault d) remark_row view faults i fault
+    c.loop-fault.values.items _ lt at c.loop-fault.invariant is)

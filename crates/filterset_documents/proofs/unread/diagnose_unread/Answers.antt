@@ -1,11 +1,13 @@
 use Rattle.std.proofs.Common.{rules, arith, ◌≡◌, ◌<◌, List, length, get_or, map, subst, sym}
+use Rattle.std.specs.Prelude.{unwrap_or}
 use Rattle.std.proofs.lemmas.List.{take_all}
 use Rattle.serde_json.specs.View.{view}
 use Rattle.filterset_entries.specs.Checked.{text_row}
 use Rattle.filterset_entries.specs.Unread.{AreUnreadRemarks}
 use Rattle.filterset_drawing.specs.Remarks.{remark_row}
 use Rattle.filterset_drawing.specs.declared.remark.Remark.{Remark}
-use Rattle.filterset_documents.specs.Diagnostics.{IsUnreadWarning}
+use Rattle.filterset_faults.specs.Span.{span}
+use Rattle.filterset_documents.specs.Diagnostics.{IsRemarkAt}
 use Rattle.filterset_documents.proofs.JoinLemmas.{Zips-rows}
 use Rattle.filterset_documents.proofs.unread.diagnose_unread.Goals as goal
 
@@ -25,5 +27,5 @@ loop-remark-preserved c =
     let lt : i < length remarks = omega (arith, c.loop-remark-test.true) in
     let at : get_or remarks i remark ≡ remark = search (rules, c.remark-item.is) in
     rw c.in_ok-push.ensures.items
-    (Zips-rows (IsUnreadWarning shown.encoding shown.lines.text.now) remark_row view remarks i remark c.loop-remark.values.items _
+    (Zips-rows (λ r d. IsRemarkAt shown.encoding shown.lines.text.now (unwrap_or r.span (span 0 0)) r d) remark_row view remarks i remark c.loop-remark.values.items _
     lt at c.loop-remark.invariant c.in_ok-unread_warning.ensures)
