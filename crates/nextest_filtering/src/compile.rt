@@ -4,16 +4,14 @@ ghost use Rattle.nextest_filtering.specs.Bans.{IsAllowed};
 ghost use Rattle.nextest_filtering.specs.Checks.{AddsUnmatched, AllChecked};
 ghost use Rattle.nextest_filtering.specs.Compiling.{packages_of, IsRejectionOf};
 ghost use Rattle.filterset_expression.specs.Expression.{formula};
-ghost use Rattle.filterset_expression.specs.Formula.{Negation, Compound};
-ghost use Rattle.filterset_expression.specs.Meaning.{IsCompiled};
-ghost use Rattle.filterset_expression.specs.declared.logic.Connective.TheVariants.{Conjunction};
+ghost use Rattle.filterset_expression.specs.Meaning.{IsCompiled, joined};
 ghost use Rattle.filterset_grammar.specs.Tree.{tree_leaves, Set};
 ghost use Rattle.filterset_language.specs.Views.{leaf_of, tree_of};
 
 use filterset_expression::nodes::{combine, negate};
 use filterset_expression::{CompiledExpr, Connective};
 use filterset_faults::{FiltersetKind, ParseSingleError};
-use filterset_language::{ParseStop, ParsedExpr, ParsedLeaf};
+use filterset_language::{Joiner, ParseStop, ParsedExpr, ParsedLeaf, ParsedNode};
 use std::alloc::{AllocError, Global};
 
 mod bans;
@@ -73,50 +71,23 @@ fn compile_expr(
     ensures unmatched { OnOk result (AddsUnmatched (packages_of cx.now) known_groups.now
         (tree_leaves (tree_of expr.now)) faults.old.items faults.new.items) }
 {
-    match expr {
-        ParsedExpr::Not(_, operand) => {
-            negate(
-                alloc,
-                compile_expr(alloc, cx, known_groups, operand, faults)?,
-            )
+    match expr.node() {
+        ParsedNode::Not(_, operand) => {
+            let operand = compile_expr(alloc, cx, known_groups, operand, faults)?;
+            negate(alloc, operand)
         }
-        ParsedExpr::Union(_, left, right) => {
+        ParsedNode::Union(_, left, right) => {
             let left = compile_expr(alloc, cx, known_groups, left, faults)?;
-            combine(
-                alloc,
-                Connective::Disjunction,
-                left,
-                compile_expr(alloc, cx, known_groups, right, faults)?,
-            )
+            let right = compile_expr(alloc, cx, known_groups, right, faults)?;
+            combine(alloc, Connective::Disjunction, left, right)
         }
-        ParsedExpr::Intersection(_, left, right) => {
+        ParsedNode::Join(joiner, left, right) => {
             let left = compile_expr(alloc, cx, known_groups, left, faults)?;
-            combine(
-                alloc,
-                Connective::Conjunction,
-                left,
-                compile_expr(alloc, cx, known_groups, right, faults)?,
-            )
+            let right = compile_expr(alloc, cx, known_groups, right, faults)?;
+            join(alloc, joiner, left, right)
         }
-        ParsedExpr::Difference(_, left, right) => {
-            let left = compile_expr(alloc, cx, known_groups, left, faults)?;
-            subtract(
-                alloc,
-                left,
-                compile_expr(alloc, cx, known_groups, right, faults)?,
-            )
-        }
-        ParsedExpr::SymmetricDifference(_, left, right) => {
-            let left = compile_expr(alloc, cx, known_groups, left, faults)?;
-            combine(
-                alloc,
-                Connective::ExclusiveDisjunction,
-                left,
-                compile_expr(alloc, cx, known_groups, right, faults)?,
-            )
-        }
-        ParsedExpr::Parens(inner) => compile_expr(alloc, cx, known_groups, inner, faults),
-        ParsedExpr::Set(leaf) => compile_set(alloc, cx, known_groups, leaf, faults),
+        ParsedNode::Parens(inner) => compile_expr(alloc, cx, known_groups, inner, faults),
+        ParsedNode::Set(leaf) => compile_set(alloc, cx, known_groups, leaf, faults),
     }
 }
 
@@ -137,14 +108,18 @@ fn compile_set(
     Ok(Box::new(alloc, CompiledExpr::Set(set))?)
 }
 
-/// Returns the tests that are in the first set and not in the second.
-fn subtract(
+/// Joins two expressions by an operator of the level of `and`.
+fn join(
     alloc: Global,
+    joiner: Joiner,
     left: Box<CompiledExpr>,
     right: Box<CompiledExpr>,
 ) -> Result<Box<CompiledExpr>, AllocError>
-    ensures { IfOk result (λ made.
-        formula made.value ≡ Compound Conjunction (formula left.value) (Negation (formula right.value))) }
+    ensures { IfOk result (λ made. formula made.value ≡ joined joiner (formula left.value) (formula right.value)) }
 {
-    combine(alloc, Connective::Conjunction, left, negate(alloc, right)?)
+    match joiner {
+        Joiner::Both(_) => combine(alloc, Connective::Conjunction, left, right),
+        Joiner::Without(_) => combine(alloc, Connective::Conjunction, left, negate(alloc, right)?),
+        Joiner::ExactlyOne(_) => combine(alloc, Connective::ExclusiveDisjunction, left, right),
+    }
 }
