@@ -1,7 +1,12 @@
 -- What the texts of a question are as filtersets.
-use Rattle.std.proofs.Common.{◌≡◌, List, [], ◌∷◌, arith, filter, get_or, length, map, subst}
+use Rattle.std.proofs.Common.{◌≡◌, List, [], ◌∷◌, arith, filter, get_or, length, map, subst, sym}
 use Rattle.std.specs.List.{AllZip}
-use Rattle.filterset_expression.specs.Meaning.{IsCompiled}
+use Rattle.filterset_expression.specs.Expression.{formula}
+use Rattle.filterset_expression.specs.Formula.{SameShape}
+use Rattle.filterset_expression.specs.Meaning.{IsCompiled, IsCompiledLeaf, tree_formula}
+use Rattle.filterset_expression.specs.declared.expression.CompiledExpr.{CompiledExpr}
+use Rattle.filterset_faults.specs.declared.span.SourceSpan.{SourceSpan}
+use Rattle.filterset_grammar.specs.Tree.{Tree}
 use Rattle.filterset_graph.specs.declared.package.PackageMetadata.{PackageMetadata}
 use Rattle.filterset_language.specs.Views.{tree_of}
 use Rattle.filterset_listing.specs.declared.groups.GroupOverride.{GroupOverride}
@@ -41,6 +46,20 @@ compiled_trees packages groups [] (f ∷ filters) are = absurd are
 compiled_trees packages groups (row ∷ rows) [] are = absurd are
 compiled_trees packages groups (row ∷ rows) (f ∷ filters) (is, are) =
     (is.compiled, compiled_trees packages groups rows filters are)
+
+-- expressions with the same formulas are compiled from the same trees
+pub compiled_alike : (packages : List PackageMetadata) (trees : List (Tree SourceSpan)) (xs ys : List CompiledExpr) → map formula ys ≡ map formula xs
+    → AllZip (IsCompiled packages) trees xs → AllZip (IsCompiled packages) trees ys
+compiled_alike packages [] [] [] same are = tt
+compiled_alike packages [] [] (y ∷ ys) same are = absurd (let e : formula y ∷ map formula ys ≡ [] = same in cc)
+compiled_alike packages [] (x ∷ xs) ys same are = absurd are
+compiled_alike packages (e ∷ trees) [] ys same are = absurd are
+compiled_alike packages (e ∷ trees) (x ∷ xs) [] same are = absurd (let bad : [] ≡ formula x ∷ map formula xs = same in cc)
+compiled_alike packages (e ∷ trees) (x ∷ xs) (y ∷ ys) same (is, are) =
+    let all : formula y ∷ map formula ys ≡ formula x ∷ map formula xs = same in
+    let one : formula x ≡ formula y = cc in
+    let others : map formula ys ≡ map formula xs = cc in
+    (subst (SameShape (IsCompiledLeaf packages) (tree_formula e)) one is, compiled_alike packages trees xs ys others are)
 
 -- the filterset of one text
 pub one_of : (packages : List PackageMetadata) (groups : KnownGroups) (row : TextRow) (filters : List Filterset) (f : Filterset)

@@ -1,5 +1,5 @@
 -- What `list` and `compare` write, and what a question is answered.
-use Rattle.std.specs.Prelude.{◌≡◌, List, [], ◌∷◌, Bool, Option, Some, None}
+use Rattle.std.specs.Prelude.{◌≡◌, List, [], ◌∷◌, Bool, true, Option, Some, None}
 use Rattle.std.specs.List.{AllZip, list_any}
 use Rattle.serde_json.specs.Data.{Data}
 use Rattle.filterset_drawing.specs.Columns.{Text}
@@ -33,15 +33,17 @@ compiled_of filterset = filterset.compiled
 abbrev pub parsed_of : Filterset → Tree SourceSpan
 parsed_of filterset = tree_of filterset.parsed
 
--- what is picked is written for people, or in the shape of the list, where that is kept
-abbrev pub WritesList : Option Data → List BinaryPicks → Text → Type 0
-WritesList None all text = text ≡ list_text all
-WritesList (Some list) all text = IsListJson all list text
+-- what is picked is written for people, or in the shape of the list, where that is kept, beside what is picked without the
+-- default filter
+abbrev pub WritesList : Option Data → (List BinaryPicks → Type 0) → List BinaryPicks → Text → Type 0
+WritesList None AreBeyond all text = text ≡ list_text all
+WritesList (Some list) AreBeyond all text = (beyond : List BinaryPicks) × AreBeyond beyond × IsListJson all beyond list text
 
 -- the answer is the tests that a runner runs
 abbrev pub Lists : (setting : Setting) → Bool → Option Data → List AskedBinary → Telling setting
 Lists setting ignores_default kept binaries basis trees ending text = (all : List BinaryPicks)
-    × ArePicks setting ignores_default binaries basis trees all × WritesList kept all text
+    × ArePicks setting ignores_default binaries basis trees all
+    × WritesList kept (ArePicks setting true binaries basis trees) all text
     × (ending ≡ unknown_ending (list_any has_unknown all))
 
 -- the answer is how two trees differ, and ends by whether they may differ on one of the binaries, and a test is unknown

@@ -19,7 +19,7 @@ ghost use Rattle.filterset_entries.specs.declared.setting.Setting as settings;
 
 use crate::compiling::{CompiledTexts, QuestionFiltersets, compile_texts};
 use crate::grouping::asked_overrides;
-use crate::picks::picks_of;
+use crate::picks::{expressions_of, picks_of};
 use filterset_entries::{Answer, Ending, Form, Setting, unknown_ending};
 use filterset_listing::{
     AskedBinary, BinaryPicks, Candidate, GroupOverride, explain, explain_text, lists_unknown,
@@ -108,7 +108,8 @@ pub fn answer_overrides(
         → AllZip (IsAskedFor setting) setting.overrides.now asked.now
         → CountsOverrides setting binaries.now basis trees answer.ending (string_bytes answer.text)) }
 {
-    let all = picks_of(alloc, filters, true, context, groups, binaries)?;
+    let exprs = expressions_of(alloc, filters)?;
+    let all = picks_of(alloc, exprs, true, context, groups, binaries)?;
     let all = all.as_slice();
     let listed = listed_binaries(alloc, all)?;
     let table = count_overrides(alloc, asked, context, listed.as_slice())?;

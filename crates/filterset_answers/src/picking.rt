@@ -11,37 +11,23 @@ ghost use Rattle.filterset_grammar.specs.Tree.{Tree};
 ghost use Rattle.nextest_filtering.specs.Groups.{IsKnown};
 ghost use Rattle.filterset_answers.specs.Compiled.{AreFiltersets, Basis, IsTreeOf};
 ghost use Rattle.filterset_entries.specs.Entries.{question_rows};
-ghost use Rattle.filterset_answers.specs.Picking.{AnswersQuestion, Compares, Lists, Tells, WritesList, compiled_of, parsed_of};
+ghost use Rattle.filterset_answers.specs.Picking.{AnswersQuestion, Compares, Lists, Tells, compiled_of, parsed_of};
 ghost use Rattle.filterset_entries.specs.declared.setting.Setting as settings;
 
 use crate::compiling::{CompiledTexts, QuestionFiltersets, compile_texts};
 use crate::grouping::{asked_overrides, group_overrides};
 use crate::overriding::answer_overrides;
-use crate::picks::picks_of;
+use crate::picks::{copy_expressions, expressions_of, picks_of};
 use filterset_entries::{
     Answer, Ending, Form, Question, Setting, differing_ending, question_entries, unknown_ending,
 };
 use filterset_listing::{
-    AskedBinary, BinaryPicks, GroupOverride, any_unknown, compare, comparison_text, differ,
-    list_json, list_text, lists_unknown,
+    AskedBinary, GroupOverride, any_unknown, compare, comparison_text, differ, list_json,
+    list_text, lists_unknown,
 };
 use nextest_filtering::{EvalContext, Filterset};
 use serde_json::Value;
 use std::alloc::{AllocError, Global};
-
-/// Writes the picks: in the shape of nextest's list if that is kept, and otherwise for people.
-fn picks_text(
-    alloc: Global,
-    kept: Option<Value>,
-    all: &[BinaryPicks<'_, '_>],
-) -> Result<String, AllocError>
-    ensures { IfOk result (λ text. WritesList (option_map view kept) all.now (string_bytes text)) }
-{
-    match kept {
-        Some(value) => list_json(alloc, value, all),
-        None => list_text(alloc, all),
-    }
-}
 
 /// Answers which tests a runner runs, given these filtersets and overrides.
 fn answer_list(
@@ -60,17 +46,23 @@ fn answer_list(
         → Lists setting ignores_default (option_map view kept) binaries.now basis trees
         answer.ending (string_bytes answer.text)) }
 {
-    let all = picks_of(
-        alloc,
-        filters,
-        ignores_default,
-        context,
-        overrides,
-        binaries,
-    )?;
+    let Some(list) = kept else {
+        let exprs = expressions_of(alloc, filters)?;
+        let all = picks_of(alloc, exprs, ignores_default, context, overrides, binaries)?;
+        let all = all.as_slice();
+        return Ok(Answer {
+            text: list_text(alloc, all)?,
+            ending: unknown_ending(lists_unknown(all)),
+        });
+    };
+    let copies = copy_expressions(alloc, filters.as_slice())?;
+    let beyond = picks_of(alloc, copies, true, context, overrides, binaries)?;
+    let exprs = expressions_of(alloc, filters)?;
+    let all = picks_of(alloc, exprs, ignores_default, context, overrides, binaries)?;
+    let all = all.as_slice();
     Ok(Answer {
-        text: picks_text(alloc, kept, all.as_slice())?,
-        ending: unknown_ending(lists_unknown(all.as_slice())),
+        text: list_json(alloc, list, all, beyond.as_slice())?,
+        ending: unknown_ending(lists_unknown(all)),
     })
 }
 

@@ -2,7 +2,7 @@
 ghost use Rattle.std.specs.Prelude.{◌≡◌, IfOk, List, false, map};
 ghost use Rattle.std.specs.List.{AllZip};
 ghost use Rattle.filterset_expression.specs.Contexts.{default_of};
-ghost use Rattle.filterset_expression.specs.Expression.{has_leaf, is_default};
+ghost use Rattle.filterset_expression.specs.Expression.{formula, has_leaf, is_default};
 ghost use Rattle.filterset_expression.specs.Meaning.{IsCompiled};
 ghost use Rattle.filterset_faults.specs.declared.span.SourceSpan.{SourceSpan};
 ghost use Rattle.filterset_grammar.specs.Tree.{Tree};
@@ -16,7 +16,7 @@ use nextest_filtering::{CompiledExpr, EvalContext, Filterset};
 use std::alloc::{AllocError, Global};
 
 /// Takes the compiled expressions of filtersets.
-fn expressions_of(
+pub fn expressions_of(
     alloc: Global,
     filtersets: Vec<Filterset>,
 ) -> Result<Vec<CompiledExpr>, AllocError>
@@ -29,10 +29,24 @@ fn expressions_of(
     Ok(exprs)
 }
 
+/// Copies the compiled expressions of filtersets.
+pub fn copy_expressions(
+    alloc: Global,
+    filtersets: &[Filterset],
+) -> Result<Vec<CompiledExpr>, AllocError>
+    ensures { IfOk result (λ exprs. map formula exprs.items ≡ map formula (map compiled_of filtersets.now)) }
+{
+    let mut exprs = Vec::with_capacity(alloc, filtersets.len())?;
+    for filterset in filtersets {
+        exprs.push(filterset.compiled.try_clone(alloc)?)?;
+    }
+    Ok(exprs)
+}
+
 /// Returns the tests of each binary that a runner runs, given these filtersets and overrides.
 pub fn picks_of<'s, 'g>(
     alloc: Global,
-    filters: Vec<Filterset>,
+    exprs: Vec<CompiledExpr>,
     ignores_default: bool,
     context: &EvalContext<'_>,
     overrides: &[GroupOverride<'g>],
@@ -41,10 +55,9 @@ pub fn picks_of<'s, 'g>(
     ensures { IfOk result (λ all. (setting : settings.Setting) (basis : Basis setting) (trees : List (Tree SourceSpan))
         → basis.default ≡ default_of context.now → basis.overrides ≡ overrides.now
         → has_leaf is_default basis.default ≡ false
-        → AllZip (IsCompiled setting.graph.now) trees (map compiled_of filters.items)
+        → AllZip (IsCompiled setting.graph.now) trees exprs.items
         → ArePicks setting ignores_default binaries.now basis trees all.items) }
 {
-    let exprs = expressions_of(alloc, filters)?;
     let selection = selection_of(alloc, exprs, ignores_default)?;
     list(alloc, &selection, context, overrides, binaries)
 }

@@ -9,10 +9,11 @@ use Rattle.std.specs.Borrow.{Bor}
 use Rattle.std.specs.Str.{bytes_eq}
 use Rattle.filterset_graph.specs.declared.binary.TestCaseName.{TestCaseName}
 use Rattle.filterset_listing.specs.Asking.{Text}
-use Rattle.filterset_listing.specs.ListJson.{AreAnswers, IsCompactJson, IsMarked, MarksEach, MarksObject, MarksSuite, MarksTest, MarksUnder, an_object, answer_in, next_member, no_member, no_object}
-use Rattle.filterset_listing.specs.declared.groups.TestAnswer.{TestAnswer}
+use Rattle.filterset_listing.specs.ListJson.{AreAnswers, IsCompactJson, IsKnown, IsMarked, MarksEach, MarksObject, MarksSuite, MarksTest, MarksUnder, an_object, answer_in, next_member, no_member, no_object}
 use Rattle.filterset_listing.specs.declared.groups.TestAnswer.TheVariants.{Known, Unknown}
 use Rattle.filterset_listing.specs.declared.listing.UnknownTest.{UnknownTest}
+use Rattle.filterset_listing.specs.declared.listing.json.TestMark.{TestMark}
+use Rattle.filterset_listing.specs.declared.listing.json.TestMark.TheVariants.{Asked, Beyond, Uncounted}
 use Rattle.filterset_listing.proofs.ListingLemmas.{one_more}
 use Rattle.std.proofs.lemmas.Cmp.{nat_list_cmp_total}
 use Rattle.std.specs.BTreeMap.{get_by, insert_entry}
@@ -93,76 +94,115 @@ put_in false answer known other = refl
 contains_none : {X : Type 0} (x : X) → ¬ Contains [] x
 contains_none x there = absurd (omega (arith, there.1))
 
+-- the first of a list, if it has one
+pub first_none : {A : Type 0} (all : List A) → length all < 1 → take 1 all ≡ []
+first_none [] short = refl
+first_none (x ∷ all) short = absurd (omega (arith, short))
+
+pub first_one : {A : Type 0} (all : List A) (x : A) → 1 ≤ length all → x ≡ get_or all 0 x → take 1 all ≡ x ∷ []
+first_one [] x long is = absurd (omega (arith, long))
+first_one (y ∷ all) x long is = ap (λ z. z ∷ []) (sym is)
+
 passed : {X : Type 0} (xs : List X) (y x : X) → ¬ Contains xs x → (y ≡ x → ⊥) → ¬ Contains (xs ++ y ∷ []) x
 passed xs y x none apart there = elim (Contains-push_cases xs y x there) [ inl before ↦ none before | inr last ↦ apart last ]
 
+-- no test is named yet
+pub no_answers : (answers : BTreeMap (Bor Text) TestMark) → answers.entries ≡ [] → AreAnswers [] [] [] [] answers
+no_answers answers empty name = rw empty ((contains_none name, λ path. contains_none (name, path)), contains_none name, contains_none name)
+
+-- what is not decided to be does not hold
+apart : {P : Type 0} → Decides false P → P → ⊥
+apart decides is = let e : false ≡ true = decides.1 is in cc
+
+-- a test that is not the added one is as known as before
+known_after : (unknown : List (Text × Text)) (added name path : Text) → Decides false (added ≡ name) → IsKnown [] unknown name
+    → IsKnown [] (unknown ++ (added, path) ∷ []) name
+known_after unknown added name path decides is =
+    (is.0, λ other. passed unknown (added, path) (name, other) (is.1 other) (λ last. apart decides (ap (λ (t : Text × Text). t.0) last)))
+
+-- one more test is picked without the default filter
+beyond_more : (beyond : List Text) (added name : Text) (same : Bool) (mark : TestMark) → Decides same (added ≡ name) → IsMarked [] beyond [] [] name mark
+    → IsMarked [] (beyond ++ added ∷ []) [] [] name (cond same Beyond mark)
+beyond_more beyond added name true mark decides is =
+    ((contains_none name, λ path. contains_none (name, path)), contains_none name, subst (Contains (beyond ++ added ∷ [])) (decides.0 refl) (Contains-push beyond added))
+beyond_more beyond added name false Uncounted decides is = is
+beyond_more beyond added name false Beyond decides is = (is.0, is.1, Contains-append_left beyond (added ∷ []) name is.2)
+beyond_more beyond added name false (Asked (Unknown path)) decides is = is
+beyond_more beyond added name false (Asked (Known true)) decides is = is
+beyond_more beyond added name false (Asked (Known false)) decides is = (is.0, is.1, passed beyond added name is.2 (apart decides))
+
 -- one more test is picked
-picked_more : (picked : List Text) (added name : Text) (same : Bool) (answer : Option TestAnswer) → Decides same (added ≡ name) → IsMarked [] picked [] name answer
-    → IsMarked [] (picked ++ added ∷ []) [] name (cond same (Some (Known true)) answer)
-picked_more picked added name true answer decides is =
-    (contains_none name, (λ path. contains_none (name, path)), (λ yes. subst (Contains (picked ++ added ∷ [])) (decides.0 refl) (Contains-push picked added), λ there. refl))
-picked_more picked added name false None decides is = is
-picked_more picked added name false (Some (Unknown path)) decides is = is
-picked_more picked added name false (Some (Known answer)) decides is = (
-  is.0,
-  is.1,
-  (
-    λ yes. Contains-append_left picked (added ∷ []) name (is.2.0 yes),
-    λ there. elim (Contains-push_cases picked added name there) [ inl before ↦ is.2.1 before | inr last ↦ (let e : false ≡ true = decides.1 last in cc) ],
-  ),
-)
+picked_more : (beyond picked : List Text) (added name : Text) (same : Bool) (mark : TestMark) → Decides same (added ≡ name) → IsMarked [] beyond picked [] name mark
+    → IsMarked [] beyond (picked ++ added ∷ []) [] name (cond same (Asked (Known true)) mark)
+picked_more beyond picked added name true mark decides is =
+    ((contains_none name, λ path. contains_none (name, path)), subst (Contains (picked ++ added ∷ [])) (decides.0 refl) (Contains-push picked added))
+picked_more beyond picked added name false Uncounted decides is = is
+picked_more beyond picked added name false Beyond decides is = (is.0, passed picked added name is.1 (apart decides), is.2)
+picked_more beyond picked added name false (Asked (Unknown path)) decides is = is
+picked_more beyond picked added name false (Asked (Known true)) decides is = (is.0, Contains-append_left picked (added ∷ []) name is.1)
+picked_more beyond picked added name false (Asked (Known false)) decides is = (is.0, passed picked added name is.1 (apart decides), is.2)
 
 -- one more test is unknown
-unknown_more : (picked : List Text) (unknown : List (Text × Text)) (added name : Text) (path : Bor Text) (same : Bool) (answer : Option TestAnswer) → Decides same (added ≡ name) → IsMarked [] picked unknown name answer
-    → IsMarked [] picked (unknown ++ (added, path.now) ∷ []) name (cond same (Some (Unknown path)) answer)
-unknown_more picked unknown added name path true answer decides is =
+unknown_more : (beyond picked : List Text) (unknown : List (Text × Text)) (added name : Text) (path : Bor Text) (same : Bool) (mark : TestMark) → Decides same (added ≡ name)
+    → IsMarked [] beyond picked unknown name mark → IsMarked [] beyond picked (unknown ++ (added, path.now) ∷ []) name (cond same (Asked (Unknown path)) mark)
+unknown_more beyond picked unknown added name path true mark decides is =
     (contains_none name, subst (λ n. Contains (unknown ++ (added, path.now) ∷ []) (n, path.now)) (decides.0 refl) (Contains-push unknown (added, path.now)))
-unknown_more picked unknown added name path false None decides is = is
-unknown_more picked unknown added name path false (Some (Unknown other)) decides is =
+unknown_more beyond picked unknown added name path false Uncounted decides is = is
+unknown_more beyond picked unknown added name path false Beyond decides is = (known_after unknown added name path.now decides is.0, is.1, is.2)
+unknown_more beyond picked unknown added name path false (Asked (Unknown other)) decides is =
     (is.0, Contains-append_left unknown ((added, path.now) ∷ []) (name, other.now) is.1)
-unknown_more picked unknown added name path false (Some (Known answer)) decides is = (
-  is.0,
-  λ other. passed unknown (added, path.now) (name, other) (is.1 other)
-      (λ last. let e : false ≡ true = decides.1 (ap (λ (t : Text × Text). t.0) last) in cc),
-  is.2,
-)
+unknown_more beyond picked unknown added name path false (Asked (Known true)) decides is = (known_after unknown added name path.now decides is.0, is.1)
+unknown_more beyond picked unknown added name path false (Asked (Known false)) decides is = (known_after unknown added name path.now decides is.0, is.1, is.2)
 
 -- one more test does not count
-uncounted_more : (uncounted picked : List Text) (unknown : List (Text × Text)) (added name : Text) (same : Bool) (answer : Option TestAnswer) → Decides same (added ≡ name) → IsMarked uncounted picked unknown name answer
-    → IsMarked (uncounted ++ added ∷ []) picked unknown name (cond same None answer)
-uncounted_more uncounted picked unknown added name true answer decides is =
+uncounted_more : (uncounted beyond picked : List Text) (unknown : List (Text × Text)) (added name : Text) (same : Bool) (mark : TestMark) → Decides same (added ≡ name)
+    → IsMarked uncounted beyond picked unknown name mark → IsMarked (uncounted ++ added ∷ []) beyond picked unknown name (cond same Uncounted mark)
+uncounted_more uncounted beyond picked unknown added name true mark decides is =
     subst (Contains (uncounted ++ added ∷ [])) (decides.0 refl) (Contains-push uncounted added)
-uncounted_more uncounted picked unknown added name false None decides is = Contains-append_left uncounted (added ∷ []) name is
-uncounted_more uncounted picked unknown added name false (Some (Unknown path)) decides is =
-    (passed uncounted added name is.0 (λ last. let e : false ≡ true = decides.1 last in cc), is.1)
-uncounted_more uncounted picked unknown added name false (Some (Known answer)) decides is =
-    (passed uncounted added name is.0 (λ last. let e : false ≡ true = decides.1 last in cc), is.1, is.2)
+uncounted_more uncounted beyond picked unknown added name false Uncounted decides is = Contains-append_left uncounted (added ∷ []) name is
+uncounted_more uncounted beyond picked unknown added name false Beyond decides is =
+    ((passed uncounted added name is.0.0 (apart decides), is.0.1), is.1, is.2)
+uncounted_more uncounted beyond picked unknown added name false (Asked (Unknown path)) decides is =
+    (passed uncounted added name is.0 (apart decides), is.1)
+uncounted_more uncounted beyond picked unknown added name false (Asked (Known true)) decides is =
+    ((passed uncounted added name is.0.0 (apart decides), is.0.1), is.1)
+uncounted_more uncounted beyond picked unknown added name false (Asked (Known false)) decides is =
+    ((passed uncounted added name is.0.0 (apart decides), is.0.1), is.1, is.2)
 
 -- one more element of a list is put into the map
-module _ (i : ℕ) (key : Text) (answer : Option TestAnswer) (old new : BTreeMap (Bor Text) (Option TestAnswer))
-    (updates : (name : Text) → get_by (λ k. slice_cmp nat_cmp name k.now) new ≡ cond (bytes_eq key name) (Some answer) (get_by (λ k. slice_cmp nat_cmp name k.now) old)) where
-  answer_after : (name : Text) → answer_in new name ≡ cond (bytes_eq key name) answer (answer_in old name)
-  answer_after name = ap (λ found. unwrap_or found (Some (Known false))) (updates name) ∙ put_in (bytes_eq key name) answer _ (Some (Known false))
+module _ (i : ℕ) (key : Text) (mark : TestMark) (old new : BTreeMap (Bor Text) TestMark)
+    (updates : (name : Text) → get_by (λ k. slice_cmp nat_cmp name k.now) new ≡ cond (bytes_eq key name) (Some mark) (get_by (λ k. slice_cmp nat_cmp name k.now) old)) where
+  mark_after : (name : Text) → answer_in new name ≡ cond (bytes_eq key name) mark (answer_in old name)
+  mark_after name = ap (λ found. unwrap_or found (Asked (Known false))) (updates name) ∙ put_in (bytes_eq key name) mark _ (Asked (Known false))
 
   mapped_more : {A X : Type 0} (f : A → X) (xs : List A) (x : A) → i < length xs → get_or xs i x ≡ x → map f (take (i + 1) xs) ≡ map f (take i xs) ++ f x ∷ []
   mapped_more f xs x lt at = ap (map f) (take_more xs i x lt ∙ ap (λ y. take i xs ++ y ∷ []) at) ∙ map-append f (take i xs) (x ∷ [])
 
-  pub picked_one : (tests : List (Bor TestCaseName)) (test : Bor TestCaseName) → i < length tests → get_or tests i test ≡ test → key ≡ test.now → answer ≡ Some (Known true)
-      → AreAnswers [] (map (λ t. t.now) (take i tests)) [] old → AreAnswers [] (map (λ t. t.now) (take (i + 1) tests)) [] new
-  picked_one tests test lt at of is are name =
-      rw (answer_after name, mapped_more (λ (t : Bor TestCaseName). t.now) tests test lt at, of, is) (picked_more _ test.now name (bytes_eq test.now name) _ (bytes_eq-Decides test.now name) (are name))
+  pub beyond_one : (tests : List (Bor TestCaseName)) (test : Bor TestCaseName) → i < length tests → get_or tests i test ≡ test → key ≡ test.now → mark ≡ Beyond
+      → AreAnswers [] (map (λ t. t.now) (take i tests)) [] [] old → AreAnswers [] (map (λ t. t.now) (take (i + 1) tests)) [] [] new
+  beyond_one tests test lt at of is are name =
+      rw (mark_after name, mapped_more (λ (t : Bor TestCaseName). t.now) tests test lt at, of, is) (beyond_more _ test.now name (bytes_eq test.now name) _ (bytes_eq-Decides test.now name) (are name))
 
-  pub unknown_one : (picked : List Text) (tests : List UnknownTest) (test : UnknownTest) → i < length tests → get_or tests i test ≡ test → key ≡ test.test.now → answer ≡ Some (Unknown test.path)
-      → AreAnswers [] picked (map (λ (u : UnknownTest). (u.test.now, u.path.now)) (take i tests)) old
-      → AreAnswers [] picked (map (λ (u : UnknownTest). (u.test.now, u.path.now)) (take (i + 1) tests)) new
-  unknown_one picked tests test lt at of is are name =
-      rw (answer_after name, mapped_more {X = Text × Text} (λ (u : UnknownTest). (u.test.now, u.path.now)) tests test lt at, of, is)
-      (unknown_more picked _ test.test.now name test.path (bytes_eq test.test.now name) _ (bytes_eq-Decides test.test.now name) (are name))
+  pub picked_one : (beyond : List Text) (tests : List (Bor TestCaseName)) (test : Bor TestCaseName) → i < length tests → get_or tests i test ≡ test → key ≡ test.now
+      → mark ≡ Asked (Known true) → AreAnswers [] beyond (map (λ t. t.now) (take i tests)) [] old
+      → AreAnswers [] beyond (map (λ t. t.now) (take (i + 1) tests)) [] new
+  picked_one beyond tests test lt at of is are name =
+      rw (mark_after name, mapped_more (λ (t : Bor TestCaseName). t.now) tests test lt at, of, is)
+      (picked_more beyond _ test.now name (bytes_eq test.now name) _ (bytes_eq-Decides test.now name) (are name))
 
-  pub uncounted_one : (picked : List Text) (unknown : List (Text × Text)) (tests : List Text) (test : Text) → i < length tests → get_or tests i test ≡ test → key ≡ test → answer ≡ None
-      → AreAnswers (take i tests) picked unknown old → AreAnswers (take (i + 1) tests) picked unknown new
-  uncounted_one picked unknown tests test lt at of is are name =
-      rw (answer_after name, one_more tests i test lt at, of, is) (uncounted_more _ picked unknown test name (bytes_eq test name) _ (bytes_eq-Decides test name) (are name))
+  pub unknown_one : (beyond picked : List Text) (tests : List UnknownTest) (test : UnknownTest) → i < length tests → get_or tests i test ≡ test → key ≡ test.test.now
+      → mark ≡ Asked (Unknown test.path)
+      → AreAnswers [] beyond picked (map (λ (u : UnknownTest). (u.test.now, u.path.now)) (take i tests)) old
+      → AreAnswers [] beyond picked (map (λ (u : UnknownTest). (u.test.now, u.path.now)) (take (i + 1) tests)) new
+  unknown_one beyond picked tests test lt at of is are name =
+      rw (mark_after name, mapped_more {X = Text × Text} (λ (u : UnknownTest). (u.test.now, u.path.now)) tests test lt at, of, is)
+      (unknown_more beyond picked _ test.test.now name test.path (bytes_eq test.test.now name) _ (bytes_eq-Decides test.test.now name) (are name))
+
+  pub uncounted_one : (beyond picked : List Text) (unknown : List (Text × Text)) (tests : List Text) (test : Text) → i < length tests → get_or tests i test ≡ test → key ≡ test
+      → mark ≡ Uncounted → AreAnswers (take i tests) beyond picked unknown old → AreAnswers (take (i + 1) tests) beyond picked unknown new
+  uncounted_one beyond picked unknown tests test lt at of is are name =
+      rw (mark_after name, one_more tests i test lt at, of, is)
+      (uncounted_more _ beyond picked unknown test name (bytes_eq test name) _ (bytes_eq-Decides test name) (are name))
 
 -- ---- changes
 
@@ -176,11 +216,11 @@ weaker_object : {One Other : Members → Members → Type 0} → ((before after 
 weaker_object weaker (an_object is) = an_object (weaker _ _ is)
 weaker_object weaker (no_object none) = no_object none
 
--- a suite is marked by the answers about its tests
-pub suite_marked : (uncounted picked : List Text) (unknown : List (Text × Text)) (answers : BTreeMap (Bor Text) (Option TestAnswer)) → AreAnswers uncounted picked unknown answers → {before after : Data}
+-- a suite is marked by what is said of its tests
+pub suite_marked : (Says : Text → TestMark → Type 0) (answers : BTreeMap (Bor Text) TestMark) → ((name : Text) → Says name (answer_in answers name)) → {before after : Data}
     → MarksObject (MarksEach (MarksUnder (codes "testcases") (MarksObject (MarksEach (λ name. MarksTest (answer_in answers name)))))) before after
-    → MarksSuite uncounted picked unknown before after
-suite_marked uncounted picked unknown answers are = weaker_object (λ _ _. weaker_each (λ name before after m.
+    → MarksSuite Says before after
+suite_marked Says answers are = weaker_object (λ _ _. weaker_each (λ name before after m.
     ((λ is. weaker_object (λ _ _. weaker_each (λ test _ _ marks. (answer_in answers test, are test, marks))) (m.0 is)), m.1)))
 
 -- what stands under a name that is the key, or another one

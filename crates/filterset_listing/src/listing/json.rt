@@ -1,5 +1,5 @@
 //! The tests of a list that a filterset picks, in the shape in which nextest wrote the list.
-ghost use Rattle.std.specs.Prelude.{◌≡◌, IfErr, IfOk, None, OnOk, drop, string_bytes, take};
+ghost use Rattle.std.specs.Prelude.{◌≡◌, [], IfErr, IfOk, List, None, OnOk, drop, string_bytes, take};
 ghost use Rattle.std.specs.BTreeMap.{insert_entry};
 ghost use Rattle.std.specs.List.{flat_map};
 ghost use Rattle.std.specs.String.{string_cmp};
@@ -7,7 +7,7 @@ ghost use Rattle.serde_json.specs.Data.{Data, object};
 ghost use Rattle.serde_json.specs.Find.{as_object};
 ghost use Rattle.serde_json.specs.View.{members_view, view};
 ghost use Rattle.filterset_listing.specs.Asking.{Text};
-ghost use Rattle.filterset_listing.specs.ListJson.{AreAnswers, IsListJson, MarksEach, MarksObject, MarksSuites, match_data};
+ghost use Rattle.filterset_listing.specs.ListJson.{AreAnswers, IsListJson, IsSaid, MarksEach, MarksObject, MarksSuites, answer_in, match_data};
 ghost use Rattle.filterset_listing.specs.Listing.{tests_of, uncounted_of, unknown_of};
 
 use crate::groups::TestAnswer;
@@ -65,62 +65,92 @@ fn mark_each<M: Mark>(alloc: Global, value: Value, mark: &M) -> Result<Value, Al
     Ok(Value::Object(marked))
 }
 
-/// Returns what nextest writes of a test by the answer about it, or of one that does not count.
-fn match_value(alloc: Global, answer: Option<TestAnswer<'_>>) -> Result<Value, AllocError>
-    ensures { IfOk result (λ value. view value ≡ match_data answer.entry) }
-{
-    match answer {
-        None => json!(in alloc; {"reason": "ignored", "status": "mismatch"}),
-        Some(TestAnswer::Known(true)) => json!(in alloc; {"status": "matches"}),
-        Some(TestAnswer::Known(false)) => {
-            json!(in alloc; {"reason": "expression", "status": "mismatch"})
-        }
-        Some(TestAnswer::Unknown(path)) => {
-            let reason = format!(in alloc; "platform of {path}")?;
-            json!(in alloc; {"reason": reason, "status": "unknown"})
-        }
-    }
+/// What is said of a test.
+#[derive(Clone, Copy, Debug)]
+pub enum TestMark<'g> {
+    /// It does not count.
+    Uncounted,
+    /// Only the default filter leaves it out.
+    Beyond,
+    Asked(TestAnswer<'g>),
 }
 
-/// The answers about the tests of a binary by their names, where `None` is a test that does not count. A test that has no
-/// answer is not picked.
-#[derive(Drop)]
-struct Answers<'s, 'g>(BTreeMap<&'s str, Option<TestAnswer<'g>>>);
+/// Returns what nextest writes of a test.
+fn match_value(alloc: Global, mark: TestMark<'_>) -> Result<Value, AllocError>
+    ensures { IfOk result (λ value. view value ≡ match_data mark.entry) }
+{
+    let reason = match mark {
+        TestMark::Uncounted => "ignored",
+        TestMark::Beyond => "default-filter",
+        TestMark::Asked(TestAnswer::Known(false)) => "expression",
+        TestMark::Asked(TestAnswer::Known(true)) => {
+            return json!(in alloc; {"status": "matches"});
+        }
+        TestMark::Asked(TestAnswer::Unknown(path)) => {
+            let reason = format!(in alloc; "platform of {path}")?;
+            return json!(in alloc; {"reason": reason, "status": "unknown"});
+        }
+    };
+    json!(in alloc; {"reason": reason, "status": "mismatch"})
+}
 
-/// Returns the answers about the tests of a binary.
-fn answers_of<'s, 'g>(
+/// What is said of the tests of a binary, by their names. A test that is not named is not picked.
+#[derive(Drop)]
+struct Answers<'s, 'g>(BTreeMap<&'s str, TestMark<'g>>);
+
+/// Returns what is said of the tests of the first binary of these picks, if the default filter leaves them all out.
+fn beyond_answers<'s, 'g>(
     alloc: Global,
-    picks: &BinaryPicks<'s, 'g>,
+    beyond: &[BinaryPicks<'s, 'g>],
 ) -> Result<Answers<'s, 'g>, AllocError>
-    ensures { IfOk result (λ answers.
-        AreAnswers (uncounted_of picks.now) (tests_of picks.now) (unknown_of picks.now) answers.0) }
+    ensures { IfOk result (λ answers. AreAnswers [] (flat_map tests_of (take 1 beyond.now)) [] [] answers.0) }
 {
     let mut answers = BTreeMap::new(alloc);
-    for picked in &picks.tests {
-        answers.insert(picked.as_str(), Some(TestAnswer::Known(true)))?;
-    }
-    for unknown in &picks.unknown {
-        let answer = TestAnswer::Unknown(unknown.path);
-        answers.insert(unknown.test.as_str(), Some(answer))?;
-    }
-    for uncounted in picks.binary.uncounted {
-        answers.insert(uncounted.as_str(), None)?;
+    let [picks, ..] = beyond else {
+        return Ok(Answers(answers));
+    };
+    for test in &picks.tests {
+        answers.insert(test.as_str(), TestMark::Beyond)?;
     }
     Ok(Answers(answers))
 }
 
-/// Returns the answers about the tests of the first binary, or none without binaries.
+impl<'s, 'g> Answers<'s, 'g> {
+    /// Puts in what is known of the tests of a binary.
+    fn put(&mut self, picks: &BinaryPicks<'s, 'g>) -> Result<(), AllocError>
+        ensures { OnOk result ((beyond : List Text) → AreAnswers [] beyond [] [] self.old.0
+            → AreAnswers (uncounted_of picks.now) beyond (tests_of picks.now) (unknown_of picks.now) self.new.0) }
+    {
+        for picked in &picks.tests {
+            let mark = TestMark::Asked(TestAnswer::Known(true));
+            self.0.insert(picked.as_str(), mark)?;
+        }
+        for unknown in &picks.unknown {
+            let mark = TestMark::Asked(TestAnswer::Unknown(unknown.path));
+            self.0.insert(unknown.test.as_str(), mark)?;
+        }
+        for uncounted in picks.binary.uncounted {
+            self.0.insert(uncounted.as_str(), TestMark::Uncounted)?;
+        }
+        Ok(())
+    }
+}
+
+/// Returns what is said of the tests of the first binary.
 fn first_answers<'s, 'g>(
     alloc: Global,
     all: &[BinaryPicks<'s, 'g>],
+    beyond: &[BinaryPicks<'s, 'g>],
 ) -> Result<Answers<'s, 'g>, AllocError>
-    ensures { IfOk result (λ answers. let first = take 1 all.now in
-        AreAnswers (flat_map uncounted_of first) (flat_map tests_of first) (flat_map unknown_of first) answers.0) }
+    ensures { IfOk result (λ answers.
+        (name : Text) → IsSaid (take 1 all.now) (take 1 beyond.now) name (answer_in answers.0 name)) }
 {
-    match all {
-        [] => Ok(Answers(BTreeMap::new(alloc))),
-        [picks, ..] => answers_of(alloc, picks),
-    }
+    let mut answers = beyond_answers(alloc, beyond)?;
+    let [picks, ..] = all else {
+        return Ok(answers);
+    };
+    answers.put(picks)?;
+    Ok(answers)
 }
 
 /// Marks a test by the answer about it.
@@ -132,10 +162,10 @@ impl Mark for Answers<'_, '_> {
     fn mark(&self, alloc: Global, name: &str, test: Value) -> Result<Value, AllocError> {
         match members_of(test) {
             Ok(mut members) => {
-                let answer = self.0.get(name).copied();
-                let answer = answer.unwrap_or(Some(TestAnswer::Known(false)));
+                let mark = self.0.get(name).copied();
+                let mark = mark.unwrap_or(TestMark::Asked(TestAnswer::Known(false)));
                 let key = String::from_str(alloc, "filter-match")?;
-                put_in(&mut members, key, match_value(alloc, answer)?)?;
+                put_in(&mut members, key, match_value(alloc, mark)?)?;
                 Ok(Value::Object(members))
             }
             Err(other) => Ok(other),
@@ -176,12 +206,13 @@ fn other_picks<'p, 's, 'g>(all: &'p [BinaryPicks<'s, 'g>]) -> &'p [BinaryPicks<'
 }
 
 /// Marks the tests of suites, where the first picks are those of the first suite.
-fn mark_suites(
+fn mark_suites<'s, 'g>(
     alloc: Global,
     suites: Value,
-    all: &[BinaryPicks<'_, '_>],
+    all: &[BinaryPicks<'s, 'g>],
+    beyond: &[BinaryPicks<'s, 'g>],
 ) -> Result<Value, AllocError>
-    ensures { IfOk result (λ marked. MarksObject (MarksSuites all.now) (view suites) (view marked)) }
+    ensures { IfOk result (λ marked. MarksObject (MarksSuites all.now beyond.now) (view suites) (view marked)) }
 {
     let suites = match members_of(suites) {
         Ok(suites) => suites,
@@ -189,49 +220,53 @@ fn mark_suites(
     };
     let mut marked = Map::new(alloc);
     let mut left = all;
+    let mut beyond = beyond;
     for (id, suite) in suites {
-        let answers = first_answers(alloc, left)?;
+        let answers = first_answers(alloc, left, beyond)?;
         let suite = mark_each(alloc, suite, &SuiteMark { answers })?;
         put_in(&mut marked, id, suite)?;
         left = other_picks(left);
+        beyond = other_picks(beyond);
     }
     Ok(Value::Object(marked))
 }
 
-/// The change of a list: these tests of its suites are picked.
+/// The change of a list: these tests of its suites are picked, and these without the default filter.
 #[derive(Clone, Copy)]
 struct ListMark<'p, 's, 'g> {
     all: &'p [BinaryPicks<'s, 'g>],
+    beyond: &'p [BinaryPicks<'s, 'g>],
 }
 
 impl Mark for ListMark<'_, '_, '_> {
     ghost use Rattle.std.specs.Prelude.{codes};
     ghost use Rattle.filterset_listing.specs.ListJson.{MarksObject, MarksSuites, MarksUnder};
 
-    ghost marks = { λ m. MarksUnder (codes "rust-suites") (MarksObject (MarksSuites m.all.now)) };
+    ghost marks = { λ m. MarksUnder (codes "rust-suites") (MarksObject (MarksSuites m.all.now m.beyond.now)) };
 
     fn mark(&self, alloc: Global, name: &str, value: Value) -> Result<Value, AllocError> {
         if name == "rust-suites" {
-            mark_suites(alloc, value, self.all)
+            mark_suites(alloc, value, self.all, self.beyond)
         } else {
             Ok(value)
         }
     }
 }
 
-/// Writes nextest's list as JSON, where each test has under `filter-match` whether it is picked:
-/// `{"status":"matches"}` or `{"reason":"expression","status":"mismatch"}`. A test that does not count has the reason
-/// `ignored`, whatever the filterset is. If it is unknown whether a test is picked, it has for example
-/// `{"reason":"platform of profile.ci.overrides[1]","status":"unknown"}`. All else is as nextest wrote it. The picks are
-/// those of the suites of the list, in the order of their ids.
+/// Writes nextest's list as JSON, where each test has under `filter-match` whether it is picked: `{"status":"matches"}`, or
+/// `{"reason":REASON,"status":"mismatch"}`. The first reason that holds is given: `ignored`, of a test that does not count;
+/// `expression`; `default-filter`, of a test that is picked `beyond` the default filter. If it is unknown whether a test is
+/// picked, it has for example `{"reason":"platform of profile.ci.overrides[1]","status":"unknown"}`. All else is as nextest
+/// wrote it. The picks are those of the suites of the list, in the order of their ids.
 ///
 /// Returns an error only if out of memory.
-pub fn list_json(
+pub fn list_json<'s, 'g>(
     alloc: Global,
     list: Value,
-    all: &[BinaryPicks<'_, '_>],
+    all: &[BinaryPicks<'s, 'g>],
+    beyond: &[BinaryPicks<'s, 'g>],
 ) -> Result<String, AllocError>
-    ensures { IfOk result (λ text. IsListJson all.now (view list) (string_bytes text)) }
+    ensures { IfOk result (λ text. IsListJson all.now beyond.now (view list) (string_bytes text)) }
 {
-    mark_each(alloc, list, &ListMark { all })?.to_string(alloc)
+    mark_each(alloc, list, &ListMark { all, beyond })?.to_string(alloc)
 }

@@ -1,5 +1,7 @@
 use Rattle.std.proofs.Common.{◌∙◌, ◌++◌, ap, string_bytes, subst, sym}
 use Rattle.filterset_drawing.specs.Columns.{Text}
+use Rattle.std.specs.List.{AllZip}
+use Rattle.filterset_expression.specs.Meaning.{IsCompiled}
 use Rattle.filterset_expression.specs.declared.expression.CompiledExpr.{CompiledExpr}
 use Rattle.filterset_entries.specs.Endings.{unknown_ending}
 use Rattle.filterset_answers.specs.Overriding.{Counts, uncounted_text}
@@ -10,7 +12,7 @@ pub returns : goal.returns
 returns c setting basis trees is of_groups none of_trees of_asked =
     let asked = c.args.asked.now in
     let all = c.in_ok-all.all.items in
-    let picks = c.in_ok-all.ensures setting basis trees is of_groups none of_trees in
+    let picks = c.in_ok-all.ensures setting basis trees is of_groups none (subst (AllZip (IsCompiled setting.graph.now) trees) (sym c.in_ok-exprs.ensures) of_trees) in
     let table = rw c.as_slice.ensures.value at c.in_ok-table.ensures in
     let listed = rw c.as_slice-all.ensures.value at c.in_ok-listed.ensures in
     let uncounted = rw c.as_slice-all.ensures.value at c.in_ok-push_uncounted.ensures in

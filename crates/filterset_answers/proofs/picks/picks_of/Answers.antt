@@ -22,8 +22,7 @@ returns c =
     IfOk-weaker c.list.result _ _ (λ all are setting basis trees is of_overrides none of_trees.
     let packages = setting.graph.now in
     let tree = basis.default_tree in
-    let means = c.in_ok-selection.ensures.meaning packages default tree trees (subst (IsCompiled packages tree) is basis.compiled) (subst (λ (e : CompiledExpr). has_leaf is_default e ≡ false) is none)
-    (subst (AllZip (IsCompiled packages) trees) (sym c.in_ok-exprs.ensures) of_trees) in
+    let means = c.in_ok-selection.ensures.meaning packages default tree trees (subst (IsCompiled packages tree) is basis.compiled) (subst (λ (e : CompiledExpr). has_leaf is_default e ≡ false) is none) of_trees in
     let picks = all_picks_alike default overrides (ExprPicks default selection) (RunPicks packages ignores default tree trees) (ExprCanPick default selection) (RunCanPick packages ignores default tree trees)
     means.0 means.1 _ _ are in
     let Picks : CompiledExpr → List GroupOverride → Type 0 = λ e os. AllZip (IsBinaryPicks (Says e os (RunPicks packages ignores e tree trees)) (RunCanPick packages ignores e tree trees)) c.args.binaries.now all.items in

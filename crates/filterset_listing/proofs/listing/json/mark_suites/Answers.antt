@@ -12,8 +12,8 @@ loop-id-preserved c =
     let step : c.loop-id.id-iterator ≡ (c.in-Some.id, c.in-Some.suite) ∷ c.next.new.self = search (rules, c.in-Some.ensures.steps) in
     made_one _ c.loop-id.marked.entries c.loop-id.id-iterator c.next.new.self c.put_in.new.members.entries c.in-Some.id c.in-Some.suite c.in_ok-suite.suite
     c.loop-id.invariant step c.in_ok-put_in.ensures
-    (λ later marks. next_suite (suite_marked _ _ _ c.in_ok-answers.answers.0 c.in_ok-answers.ensures c.in_ok-suite.ensures)
-    (subst (λ all. MarksSuites all (members_view c.next.new.self) later) c.other_picks-left.ensures marks))
+    (λ later marks. next_suite (suite_marked _ c.in_ok-answers.answers.0 c.in_ok-answers.ensures c.in_ok-suite.ensures)
+    (rw (← c.other_picks-left.ensures, ← c.other_picks-beyond.ensures) marks))
 
 pub returns : goal.returns
 returns c =

@@ -6,4 +6,4 @@ use Rattle.filterset_listing.proofs.listing.json.mark_suites.Given as goal
 -- the tests of the suites so far say whether they are picked, and the picks of the others are left
 abbrev pub invariant-loop-id : goal.invariant-loop-id
 invariant-loop-id l =
-    Made (MarksSuites l.initial.left) (MarksSuites l.left) (members_view l.initial.id-iterator) l.marked.entries l.id-iterator
+    Made (MarksSuites l.initial.left l.initial.beyond) (MarksSuites l.left l.beyond) (members_view l.initial.id-iterator) l.marked.entries l.id-iterator
