@@ -6,7 +6,7 @@ ghost use Rattle.filterset_listing.specs.Finding.{unmatched_by, unmatched_of};
 ghost use Rattle.filterset_listing.specs.Unmatched.{is_unknown, is_yes};
 
 use crate::columns::Columns;
-use filterset_language::{ParsedExpr, ParsedLeaf};
+use filterset_language::{ParsedExpr, ParsedLeaf, ParsedNode};
 use std::alloc::AllocError;
 use std::fmt;
 
@@ -66,17 +66,14 @@ pub fn find_unmatched<'t>(
     ensures { OnOk result (unmatched_of found.new.items
         ≡ unmatched_of found.old.items ++ unmatched_by (tree_of tree.now) columns.now) }
 {
-    match tree {
-        ParsedExpr::Not(_, operand) => find_unmatched(operand, columns.first(), found),
-        ParsedExpr::Union(_, left, right)
-        | ParsedExpr::Intersection(_, left, right)
-        | ParsedExpr::Difference(_, left, right)
-        | ParsedExpr::SymmetricDifference(_, left, right) => {
+    match tree.node() {
+        ParsedNode::Not(_, operand) => find_unmatched(operand, columns.first(), found),
+        ParsedNode::Union(_, left, right) | ParsedNode::Join(_, left, right) => {
             find_unmatched(left, columns.first(), found)?;
             find_unmatched(right, columns.second(), found)
         }
-        ParsedExpr::Parens(inner) => find_unmatched(inner, columns, found),
-        ParsedExpr::Set(leaf) => {
+        ParsedNode::Parens(inner) => find_unmatched(inner, columns, found),
+        ParsedNode::Set(leaf) => {
             let values = columns.values();
             if any_yes(values) {
                 return Ok(());
