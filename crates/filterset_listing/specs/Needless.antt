@@ -1,6 +1,7 @@
 -- Operands that change nothing.
 use Rattle.std.specs.Prelude.{◌≡◌, ◌==◌, ◌&&◌, Bool, true, false, not, List, [], ◌∷◌, ◌++◌, All, IsTrue, MatchBool, Option, length}
 use Rattle.std.specs.List.{list_any}
+use Rattle.std.specs.Option.{unwrap_or}
 use Rattle.filterset_faults.specs.declared.span.SourceSpan.{SourceSpan}
 use Rattle.filterset_grammar.specs.Tree as tree
 use Rattle.filterset_grammar.specs.Tree.{Tree, Not, Union, Join, Parens, Set}
@@ -9,7 +10,7 @@ use Rattle.filterset_grammar.specs.declared.operators.Joiner.TheVariants.{Both, 
 use Rattle.filterset_grammar.specs.declared.operators.NotOperator.{NotOperator}
 use Rattle.filterset_grammar.specs.declared.operators.OrOperator.{OrOperator}
 use Rattle.filterset_listing.specs.SubjectValues.{Basis, HasColumn, MaySay}
-use Rattle.filterset_listing.specs.Unmatched.{Unmatched, is_yes}
+use Rattle.filterset_listing.specs.Unmatched.{Unmatched}
 use Rattle.filterset_listing.specs.declared.subjects.Subject.{Subject}
 
 -- an operator over an operand, with its other operand; or parentheses
@@ -98,7 +99,7 @@ AreFound basis subjects is_operand frames (Set leaf) found =
 
 -- each predicate matches a test, and so does the filterset, which has these values
 abbrev pub picks_by_all : List Unmatched → List (Option Bool) → Bool
-picks_by_all unmatched values = length unmatched == 0 && list_any is_yes values
+picks_by_all unmatched values = length unmatched == 0 && list_any (λ v. unwrap_or v false) values
 
 -- The needless operands of a filterset. If one of its predicates matches no test, or if it picks no test, there are none.
 abbrev pub AreNeedless : Basis → List Subject → Tree SourceSpan → List Unmatched → List Found → Type 0

@@ -1,6 +1,7 @@
 -- Predicates that match no test of a list.
-use Rattle.std.specs.Prelude.{◌≡◌, ◌==◌, ◌++◌, ◌∷◌, [], ℕ, Bool, false, List, None, Option, Some, codes, decimal, if◌then◌else◌, is_some, not}
+use Rattle.std.specs.Prelude.{◌≡◌, ◌==◌, ◌++◌, ◌∷◌, [], ℕ, Bool, false, List, Option, codes, decimal, if◌then◌else◌}
 use Rattle.std.specs.List.{count_by, list_any}
+use Rattle.std.specs.Option.{is_none, unwrap_or}
 use Rattle.filterset_faults.specs.declared.span.SourceSpan.{SourceSpan}
 use Rattle.filterset_grammar.specs.Printing.{printed_leaf}
 use Rattle.filterset_grammar.specs.Tree.{Leaf, Tree, Not, Union, Join, Parens, Set}
@@ -11,17 +12,10 @@ use Rattle.filterset_listing.specs.declared.subjects.Subject.{Subject}
 abbrev pub Unmatched : Type 0
 Unmatched = Leaf SourceSpan × ℕ
 
-abbrev pub is_yes : Option Bool → Bool
-is_yes (Some holds) = holds
-is_yes None = false
-
-abbrev pub is_unknown : Option Bool → Bool
-is_unknown value = not (is_some value)
-
 -- The predicate, if it is true of no test of the list, and of no skipped binary whatever its tests are. For the skipped
 -- binaries whose tests may match it has no value.
 abbrev pub unmatched_in : Leaf SourceSpan → List (Option Bool) → List Unmatched
-unmatched_in leaf values = if list_any is_yes values then [] else (leaf, count_by is_unknown values) ∷ []
+unmatched_in leaf values = if list_any (λ v. unwrap_or v false) values then [] else (leaf, count_by is_none values) ∷ []
 
 -- the predicates of a tree that match no test, from left to right, by their values for the subjects
 abbrev pub AreUnmatched : Basis → List Subject → Tree SourceSpan → List Unmatched → Type 0

@@ -1,9 +1,9 @@
 //! Predicates that match no test of a list.
-ghost use Rattle.std.specs.Prelude.{◌≡◌, ◌++◌, IfOk, OnOk};
+ghost use Rattle.std.specs.Prelude.{◌≡◌, ◌++◌, false, IfOk, OnOk};
 ghost use Rattle.std.specs.List.{count_by, list_any};
+ghost use Rattle.std.specs.Option.{is_none, unwrap_or};
 ghost use Rattle.filterset_language.specs.Views.{tree_of};
 ghost use Rattle.filterset_listing.specs.Finding.{unmatched_by, unmatched_of};
-ghost use Rattle.filterset_listing.specs.Unmatched.{is_unknown, is_yes};
 
 use crate::columns::Columns;
 use filterset_language::{ParsedExpr, ParsedLeaf, ParsedNode};
@@ -45,14 +45,14 @@ impl fmt::Display for UnmatchedPredicate<'_> {
 
 /// Returns whether one of these values is surely true.
 pub fn any_yes(values: &[Option<bool>]) -> bool
-    ensures { result ≡ list_any is_yes values.now }
+    ensures { result ≡ list_any (λ v. unwrap_or v false) values.now }
 {
     values.iter().any(|value| value.unwrap_or(false))
 }
 
 /// Returns how many of these values are unknown.
 fn count_unknown(values: &[Option<bool>]) -> usize
-    ensures { result ≡ count_by is_unknown values.now }
+    ensures { result ≡ count_by is_none values.now }
 {
     values.iter().filter(|value| value.is_none()).count()
 }

@@ -1,6 +1,7 @@
 -- How many tests overrides apply to, and how many get settings from them.
-use Rattle.std.specs.Prelude.{◌≡◌, ◌==◌, ◌&&◌, All, Bool, true, false, not, List, [], ◌∷◌, ◌++◌, Option, Some, None, MatchOption, is_some, length, map}
+use Rattle.std.specs.Prelude.{◌≡◌, ◌==◌, ◌&&◌, All, Bool, true, false, not, List, [], ◌∷◌, ◌++◌, Option, MatchOption, is_some, length, map}
 use Rattle.std.specs.List.{AllZip, count_by, list_all}
+use Rattle.std.specs.Option.{is_none, unwrap_or}
 use Rattle.filterset_graph.specs.declared.package.PackageMetadata.{PackageMetadata}
 use Rattle.filterset_expression.specs.declared.expression.CompiledExpr.{CompiledExpr}
 use Rattle.filterset_overrides.specs.Applying.{AppliesAs, DoesApply, Test, Text, sets}
@@ -12,17 +13,10 @@ use Rattle.filterset_overrides.specs.declared.counting.OverrideRow.{OverrideRow}
 use Rattle.filterset_overrides.specs.declared.counting.OverrideTable.{OverrideTable}
 use Rattle.filterset_overrides.specs.declared.counting.TestCount.{TestCount}
 
-abbrev pub is_yes : Option Bool → Bool
-is_yes (Some b) = b
-is_yes None = false
-
-abbrev pub is_none : Option Bool → Bool
-is_none answer = not (is_some answer)
-
 -- how many of the tests have the answer yes, and for how many it is unknown
 abbrev pub AreCounted : (Test → Option Bool → Type 0) → List Test → TestCount → Type 0
 AreCounted Says tests count = (answers : List (Option Bool)) × AllZip Says tests answers
-    × (count.sure ≡ count_by is_yes answers) × (count.unknown ≡ count_by is_none answers)
+    × (count.sure ≡ count_by (λ a. unwrap_or a false) answers) × (count.unknown ≡ count_by is_none answers)
 
 -- each of the first list, with those before it, with one of the second
 abbrev pub EachAfter : {A B : Type 0} → (List A → A → B → Type 0) → List A → List A → List B → Type 0

@@ -1,10 +1,10 @@
 //! Answers about tests, a list a question.
-ghost use Rattle.std.specs.Prelude.{◌≡◌, IfOk, map};
+ghost use Rattle.std.specs.Prelude.{◌≡◌, false, IfOk, map};
 ghost use Rattle.std.specs.List.{count_by, zip};
+ghost use Rattle.std.specs.Option.{is_none, unwrap_or};
 ghost use Rattle.filterset_expression.specs.Connectives.{kleene, kleene_not};
 ghost use Rattle.filterset_expression.specs.declared.logic.Connective.TheVariants.{Conjunction, Disjunction};
 ghost use Rattle.filterset_overrides.specs.Applying.{verdict};
-ghost use Rattle.filterset_overrides.specs.Counting.{is_none, is_yes};
 
 use crate::applying::Application;
 use crate::counting::TestCount;
@@ -13,7 +13,7 @@ use std::alloc::{AllocError, Global};
 
 /// Counts the answers that are yes, and those that are unknown.
 pub fn count_answers(answers: &[Option<bool>]) -> TestCount
-    ensures sure { result.sure ≡ count_by is_yes answers.now }
+    ensures sure { result.sure ≡ count_by (λ a. unwrap_or a false) answers.now }
     ensures unknown { result.unknown ≡ count_by is_none answers.now }
 {
     TestCount {

@@ -1,8 +1,9 @@
-use Rattle.std.proofs.Common.{rules, arith, ◌≡◌, ◌<◌, ◌++◌, ◌∷◌, [], List, length, get_or, take, refl, subst, sym, ◌∙◌}
+use Rattle.std.proofs.Common.{rules, arith, false, ◌≡◌, ◌<◌, ◌++◌, ◌∷◌, [], List, length, get_or, take, refl, subst, sym, ◌∙◌}
 use Rattle.std.specs.List.{count_by}
+use Rattle.std.specs.Option.{is_none, unwrap_or}
 use Rattle.std.proofs.lemmas.List.{length-map, length-take-le}
 use Rattle.filterset_overrides.specs.Applied.{IsApplied, overrides_of}
-use Rattle.filterset_overrides.specs.Counting.{EachAfter, IsRow, is_none, is_yes}
+use Rattle.filterset_overrides.specs.Counting.{EachAfter, IsRow}
 use Rattle.filterset_overrides.specs.declared.asked.AskedOverride.{AskedOverride}
 use Rattle.filterset_overrides.specs.declared.counting.OverrideRow.{OverrideRow}
 use Rattle.filterset_overrides.specs.declared.counting.applied.AppliedOverride.{AppliedOverride}
@@ -19,7 +20,7 @@ loop-at-preserved c packages default tests applied =
     let f = λ (a : AppliedOverride). a.asked in
     let so_far = overrides_of (take i all) in
     let answers = one.answers.items in
-    let sure : c.count_answers.result.sure ≡ count_by is_yes answers = rw c.as_slice.ensures.value at c.count_answers.ensures.sure in
+    let sure : c.count_answers.result.sure ≡ count_by (λ a. unwrap_or a false) answers = rw c.as_slice.ensures.value at c.count_answers.ensures.sure in
     let unknown : c.count_answers.result.unknown ≡ count_by is_none answers = rw c.as_slice.ensures.value at c.count_answers.ensures.unknown in
     let row : OverrideRow = record { at = i; path = one.asked.path; tests = c.count_answers.result; picks_all = one.picks_all } in
     let is = subst (IsApplied packages default tests) at (applied i one lt) in

@@ -2,7 +2,7 @@ use Rattle.std.proofs.Common.{◌≡◌, ◌++◌, ◌∷◌, [], Bool, List, Op
 use Rattle.std.specs.List.{AllZip, count_by}
 use Rattle.filterset_overrides.specs.Applied.{AreTaken}
 use Rattle.filterset_overrides.specs.Applying.{DoesApply, sets}
-use Rattle.filterset_overrides.specs.Counting.{is_none, is_yes}
+use Rattle.std.specs.Option.{is_none, unwrap_or}
 use Rattle.filterset_overrides.specs.Giving.{Gives}
 use Rattle.filterset_overrides.proofs.GivingLemmas.{given_tests, more_taken, same_taken}
 use Rattle.filterset_overrides.proofs.counting.columns.count_given.Goals as goal
@@ -25,7 +25,7 @@ returns c packages default tests before applied are =
     let more_is = rw (c.as_slice-3.ensures.value, c.as_slice-4.ensures.value) at c.in_ok-taken.ensures in
     let gives = subst (λ (gs : List (Option Bool)). AllZip (λ test. Gives (DoesApply packages default test) key before o) tests gs) (sym given_is)
     (given_tests packages default tests key before o answers taken applied.0 are) in
-    let sure : c.count_answers.result.sure ≡ count_by is_yes given = rw c.as_slice-5.ensures.value at c.count_answers.ensures.sure in
+    let sure : c.count_answers.result.sure ≡ count_by (λ a. unwrap_or a false) given = rw c.as_slice-5.ensures.value at c.count_answers.ensures.sure in
     let unknown : c.count_answers.result.unknown ≡ count_by is_none given = rw c.as_slice-5.ensures.value at c.count_answers.ensures.unknown in (
       (is_set, (given, gives, sure, unknown)),
       subst (λ (ts : List (Option Bool)). AreTaken packages default tests key (before ++ o ∷ []) ts) (sym more_is) (more_taken packages default tests key before o answers taken applied.0 are is_set),
