@@ -1,5 +1,5 @@
 -- What the words of the command line ask for, and what they lack; and for how many things standard input stands.
-use Rattle.std.specs.Prelude.{◌≡◌, ◌≢◌, ◌<◌, ◌≤◌, ◌^◌, ℕ, Bool, IsTrue, true, false, List, [], ◌∷◌, Option, None, Some, codes, map, option_map, unwrap_or, ◌+◌, count_by}
+use Rattle.std.specs.Prelude.{◌≡◌, ◌≢◌, ◌⊎◌, ◌<◌, ◌≤◌, ◌^◌, ℕ, Bool, IsTrue, true, false, List, [], ◌∷◌, Option, None, Some, codes, map, option_map, unwrap_or, ◌+◌, count_by}
 use Rattle.std.specs.Borrow.{Bor}
 use Rattle.std.specs.List.{list_any}
 use Rattle.std.specs.Str.{IsUtf8}
@@ -77,16 +77,6 @@ IsInputFault left failed NotText = (bytes : Text) × AreLeft left bytes × ¬ Is
 IsInputFault left failed (Run Read) = IsTrue failed
 IsInputFault left failed _ = ⊥
 
--- the words give the argument no value
-abbrev pub LacksArgument : Found → CommandFault → Type 0
-LacksArgument found (Missing id) = first_value found id.now ≡ None
-LacksArgument found _ = ⊥
-
--- the words name no shell
-abbrev pub NamesNoShell : Found → CommandFault → Type 0
-NamesNoShell found (Missing id) = (shell : Shell) → first_value found (codes "shell") ≢ Some (name_of shell)
-NamesNoShell found _ = ⊥
-
 -- the values of an argument that may have several
 abbrev pub values_of : Found → Text → List Text
 values_of found id = unwrap_or (option_map raw_values (matched_of found id)) []
@@ -107,8 +97,8 @@ IsFlagAsked found id flag =
 
 -- `--color always` asks for colours
 abbrev pub IsColorAsked : Found → Color → Type 0
-IsColorAsked found Always = first_value found (codes "color") ≡ Some (codes "always")
-IsColorAsked found Never = first_value found (codes "color") ≢ Some (codes "always")
+IsColorAsked found Always = IsTextAsked found (codes "color") (codes "always")
+IsColorAsked found Never = ¬ IsTextAsked found (codes "color") (codes "always")
 
 -- a form for people
 abbrev pub IsDrawnAsked : Found → Form → Type 0
@@ -148,13 +138,6 @@ abbrev pub AreTextsAsked : Found → Texts → Type 0
 AreTextsAsked found StandardInput = given_texts found ≡ codes "-" ∷ []
 AreTextsAsked found (Given texts) =
     (map (λ t. t.now) texts.now ≡ given_texts found) × (has_input texts.now ≡ false)
-
--- `-` is given beside other filtersets, or an argument is missing
-abbrev pub IsTextsFault : Found → CommandFault → Type 0
-IsTextsFault found (Missing id) = first_value found id.now ≡ None
-IsTextsFault found MixedInput = (texts : List (Bor Text)) × (map (λ t. t.now) texts ≡ given_texts found)
-    × (has_input texts ≡ true) × (given_texts found ≢ codes "-" ∷ [])
-IsTextsFault found _ = ⊥
 
 -- `--run-ignored` says which listed tests count
 abbrev pub IsRunIgnoredAsked : Found → RunIgnored → Type 0
@@ -244,18 +227,19 @@ IsAskedBy name found (Decide asked) =
     × IsBudgetAsked found asked.budget
 IsAskedBy name found (Show text) = ⊥
 
--- the words ask for this: by the name of their command, and by what it was given
+-- the name of the command of the words, and what it was given
+abbrev pub Gives : ArgMatches → Text → Found → Type 0
+Gives matches name found = (subcommand_name_of matches ≡ Some name)
+    × (option_map (λ p. p.1) (subcommand_rows_of matches) ≡ Some (rows_of found))
+
+-- the words ask for this
 abbrev pub IsAsked : ArgMatches → Request → Type 0
-IsAsked matches request =
-    (name : Text) × (found : Found) × (subcommand_name_of matches ≡ Some name)
-    × (option_map (λ p. p.1) (subcommand_rows_of matches) ≡ Some (rows_of found)) × IsAskedBy name found request
+IsAsked matches request = (name : Text) × (found : Found) × Gives matches name found × IsAskedBy name found request
 
 -- `completions` asks for the script of this shell
 abbrev pub IsShellAsked : ArgMatches → Shell → Type 0
 IsShellAsked matches shell =
-    (found : Found) × (subcommand_name_of matches ≡ Some (codes "completions"))
-    × (option_map (λ p. p.1) (subcommand_rows_of matches) ≡ Some (rows_of found))
-    × IsTextAsked found (codes "shell") (name_of shell)
+    (found : Found) × Gives matches (codes "completions") found × IsTextAsked found (codes "shell") (name_of shell)
 
 -- the files of the workspace, all of whose tests count, if there is one: both or none
 abbrev pub IsWorkspaceAsked : Found → Option WorkspacePaths → Type 0
@@ -264,9 +248,7 @@ IsWorkspaceAsked found (Some paths) = AreFilesAsked found paths × (paths.run_ig
 
 -- `lsp` asks for an editor to be served, with a workspace or without
 abbrev pub IsServiceAsked : ArgMatches → Option WorkspacePaths → Type 0
-IsServiceAsked matches paths =
-    (found : Found) × (subcommand_name_of matches ≡ Some (codes "lsp"))
-    × (option_map (λ p. p.1) (subcommand_rows_of matches) ≡ Some (rows_of found)) × IsWorkspaceAsked found paths
+IsServiceAsked matches paths = (found : Found) × Gives matches (codes "lsp") found × IsWorkspaceAsked found paths
 
 -- the words ask for a request, in which standard input stands for one thing at most, for the script of a shell, or to serve
 -- an editor
@@ -275,18 +257,32 @@ IsTask matches (Answer request) = IsAsked matches request × (input_count reques
 IsTask matches (Complete shell) = IsShellAsked matches shell
 IsTask matches (Serve paths) = IsServiceAsked matches paths
 
--- there is no budget, or it is no number
-abbrev pub IsBudgetFault : Found → CommandFault → Type 0
-IsBudgetFault found (Missing id) = first_value found id.now ≡ None
-IsBudgetFault found WrongBudget = (text : Text) × IsTextAsked found (codes "budget") text × ¬ IsNumber text
-IsBudgetFault found _ = ⊥
+-- an argument is missing, `-` is given beside other filtersets, or the budget is no number
+abbrev pub IsFaultOf : Found → CommandFault → Type 0
+IsFaultOf found (Missing id) = first_value found id.now ≡ None
+IsFaultOf found MixedInput = (texts : List (Bor Text)) × (map (λ t. t.now) texts ≡ given_texts found)
+    × (has_input texts ≡ true) × (given_texts found ≢ codes "-" ∷ [])
+IsFaultOf found WrongBudget = (text : Text) × IsTextAsked found (codes "budget") text × ¬ IsNumber text
+IsFaultOf found _ = ⊥
 
--- an argument is missing, or `-` stands for two things or is beside other filtersets, or the budget is no number
+-- something is missing, for nothing is asked so
+abbrev pub IsUnasked : (Request → Type 0) → CommandFault → Type 0
+IsUnasked Asked (Missing id) = (request : Request) → ¬ Asked request
+IsUnasked Asked _ = ⊥
+
+-- something is missing, for no shell is named
+abbrev pub NamesNoShell : Found → CommandFault → Type 0
+NamesNoShell found (Missing id) = (shell : Shell) → ¬ IsTextAsked found (codes "shell") (name_of shell)
+NamesNoShell found _ = ⊥
+
+-- what the command was given has such a fault
+abbrev pub IsGivenFault : ArgMatches → CommandFault → Type 0
+IsGivenFault matches fault = (name : Text) × (found : Found) × Gives matches name found × IsFaultOf found fault
+
+-- such a fault; or an argument is missing, for no shell is named or the words ask for nothing; or `-` is given for two things
 abbrev pub IsWordsFault : ArgMatches → CommandFault → Type 0
-IsWordsFault matches (Missing id) = Unit {0}
+IsWordsFault matches (Missing id) = IsGivenFault matches (Missing id)
+    ⊎ ((found : Found) × Gives matches (codes "completions") found × NamesNoShell found (Missing id))
+    ⊎ ((task : Task) → ¬ IsTask matches task)
 IsWordsFault matches TwoInputs = (request : Request) × IsAsked matches request × (1 < input_count request)
-IsWordsFault matches MixedInput =
-    (found : Found) × (option_map (λ p. p.1) (subcommand_rows_of matches) ≡ Some (rows_of found)) × IsTextsFault found MixedInput
-IsWordsFault matches WrongBudget =
-    (found : Found) × (option_map (λ p. p.1) (subcommand_rows_of matches) ≡ Some (rows_of found)) × IsBudgetFault found WrongBudget
-IsWordsFault matches _ = ⊥
+IsWordsFault matches fault = IsGivenFault matches fault

@@ -1,8 +1,9 @@
 //! What the words of the command line ask for.
-ghost use Rattle.std.specs.Prelude.{◌≡◌, IfErr, IfOk, codes, map};
+ghost use Rattle.std.specs.Prelude.{◌≡◌, ◌⊎◌, IfErr, IfOk, codes, map};
 ghost use Rattle.clap.specs.Words.{found_of};
+ghost use Rattle.clap.specs.declared.parser.matches.Found.{Found};
 ghost use Rattle.filterset_drawing.specs.Columns.{Text};
-ghost use Rattle.filterset_loading.specs.Words.{input_count, ArePathsAsked, AreTextsAsked, AreWarningsAsked, IsAsked, IsAskedBy, IsBudgetAsked, IsBudgetFault, IsColorAsked, IsFormAsked, IsKindAsked, IsProfileAsked, IsQuestionAsked, IsRunIgnoredAsked, IsTask, IsTextAsked, IsWordsFault, IsTextsFault, IsWorkspaceAsked, LacksArgument, NamesNoShell, decision_name, given_texts, has_input};
+ghost use Rattle.filterset_loading.specs.Words.{input_count, ArePathsAsked, AreTextsAsked, AreWarningsAsked, IsAsked, IsAskedBy, IsBudgetAsked, IsColorAsked, IsFaultOf, IsFormAsked, IsGivenFault, IsKindAsked, IsProfileAsked, IsQuestionAsked, IsRunIgnoredAsked, IsTask, IsTextAsked, IsUnasked, IsWordsFault, IsWorkspaceAsked, NamesNoShell, decision_name, given_texts, has_input};
 ghost use Rattle.filterset_arguments.specs.Scripts.{name_of};
 
 use crate::fault::CommandFault;
@@ -41,7 +42,7 @@ pub fn task_of<'m>(matches: &'m ArgMatches<'_>) -> Result<Task<'m>, CommandFault
 /// Returns the shell that `completions` is asked for.
 fn shell_of(matches: &ArgMatches<'_>) -> Result<Shell, CommandFault>
     ensures asked { IfOk result (λ shell. IsTextAsked (found_of matches.now) (codes "shell") (name_of shell)) }
-    ensures missing { IfErr result (NamesNoShell (found_of matches.now)) }
+    ensures refused { IfErr result (NamesNoShell (found_of matches.now)) }
 {
     match matches.get_str("shell") {
         Some(name) => Shell::named(name).ok_or(CommandFault::Missing("shell")),
@@ -52,20 +53,32 @@ fn shell_of(matches: &ArgMatches<'_>) -> Result<Shell, CommandFault>
 /// Returns the request of matched words.
 fn request_of<'m>(matches: &'m ArgMatches<'_>) -> Result<Request<'m>, CommandFault>
     ensures asked { IfOk result (IsAsked matches.now) }
-    ensures refused { IfErr result (IsWordsFault matches.now) }
+    ensures refused { IfErr result (λ fault. IsGivenFault matches.now fault ⊎ IsUnasked (IsAsked matches.now) fault) }
 {
     match matches.subcommand() {
-        Some(("check", own)) => check_of(own),
-        Some(("format", own)) => format_of(own),
-        Some(("simplify", own)) => simplify_of(own),
-        Some(("list", own)) => list_of(own),
-        Some(("compare", own)) => compare_of(own),
-        Some(("explain", own)) => explain_of(own),
-        Some(("overrides", own)) => overrides_of(own),
-        Some(("same", own)) => decision_of(own, Decision::AllAlike),
-        Some(("cover", own)) => decision_of(own, Decision::AtLeastOne),
-        Some(("disjoint", own)) => decision_of(own, Decision::AtMostOne),
-        Some(("partition", own)) => decision_of(own, Decision::ExactlyOne),
+        Some((name, own)) => request_named(name, own),
+        None => Err(CommandFault::Missing("COMMAND")),
+    }
+}
+
+/// Returns the request of a command of this name.
+fn request_named<'m>(name: &str, own: &'m ArgMatches<'_>) -> Result<Request<'m>, CommandFault>
+    ensures asked { IfOk result (IsAskedBy name.now (found_of own.now)) }
+    ensures refused { IfErr result (λ fault.
+        IsFaultOf (found_of own.now) fault ⊎ IsUnasked (λ request. (found : Found) × IsAskedBy name.now found request) fault) }
+{
+    match name {
+        "check" => check_of(own),
+        "format" => format_of(own),
+        "simplify" => simplify_of(own),
+        "list" => list_of(own),
+        "compare" => compare_of(own),
+        "explain" => explain_of(own),
+        "overrides" => overrides_of(own),
+        "same" => decision_of(own, Decision::AllAlike),
+        "cover" => decision_of(own, Decision::AtLeastOne),
+        "disjoint" => decision_of(own, Decision::AtMostOne),
+        "partition" => decision_of(own, Decision::ExactlyOne),
         _ => Err(CommandFault::Missing("COMMAND")),
     }
 }
@@ -73,7 +86,7 @@ fn request_of<'m>(matches: &'m ArgMatches<'_>) -> Result<Request<'m>, CommandFau
 /// Returns what `check` asks for.
 fn check_of<'m>(matches: &'m ArgMatches<'_>) -> Result<Request<'m>, CommandFault>
     ensures asked { IfOk result (IsAskedBy (codes "check") (found_of matches.now)) }
-    ensures refused { IfErr result (IsTextsFault (found_of matches.now)) }
+    ensures refused { IfErr result (IsFaultOf (found_of matches.now)) }
 {
     Ok(Request::Check {
         kind: kind_of(matches),
@@ -92,7 +105,7 @@ fn check_of<'m>(matches: &'m ArgMatches<'_>) -> Result<Request<'m>, CommandFault
 /// Returns the list of tests by which `check` warns, if there is one.
 fn warnings_of<'m>(matches: &'m ArgMatches<'_>) -> Result<Option<WarningRequest<'m>>, CommandFault>
     ensures asked { IfOk result (AreWarningsAsked (found_of matches.now)) }
-    ensures missing { IfErr result (LacksArgument (found_of matches.now)) }
+    ensures refused { IfErr result (IsFaultOf (found_of matches.now)) }
 {
     let Some(list) = matches.get_str("list") else {
         return Ok(None);
@@ -112,7 +125,7 @@ fn warnings_of<'m>(matches: &'m ArgMatches<'_>) -> Result<Option<WarningRequest<
 /// Returns what `format` asks for.
 fn format_of<'m>(matches: &'m ArgMatches<'_>) -> Result<Request<'m>, CommandFault>
     ensures asked { IfOk result (IsAskedBy (codes "format") (found_of matches.now)) }
-    ensures refused { IfErr result (IsTextsFault (found_of matches.now)) }
+    ensures refused { IfErr result (IsFaultOf (found_of matches.now)) }
 {
     Ok(Request::Format {
         form: Form::Drawn(color_of(matches)),
@@ -123,7 +136,7 @@ fn format_of<'m>(matches: &'m ArgMatches<'_>) -> Result<Request<'m>, CommandFaul
 /// Returns what `simplify` asks for.
 fn simplify_of<'m>(matches: &'m ArgMatches<'_>) -> Result<Request<'m>, CommandFault>
     ensures asked { IfOk result (IsAskedBy (codes "simplify") (found_of matches.now)) }
-    ensures refused { IfErr result (IsTextsFault (found_of matches.now)) }
+    ensures refused { IfErr result (IsFaultOf (found_of matches.now)) }
 {
     Ok(Request::Simplify {
         form: Form::Drawn(color_of(matches)),
@@ -134,7 +147,7 @@ fn simplify_of<'m>(matches: &'m ArgMatches<'_>) -> Result<Request<'m>, CommandFa
 /// Returns what `list` asks for.
 fn list_of<'m>(matches: &'m ArgMatches<'_>) -> Result<Request<'m>, CommandFault>
     ensures asked { IfOk result (IsAskedBy (codes "list") (found_of matches.now)) }
-    ensures missing { IfErr result (LacksArgument (found_of matches.now)) }
+    ensures refused { IfErr result (IsFaultOf (found_of matches.now)) }
 {
     let question = Question::List {
         filters: matches.get_strs("filterset").unwrap_or(&[]),
@@ -146,7 +159,7 @@ fn list_of<'m>(matches: &'m ArgMatches<'_>) -> Result<Request<'m>, CommandFault>
 /// Returns what `compare` asks for.
 fn compare_of<'m>(matches: &'m ArgMatches<'_>) -> Result<Request<'m>, CommandFault>
     ensures asked { IfOk result (IsAskedBy (codes "compare") (found_of matches.now)) }
-    ensures missing { IfErr result (LacksArgument (found_of matches.now)) }
+    ensures refused { IfErr result (IsFaultOf (found_of matches.now)) }
 {
     let question = Question::Compare {
         first: text_of(matches, "first")?,
@@ -165,7 +178,7 @@ fn ask_of<'m>(
 ) -> Result<Request<'m>, CommandFault>
     ensures asked { IfOk result (λ request. (name : Text)
         → IsQuestionAsked name (found_of matches.now) form asked.entry → IsAskedBy name (found_of matches.now) request) }
-    ensures missing { IfErr result (LacksArgument (found_of matches.now)) }
+    ensures refused { IfErr result (IsFaultOf (found_of matches.now)) }
 {
     Ok(Request::Ask(WorkspaceRequest {
         paths: paths_of(matches)?,
@@ -179,7 +192,7 @@ fn ask_of<'m>(
 /// Returns what `explain` asks for.
 fn explain_of<'m>(matches: &'m ArgMatches<'_>) -> Result<Request<'m>, CommandFault>
     ensures asked { IfOk result (IsAskedBy (codes "explain") (found_of matches.now)) }
-    ensures missing { IfErr result (LacksArgument (found_of matches.now)) }
+    ensures refused { IfErr result (IsFaultOf (found_of matches.now)) }
 {
     let asked = Asked::Explanation {
         filter: text_of(matches, "filterset")?,
@@ -192,7 +205,7 @@ fn explain_of<'m>(matches: &'m ArgMatches<'_>) -> Result<Request<'m>, CommandFau
 /// Returns what `overrides` asks for.
 fn overrides_of<'m>(matches: &'m ArgMatches<'_>) -> Result<Request<'m>, CommandFault>
     ensures asked { IfOk result (IsAskedBy (codes "overrides") (found_of matches.now)) }
-    ensures missing { IfErr result (LacksArgument (found_of matches.now)) }
+    ensures refused { IfErr result (IsFaultOf (found_of matches.now)) }
 {
     let asked = Asked::Overrides {
         filters: matches.get_strs("filterset").unwrap_or(&[]),
@@ -208,7 +221,7 @@ fn decision_of<'m>(
     question: Decision,
 ) -> Result<Request<'m>, CommandFault>
     ensures asked { IfOk result (IsAskedBy (decision_name question) (found_of matches.now)) }
-    ensures refused { IfErr result (IsBudgetFault (found_of matches.now)) }
+    ensures refused { IfErr result (IsFaultOf (found_of matches.now)) }
 {
     Ok(Request::Decide(DecisionRequest {
         question,
@@ -227,7 +240,7 @@ fn decision_of<'m>(
 /// Returns the number of steps that a search may take.
 fn budget_of(matches: &ArgMatches<'_>) -> Result<u64, CommandFault>
     ensures asked { IfOk result (IsBudgetAsked (found_of matches.now)) }
-    ensures refused { IfErr result (IsBudgetFault (found_of matches.now)) }
+    ensures refused { IfErr result (IsFaultOf (found_of matches.now)) }
 {
     let text = text_of(matches, "budget")?;
     match text.parse::<u64>() {
@@ -239,7 +252,7 @@ fn budget_of(matches: &ArgMatches<'_>) -> Result<u64, CommandFault>
 /// Returns the profile, if there is a configuration.
 fn profile_of<'w>(matches: &ArgMatches<'w>) -> Result<Option<ProfileRequest<'w>>, CommandFault>
     ensures asked { IfOk result (IsProfileAsked (found_of matches.now)) }
-    ensures missing { IfErr result (LacksArgument (found_of matches.now)) }
+    ensures refused { IfErr result (IsFaultOf (found_of matches.now)) }
 {
     let Some(configuration) = matches.get_str("config") else {
         return Ok(None);
@@ -255,7 +268,7 @@ fn profile_of<'w>(matches: &ArgMatches<'w>) -> Result<Option<ProfileRequest<'w>>
 /// Returns the text of a required argument.
 fn text_of<'w>(matches: &ArgMatches<'w>, id: &'static str) -> Result<&'w str, CommandFault>
     ensures asked { IfOk result (λ text. IsTextAsked (found_of matches.now) id.now text.now) }
-    ensures missing { IfErr result (LacksArgument (found_of matches.now)) }
+    ensures refused { IfErr result (IsFaultOf (found_of matches.now)) }
 {
     matches.get_str(id).ok_or(CommandFault::Missing(id))
 }
@@ -263,7 +276,7 @@ fn text_of<'w>(matches: &ArgMatches<'w>, id: &'static str) -> Result<&'w str, Co
 /// Returns the paths of the files that describe the workspace.
 fn paths_of<'w>(matches: &ArgMatches<'w>) -> Result<WorkspacePaths<'w>, CommandFault>
     ensures asked { IfOk result (ArePathsAsked (found_of matches.now)) }
-    ensures missing { IfErr result (LacksArgument (found_of matches.now)) }
+    ensures refused { IfErr result (IsFaultOf (found_of matches.now)) }
 {
     Ok(WorkspacePaths {
         metadata: text_of(matches, "metadata")?,
@@ -275,7 +288,7 @@ fn paths_of<'w>(matches: &ArgMatches<'w>) -> Result<WorkspacePaths<'w>, CommandF
 /// Returns the paths of the files that describe the workspace, if there is one.
 fn workspace_of<'w>(matches: &ArgMatches<'w>) -> Result<Option<WorkspacePaths<'w>>, CommandFault>
     ensures asked { IfOk result (IsWorkspaceAsked (found_of matches.now)) }
-    ensures missing { IfErr result (LacksArgument (found_of matches.now)) }
+    ensures refused { IfErr result (IsFaultOf (found_of matches.now)) }
 {
     match matches.get_str("metadata") {
         Some(_) => Ok(Some(WorkspacePaths {
@@ -343,7 +356,7 @@ fn given_texts<'m>(matches: &'m ArgMatches<'_>) -> &'m [&'m str]
 /// Returns the filtersets, or the lines of standard input if the only one is `-`.
 fn texts_of<'m>(matches: &'m ArgMatches<'_>) -> Result<Texts<'m>, CommandFault>
     ensures asked { IfOk result (AreTextsAsked (found_of matches.now)) }
-    ensures refused { IfErr result (IsTextsFault (found_of matches.now)) }
+    ensures refused { IfErr result (IsFaultOf (found_of matches.now)) }
 {
     match given_texts(matches) {
         ["-"] => Ok(Texts::StandardInput),
