@@ -7,7 +7,9 @@ use Rattle.serde_json.specs.View.{items_of}
 use Rattle.filterset_entries.specs.Checked.{TextRow}
 use Rattle.filterset_entries.specs.Placements.{Placement}
 use Rattle.filterset_documents.specs.Contents.{ContentRow}
-use Rattle.filterset_documents.specs.Diagnostics.{IsFaultAt, fault_span}
+use Rattle.filterset_drawing.specs.Remarks.{fault_remark}
+use Rattle.filterset_faults.specs.Faults.{span_of}
+use Rattle.filterset_documents.specs.Diagnostics.{IsRemarkAt, fault_span}
 use Rattle.filterset_documents.specs.Edits.{edit_data}
 use Rattle.filterset_documents.specs.Filtersets.{stretch_at, stretch_span}
 use Rattle.filterset_documents.specs.Joins.{Joins}
@@ -20,7 +22,9 @@ use Rattle.filterset_faults.specs.declared.error.ParseSingleError.{ParseSingleEr
 use Rattle.filterset_faults.specs.declared.span.SourceSpan.{SourceSpan}
 use Rattle.filterset_grammar.specs.Printing.{printed}
 use Rattle.filterset_grammar.specs.Tree.{Tree}
-use Rattle.filterset_language.specs.Parsed.{IsUnreadWith, Reads}
+use Rattle.filterset_language.specs.Parsed.{IsUnreadWith}
+use Rattle.filterset_rewriting.specs.Nesting.Depth.{IsTooDeep, most_levels}
+use Rattle.filterset_rewriting.specs.Reading.{IsRead}
 use Rattle.filterset_rewriting.specs.Showing.{shown}
 use Rattle.filterset_actions.specs.Changes.{IsChosen}
 use Rattle.filterset_actions.specs.Mending.{IsMending}
@@ -47,15 +51,11 @@ action_data subject p diagnostics edit =
     (member (codes "edit") (object (member (codes "changes") (changes_data subject.uri edit) no_members))
     (member (codes "kind") (string (kind_of p.fault)) (member (codes "title") (string p.repair.title) no_members))))
 
--- the diagnostic of a fault of a filterset at this place
-abbrev pub IsDiagnosticOf : SubjectRow → Placement → ParseSingleError → Data → Type 0
-IsDiagnosticOf subject place fault d =
-    IsFaultAt subject.encoding subject.text (fault_span (Some place) fault) fault d
-
 -- the diagnostic of the fault, if there is one
 abbrev pub AreMended : SubjectRow → Placement → Option ParseSingleError → List Data → Type 0
 AreMended subject place None ds = ds ≡ []
-AreMended subject place (Some fault) ds = (d : Data) × IsDiagnosticOf subject place fault d × (ds ≡ d ∷ [])
+AreMended subject place (Some fault) ds = (d : Data) × (ds ≡ d ∷ [])
+    × IsRemarkAt subject.encoding subject.text (fault_span (Some place) (span_of fault)) (fault_remark fault) d
 
 -- the action of a proposal, which puts a text in place of a range
 abbrev pub IsAction : SubjectRow → Placement → ProposalRow → Range → Text → Data → Type 0
@@ -106,11 +106,13 @@ TreeActions subject at place text e ds = (formats shows spells : List Data) × (
     × IsSpelled e spelled × RewriteActions subject at place text (codes "Write without `^`") (printed e) spelled spells
     × (ds ≡ (formats ++ shows) ++ spells)
 
--- The actions for the text of the filterset at a position: those for its tree, or those that mend its faults, in their order.
+-- The actions for the text of the filterset at a position: those for its tree, or those that mend its faults, in their
+-- order. A text that nests too deeply has none.
 abbrev pub TextActions : SubjectRow → ℕ → Placement → Text → List Data → Type 0
 TextActions subject at place text ds =
-    ((e : Tree SourceSpan) × Reads text e × TreeActions subject at place text e ds)
+    ((e : Tree SourceSpan) × IsRead text e × TreeActions subject at place text e ds)
     ⊎ ((faults : List ParseSingleError) × IsUnreadWith text faults × Joins (FaultActions subject at place text) faults ds)
+    ⊎ ((deep : ℕ) × IsTooDeep most_levels text deep × (ds ≡ []))
 
 -- those for a filterset at a position, if it is in what is asked about
 abbrev pub RowActions : SubjectRow → ℕ → TextRow → List Data → Type 0

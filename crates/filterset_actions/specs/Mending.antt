@@ -2,6 +2,7 @@
 use Rattle.std.specs.Prelude.{◌≡◌, ◌⊎◌, ◌≤◌, ◌-◌, ◌++◌, ◌&&◌, ℕ, Bool, true, false, List, MatchOption, Option, None, Some, drop, length, nat_le, nat_lt, not, take}
 use Rattle.std.specs.Bool.{then_some}
 use Rattle.std.specs.List.{list_any}
+use Rattle.std.specs.Option.{option_map_or}
 use Rattle.std.specs.Str.{IsCharBoundary}
 use Rattle.filterset_documents.specs.Edits.{EditRow}
 use Rattle.filterset_editor.specs.Positions.{Text}
@@ -10,16 +11,10 @@ use Rattle.filterset_faults.specs.Span.{offset_of}
 use Rattle.filterset_faults.specs.declared.error.ParseSingleError.{ParseSingleError}
 use Rattle.filterset_faults.specs.declared.span.SourceSpan.{SourceSpan}
 use Rattle.filterset_grammar.specs.Tree.{Tree}
-use Rattle.filterset_language.specs.Parsed.{IsUnreadWith, Reads}
-use Rattle.filterset_language.specs.Views.{tree_of}
+use Rattle.filterset_language.specs.Parsed.{IsUnreadWith}
 use Rattle.filterset_configuration.specs.declared.stretch.Stretch.{Stretch}
-use Rattle.filterset_actions.specs.declared.reading.Reading.{Reading}
-use Rattle.filterset_actions.specs.declared.reading.Reading.TheVariants as readings
-
--- the text reads as the tree, or has these faults
-abbrev pub IsReading : Text → Reading → Type 0
-IsReading text (readings.Tree e) = Reads text (tree_of e)
-IsReading text (readings.Faults faults) = IsUnreadWith text faults.items
+use Rattle.filterset_rewriting.specs.Nesting.Depth.{IsTooDeep, most_levels}
+use Rattle.filterset_rewriting.specs.Reading.{IsRead}
 
 -- ---- texts with edits
 
@@ -27,29 +22,23 @@ IsReading text (readings.Faults faults) = IsUnreadWith text faults.items
 abbrev pub IsBetween : Text → Stretch → Type 0
 IsBetween text at = (at.from ≤ at.to) × IsCharBoundary text at.from × IsCharBoundary text at.to
 
--- a text with an edit
-abbrev pub with_edit : Text → EditRow → Text
-with_edit text edit = take edit.at.from text ++ (edit.text ++ drop edit.at.to text)
-
 -- the text with the edit is this; none if the edit begins or ends in a character
 abbrev pub IsApplied : Text → EditRow → Option Text → Type 0
 IsApplied text edit None = IsBetween text edit.at → ⊥
-IsApplied text edit (Some new) = IsBetween text edit.at × (new ≡ with_edit text edit)
+IsApplied text edit (Some new) = IsBetween text edit.at × (new ≡ take edit.at.from text ++ (edit.text ++ drop edit.at.to text))
 
 -- ---- mended texts
 
-abbrev pub begins_at : ℕ → ℕ → Option SourceSpan → Bool
-begins_at from len None = false
-begins_at from len (Some s) = nat_le from (offset_of s) && nat_lt (offset_of s - from) len
-
 -- the fault begins in a stretch of this length from an offset on
 abbrev pub begins_in : ℕ → ℕ → ParseSingleError → Bool
-begins_in from len fault = begins_at from len (span_of fault)
+begins_in from len fault =
+    option_map_or (λ s. nat_le from (offset_of s) && nat_lt (offset_of s - from) len) (span_of fault) false
 
--- whether the text reads as a tree, or none of its faults begins in the stretch
+-- whether the text reads as a tree, or none of its faults begins in the stretch; it does not if it nests too deeply
 abbrev pub IsClear : Text → ℕ → ℕ → Bool → Type 0
-IsClear text from len clear = ((e : Tree SourceSpan) × Reads text e × (clear ≡ true))
+IsClear text from len clear = ((e : Tree SourceSpan) × IsRead text e × (clear ≡ true))
     ⊎ ((faults : List ParseSingleError) × IsUnreadWith text faults × (clear ≡ not (list_any (begins_in from len) faults)))
+    ⊎ ((place : ℕ) × IsTooDeep most_levels text place × (clear ≡ false))
 
 -- The text with the edit, in which no fault begins in what the edit wrote. None if one does, or if there is no such text.
 abbrev pub IsMending : Text → EditRow → Option Text → Type 0

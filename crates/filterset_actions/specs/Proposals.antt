@@ -1,8 +1,9 @@
 -- What may be done with a filterset.
-use Rattle.std.specs.Prelude.{◌≡◌, MatchBool, Option, None, Some, codes, length}
+use Rattle.std.specs.Prelude.{◌≡◌, MatchBool, Option, None, Some, length}
 use Rattle.filterset_entries.specs.Placements.{Placement}
 use Rattle.filterset_documents.specs.Diagnostics.{fault_span}
 use Rattle.filterset_editor.specs.Positions.{Text}
+use Rattle.filterset_faults.specs.Faults.{span_of}
 use Rattle.filterset_faults.specs.declared.error.ParseSingleError.{ParseSingleError}
 use Rattle.filterset_actions.specs.Repairs.{IsRepairOf, RepairRow, repair_row}
 use Rattle.filterset_actions.specs.Subjects.{SubjectRow, meets}
@@ -30,4 +31,4 @@ repair_proposal fault repair = record { fault = Some fault; repair = repair }
 -- the repair of a fault of a text at this place, if it has one, and is in what is asked about
 abbrev pub IsRepairIn : SubjectRow → Placement → Text → ParseSingleError → Option RepairRow → Type 0
 IsRepairIn subject place text fault o =
-    MatchBool (meets subject (fault_span (Some place) fault)) (IsRepairOf text fault o) (o ≡ None)
+    MatchBool (meets subject (fault_span (Some place) (span_of fault))) (IsRepairOf text fault o) (o ≡ None)

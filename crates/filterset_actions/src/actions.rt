@@ -13,7 +13,6 @@ ghost use Rattle.filterset_actions.specs.Subjects.{subject_row};
 use crate::changes::choose_change;
 use crate::mending::mend;
 use crate::proposals::{Proposal, propose_text, repair_in};
-use crate::reading::{Reading, read_text};
 use crate::spelling::spelled_text;
 use crate::subject::{Subject, meets};
 use crate::values::range_actions;
@@ -22,7 +21,7 @@ use filterset_editor::{Change, Range};
 use filterset_entries::{FilePlace, TextEntry};
 use filterset_faults::ParseSingleError;
 use filterset_language::ParsedExpr;
-use filterset_rewriting::show_reading;
+use filterset_rewriting::{TextRefusal, read_text, show_reading};
 use serde_json::Value;
 use std::alloc::{AllocError, Global};
 
@@ -200,10 +199,11 @@ fn text_actions(
         (map view values.items)) }
 {
     match read_text(alloc, text)? {
-        Reading::Tree(tree) => tree_actions(alloc, subject, at, place, text, &tree),
-        Reading::Faults(faults) => {
+        Ok(tree) => tree_actions(alloc, subject, at, place, text, &tree),
+        Err(TextRefusal::Found(faults)) => {
             mending_actions(alloc, subject, at, place, text, faults.as_slice())
         }
+        Err(TextRefusal::TooDeep(_)) => Ok(Vec::new(alloc)),
     }
 }
 

@@ -8,7 +8,6 @@ mod changes;
 mod edits;
 mod mending;
 mod proposals;
-mod reading;
 mod repairs;
 mod spelling;
 mod subject;

@@ -2,12 +2,12 @@
 ghost use Rattle.std.specs.Prelude.{◌≡◌, IfOk, option_map, string_bytes};
 ghost use Rattle.std.specs.List.{list_any};
 ghost use Rattle.filterset_documents.specs.Edits.{edit_row};
-ghost use Rattle.filterset_actions.specs.Mending.{IsApplied, IsBetween, IsClear, IsMending, begins_in};
+ghost use Rattle.filterset_actions.specs.Mending.{IsApplied, IsClear, IsMending, begins_in};
 
-use crate::reading::{Reading, read_text};
 use filterset_configuration::Stretch;
 use filterset_documents::Edit;
 use filterset_faults::ParseSingleError;
+use filterset_rewriting::{TextRefusal, read_text};
 use std::alloc::{AllocError, Global};
 
 /// Makes a text with an edit. Returns `None` if the edit begins or ends in a character.
@@ -50,8 +50,9 @@ fn is_clear(alloc: Global, text: &str, from: usize, len: usize) -> Result<bool, 
     ensures { IfOk result (IsClear text.now from len) }
 {
     match read_text(alloc, text)? {
-        Reading::Tree(_) => Ok(true),
-        Reading::Faults(faults) => Ok(!any_begins(faults.as_slice(), from, len)),
+        Ok(_tree) => Ok(true),
+        Err(TextRefusal::Found(faults)) => Ok(!any_begins(faults.as_slice(), from, len)),
+        Err(TextRefusal::TooDeep(_)) => Ok(false),
     }
 }
 

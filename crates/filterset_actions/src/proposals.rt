@@ -54,7 +54,7 @@ pub fn repair_in(
     ensures { IfOk result (λ o. IsRepairIn (subject_row subject.now) (placement_of place.entry) text.now fault.now
         (option_map repair_row o)) }
 {
-    if meets(subject, fault_span(Some(place), fault)) {
+    if meets(subject, fault_span(Some(place), fault.span())) {
         repair_of(alloc, text, fault)
     } else {
         Ok(None)

@@ -1,6 +1,6 @@
 //! The values of actions.
-ghost use Rattle.std.specs.Prelude.{◌≡◌, ◌∷◌, [], IfOk, Some, map, string_bytes};
-ghost use Rattle.serde_json.specs.Data.{Data, member, no_members, object};
+ghost use Rattle.std.specs.Prelude.{◌≡◌, ◌∷◌, [], IfOk, Some, map};
+ghost use Rattle.serde_json.specs.Data.{Data};
 ghost use Rattle.serde_json.specs.View.{view};
 ghost use Rattle.filterset_entries.specs.Placements.{placement_of};
 ghost use Rattle.filterset_documents.specs.Edits.{edit_data};
@@ -13,7 +13,8 @@ ghost use Rattle.filterset_actions.specs.Subjects.{subject_row};
 
 use crate::proposals::Proposal;
 use crate::subject::Subject;
-use filterset_documents::{fault_span, fault_value, range_value};
+use filterset_documents::{fault_span, range_value, remark_value};
+use filterset_drawing::Remark;
 use filterset_editor::{Change, Range};
 use filterset_entries::FilePlace;
 use filterset_faults::ParseSingleError;
@@ -44,8 +45,9 @@ fn mended(
     let mut values = Vec::new(alloc);
     match fault {
         Some(fault) => {
-            let span = fault_span(Some(place), &fault);
-            values.push(fault_value(alloc, subject.shown, span, &fault)?)?;
+            let remark = Remark::of_fault(alloc, &fault)?;
+            let span = fault_span(Some(place), remark.span);
+            values.push(remark_value(alloc, subject.shown, span, &remark)?)?;
             Ok(values)
         }
         None => Ok(values),

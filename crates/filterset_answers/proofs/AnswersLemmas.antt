@@ -5,10 +5,14 @@ use Rattle.std.proofs.lemmas.List.{append-nil, length-map, length-take-le}
 use Rattle.filterset_json.specs.Pieces.{Pieces}
 use Rattle.filterset_json.proofs.PieceLemmas.{Pieces-push}
 use Rattle.filterset_drawing.specs.Columns.{Text}
+use Rattle.filterset_drawing.specs.Remarks.{RemarkRow, fault_remark}
 use Rattle.std.specs.Prelude.{◌==◌, if◌then◌else◌}
 use Rattle.filterset_faults.specs.declared.error.ParseSingleError.{ParseSingleError}
 use Rattle.filterset_answers.specs.Answers.{FaultsOf, no_texts, next_text, RewritesTexts, FormattedLine, FormattedPart, TextFaults, has_some}
-use Rattle.filterset_entries.specs.Checked.{HasReadingFaults, TextRow}
+use Rattle.filterset_entries.specs.Checked.{HasReadingFaults, TextRow, all_remarks}
+use Rattle.filterset_rewriting.specs.Reading.{IsUnreadFor}
+use Rattle.filterset_rewriting.specs.declared.reading.TextRefusal.{TextRefusal}
+use Rattle.filterset_rewriting.specs.declared.reading.TextRefusal.TheVariants.{Found, TooDeep}
 use mir.Val.{bool_byte}
 use Rattle.filterset_answers.specs.declared.formatting.Rewriting.{Rewriting}
 use Rattle.filterset_entries.specs.declared.form.Form.{Form}
@@ -19,12 +23,12 @@ one_if true = 1
 one_if false = 0
 
 -- a text with faults counts as one
-counted_one : (faults : List ParseSingleError) → (if length faults == 0 then 0 else 1) ≡ one_if (has_some faults)
+counted_one : (faults : List RemarkRow) → (if length faults == 0 then 0 else 1) ≡ one_if (has_some faults)
 counted_one [] = refl
 counted_one (fault ∷ faults) = ap (λ b. if b then 0 else 1) (eqb-suc-zero (length faults))
 
 -- the faults of one more text
-pub FaultsOf-push : (Has : TextRow → List ParseSingleError → Type 0) (form : Form) (n : ℕ) (rows : List TextRow) (row : TextRow) (faulty : ℕ) (has : Bool) (pieces piece : Text)
+pub FaultsOf-push : (Has : TextRow → List RemarkRow → Type 0) (form : Form) (n : ℕ) (rows : List TextRow) (row : TextRow) (faulty : ℕ) (has : Bool) (pieces piece : Text)
     → FaultsOf Has form n rows faulty pieces → TextFaults Has form (n + length rows) row has piece
     → FaultsOf Has form n (rows ++ row ∷ []) (faulty + one_if has) (pieces ++ piece)
 FaultsOf-push Has form n [] row faulty has pieces piece no_texts is =
@@ -62,9 +66,13 @@ formats form rewriting rows faulty lines pieces formatted faults text are_pieces
     (pieces, are_pieces, λ none. subst (Pieces (FormattedLine rewriting) rows) (sym (fine none ∙ is_lines)) (are_lines none), λ some. other some ∙ is_pieces)
 
 -- there are some where there are not none
-pub some_is : (faults : List ParseSingleError) → faults ≢ [] → true ≡ has_some faults
+pub some_is : (faults : List ParseSingleError) → faults ≢ [] → true ≡ has_some (map fault_remark faults)
 some_is [] none = absurd (none refl)
 some_is (fault ∷ faults) some = refl
+
+pub unread_some : (text : Text) (faults : TextRefusal) → IsUnreadFor text faults → true ≡ has_some (all_remarks faults)
+unread_some text (Found faults) unread = some_is faults.items unread.some
+unread_some text (TooDeep place) deep = refl
 
 -- a truth value as a number
 pub number_of : (b : Bool) → bool_byte b ≡ one_if b

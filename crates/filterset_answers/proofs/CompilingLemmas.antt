@@ -1,10 +1,12 @@
 -- Texts that are compiled one after the other.
-use Rattle.std.proofs.Common.{◌≡◌, ◌≢◌, ℕ, Bool, arith, ◌+◌, List, [], ◌∷◌, ◌++◌, length, ◌∙◌, sym, ap, subst, append_assoc, length-append, refl, true, false, inl, inr, string_bytes}
-use Rattle.std.proofs.lemmas.List.{append-nil}
+use Rattle.std.proofs.Common.{◌≡◌, ◌≢◌, ℕ, arith, ◌+◌, List, [], ◌∷◌, ◌++◌, length, ◌∙◌, sym, ap, subst, append_assoc, length-append, refl, true, false, inl, inr, string_bytes}
 use Rattle.std.specs.Prelude.{Option, Some, None, is_none, option_map, option_to_list, if◌then◌else◌}
 use Rattle.std.specs.List.{AllZip, cons_option, filter_map}
 use Rattle.filterset_json.specs.Pieces.{no_pieces}
 use Rattle.filterset_drawing.specs.Columns.{Text}
+use Rattle.filterset_drawing.specs.Remarks.{RemarkRow}
+use Rattle.filterset_rewriting.specs.declared.reading.TextRefusal.{TextRefusal}
+use Rattle.filterset_rewriting.specs.declared.reading.TextRefusal.TheVariants.{Found, TooDeep}
 use Rattle.filterset_faults.specs.declared.error.ParseSingleError.{ParseSingleError}
 use Rattle.filterset_faults.specs.declared.kind.FiltersetKind.{FiltersetKind}
 use Rattle.filterset_graph.specs.declared.package.PackageMetadata.{PackageMetadata}
@@ -12,8 +14,8 @@ use Rattle.filterset_language.specs.Views.{tree_of}
 use Rattle.nextest_filtering.specs.Compiling.{IsRefusedWith, found, rejected, banned, unmatched, packages_of}
 use Rattle.nextest_filtering.specs.declared.compile.context.KnownGroups.{KnownGroups}
 use Rattle.nextest_filtering.specs.declared.filterset.Filterset.{Filterset}
-use Rattle.filterset_answers.specs.Answers.{FaultsOf, TextFaults, no_texts}
-use Rattle.filterset_entries.specs.Checked.{HasRefusal, TextRow, text_row}
+use Rattle.filterset_answers.specs.Answers.{FaultsOf, TextFaults, has_some, no_texts}
+use Rattle.filterset_entries.specs.Checked.{IsRefusedFor, all_remarks, HasRefusal, TextRow, text_row}
 use Rattle.filterset_answers.specs.Compiled.{Compiles, HasMade, IsFilter, IsLogOf, IsMade, IsParsedAs}
 use Rattle.filterset_entries.specs.Entries.{filter_row}
 use Rattle.filterset_answers.specs.declared.compiling.Compiler.{Compiler}
@@ -30,8 +32,13 @@ refusal_some text kind packages groups faults (found unread) = unread.some
 refusal_some text kind packages groups faults (rejected e reads (banned are some)) = some
 refusal_some text kind packages groups faults (rejected e reads (unmatched allowed are some)) = some
 
+refused_some : (packages : List PackageMetadata) (groups : KnownGroups) (row : TextRow) (faults : TextRefusal)
+    → IsRefusedFor packages groups row faults → true ≡ has_some (all_remarks faults)
+refused_some packages groups row (Found faults) refused = some_is faults.items (refusal_some _ _ _ _ faults.items refused)
+refused_some packages groups row (TooDeep place) refused = refl
+
 -- which faults a text has for a compiler
-abbrev pub Refuses : Compiler → TextRow → List ParseSingleError → Type 0
+abbrev pub Refuses : Compiler → TextRow → List RemarkRow → Type 0
 Refuses compiler = HasRefusal (packages_of compiler.context) compiler.groups.now
 
 -- what is written of a text is what is written of its faults
@@ -40,7 +47,7 @@ parsed_faults : (compiler : Compiler) (number : ℕ) (row : TextRow) (made : Opt
 parsed_faults compiler number row (Some made) piece (none, is) =
     subst (TextFaults (Refuses compiler) compiler.form number row false) (sym none) ([], inl (tree_of made.parsed, is.accepted, refl), refl, no_pieces)
 parsed_faults compiler number row None piece (faults, refused, is) =
-    (faults, inr refused, some_is faults (refusal_some _ _ _ _ faults refused), is)
+    (all_remarks faults, inr (faults, refused, refl), refused_some _ _ row faults refused, is)
 
 -- the faults of one more text
 logged : (compiler : Compiler) (others : List TextRow) (row : TextRow) (before after : FaultLog) (made : Option Filterset) (number : ℕ) (piece : Text)
@@ -83,14 +90,6 @@ compiles_one compiler row before after None number piece next is added kept pars
   makes = λ none. absurd (let e : true ≡ false = sym kept ∙ none in cc);
 }
 
--- nothing was compiled
-pub compiles_none : (compiler : Compiler) (log : FaultLog) (P : Type 0) → P → Compiles compiler [] log log P
-compiles_none compiler log P p = record {
-  logs = λ others is. subst (λ rows. IsLogOf compiler rows log) (sym (append-nil others)) is;
-  no_faults = λ none. none;
-  makes = λ none. p;
-}
-
 -- texts were compiled, and then others
 pub compiles_both : (compiler : Compiler) (rows others : List TextRow) (before between after : FaultLog) (P Q R : Type 0)
     → Compiles compiler rows before between P → Compiles compiler others between after Q → (P → Q → R) → Compiles compiler (rows ++ others) before after R
@@ -105,11 +104,6 @@ pub made_more : (compiler : Compiler) (rows : List TextRow) (row : TextRow) (old
     → AllZip (IsMade compiler) rows old → HasMade compiler row made → AllZip (IsMade compiler) (rows ++ row ∷ []) (old ++ option_to_list made)
 made_more compiler rows row old None are is = absurd is
 made_more compiler rows row old (Some made) are is = AllZip-push (IsMade compiler) rows old row made are is
-
--- there are faults if there are not none
-pub has_faults : (b : Bool) → (b ≡ false → ⊥) → b ≡ true
-has_faults true some = refl
-has_faults false some = absurd (some refl)
 
 -- an empty log
 pub empty_log : (compiler : Compiler) (log : FaultLog) → string_bytes log.text ≡ [] → log.count ≡ 0 → log.has_any ≡ false → IsLogOf compiler [] log

@@ -12,8 +12,8 @@ use Rattle.filterset_language.specs.Views.{tree_of}
 use Rattle.filterset_listing.specs.declared.groups.GroupOverride.{GroupOverride}
 use Rattle.nextest_filtering.specs.declared.compile.context.KnownGroups.{KnownGroups}
 use Rattle.nextest_filtering.specs.declared.filterset.Filterset.{Filterset}
-use Rattle.filterset_entries.specs.Checked.{TextRow}
-use Rattle.filterset_answers.specs.Compiled.{AreFiltersets, Basis, IsFiltersetFor, IsOverrideFor, IsTreeOf, sets_group}
+use Rattle.filterset_entries.specs.Checked.{IsFiltersetFor, TextRow}
+use Rattle.filterset_answers.specs.Compiled.{AreFiltersets, Basis, IsOverrideFor, IsTreeOf, sets_group}
 use Rattle.filterset_answers.specs.Picking.{compiled_of, parsed_of}
 use Rattle.filterset_answers.specs.declared.compiling.QuestionFiltersets.{QuestionFiltersets}
 use Rattle.filterset_entries.specs.declared.setting.Setting.{Setting}

@@ -1,11 +1,10 @@
 -- What `check` and `format` write about texts.
 use Rattle.std.specs.Prelude.{◌≡◌, ◌≢◌, ◌==◌, ◌++◌, Bool, true, false, ℕ, suc, ◌+◌, List, [], ◌∷◌, codes, decimal, length, if◌then◌else◌}
 use Rattle.filterset_drawing.specs.Columns.{Text}
-use Rattle.filterset_faults.specs.declared.error.ParseSingleError.{ParseSingleError}
+use Rattle.filterset_drawing.specs.Remarks.{RemarkRow}
 use Rattle.filterset_faults.specs.declared.span.SourceSpan.{SourceSpan}
 use Rattle.filterset_grammar.specs.Printing.{printed}
 use Rattle.filterset_grammar.specs.Tree.{Tree}
-use Rattle.filterset_language.specs.Parsed.{Reads}
 use Rattle.filterset_json.specs.Pieces.{Pieces}
 use Rattle.filterset_entries.specs.Checked.{HasFaults, HasReadingFaults, TextRow}
 use Rattle.filterset_entries.specs.Forms.{FaultPieces}
@@ -14,24 +13,25 @@ use Rattle.filterset_entries.specs.declared.form.Form.TheVariants.{Drawn}
 use Rattle.filterset_answers.specs.declared.formatting.Rewriting.{Rewriting}
 use Rattle.filterset_answers.specs.declared.formatting.Rewriting.TheVariants.{Printed, Simplified}
 use Rattle.filterset_entries.specs.declared.names.Names.{Names}
+use Rattle.filterset_rewriting.specs.Reading.{IsRead}
 use Rattle.filterset_rewriting.specs.Simplifying.Simplified.{IsSimplified}
 
 -- ---- faults
 
-abbrev pub has_some : List ParseSingleError → Bool
+abbrev pub has_some : List RemarkRow → Bool
 has_some [] = false
 has_some (fault ∷ faults) = true
 
 -- what is written of the faults of a text with this number, and whether it has any
-abbrev pub TextFaults : (TextRow → List ParseSingleError → Type 0) → Form → ℕ → TextRow → Bool → Text → Type 0
-TextFaults Has form number row has piece = (faults : List ParseSingleError) × Has row faults × (has ≡ has_some faults)
+abbrev pub TextFaults : (TextRow → List RemarkRow → Type 0) → Form → ℕ → TextRow → Bool → Text → Type 0
+TextFaults Has form number row has piece = (faults : List RemarkRow) × Has row faults × (has ≡ has_some faults)
     × FaultPieces form row number faults piece
 
 -- what is written of the faults of texts, of which the first has this number, and how many of them have any
-pub data FaultsOf (Has : TextRow → List ParseSingleError → Type 0) (form : Form) :
+pub data FaultsOf (Has : TextRow → List RemarkRow → Type 0) (form : Form) :
     ℕ → List TextRow → ℕ → Text → Type 0 where
   no_texts : {n : ℕ} → FaultsOf Has form n [] 0 []
-  next_text : {n others : ℕ} {row : TextRow} {rows : List TextRow} {faults : List ParseSingleError} {front rest : Text}
+  next_text : {n others : ℕ} {row : TextRow} {rows : List TextRow} {faults : List RemarkRow} {front rest : Text}
       → Has row faults → FaultPieces form row n faults front → FaultsOf Has form (suc n) rows others rest
       → FaultsOf Has form n (row ∷ rows) ((if length faults == 0 then 0 else 1) + others) (front ++ rest)
 
@@ -64,7 +64,7 @@ IsRewritten Simplified e d = IsSimplified e d
 
 -- the line of a text that reads as a tree: the tree as it prints, or simplified
 abbrev pub FormattedLine : Rewriting → TextRow → Text → Type 0
-FormattedLine rewriting row line = (e : Tree SourceSpan) × (d : Tree SourceSpan) × Reads row.text e
+FormattedLine rewriting row line = (e : Tree SourceSpan) × (d : Tree SourceSpan) × IsRead row.text e
     × IsRewritten rewriting e d × (line ≡ printed d ++ codes "\n")
 
 -- what is written of a text that has faults or not: nothing, or its line

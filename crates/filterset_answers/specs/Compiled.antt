@@ -3,22 +3,19 @@ use Rattle.std.specs.Prelude.{◌≡◌, ◌≢◌, ◌⊎◌, ◌++◌, ℕ, Li
 use Rattle.std.specs.Borrow.{Bor}
 use Rattle.std.specs.List.{AllZip}
 use Rattle.filterset_drawing.specs.Columns.{Text}
-use Rattle.filterset_expression.specs.Expression.{has_leaf, is_default, is_group}
 use Rattle.filterset_expression.specs.Meaning.{IsCompiled}
 use Rattle.filterset_expression.specs.declared.expression.CompiledExpr.{CompiledExpr}
-use Rattle.filterset_faults.specs.declared.error.ParseSingleError.{ParseSingleError}
-use Rattle.filterset_faults.specs.declared.kind.FiltersetKind.TheVariants as kinds
 use Rattle.filterset_faults.specs.declared.span.SourceSpan.{SourceSpan}
 use Rattle.filterset_graph.specs.declared.package.PackageMetadata.{PackageMetadata}
 use Rattle.filterset_grammar.specs.Tree.{Tree}
-use Rattle.filterset_language.specs.Views.{tree_of}
 use Rattle.filterset_listing.specs.declared.groups.GroupOverride.{GroupOverride}
 use Rattle.filterset_overrides.specs.declared.asked.AskedOverride.{AskedOverride}
-use Rattle.nextest_filtering.specs.Compiling.{IsFiltersetOf, IsRefusedWith, packages_of}
+use Rattle.nextest_filtering.specs.Compiling.{packages_of}
 use Rattle.nextest_filtering.specs.declared.compile.context.KnownGroups.{KnownGroups}
 use Rattle.nextest_filtering.specs.declared.filterset.Filterset.{Filterset}
+use Rattle.filterset_rewriting.specs.declared.reading.TextRefusal.{TextRefusal}
 use Rattle.filterset_answers.specs.Answers.{FaultsOf}
-use Rattle.filterset_entries.specs.Checked.{HasRefusal, TextRow, text_row}
+use Rattle.filterset_entries.specs.Checked.{HasRefusal, IsAccepted, IsFiltersetFor, IsRefusedFor, TextRow, all_remarks, text_row}
 use Rattle.filterset_entries.specs.Entries.{setting_rows}
 use Rattle.filterset_entries.specs.Forms.{FaultPieces}
 use Rattle.filterset_answers.specs.declared.compiling.CompiledTexts.{CompiledTexts}
@@ -37,7 +34,7 @@ use Rattle.filterset_entries.specs.declared.text.TextEntry.{TextEntry}
 
 -- the text is a filterset of its kind, over the packages and the groups of the setting, by this tree
 abbrev pub IsTreeOf : Setting → TextRow → Tree SourceSpan → Type 0
-IsTreeOf setting row = IsFiltersetOf row.text row.kind setting.graph.now setting.groups.now
+IsTreeOf setting = IsAccepted setting.graph.now setting.groups.now
 
 -- this is what the tree of the text is compiled to, if there is a text
 abbrev pub IsCompiledText : Setting → Option TextEntry → Option (Bor CompiledExpr) → Type 0
@@ -85,14 +82,6 @@ AnswersTexts form setting rows Tells ending text =
 
 -- ---- filtersets
 
--- the text is a filterset of its kind over the packages and groups, by this tree, which is compiled to this expression
-pub record IsFiltersetFor (packages : List PackageMetadata) (groups : KnownGroups) (row : TextRow)
-    (made : Filterset) : Type 0 where
-  pub accepted : IsFiltersetOf row.text row.kind packages groups (tree_of made.parsed)
-  pub compiled : IsCompiled packages (tree_of made.parsed) made.compiled
-  pub no_default : row.kind ≡ kinds.DefaultFilter → has_leaf is_default made.compiled ≡ false
-  pub no_group : row.kind ≢ kinds.Test → has_leaf is_group made.compiled ≡ false
-
 -- what the filter of an override is as a filterset, if it has one
 abbrev pub IsFilterFor : List PackageMetadata → KnownGroups → OverrideEntry → Option Filterset → Type 0
 IsFilterFor packages groups entry None = entry.filter ≡ None
@@ -136,9 +125,9 @@ IsFilter compiler = IsFilterFor (packages_of compiler.context) compiler.groups.n
 -- what the text with this number is as a filterset, and what is written of it: nothing, or its faults
 abbrev pub IsParsedAs : Compiler → ℕ → TextRow → Option Filterset → Text → Type 0
 IsParsedAs compiler number row (Some made) piece = (piece ≡ []) × IsMade compiler row made
-IsParsedAs compiler number row None piece = (faults : List ParseSingleError)
-    × IsRefusedWith row.text row.kind (packages_of compiler.context) compiler.groups.now faults
-    × FaultPieces compiler.form row number faults piece
+IsParsedAs compiler number row None piece = (faults : TextRefusal)
+    × IsRefusedFor (packages_of compiler.context) compiler.groups.now row faults
+    × FaultPieces compiler.form row number (all_remarks faults) piece
 
 -- the log has the faults of these texts
 pub record IsLogOf (compiler : Compiler) (rows : List TextRow) (log : FaultLog) : Type 0 where

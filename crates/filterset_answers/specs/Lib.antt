@@ -1,5 +1,4 @@
 pub mod Answers
-pub mod Readings
 pub mod Compiled
 pub mod Binaries
 pub mod Picks

@@ -1,21 +1,21 @@
 //! The faults of texts.
 ghost use Rattle.std.specs.Prelude.{◌≡◌, ◌++◌, IfOk, OnOk, [], codes, if◌then◌else◌, ℕ, length, map, string_bytes};
 ghost use Rattle.filterset_drawing.specs.Columns.{Text};
-ghost use Rattle.filterset_faults.specs.declared.error.ParseSingleError.{ParseSingleError};
+ghost use Rattle.filterset_drawing.specs.Remarks.{remark_row};
 ghost use Rattle.nextest_filtering.specs.Groups.{IsKnown};
 ghost use Rattle.filterset_answers.specs.Answers.{ChecksTexts, FaultsOf, TextFaults};
 ghost use Rattle.filterset_answers.specs.Answers.{counts_text, has_some, summary};
 ghost use Rattle.filterset_entries.specs.Checked.{HasFaults, text_row};
 ghost use Rattle.filterset_entries.specs.Endings.{ending_of};
 
+use filterset_drawing::Remark;
 use filterset_entries::{Answer, Form, Names, TextEntry, ending_of, faults_of, push_faults};
-use nextest_filtering::ParseSingleError;
 use std::alloc::{AllocError, Global};
 use std::fmt::Write;
 
 /// Returns whether there are faults.
-fn has_some(faults: &[ParseSingleError]) -> bool
-    ensures { result ≡ has_some faults.now }
+fn has_some(faults: &[Remark]) -> bool
+    ensures { result ≡ has_some (map remark_row faults.now) }
 {
     match faults {
         [] => false,

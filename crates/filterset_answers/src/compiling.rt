@@ -7,7 +7,9 @@ ghost use Rattle.filterset_entries.specs.Checked.{text_row};
 ghost use Rattle.filterset_answers.specs.Compiled.{AreCompiled, Compiles, CompilesAll, HasMade, IsFilter, IsMade, IsParsedAs};
 ghost use Rattle.filterset_entries.specs.Entries.{filter_row};
 
-use filterset_entries::{Form, OverrideEntry, Setting, TextEntry, push_faults};
+use filterset_entries::{
+    Form, OverrideEntry, Setting, TextEntry, fault_remarks, parse_entry, push_faults,
+};
 use nextest_filtering::{Filterset, KnownGroups, ParseContext};
 use std::alloc::{AllocError, Global};
 
@@ -65,7 +67,7 @@ pub struct FaultLog {
 }
 
 /// Parses the text with this number as a filterset, or writes its faults.
-fn parse_entry(
+fn compile_entry(
     output: &mut String,
     alloc: Global,
     compiler: &Compiler<'_>,
@@ -76,13 +78,12 @@ fn parse_entry(
     ensures { IfOk result (λ made. (piece : Text) × (string_bytes output.new ≡ string_bytes output.old ++ piece)
         × IsParsedAs compiler.now number (text_row entry.now) made piece) }
 {
-    let input = String::from_str(alloc, entry.text)?;
-    match Filterset::parse(alloc, input, &compiler.context, entry.kind, compiler.groups) {
+    match parse_entry(alloc, &compiler.context, compiler.groups, entry)? {
         Ok(filterset) => Ok(Some(filterset)),
-        Err(refusal) => {
-            let refused = refusal.into_faults()?;
-            let faults = refused.errors.as_slice();
-            push_faults(output, alloc, compiler.form, entry, number, faults)?;
+        Err(faults) => {
+            let remarks = fault_remarks(alloc, &faults)?;
+            let form = compiler.form;
+            push_faults(output, alloc, form, entry, number, remarks.as_slice())?;
             Ok(None)
         }
     }
@@ -107,7 +108,7 @@ fn compile_text(
         Compiles compiler.now (row ∷ []) log.old log.new (HasMade compiler.now row made)) }
 {
     let number = number_after(log.count)?;
-    let made = parse_entry(&mut log.text, alloc, compiler, number, entry)?;
+    let made = compile_entry(&mut log.text, alloc, compiler, number, entry)?;
     log.count = number;
     if made.is_none() {
         log.has_any = true;

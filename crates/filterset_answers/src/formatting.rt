@@ -5,12 +5,12 @@ ghost use Rattle.filterset_json.specs.Pieces.{Pieces};
 ghost use Rattle.filterset_answers.specs.Answers.{FaultsOf, FormatsTexts, FormattedLine, FormattedPart, IsRewritten, RewritesTexts, SimplifiesTexts, TextFaults};
 ghost use Rattle.filterset_entries.specs.Checked.{HasReadingFaults, text_row};
 ghost use Rattle.filterset_entries.specs.Endings.{ending_of};
-ghost use Rattle.filterset_answers.specs.Readings.{IsReadingOf};
 ghost use Rattle.filterset_language.specs.Views.{tree_of};
 
-use filterset_entries::{Answer, Form, TextEntry, ending_of, push_faults};
+use filterset_entries::{Answer, Form, TextEntry, ending_of, fault_remarks, push_faults};
+use filterset_rewriting::read_text;
 use filterset_rewriting::simplifying::simplify;
-use nextest_filtering::{ParseSingleError, Parsed, ParsedExpr};
+use nextest_filtering::ParsedExpr;
 use std::alloc::{AllocError, Global};
 use std::fmt::Write;
 
@@ -21,26 +21,6 @@ pub enum Rewriting {
     Printed,
     /// Without what changes nothing for every test.
     Simplified,
-}
-
-/// What parsing a text gives.
-#[derive(Drop)]
-enum ParsedText {
-    /// The tree that it spells.
-    Tree(ParsedExpr),
-    /// Its faults.
-    Faults(Vec<ParseSingleError>),
-}
-
-/// Parses a text.
-fn parse_text(alloc: Global, text: &str) -> Result<ParsedText, AllocError>
-    ensures { IfOk result (IsReadingOf text.now) }
-{
-    let Parsed { tree, faults } = ParsedExpr::parse_with_faults(alloc, text)?;
-    match tree {
-        Some(tree) if faults.is_empty() => Ok(ParsedText::Tree(tree)),
-        _ => Ok(ParsedText::Faults(faults)),
-    }
 }
 
 /// Returns a tree as it is to be printed.
@@ -69,14 +49,15 @@ fn push_text(
         × FormattedPart rewriting has (text_row entry.now) line
         × TextFaults HasReadingFaults form number (text_row entry.now) has piece) }
 {
-    match parse_text(alloc, entry.text)? {
-        ParsedText::Tree(tree) => {
+    match read_text(alloc, entry.text)? {
+        Ok(tree) => {
             let rewritten = rewrite(alloc, rewriting, tree)?;
             writeln!(formatted, "{rewritten}")?;
             Ok(false)
         }
-        ParsedText::Faults(faults) => {
-            push_faults(output, alloc, form, entry, number, faults.as_slice())?;
+        Err(faults) => {
+            let remarks = fault_remarks(alloc, &faults)?;
+            push_faults(output, alloc, form, entry, number, remarks.as_slice())?;
             Ok(true)
         }
     }

@@ -2,7 +2,8 @@
 use Rattle.std.specs.Prelude.{◌≡◌, ◌≢◌, ◌⊎◌, ◌==◌, ◌+◌, ◌++◌, ℕ, suc, Bool, true, false, List, [], ◌∷◌, None, codes, decimal, if◌then◌else◌, length, map}
 use Rattle.std.specs.List.{count_by}
 use Rattle.filterset_answers.specs.Answers.{FaultsOf}
-use Rattle.filterset_entries.specs.Checked.{HasRefusal, TextRow}
+use Rattle.filterset_entries.specs.Checked.{IsAccepted, IsRefusedFor, HasRefusal, TextRow}
+use Rattle.filterset_rewriting.specs.declared.reading.TextRefusal.{TextRefusal}
 use Rattle.filterset_answers.specs.Compiled.{Basis as SettingBasis}
 use Rattle.filterset_entries.specs.Entries.{setting_rows}
 use Rattle.filterset_entries.specs.Forms.{IsWritten, text_writing}
@@ -14,7 +15,6 @@ use Rattle.filterset_entries.specs.declared.text.Ending.TheVariants.{Faulty, Fin
 use Rattle.filterset_drawing.specs.Columns.{Text}
 use Rattle.filterset_drawing.specs.Remarks.{RemarkRow, said}
 use Rattle.filterset_drawing.specs.declared.remark.Severity.TheVariants.{Warning}
-use Rattle.filterset_faults.specs.declared.error.ParseSingleError.{ParseSingleError}
 use Rattle.filterset_faults.specs.declared.span.SourceSpan.{SourceSpan}
 use Rattle.filterset_grammar.specs.Printing.{printed}
 use Rattle.filterset_grammar.specs.Tree.{Tree}
@@ -27,7 +27,6 @@ use Rattle.filterset_json.specs.Pieces.{Pieces}
 use Rattle.filterset_language.specs.Faults.{leaf_span}
 use Rattle.filterset_listing.specs.declared.binary.AskedBinary.{AskedBinary}
 use Rattle.filterset_entries.specs.declared.text.WarningEnd.{WarningEnd}
-use Rattle.nextest_filtering.specs.Compiling.{IsFiltersetOf, IsRefusedWith}
 use Rattle.nextest_filtering.specs.declared.compile.context.KnownGroups.{KnownGroups}
 use Rattle.filterset_asking.specs.Spans.{tree_span}
 
@@ -60,12 +59,12 @@ remarks_of unmatched needless = map unmatched_remark unmatched ++ map needless_r
 pub data TextWarnings (form : Form) (groups : KnownGroups) (basis : Basis) (subjects : List Subject) (number : ℕ)
     (row : TextRow) (count : ℕ) (piece : Text) : Type 0 where
   of_filterset : (e : Tree SourceSpan) (unmatched : List Unmatched) (needless : List Found)
-      → IsFiltersetOf row.text row.kind basis.packages groups e
+      → IsAccepted basis.packages groups row e
       → AreUnmatched basis subjects e unmatched → AreNeedless basis subjects e unmatched needless
       → count ≡ length (remarks_of unmatched needless)
       → Pieces (IsWritten (text_writing form row number)) (remarks_of unmatched needless) piece
       → TextWarnings form groups basis subjects number row count piece
-  of_faulty : (faults : List ParseSingleError) → IsRefusedWith row.text row.kind basis.packages groups faults
+  of_faulty : (faults : TextRefusal) → IsRefusedFor basis.packages groups row faults
       → count ≡ 0 → piece ≡ [] → TextWarnings form groups basis subjects number row count piece
 
 -- the warnings of texts, of which the first has this number, and how many

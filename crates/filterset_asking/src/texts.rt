@@ -1,17 +1,17 @@
 //! The warnings of texts.
 ghost use Rattle.std.specs.Prelude.{◌≡◌, ◌++◌, IfOk, map, string_bytes};
-ghost use Rattle.filterset_entries.specs.Checked.{text_row};
+ghost use Rattle.filterset_entries.specs.Checked.{IsAccepted, text_row};
 ghost use Rattle.filterset_drawing.specs.Columns.{Text};
 ghost use Rattle.filterset_expression.specs.Meaning.{IsCompiled};
 ghost use Rattle.filterset_language.specs.Views.{tree_of};
-ghost use Rattle.nextest_filtering.specs.Compiling.{IsFiltersetOf, packages_of};
+ghost use Rattle.nextest_filtering.specs.Compiling.{packages_of};
 ghost use Rattle.nextest_filtering.specs.Groups.{IsKnown};
 ghost use Rattle.filterset_asking.specs.Contexts.{basis_of};
 ghost use Rattle.filterset_asking.specs.Warnings.{TextWarnings, WarningsOf};
 
 use crate::hints::remarks_of;
 use filterset_drawing::Source;
-use filterset_entries::{Form, RemarkWriter, TextEntry};
+use filterset_entries::{Form, RemarkWriter, TextEntry, parse_entry};
 use filterset_listing::{Subject, find_hints};
 use nextest_filtering::{EvalContext, Filterset, KnownGroups, ParseContext};
 use std::alloc::{AllocError, Global};
@@ -36,8 +36,8 @@ fn push_filterset(
     entry: &TextEntry<'_>,
     filterset: &Filterset,
 ) -> Result<usize, AllocError>
-    requires accepted { let row = text_row entry.now in IsFiltersetOf row.text row.kind
-        (packages_of cx.now.parse_context) cx.now.known_groups.now (tree_of filterset.now.parsed) }
+    requires accepted { IsAccepted (packages_of cx.now.parse_context) cx.now.known_groups.now (text_row entry.now)
+        (tree_of filterset.now.parsed) }
     requires compiled { IsCompiled (packages_of cx.now.parse_context) (tree_of filterset.now.parsed)
         filterset.now.compiled }
     ensures { IfOk result (λ count. (piece : Text) × (string_bytes output.new ≡ string_bytes output.old ++ piece)
@@ -72,13 +72,9 @@ fn push_text(
         × TextWarnings cx.now.form cx.now.known_groups.now (basis_of cx.now) cx.now.subjects.items number
         (text_row entry.now) count piece) }
 {
-    let input = String::from_str(alloc, entry.text)?;
-    match Filterset::parse(alloc, input, &cx.parse_context, entry.kind, cx.known_groups) {
+    match parse_entry(alloc, &cx.parse_context, cx.known_groups, entry)? {
         Ok(filterset) => push_filterset(output, alloc, cx, number, entry, &filterset),
-        Err(refusal) => {
-            let _refused = refusal.into_faults()?;
-            Ok(0)
-        }
+        Err(_faults) => Ok(0),
     }
 }
 

@@ -1,13 +1,10 @@
 -- Which candidates stand where they are put.
-use Rattle.std.specs.Prelude.{◌≡◌, ◌⊎◌, ◌-◌, ◌++◌, ◌==◌, ◌&&◌, ℕ, Bool, true, false, List, [], MatchBool, length, not, replicate, slice_index, if◌then◌else◌}
+use Rattle.std.specs.Prelude.{◌≡◌, ◌-◌, ◌++◌, ◌==◌, ◌&&◌, ℕ, Bool, true, false, List, [], MatchBool, length, not, replicate, slice_index, if◌then◌else◌}
 use Rattle.std.specs.List.{count_by, starts_with}
-use Rattle.filterset_documents.specs.Filtersets.{IsUnread}
 use Rattle.filterset_editor.specs.Positions.{Text}
 use Rattle.filterset_faults.specs.Span.{offset_of}
 use Rattle.filterset_faults.specs.declared.kind.FiltersetKind.{FiltersetKind}
-use Rattle.filterset_faults.specs.declared.span.SourceSpan.{SourceSpan}
-use Rattle.filterset_grammar.specs.Tree.{Tree}
-use Rattle.filterset_language.specs.Parsed.{Reads}
+use Rattle.filterset_documents.specs.Filtersets.{OfTree}
 use Rattle.filterset_names.specs.Sieves.{Sieves}
 use Rattle.filterset_offers.specs.Candidates.{Row}
 use Rattle.filterset_offers.specs.Gaps.{GapRow, gap_at, gap_row, is_of}
@@ -64,9 +61,8 @@ text_with row gap behind = gap.before ++ (row.label ++ (tail_in row gap ++ (samp
 
 -- whether the text with the candidate in place of the word reads as a tree which shows that the candidate stands where it may
 abbrev pub Stands : FiltersetKind → Row → GapRow → Text → Bool → Type 0
-Stands kind row gap behind answer =
-    ((e : Tree SourceSpan) × Reads (text_with row gap behind) e × (answer ≡ shows kind row (offset_of gap.at) e))
-    ⊎ (IsUnread (text_with row gap behind) × (answer ≡ false))
+Stands kind row gap behind =
+    OfTree (text_with row gap behind) (λ e answer. answer ≡ shows kind row (offset_of gap.at) e) false
 
 -- ---- what is after the word
 

@@ -5,21 +5,15 @@ use Rattle.serde_json.specs.Data.{Data, null}
 use Rattle.filterset_entries.specs.Checked.{TextRow}
 use Rattle.filterset_editor.specs.Positions.{Text}
 use Rattle.filterset_editor.specs.declared.positions.Encoding.{Encoding}
-use Rattle.filterset_faults.specs.declared.span.SourceSpan.{SourceSpan}
 use Rattle.filterset_grammar.specs.Printing.{printed}
-use Rattle.filterset_grammar.specs.Tree.{Tree}
-use Rattle.filterset_language.specs.Parsed.{Reads}
+use Rattle.filterset_documents.specs.Filtersets.{OfTree}
 use Rattle.filterset_documents.specs.Contents.{Becomes, ContentRow}
 use Rattle.filterset_documents.specs.Edits.{AreEdits, AreEditsOf, AreRewrites, EditRow, edited}
-use Rattle.filterset_documents.specs.Filtersets.{IsUnread}
-
--- the text as it prints, if it reads as a tree, and else itself
-abbrev pub IsPrinted : Text → Text → Type 0
-IsPrinted text new = ((e : Tree SourceSpan) × Reads text e × (new ≡ printed e)) ⊎ (IsUnread text × (new ≡ text))
 
 -- the text that a filterset gets: if it is found in the document, its own as it prints
 abbrev pub IsFormatted : TextRow → Text → Type 0
-IsFormatted row new = MatchOption row.place (new ≡ row.text) (λ _. IsPrinted row.text new)
+IsFormatted row new =
+    MatchOption row.place (new ≡ row.text) (λ _. OfTree row.text (λ e text. text ≡ printed e) row.text new)
 
 -- The edits by which the filtersets of a document get these texts. There are none if they can't be made, or if the document would
 -- not hold the same with them, but for the texts.

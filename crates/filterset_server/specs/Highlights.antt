@@ -1,5 +1,5 @@
 -- The tokens of a document, as the protocol has them.
-use Rattle.std.specs.Prelude.{◌≡◌, ◌⊎◌, ◌-◌, ◌++◌, ◌==◌, ◌&&◌, ℕ, List, [], ◌∷◌, MatchOption, Option, Some, codes, nat_lt, if◌then◌else◌}
+use Rattle.std.specs.Prelude.{◌≡◌, ◌-◌, ◌++◌, ◌==◌, ◌&&◌, ℕ, List, [], ◌∷◌, MatchOption, Option, Some, codes, nat_lt, if◌then◌else◌}
 use Rattle.std.specs.List.Sorted.{IsNonDecreasingBy, IsPermutation}
 use Rattle.serde_json.specs.Data.{Data, array, number, unsigned, object, member, no_members}
 use Rattle.serde_json.specs.View.{items_of}
@@ -10,10 +10,7 @@ use Rattle.filterset_editor.specs.declared.positions.Encoding.{Encoding}
 use Rattle.filterset_editor.specs.declared.positions.Position.{Position}
 use Rattle.filterset_editor.specs.declared.positions.Range.{Range}
 use Rattle.filterset_faults.specs.Span.{offset_of}
-use Rattle.filterset_faults.specs.declared.span.SourceSpan.{SourceSpan}
-use Rattle.filterset_grammar.specs.Tree.{Tree}
-use Rattle.filterset_language.specs.Parsed.{Reads}
-use Rattle.filterset_documents.specs.Filtersets.{IsUnread}
+use Rattle.filterset_documents.specs.Filtersets.{OfTree}
 use Rattle.filterset_documents.specs.Joins.{Joins}
 use Rattle.filterset_documents.specs.Ranges.{IsRangeOf}
 use Rattle.filterset_rewriting.specs.Tokens.{AreTokens}
@@ -24,8 +21,7 @@ use Rattle.filterset_rewriting.specs.declared.tokens.TokenKind.TheVariants.{Enum
 
 -- the tokens of a filterset's text, if it reads as a tree
 abbrev pub TextTokens : Text → List Token → Type 0
-TextTokens text tokens =
-    ((e : Tree SourceSpan) × Reads text e × AreTokens text e tokens) ⊎ (IsUnread text × (tokens ≡ []))
+TextTokens text = OfTree text (AreTokens text) []
 
 -- ---- places
 

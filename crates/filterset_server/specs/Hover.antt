@@ -1,5 +1,5 @@
 -- What the server shows of the predicate at a position.
-use Rattle.std.specs.Prelude.{◌≡◌, ◌⊎◌, ◌++◌, ℕ, Bool, List, MatchOption, Option, Some, None, codes, find, false}
+use Rattle.std.specs.Prelude.{◌≡◌, ◌++◌, ℕ, Bool, List, MatchOption, Option, Some, None, codes, find, false}
 use Rattle.serde_json.specs.Data.{Data, string, object, member, no_members, null}
 use Rattle.filterset_entries.specs.Checked.{TextRow}
 use Rattle.filterset_entries.specs.Placements.{Placement, file_part}
@@ -7,12 +7,10 @@ use Rattle.filterset_drawing.specs.declared.source.FileSpan.{FileSpan}
 use Rattle.filterset_editor.specs.Positions.{IsOffset, Text}
 use Rattle.filterset_editor.specs.declared.positions.Encoding.{Encoding}
 use Rattle.filterset_editor.specs.declared.positions.Position.{Position}
-use Rattle.filterset_faults.specs.declared.error.ParseSingleError.{ParseSingleError}
 use Rattle.filterset_faults.specs.declared.span.SourceSpan.{SourceSpan}
 use Rattle.filterset_grammar.specs.Tree.{Leaf, Tree, tree_leaves}
 use Rattle.filterset_language.specs.Faults.{leaf_span}
-use Rattle.filterset_language.specs.Parsed.{IsUnreadWith, Reads}
-use Rattle.filterset_documents.specs.Filtersets.{is_in, is_row_at}
+use Rattle.filterset_documents.specs.Filtersets.{OfTree, is_in, is_row_at}
 use Rattle.filterset_documents.specs.Ranges.{IsRange}
 use Rattle.filterset_names.specs.Workspaces.{WorkspaceRow}
 use Rattle.filterset_server.specs.Matches.{SaysMatched}
@@ -53,9 +51,7 @@ HoversTree w encoding text place offset e d =
 
 -- the hover of a filterset at this offset of the file: that of the tree that its text reads as, or `null` if it reads as none
 abbrev pub HoversRow : Option WorkspaceRow → Encoding → Text → ℕ → TextRow → Data → Type 0
-HoversRow w encoding text offset row d =
-    ((e : Tree SourceSpan) × Reads row.text e × HoversTree w encoding text row.place offset e d)
-    ⊎ ((faults : List ParseSingleError) × IsUnreadWith row.text faults × (d ≡ null))
+HoversRow w encoding text offset row = OfTree row.text (HoversTree w encoding text row.place offset) null
 
 -- the hover of the first filterset that is at the position, or `null` without one
 abbrev pub HoversRows : Option WorkspaceRow → Encoding → Text → Position → List TextRow → Data → Type 0

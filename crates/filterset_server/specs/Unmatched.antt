@@ -6,18 +6,16 @@ use Rattle.filterset_entries.specs.Checked.{TextRow}
 use Rattle.filterset_entries.specs.Placements.{Placement}
 use Rattle.filterset_documents.specs.Contents.{ContentRow, Holds}
 use Rattle.filterset_documents.specs.Diagnostics.{DiagnosesContent, IsDiagnostic, IsRefusalAt}
-use Rattle.filterset_documents.specs.Filtersets.{is_list}
+use Rattle.filterset_documents.specs.Filtersets.{OfTree, is_list}
 use Rattle.filterset_documents.specs.Joins.{Joins}
-use Rattle.filterset_documents.specs.declared.diagnostics.Severity.TheVariants.{Warning}
+use Rattle.filterset_drawing.specs.declared.remark.Severity.TheVariants.{Warning}
 use Rattle.filterset_editor.specs.Documents.{DocumentRow}
 use Rattle.filterset_editor.specs.Positions.{Text}
 use Rattle.filterset_editor.specs.declared.positions.Encoding.{Encoding}
-use Rattle.filterset_faults.specs.declared.error.ParseSingleError.{ParseSingleError}
 use Rattle.filterset_faults.specs.declared.span.SourceSpan.{SourceSpan}
 use Rattle.filterset_grammar.specs.Tree.{Leaf, Matching, Tree, tree_leaves}
 use Rattle.filterset_grammar.specs.declared.predicate.Predicate.TheVariants.{Test}
 use Rattle.filterset_listing.specs.Unmatched.{Unmatched, unmatched_message}
-use Rattle.filterset_language.specs.Parsed.{IsUnreadWith, Reads}
 use Rattle.filterset_names.specs.Something.{MatchesSomething}
 use Rattle.filterset_names.specs.Workspaces.{WorkspaceRow}
 use Rattle.filterset_sources.specs.Configurations.{RefusesConfiguration}
@@ -63,9 +61,7 @@ TreeWarnings w encoding text place e ds = Joins (LeafWarnings w encoding text pl
 
 -- those of the tree that a filterset reads as; none if it reads as none
 abbrev pub RowWarnings : WorkspaceRow → Encoding → Text → TextRow → List Data → Type 0
-RowWarnings w encoding text row ds =
-    ((e : Tree SourceSpan) × Reads row.text e × TreeWarnings w encoding text row.place e ds)
-    ⊎ ((faults : List ParseSingleError) × IsUnreadWith row.text faults × (ds ≡ []))
+RowWarnings w encoding text row = OfTree row.text (TreeWarnings w encoding text row.place) []
 
 -- those of filtersets, one after the other, where a workspace is known
 abbrev pub RowsWarnings : Option WorkspaceRow → Encoding → Text → List TextRow → List Data → Type 0

@@ -4,7 +4,9 @@ ghost use Rattle.std.specs.List.{AllZip};
 ghost use Rattle.serde_json.specs.View.{view};
 ghost use Rattle.filterset_entries.specs.Checked.{text_row};
 ghost use Rattle.filterset_documents.specs.Contents.{content_row};
-ghost use Rattle.filterset_server.specs.Formatting.{FormatsContent, IsFormatted, IsPrinted, RewritesContent};
+ghost use Rattle.filterset_documents.specs.Filtersets.{OfTree};
+ghost use Rattle.filterset_grammar.specs.Printing.{printed};
+ghost use Rattle.filterset_server.specs.Formatting.{FormatsContent, IsFormatted, RewritesContent};
 
 use filterset_documents::{
     Content, Shown, becomes, edit_text, edits_value, list_strings, ordered_edits, parse_text,
@@ -15,7 +17,7 @@ use std::alloc::{AllocError, Global};
 
 /// Makes a text as it prints, if it reads as a tree, and else a copy of it.
 fn print_text(alloc: Global, text: &str) -> Result<String, AllocError>
-    ensures { IfOk result (λ new. IsPrinted text.now (string_bytes new)) }
+    ensures { IfOk result (λ new. OfTree text.now (λ e printed_text. printed_text ≡ printed e) text.now (string_bytes new)) }
 {
     match parse_text(alloc, text)? {
         Some(tree) => format!(in alloc; "{tree}"),

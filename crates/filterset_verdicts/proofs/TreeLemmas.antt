@@ -4,7 +4,7 @@ use Rattle.std.specs.Borrow.{Bor}
 use Rattle.std.proofs.lemmas.List.{take_all}
 use Rattle.std.specs.List.{AllZip}
 use Rattle.filterset_entries.specs.Checked.{TextRow}
-use Rattle.filterset_answers.specs.Compiled.{IsFiltersetFor}
+use Rattle.filterset_entries.specs.Checked.{IsFiltersetFor}
 use Rattle.filterset_deciding.specs.Deciding.{IsAlwaysMet, IsUnmetAt, leaves_asked, steps_asked}
 use Rattle.filterset_deciding.specs.declared.deciding.Verdict.{Verdict}
 use Rattle.filterset_deciding.specs.declared.deciding.Verdict.TheVariants as verdicts

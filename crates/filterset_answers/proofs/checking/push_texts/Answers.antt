@@ -4,7 +4,7 @@ use Rattle.filterset_entries.specs.Checked.{HasFaults, text_row}
 use Rattle.filterset_json.proofs.PieceLemmas.{added_twice}
 use Rattle.filterset_answers.proofs.AnswersLemmas.{FaultsOf-push, one_if-le, next_number, number_of}
 use Rattle.filterset_entries.proofs.RowsLemmas.{rows_more}
-use Rattle.std.proofs.lemmas.List.{append-nil}
+use Rattle.std.proofs.lemmas.List.{append-nil, take_all}
 use Rattle.filterset_answers.proofs.checking.push_texts.Goals as goal
 
 pub loop-i-preserved : goal.loop-i-preserved
@@ -27,3 +27,6 @@ loop-i-preserved c =
 
 pub loop-i-init : goal.loop-i-init
 loop-i-init c = (omega arith, ([], sym (append-nil _), no_texts))
+
+pub returns : goal.returns
+returns c = rw (take_all c.loop-i.i c.args.texts.now c.loop-i-test.false) at c.loop-i.invariant.1

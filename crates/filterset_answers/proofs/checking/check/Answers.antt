@@ -1,0 +1,12 @@
+use Rattle.std.proofs.Common.{rules, ◌≡◌, ◌++◌, length, map, string_bytes}
+use Rattle.filterset_entries.specs.Checked.{text_row}
+use Rattle.filterset_answers.specs.Answers.{summary}
+use Rattle.filterset_answers.proofs.checking.check.Goals as goal
+
+pub returns : goal.returns
+returns c =
+    let faulty = c.in_ok-faulty.faulty in
+    let wrote = c.in_ok-faulty.ensures in
+    let count = length (map text_row c.args.texts.now) in
+    let text : string_bytes c.push_summary.new.output ≡ wrote.0 ++ summary c.args.form c.args.names.now count faulty = search rules in
+    (faulty, (wrote.0, wrote.2, text), c.ending_of.ensures)
