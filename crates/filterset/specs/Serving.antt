@@ -83,21 +83,16 @@ Greets content fails (both_paths metadata list) known shown = (paths : Workspace
     × (paths.list.now ≡ list) × (paths.run_ignored ≡ All) × GreetsFrom content fails paths known shown
 Greets content fails wrong_paths known shown = (known ≡ None) × Shows shown
 
--- the session in the workspace that the client's first message names, if it names one
-abbrev pub ServesNamed : (Text → Option Text) → (Text → Error → Type 0) → Option Bytes → Option Bytes → Option Bytes → Option Bytes
-    → Ending → Type 0
-ServesNamed content fails left_old left_new taken_old taken_new ending =
-    (opening : Bytes) × (left : Option Bytes) × (options : Option Data) × IsOpening left_old left opening options
-    × ((known : Option WorkspaceRow) × (shown : Bytes) × (taken : Option Bytes) × Greets content fails (paths_of options) known shown
-    × Appends taken_old taken shown × ServesIn known left_old left_new taken taken_new ending)
-
 -- ---- sessions
 
--- the session in the workspace that the files at these paths describe, or else in the one that the client names
+-- the session in the workspace that the files at these paths describe, or else in the one that the client's first message
+-- names, if it names one
 abbrev pub Serves : (Text → Option Text) → (Text → Error → Type 0) → Option WorkspacePaths → Option Bytes → Option Bytes
     → Option Bytes → Option Bytes → Ending → Type 0
 Serves content fails None left_old left_new taken_old taken_new ending =
-    ServesNamed content fails left_old left_new taken_old taken_new ending
+    (opening : Bytes) × (left : Option Bytes) × (options : Option Data) × IsOpening left_old left opening options
+    × ((known : Option WorkspaceRow) × (shown : Bytes) × (taken : Option Bytes) × Greets content fails (paths_of options) known shown
+    × Appends taken_old taken shown × ServesIn known left_old left_new taken taken_new ending)
 Serves content fails (Some paths) left_old left_new taken_old taken_new ending =
     (known : Option WorkspaceRow) × IsKnownIn content (Some paths) known
     × ServesIn known left_old left_new taken_old taken_new ending

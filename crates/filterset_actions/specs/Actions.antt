@@ -28,7 +28,7 @@ use Rattle.filterset_rewriting.specs.Reading.{IsRead}
 use Rattle.filterset_rewriting.specs.Showing.{shown}
 use Rattle.filterset_actions.specs.Changes.{IsChosen}
 use Rattle.filterset_actions.specs.Mending.{IsMending}
-use Rattle.filterset_actions.specs.Proposals.{IsRepairIn, ProposalRow, repair_proposal, rewrite_row}
+use Rattle.filterset_actions.specs.Proposals.{IsRepairIn, ProposalRow, rewrite_row}
 use Rattle.filterset_actions.specs.Repairs.{RepairRow}
 use Rattle.filterset_actions.specs.Spelling.{IsSpelled}
 use Rattle.filterset_actions.specs.Subjects.{SubjectRow, meets}
@@ -89,7 +89,7 @@ ProposalActions subject at place text p ds =
 abbrev pub FaultActions : SubjectRow → ℕ → Placement → Text → ParseSingleError → List Data → Type 0
 FaultActions subject at place text fault ds =
     (o : Option RepairRow) × IsRepairIn subject place text fault o
-    × MatchOption o (ds ≡ []) (λ repair. ProposalActions subject at place text (repair_proposal fault repair) ds)
+    × MatchOption o (ds ≡ []) (λ repair. ProposalActions subject at place text (record { fault = Some fault; repair = repair }) ds)
 
 -- the action that writes a text anew, unless it is the same as another
 abbrev pub RewriteActions : SubjectRow → ℕ → Placement → Text → Text → Text → Text → List Data → Type 0

@@ -24,10 +24,6 @@ rewrite_row title text new = record {
   repair = record { title = title; edit = record { at = record { from = 0; to = length text }; text = new } };
 }
 
--- a fault is mended by its repair
-abbrev pub repair_proposal : ParseSingleError → RepairRow → ProposalRow
-repair_proposal fault repair = record { fault = Some fault; repair = repair }
-
 -- the repair of a fault of a text at this place, if it has one, and is in what is asked about
 abbrev pub IsRepairIn : SubjectRow → Placement → Text → ParseSingleError → Option RepairRow → Type 0
 IsRepairIn subject place text fault o =

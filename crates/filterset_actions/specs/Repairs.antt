@@ -24,13 +24,9 @@ repair_row repair = record { title = repair.title.now; edit = edit_row repair.ed
 
 -- ---- words
 
--- a word may be beside this byte, which is a blank, or 0 where the text ends
-abbrev pub may_touch : ℕ → Bool
-may_touch b = b == 0 || (b == 10 || (b == 13 || b == 32))
-
--- what is put between a word and this byte
+-- what is put between a word and this byte: nothing if it is a blank, or 0, where the text ends
 abbrev pub gap_beside : ℕ → Text
-gap_beside b = if may_touch b then [] else codes " "
+gap_beside b = if (b == 0 || (b == 10 || (b == 13 || b == 32))) then [] else codes " "
 
 -- a word with blanks around it, as far as the text has none beside the stretch
 abbrev pub spaced : Text → Stretch → Text → Text

@@ -12,12 +12,8 @@ use Rattle.filterset_drawing.specs.Remarks.{RemarkRow}
 use Rattle.filterset_drawing.specs.declared.source.Source.{Source}
 use Rattle.filterset_json.specs.Pieces.{Pieces}
 
--- how remarks on a file are written, whose spans are those of the file
-abbrev pub file_writing : Form → Bor Source → Writing
-file_writing form file = writing form file.now.origin.now file.now.text.now
-    (Some (record { file = file; spot = line (record { from = 0; to = length file.now.text.now }) })) None
-
 -- what nextest does not read of a configuration, and how many remarks on that are written
 abbrev pub WarnsOfFile : Form → ConfiguredTexts → ℕ → Text → Type 0
 WarnsOfFile form texts count text = (remarks : List RemarkRow) × AreUnreadRemarks texts.file.now.text.now (rows_in texts) remarks × (count ≡ length remarks)
-    × Pieces (IsWritten (file_writing form texts.file)) remarks text
+    × (let file = texts.file in Pieces (IsWritten (writing form file.now.origin.now file.now.text.now
+    (Some (record { file = file; spot = line (record { from = 0; to = length file.now.text.now }) })) None)) remarks text)

@@ -38,11 +38,6 @@ use Rattle.filterset_loading.specs.declared.request.WarningRequest.{WarningReque
 
 -- ---- what is answered
 
--- the warnings of texts under a setting, by the binaries of the suites
-abbrev pub WarnsUnder : Form → WarningEnd → List TextRow → List Suite → Setting → Ending → Text → Type 0
-WarnsUnder form end rows suites setting ending text =
-    (binaries : List AskedBinary) × AllZip IsAsked suites binaries × AnswersWarnings form end setting rows binaries ending text
-
 -- under a profile of the file of these texts, on the platforms of the list
 abbrev pub WarnsBy : (Text → Option Text) → (Setting → Ending → Text → Type 0) → List PackageMetadata → KnownGroups
     → ConfiguredTexts → ProfileRequest → Data → Ending → Text → Type 0
@@ -56,7 +51,8 @@ abbrev pub AnswersListed : (Text → Option Text) → Form → WarningEnd → Li
     → ConfiguredTexts → List TextRow → WarningRequest → Ending → Text → Type 0
 AnswersListed content form end packages groups path texts rows request ending text =
     (list : Data) × (suites : List Suite) × IsListIn (content request.paths.list.now) packages request.paths.run_ignored list suites
-    × (let Answers = WarnsUnder form end rows suites in MatchOption path
+    × (let Answers : Setting → Ending → Text → Type 0 = λ setting ending text. (binaries : List AskedBinary)
+    × AllZip IsAsked suites binaries × AnswersWarnings form end setting rows binaries ending text in MatchOption path
     ((setting : Setting) × IsPlain packages None setting × Answers setting ending text)
     (λ p. WarnsBy content Answers packages groups texts (profile_at p request) list ending text))
 

@@ -94,10 +94,6 @@ summary _ skipped count = []
 abbrev pub warned_ending : Bool → ℕ → Ending
 warned_ending denies count = if denies then (if count == 0 then Fine else Faulty) else Fine
 
--- what a setting is for trees of filtersets
-abbrev pub tree_basis : (setting : Setting) → SettingBasis setting → Basis
-tree_basis setting basis = record { packages = setting.graph.now; default = basis.default }
-
 abbrev pub is_skipped : AskedBinary → Bool
 is_skipped binary = binary.is_skipped
 
@@ -107,7 +103,7 @@ abbrev pub AnswersWarnings : Form → WarningEnd → Setting → List TextRow �
 AnswersWarnings form end setting rows binaries ending text =
     ((basis : SettingBasis setting) × (subjects : List Subject) × (count : ℕ) × (front : Text)
     × AreSubjects basis.default basis.overrides binaries subjects
-    × WarningsOf form setting.groups.now (tree_basis setting basis) subjects 1 rows count front
+    × WarningsOf form setting.groups.now (record { packages = setting.graph.now; default = basis.default }) subjects 1 rows count front
     × (text ≡ front ++ summary form (count_by is_skipped binaries) (end.before + count))
     × (ending ≡ warned_ending end.denies (end.before + count)))
     ⊎ ((faulty : ℕ) × (pieces : Text) × (faulty ≢ 0)

@@ -58,18 +58,14 @@ abbrev pub request_rows : DecisionRequest → List TextRow
 request_rows request = test_row (codes "--within") (within_text request)
     ∷ numbered_rows (codes "argument") kinds.Test (map (λ t. t.now) request.texts.now)
 
--- the question of the request about these rows, and the test binaries of nextest's list
-abbrev pub IsQuestionOf : DecisionRequest → List Suite → List TextRow → TextQuestion → Type 0
-IsQuestionOf request suites rows asked = (asked.question ≡ request.question) × (question_rows asked ≡ rows)
-    × (asked.suites.now ≡ suites) × (asked.budget ≡ request.budget)
-
 -- the answer to the question of the request about these rows, over these packages, test binaries and groups, under this
 -- default filter
 abbrev pub AnswersRows : DecisionRequest → List PackageMetadata → List Suite → KnownGroups → TextRow → List TextRow → Ending
     → Text → Type 0
 AnswersRows request packages suites groups default rows ending text = (setting : Setting) × (asked : TextQuestion)
     × (setting.graph.now ≡ packages) × (setting.groups.now ≡ groups) × (text_row setting.default.now ≡ default)
-    × (setting.overrides.now ≡ []) × (setting.profiles.now ≡ []) × IsQuestionOf request suites rows asked
+    × (setting.overrides.now ≡ []) × (setting.profiles.now ≡ []) × ((asked.question ≡ request.question)
+    × (question_rows asked ≡ rows) × (asked.suites.now ≡ suites) × (asked.budget ≡ request.budget))
     × AnswersQuestion request.form setting asked ending text
 
 -- ---- profiles by name
@@ -153,16 +149,13 @@ AnswersDecision content request ending text = (packages : List PackageMetadata)
     (AnswersKnown content request packages [] nowhere ending text)
     (λ path. AnswersListed content request packages path.now ending text)
 
--- the request names the profile
-abbrev pub NamesProfile : DecisionRequest → ProfileRequest → Text → Type 0
-NamesProfile request profile name = ((request.default_filter ≡ None) × (profile.name.now ≡ name))
-    ⊎ IsSomeAnd request.default_filter (λ text. text.now ≡ codes "@" ++ name)
-    ⊎ ((row : TextRow) × Contains (request_rows request) row × (row.text ≡ codes "@" ++ name))
-
 -- the configuration lacks a profile that the request names
 abbrev pub LacksNamed : DecisionRequest → ProfileRequest → List Profile → CommandFault → Type 0
 LacksNamed request profile profiles fault = (asked : ProfileRequest) × (asked.configuration.now ≡ profile.configuration.now)
-    × NamesProfile request profile asked.name.now × LacksProfile asked profiles fault
+    × (((request.default_filter ≡ None) × (profile.name.now ≡ asked.name.now))
+    ⊎ IsSomeAnd request.default_filter (λ text. text.now ≡ codes "@" ++ asked.name.now)
+    ⊎ ((row : TextRow) × Contains (request_rows request) row × (row.text ≡ codes "@" ++ asked.name.now)))
+    × LacksProfile asked profiles fault
 
 -- a file of the profiles is not used, or the configuration lacks one
 abbrev pub IsNamedFault : (Text → Option Text) → (Text → Error → Type 0) → DecisionRequest → ProfileRequest

@@ -34,14 +34,11 @@ IsReason packages default query group tree text = (over : GroupOverride) × (exp
     × IsExplanation (Test query) (over ∷ []) packages default tree explanation
     × (text ≡ flat_map indented_line (lines (explanation_text explanation)))
 
--- the reasons of the filterset with this number
-abbrev pub numbered_reason : ℕ → Text → Text
-numbered_reason number reason = codes "argument " ++ (decimal number ++ (codes ":\n" ++ reason))
-
 -- the reasons of filtersets, where the first has this number
 abbrev pub reason_lines : ℕ → List Text → Text
 reason_lines number [] = []
-reason_lines number (reason ∷ reasons) = numbered_reason number reason ++ reason_lines (number + 1) reasons
+reason_lines number (reason ∷ reasons) =
+    (codes "argument " ++ (decimal number ++ (codes ":\n" ++ reason))) ++ reason_lines (number + 1) reasons
 
 -- below a test, the reasons of each filterset; and nothing below another verdict
 abbrev pub AreReasons : List PackageMetadata → CompiledExpr → List (Tree SourceSpan) → Verdict → Text → Type 0

@@ -30,9 +30,6 @@ picked_numbers at (is_picked ∷ rest) = if is_picked then at ∷ picked_numbers
 abbrev pub number_item : ℕ → Data
 number_item n = number (unsigned n)
 
-abbrev pub picks_data : List Bool → Data
-picks_data picks = array (items_of (map number_item (picked_numbers 1 picks)))
-
 -- a possible test, of the package with this name
 abbrev pub test_data : Text → PossibleTest → Data
 test_data name test = object (member (codes "binary") (string (string_bytes test.binary_name))
@@ -61,8 +58,8 @@ abbrev pub IsVerdictData : Question → Bool → List PackageMetadata → Verdic
 IsVerdictData question is_listed packages verdicts.Always d = d ≡ verdict_data (codes "yes") false null null null question null
 IsVerdictData question is_listed packages (verdicts.Fails witness) d =
     (name : Text) × IsPackageText packages witness.test.package_id name
-    × (d ≡ verdict_data (codes "no") false null (boolean is_listed) (picks_data witness.picks.items) question
-    (test_data name witness.test))
+    × (d ≡ verdict_data (codes "no") false null (boolean is_listed)
+    (array (items_of (map number_item (picked_numbers 1 witness.picks.items)))) question (test_data name witness.test))
 IsVerdictData question is_listed packages (verdicts.Unknown doubt) d =
     d ≡ verdict_data (codes "unknown") false (doubt_data doubt) null null question null
 IsVerdictData question is_listed packages verdicts.Stopped d =
