@@ -1,5 +1,5 @@
 -- Circles of names, by the positions of names.
-use Rattle.std.proofs.Common.{◌≡◌, ◌≢◌, ◌<◌, ◌⊎◌, inl, inr, ℕ, zero, suc, Bool, true, false, List, [], ◌∷◌, None, Option, Some, String, ⊎_elim, ap, arith, length, map, refl, string_bytes, sym, ◌∙◌}
+use Rattle.std.proofs.Common.{◌≡◌, ◌≢◌, ◌<◌, ◌⊎◌, ◌↔◌, inl, inr, ℕ, zero, suc, Bool, true, false, List, [], ◌∷◌, None, Option, Some, String, ⊎_elim, ap, arith, length, map, refl, string_bytes, sym, ◌∙◌}
 use Rattle.std.specs.Prelude.{IsSome, bytes_eq, option_and_then, option_copied, option_map, slice_get}
 use Rattle.std.specs.Borrow.{Bor}
 use Rattle.std.specs.BTreeMap.{BTreeMap}
@@ -20,7 +20,7 @@ use Rattle.toml.specs.Data.{Data, Members, member, no_members, get_member}
 use Rattle.toml.specs.View.{members_view}
 use Rattle.toml.proofs.Views.{Entry}
 use Rattle.filterset_json.specs.Shape.{Text}
-use Rattle.filterset_configuration.specs.Circles.{AreDistinct, IsIndex, IsProfileInCircle, MarksProfiles, after, fallback, fallback_of, link_row, links_of, position_of}
+use Rattle.filterset_configuration.specs.Circles.{AreDistinct, IsIndex, IsProfileInCircle, after, fallback, fallback_of, link_row, links_of, position_of}
 use Rattle.filterset_configuration.specs.Leads.{AreFar, LeadsBack, MarksEnds, lead, lead_after}
 use Rattle.filterset_sources.specs.Configurations.{keys_of}
 use Rattle.filterset_configuration.specs.declared.circles.Link.{Link}
@@ -221,7 +221,8 @@ module _ (ms : Members) (distinct : AreDistinct (keys_of ms)) (positions : BTree
   up at circle = (circle.2.0, steps_up (suc circle.2.0) at at circle.0 circle.0 circle.1 circle.2.1 circle.1)
 
   -- the ends of far leads are the profiles that fall back on themselves
-  pub ends_are_circles : (leads : List (Option ℕ)) (marks : List Bool) → AreFar parents leads → MarksEnds leads marks → MarksProfiles ms marks
+  pub ends_are_circles : (leads : List (Option ℕ)) (marks : List Bool) → AreFar parents leads → MarksEnds leads marks
+      → (at : ℕ) → (slice_get marks at ≡ Some true) ↔ IsProfileInCircle ms at
   ends_are_circles leads marks far ends at = (
     λ marked. down at (far_exactly parents leads far at ((ends at).0 marked).1),
     λ circle.

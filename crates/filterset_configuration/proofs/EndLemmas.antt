@@ -11,6 +11,7 @@ use Rattle.filterset_json.specs.Shape.{Text}
 use Rattle.filterset_configuration.specs.Circles.{IsIndex, position_of}
 use Rattle.filterset_configuration.specs.Leads.{IsMarked, MarksEnds, lead}
 use Rattle.filterset_configuration.proofs.LeadLemmas.{lead_inside}
+use Rattle.filterset_configuration.proofs.PlaceLemmas.{slice_get-push}
 
 -- exactly the positions are marked that those below a number lead to
 abbrev pub MarksEndsBelow : List (Option ℕ) → ℕ → List Bool → Type 0
@@ -75,12 +76,6 @@ there_last : {X : Type 0} (xs : List X) (x : X) → slice_get (xs ++ x ∷ []) (
 there_last [] x = refl
 there_last (z ∷ xs) x = there_last xs x
 
-there_or_last : {X : Type 0} (xs : List X) (x : X) (at : ℕ) (y : X) → slice_get (xs ++ x ∷ []) at ≡ Some y → (slice_get xs at ≡ Some y) ⊎ (x ≡ y)
-there_or_last [] x zero y h = inr (same_Some x y h)
-there_or_last [] x (suc at) y h = absurd (cc)
-there_or_last (z ∷ xs) x zero y h = inl h
-there_or_last (z ∷ xs) x (suc at) y h = there_or_last xs x at y h
-
 some_kept : (found : Option ℕ) (equal : Bool) (at : ℕ) → (equal ≡ false → IsSome found) → IsSome (cond equal (Some at) found)
 some_kept found true at h = refl
 some_kept found false at h = h refl
@@ -105,7 +100,7 @@ index_more names name old new updates index = (
       let kept = some_kept (position_of old q) (bytes_eq name q) (length names) (λ other.
       ⊎_elim
       (λ before. index.1 q at before)
-      (λ same. absurd (let wrong = (bytes_eq-Decides name q).1 same in cc))
-      (there_or_last names name at q there)) in
+      (λ same. absurd (let wrong = (bytes_eq-Decides name q).1 same.1 in cc))
+      (slice_get-push names name q at there)) in
       rw (updates q) kept),
 )

@@ -2,9 +2,12 @@
 use Rattle.std.proofs.Common.{◌≡◌, Bool, true, false, not, cond, Bor, List, [], ◌∷◌, ◌++◌, String, Global, append_assoc, map, string_bytes, refl, ap, sym, ◌∙◌}
 use Rattle.std.proofs.lemmas.List.{map-append}
 use Rattle.std.specs.List.{list_any}
+use Rattle.std.specs.Prelude.{filter}
 use Rattle.std.specs.Str.{bytes_eq}
 use Rattle.filterset_json.specs.Shape.{Text}
-use Rattle.filterset_configuration.specs.Profiles.{keys_but}
+
+abbrev pub keys_but : List Text → List Text → List Text
+keys_but others keys = filter (λ key. not (list_any (λ other. bytes_eq other key) others)) keys
 
 abbrev pub texts_of : List (Bor Text) → List Text
 texts_of others = map (λ o. o.now) others

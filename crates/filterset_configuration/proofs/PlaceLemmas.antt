@@ -1,18 +1,15 @@
 -- One more place.
-use Rattle.std.proofs.Common.{◌≡◌, ℕ, zero, suc, ◌⊎◌, List, [], ◌∷◌, ◌++◌, length, Option, Some, refl, sym, arith, inl, inr, subst, IfSome, IfOk, Ok, Err, Result, Vec}
-use Rattle.std.specs.declared.alloc.AllocError.{AllocError}
-use Rattle.std.specs.declared.alloc.Global.{Global}
+use Rattle.std.proofs.Common.{◌≡◌, ℕ, zero, suc, ◌⊎◌, List, [], ◌∷◌, ◌++◌, length, Option, Some, refl, sym, arith, inl, inr, subst, IfSome}
 use Rattle.std.specs.List.{slice_get}
 use Rattle.filterset_json.specs.Shape.{Text}
 use Rattle.filterset_sources.specs.Configurations.{ConfiguredRow, IsConfiguration, configured_rows}
 use Rattle.filterset_sources.specs.declared.configuration.Configuration.{Configuration}
-use Rattle.filterset_sources.specs.declared.configuration.ConfiguredFilterset.{ConfiguredFilterset}
 use Rattle.filterset_configuration.specs.Numbers.{AreApart, numbered}
 use Rattle.filterset_configuration.specs.declared.place.Place.{Place}
 use Rattle.filterset_configuration.specs.declared.stretch.Stretch.{Stretch}
 use Rattle.filterset_configuration.specs.Places.{ArePlaces, ArePlacesAmong, PlaceAt}
 
-slice_get-push : {X : Type 0} (xs : List X) (x y : X) (i : ℕ) → slice_get (xs ++ x ∷ []) i ≡ Some y
+pub slice_get-push : {X : Type 0} (xs : List X) (x y : X) (i : ℕ) → slice_get (xs ++ x ∷ []) i ≡ Some y
     → (slice_get xs i ≡ Some y) ⊎ ((i ≡ length xs) × (x ≡ y))
 slice_get-push [] x y zero h = inr (refl, cc)
 slice_get-push [] x y (suc i) h = absurd (cc)
@@ -35,13 +32,8 @@ places-push file literals rows others places place here before at found h = elim
 ]
 
 -- places among the filtersets of the file with numbers are places
-pub places-all : (file : Text) (rows : List ConfiguredRow) (r : Result (Vec (Option Place) Global) AllocError) (literals : List Stretch) (made : Text)
-    (others : Configuration) (filtersets : List ConfiguredFilterset)
-    → AreApart 0 literals → made ≡ numbered file literals → IsConfiguration made others → filtersets ≡ others.filtersets.items
-    → IfOk r (λ places. ArePlacesAmong file literals rows (configured_rows filtersets) places.items)
-    → IfOk r (λ places. ArePlaces file rows places.items)
-places-all file rows (Err e) literals made others filtersets apart is says all among = tt
-places-all file rows (Ok places) literals made others filtersets apart is says all among = λ at place found.
-    let P : Text → Type 0 = λ t. IsConfiguration t others in
-    let Q : List ConfiguredFilterset → Type 0 = λ fs. PlaceAt file literals rows (configured_rows fs) at place in
-    (literals, others, apart, subst P is says, subst Q all (among at place found))
+pub places-all : (file : Text) (rows : List ConfiguredRow) (places : List (Option Place)) (literals : List Stretch) (made : Text)
+    (others : Configuration) → AreApart 0 literals → made ≡ numbered file literals → IsConfiguration made others
+    → ArePlacesAmong file literals rows (configured_rows others.filtersets.items) places → ArePlaces file rows places
+places-all file rows places literals made others apart is says among = λ at place found.
+    (literals, others, apart, subst (λ (t : Text). IsConfiguration t others) is says, among at place found)

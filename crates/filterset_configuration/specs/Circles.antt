@@ -35,16 +35,13 @@ FallsOnItself profiles name = (n : ℕ) × (after profiles (suc n) name ≡ Some
 abbrev pub IsProfileInCircle : Members → ℕ → Type 0
 IsProfileInCircle profiles at = (name : Text) × (slice_get (keys_of profiles) at ≡ Some name) × FallsOnItself profiles name
 
--- exactly these profiles are marked
-abbrev pub MarksProfiles : Members → List Bool → Type 0
-MarksProfiles profiles marks = (at : ℕ) → (slice_get marks at ≡ Some true) ↔ IsProfileInCircle profiles at
-
 -- the same of a file
 abbrev pub IsInCircle : Data → ℕ → Type 0
 IsInCircle file at = IsProfileInCircle (members_under (codes "profile") file) at
 
+-- exactly these profiles are marked
 abbrev pub MarksCircles : Data → List Bool → Type 0
-MarksCircles file marks = MarksProfiles (members_under (codes "profile") file) marks
+MarksCircles file marks = (at : ℕ) → (slice_get marks at ≡ Some true) ↔ IsInCircle file at
 
 -- ---- how they are found
 

@@ -1,5 +1,5 @@
 -- What nextest's configuration says of profiles. What is missing is as if it were empty.
-use Rattle.std.specs.Prelude.{◌≡◌, ◌||◌, Bool, List, [], ◌∷◌, Option, None, Some, String, IsSome, IsSomeAnd, IsTrue, MatchOption, bytes_eq, codes, filter, if◌then◌else◌, is_none, is_some, map, not, option_and_then, string_bytes, unwrap_or, zip}
+use Rattle.std.specs.Prelude.{◌≡◌, ◌||◌, Bool, false, List, [], ◌∷◌, Option, None, Some, String, IsSome, IsSomeAnd, IsTrue, MatchOption, bytes_eq, codes, filter, if◌then◌else◌, is_none, is_some, map, not, option_and_then, string_bytes, unwrap_or, zip}
 use Rattle.std.specs.List.{AllZip, list_any}
 use Rattle.std.specs.Option.{option_map_or}
 use Rattle.std.specs.declared.alloc.Global.{Global}
@@ -14,6 +14,8 @@ use Rattle.filterset_configuration.specs.declared.platforms.filter.PlatformFilte
 use Rattle.filterset_configuration.specs.declared.platforms.specification.PlatformSpec.{PlatformSpec}
 use Rattle.filterset_configuration.specs.declared.overrides.Override.{Override}
 use Rattle.filterset_configuration.specs.declared.profiles.Profile.{Profile}
+use Rattle.filterset_configuration.specs.declared.wrong.ValueRole.{ValueRole}
+use Rattle.filterset_configuration.specs.declared.wrong.ValueRole.TheVariants.{ForBoth, ForNothing}
 
 -- the value under a key is one that A says, and there is none where nothing is under the key
 abbrev pub Under : {X : Type 0} → (Data → X → Type 0) → Text → Data → Option X → Type 0
@@ -39,34 +41,28 @@ is_group file t = bytes_eq t (codes "@global") || is_some (option_and_then (get 
 abbrev pub IsGroup : Data → Data → String Global → Type 0
 IsGroup file e s = IsText e s × IsTrue (is_group file (string_bytes s))
 
--- the keys, without those among the others
-abbrev pub keys_but : List Text → List Text → List Text
-keys_but others keys = filter (λ key. not (list_any (λ other. bytes_eq other key) others)) keys
-
 -- the keys that a table sets: all but the others
 abbrev pub settings_but : List Text → Data → List Text
-settings_but others d = keys_but others (option_map_or keys_of (as_table d) [])
-
--- the keys of an override, and of a profile, that are no settings
-abbrev pub override_keys : List Text
-override_keys = codes "platform" ∷ codes "filter" ∷ codes "default-filter" ∷ []
-
-abbrev pub profile_keys : List Text
-profile_keys = codes "inherits" ∷ codes "default-filter" ∷ codes "overrides" ∷ []
-
-abbrev pub HasSettings : Data → Data → Override → Type 0
-HasSettings file d o =
-    ArePlatforms (unwrap_or (get (codes "platform") d) (table no_members)) o.platform
-    × Under IsText (codes "filter") d o.filter × Under IsText (codes "default-filter") d o.default_filter
-    × Under (IsGroup file) (codes "test-group") d o.test_group
-    × (map string_bytes o.settings.items ≡ settings_but override_keys d)
+settings_but others d =
+    filter (λ key. not (list_any (λ other. bytes_eq other key) others)) (option_map_or keys_of (as_table d) [])
 
 -- an override says for what it is, and a default filter is for platforms alone
-abbrev pub is_allowed : Override → Bool
-is_allowed o = if is_some o.filter then is_none o.default_filter else (is_some o.platform.host || is_some o.platform.target)
+abbrev pub has_platform : Data → Bool
+has_platform d = option_map_or (λ e. is_none (as_table e) || (is_some (get (codes "host") e) || is_some (get (codes "target") e)))
+    (get (codes "platform") d) false
+
+abbrev pub shape_of : Data → Option ValueRole
+shape_of d =
+    if is_none (get (codes "filter") d) then if has_platform d then None else Some ForNothing
+    else if is_some (get (codes "default-filter") d) then Some ForBoth else None
 
 abbrev pub IsOverride : Data → Data → Override → Type 0
-IsOverride file d o = IsSome (as_table d) × HasSettings file d o × IsTrue (is_allowed o)
+IsOverride file d o =
+    IsSome (as_table d) × ArePlatforms (unwrap_or (get (codes "platform") d) (table no_members)) o.platform
+    × Under IsText (codes "filter") d o.filter × Under IsText (codes "default-filter") d o.default_filter
+    × Under (IsGroup file) (codes "test-group") d o.test_group
+    × (map string_bytes o.settings.items ≡ settings_but (codes "platform" ∷ codes "filter" ∷ codes "default-filter" ∷ []) d)
+    × (shape_of d ≡ None)
 
 -- a list of these overrides, in their order
 abbrev pub AreOverrides : Data → Data → List Override → Type 0
@@ -77,7 +73,7 @@ IsProfile file d p =
     IsSome (as_table d) × Under IsText (codes "inherits") d p.inherits
     × Under IsText (codes "default-filter") d p.default_filter
     × AreOverrides file (unwrap_or (get (codes "overrides") d) (array no_items)) p.overrides.items
-    × (map string_bytes p.settings.items ≡ settings_but profile_keys d)
+    × (map string_bytes p.settings.items ≡ settings_but (codes "inherits" ∷ codes "default-filter" ∷ codes "overrides" ∷ []) d)
 
 -- a table of these profiles, by the order of their names
 abbrev pub AreProfiles : Data → Data → List Profile → Type 0

@@ -15,7 +15,7 @@ use Rattle.filterset_configuration.specs.PlatformTrees.{Spec}
 use Rattle.filterset_json.specs.Shape.{Text}
 use Rattle.filterset_configuration.specs.Circles.{IsInCircle, MarksCircles}
 use Rattle.filterset_configuration.specs.Names.{is_built_in, is_reserved}
-use Rattle.filterset_configuration.specs.Profiles.{is_group}
+use Rattle.filterset_configuration.specs.Profiles.{is_group, shape_of}
 use Rattle.filterset_configuration.specs.declared.placing.NumberedValues.{NumberedValues}
 use Rattle.filterset_configuration.specs.declared.checking.CheckedFile.{CheckedFile}
 use Rattle.filterset_configuration.specs.declared.walking.Walk.{Walk}
@@ -56,24 +56,9 @@ abbrev pub value_under : Text → Text → ValueRole → Data → List ValueRow
 value_under path key role d = option_to_list (option_map (text_row (below path key) role) (get key d))
 
 -- the platforms of an override: a text, or the parts of a table
-abbrev pub platforms_at : Text → Data → List ValueRow
-platforms_at path e = if is_none (as_table e) then text_row path Platform e ∷ []
-    else (value_under path (codes "host") Platform e ++ value_under path (codes "target") Platform e)
-
 abbrev pub platform_values : Text → Data → List ValueRow
-platform_values path d = option_map_or (platforms_at (below path (codes "platform"))) (get (codes "platform") d) []
-
--- an override says for what it is, and a default filter is for platforms alone
-abbrev pub are_some : Data → Bool
-are_some e = is_none (as_table e) || (is_some (get (codes "host") e) || is_some (get (codes "target") e))
-
-abbrev pub has_platform : Data → Bool
-has_platform d = option_map_or are_some (get (codes "platform") d) false
-
-abbrev pub shape_of : Data → Option ValueRole
-shape_of d =
-    if is_none (get (codes "filter") d) then if has_platform d then None else Some ForNothing
-    else if is_some (get (codes "default-filter") d) then Some ForBoth else None
+platform_values path d = let at = below path (codes "platform") in option_map_or (λ e. if is_none (as_table e) then text_row at Platform e ∷ []
+    else (value_under at (codes "host") Platform e ++ value_under at (codes "target") Platform e)) (get (codes "platform") d) []
 
 abbrev pub override_values : Text → Data → List ValueRow
 override_values path d = value_under path (codes "test-group") Group d
@@ -105,11 +90,8 @@ values_of file = flat_map (λ (s : SectionRow). own_values s.kind s.path s.value
 -- ---- which of them are wrong
 
 -- a profile falls back on one that is built in, or on a key of the file's `[profile]`
-abbrev pub is_parent : Data → Text → Bool
-is_parent file t = is_built_in t || is_some (option_and_then (get t) (get (codes "profile") file))
-
 abbrev pub IsRight : Data → ValueRole → Text → Type 0
-IsRight file Parent t = IsTrue (is_parent file t)
+IsRight file Parent t = IsTrue (is_built_in t || is_some (option_and_then (get t) (get (codes "profile") file)))
 IsRight file (NoCircle at) t = ¬ IsInCircle file at
 IsRight file Group t = IsTrue (is_group file t)
 IsRight file Platform t = (spec : Spec) × Spells t spec

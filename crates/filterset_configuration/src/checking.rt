@@ -3,10 +3,8 @@ ghost use Rattle.std.specs.Prelude.{◌≡◌, ◌++◌, List, IfOk, OnOk};
 ghost use Rattle.std.specs.Bool.{OnFalse, OnTrue};
 ghost use Rattle.toml.specs.View.{view};
 ghost use Rattle.filterset_configuration.specs.Keys.{Finds};
-ghost use Rattle.filterset_configuration.specs.PlatformGrammar.{Spells};
-ghost use Rattle.filterset_configuration.specs.PlatformTrees.{Spec};
 ghost use Rattle.filterset_configuration.specs.Circles.{IsInCircle};
-ghost use Rattle.filterset_configuration.specs.Wrong.{AreWrongValues, IsKnown, IsRight, IsWrongValue, Judged, value_row, value_rows, values_of};
+ghost use Rattle.filterset_configuration.specs.Wrong.{AreWrongValues, IsKnown, IsRight, Judged, value_row, values_of};
 ghost use Rattle.filterset_configuration.specs.declared.wrong.WrongValue.{WrongValue};
 
 use crate::circles::mark_circles;
@@ -19,18 +17,6 @@ use crate::wrong::{ProfileValue, ValueRole, WrongValue};
 use filterset_sources::{SourceRefusal, file_of};
 use std::alloc::{AllocError, Global};
 use toml::Value;
-
-/// Returns whether a text is a platform.
-fn is_platform(alloc: Global, text: &str) -> Result<bool, AllocError>
-    ensures right { IfOk result (λ is. OnTrue is ((spec : Spec) × Spells text.now spec)) }
-    ensures wrong { IfOk result (λ is. OnFalse is (¬ ((spec : Spec) × Spells text.now spec))) }
-{
-    match PlatformSpec::parse(alloc, text) {
-        Ok(_) => Ok(true),
-        Err(PlatformRefusal::OutOfMemory(refused)) => Err(refused),
-        Err(PlatformRefusal::Fault(_)) => Ok(false),
-    }
-}
 
 /// A file whose values are checked.
 #[derive(Drop)]
@@ -70,32 +56,14 @@ fn is_right(
         ValueRole::Parent => Ok(is_built_in(text) || has_member(file.file, "profile", text)),
         ValueRole::NoCircle(at) => Ok(is_in_no_circle(file, at)),
         ValueRole::Group => Ok(is_group(file.file, text)),
-        ValueRole::Platform => is_platform(alloc, text),
+        ValueRole::Platform => match PlatformSpec::parse(alloc, text) {
+            Ok(_) => Ok(true),
+            Err(PlatformRefusal::OutOfMemory(refused)) => Err(refused),
+            Err(PlatformRefusal::Fault(_)) => Ok(false),
+        },
         ValueRole::NoText | ValueRole::ForNothing | ValueRole::ForBoth => Ok(false),
         ValueRole::ReservedProfile | ValueRole::ReservedGroup => Ok(false),
     }
-}
-
-/// Says what is wrong with the value at a position of a file's values.
-fn wrong_value(
-    alloc: Global,
-    file: &CheckedFile<'_>,
-    at: usize,
-    value: &ProfileValue,
-) -> Result<WrongValue, AllocError>
-    requires { IsKnown file.now }
-    ensures { IfOk result (IsWrongValue file.now.text.now at (value_row value.now)) }
-{
-    let place = match &file.numbered {
-        Some(numbered) => place_in(alloc, file.text, numbered, at, value)?,
-        None => None,
-    };
-    Ok(WrongValue {
-        path: String::from_str(alloc, value.path.as_str())?,
-        expected: value.role.expected(),
-        text: String::from_str(alloc, value.text.as_str())?,
-        place,
-    })
 }
 
 /// Adds the value at a position of a file's values, if it is wrong.
@@ -113,39 +81,32 @@ fn push_wrong(
     if is_right(alloc, file, value.role, value.text.as_str())? {
         return Ok(());
     }
-    found.push(wrong_value(alloc, file, at, value)?)?;
+    found.push(WrongValue {
+        path: String::from_str(alloc, value.path.as_str())?,
+        expected: value.role.expected(),
+        text: String::from_str(alloc, value.text.as_str())?,
+        place: place_in(alloc, file.text, &file.numbered, at, value)?,
+    })?;
     Ok(())
-}
-
-/// Finds the wrong ones of a file's values.
-fn wrong_among(
-    alloc: Global,
-    file: &CheckedFile<'_>,
-    values: &[ProfileValue],
-) -> Result<Vec<WrongValue>, AllocError>
-    requires { IsKnown file.now }
-    ensures { IfOk result (λ found. Finds (Judged file.now.text.now (view file.now.file.now)) 0 (value_rows values.now)
-        found.items) }
-{
-    let mut found = Vec::new(alloc);
-    for (at, value) in values.iter().enumerate() {
-        push_wrong(&mut found, alloc, file, at, value)?;
-    }
-    Ok(found)
 }
 
 /// Finds the wrong values of a file.
 fn wrong_in(alloc: Global, text: &str, file: &Value) -> Result<Vec<WrongValue>, AllocError>
     ensures { IfOk result (λ found. Finds (Judged text.now (view file.now)) 0 (values_of (view file.now)) found.items) }
 {
-    let values = values_of(alloc, file)?;
-    let file = CheckedFile {
+    let found = values_of(alloc, file)?;
+    let values = found.as_slice();
+    let checked = CheckedFile {
         text,
         file,
         circles: mark_circles(alloc, file)?,
-        numbered: numbered_values(alloc, text, values.as_slice())?,
+        numbered: numbered_values(alloc, text, values)?,
     };
-    wrong_among(alloc, &file, values.as_slice())
+    let mut wrong = Vec::new(alloc);
+    for (at, value) in values.iter().enumerate() {
+        push_wrong(&mut wrong, alloc, &checked, at, value)?;
+    }
+    Ok(wrong)
 }
 
 /// Finds the values of a configuration that are wrong, other than its filtersets, each with its place: what a profile

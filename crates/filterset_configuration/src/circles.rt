@@ -2,7 +2,7 @@
 ghost use Rattle.std.specs.Prelude.{◌≡◌, ◌↔◌, ◌<◌, ℕ, IfOk, Option, Some, length, map, option_and_then, option_copied, slice_get};
 ghost use Rattle.std.specs.Option.{option_map_or};
 ghost use Rattle.toml.specs.View.{table_view, view};
-ghost use Rattle.filterset_configuration.specs.Circles.{AreDistinct, IsIndex, MarksCircles, MarksProfiles, fallback_of, link_row, links_of, position_of};
+ghost use Rattle.filterset_configuration.specs.Circles.{AreDistinct, IsIndex, MarksCircles, fallback_of, link_row, links_of, position_of};
 ghost use Rattle.filterset_configuration.specs.Leads.{AreFar, IsMarked, MarksEnds, lead};
 ghost use Rattle.filterset_sources.specs.Configurations.{keys_of};
 
@@ -61,10 +61,7 @@ fn positions_of<'f>(
 fn parent_of(positions: &BTreeMap<&str, usize>, link: &Link<'_>) -> Option<usize>
     ensures { result ≡ option_and_then (position_of positions.now) (option_copied link.now.fallback) }
 {
-    match link.fallback {
-        Some(name) => positions.get(name).copied(),
-        None => None,
-    }
+    positions.get(link.fallback?).copied()
 }
 
 /// Returns the positions of the profiles that each falls back on.
@@ -87,10 +84,7 @@ fn parents_of(
 fn lead(leads: &[Option<usize>], at: usize) -> Option<usize>
     ensures { result ≡ lead leads.now at }
 {
-    match leads.get(at) {
-        Some(to) => *to,
-        None => None,
-    }
+    *leads.get(at)?
 }
 
 /// Returns where each position leads in twice as many steps.
@@ -140,24 +134,17 @@ fn mark_ends(alloc: Global, leads: &[Option<usize>]) -> Result<Vec<bool>, AllocE
     Ok(marks)
 }
 
-/// Marks those of some profiles that fall back on themselves. More steps than there are profiles end in circles, and at
+/// Marks those of a file's profiles that fall back on themselves. More steps than there are profiles end in circles, and at
 /// each profile of a circle. Takes time in proportion to n log n for n profiles.
-fn mark_profiles(alloc: Global, profiles: &Table) -> Result<Vec<bool>, AllocError>
-    ensures { IfOk result (λ marks. MarksProfiles (table_view profiles.now) marks.items) }
+pub(crate) fn mark_circles(alloc: Global, file: &Value) -> Result<Vec<bool>, AllocError>
+    ensures { IfOk result (λ marks. MarksCircles (view file.now) marks.items) }
 {
+    let Some(profiles) = table_under(file, "profile") else {
+        return Ok(Vec::new(alloc));
+    };
     let links = links_of(alloc, profiles)?;
     let positions = positions_of(alloc, links.as_slice())?;
     let parents = parents_of(alloc, links.as_slice(), &positions)?;
     let leads = far_leads(alloc, parents.as_slice())?;
     mark_ends(alloc, leads.as_slice())
-}
-
-/// Marks those of a file's profiles that fall back on themselves.
-pub(crate) fn mark_circles(alloc: Global, file: &Value) -> Result<Vec<bool>, AllocError>
-    ensures { IfOk result (λ marks. MarksCircles (view file.now) marks.items) }
-{
-    match table_under(file, "profile") {
-        Some(profiles) => mark_profiles(alloc, profiles),
-        None => Ok(Vec::new(alloc)),
-    }
 }

@@ -1,10 +1,9 @@
 //! Reads the overrides of profiles.
-ghost use Rattle.std.specs.Prelude.{◌≡◌, List, IfErr, IfOk, codes, is_some, map, not, unwrap_or};
-ghost use Rattle.std.specs.List.{AllZip};
+ghost use Rattle.std.specs.Prelude.{◌≡◌, List, IfErr, IfOk, codes, unwrap_or};
 ghost use Rattle.toml.specs.Data.{array, get, no_items, no_members, table};
 ghost use Rattle.toml.specs.View.{view};
 ghost use Rattle.filterset_configuration.specs.declared.platforms.filter.PlatformFilter.{PlatformFilter};
-ghost use Rattle.filterset_configuration.specs.Profiles.{AreOverrides, ArePlatforms, HasSettings, IsOverride, IsPlatform, Under, is_allowed};
+ghost use Rattle.filterset_configuration.specs.Profiles.{AreOverrides, ArePlatforms, IsOverride, IsPlatform, Under, has_platform, shape_of};
 ghost use Rattle.filterset_configuration.specs.Refusals.{Refuses};
 ghost use Rattle.filterset_configuration.specs.declared.overrides.Override.{Override};
 
@@ -12,6 +11,7 @@ use crate::paths::override_path;
 use crate::platforms::PlatformFilter;
 use crate::refusal::ProfileRefusal;
 use crate::values::{read_group, read_keys_but, read_platform, read_text, wrong_at, wrong_under};
+use crate::wrong::ValueRole;
 use std::alloc::Global;
 use toml::Value;
 
@@ -66,37 +66,30 @@ fn read_platforms(
     Ok(PlatformFilter { host, target })
 }
 
-/// Reads what an override sets.
-fn read_settings(
-    alloc: Global,
-    path: &str,
-    file: &Value,
-    value: &Value,
-) -> Result<Override, ProfileRefusal>
-    ensures read { IfOk result (HasSettings (view file.now) (view value.now)) }
-    ensures refused { IfErr result (Refuses ((o : Override) × HasSettings (view file.now) (view value.now) o)) }
+/// Returns whether an override has platforms.
+fn has_platform(value: &Value) -> bool
+    ensures { result ≡ has_platform (view value.now) }
 {
-    Ok(Override {
-        platform: read_platforms(alloc, path, value)?,
-        filter: read_text(alloc, path, value, "filter")?,
-        default_filter: read_text(alloc, path, value, "default-filter")?,
-        test_group: read_group(alloc, path, file, value)?,
-        settings: read_keys_but(alloc, value, &["platform", "filter", "default-filter"])?,
-    })
+    match value.get("platform") {
+        Some(found) => !found.is_table()
+            || found.get("host").is_some()
+            || found.get("target").is_some(),
+        None => false,
+    }
 }
 
-/// Returns what an override must be that may not be so.
-fn fault_of(read: &Override) -> Option<&'static str>
-    ensures { is_some result ≡ not (is_allowed read.now) }
+/// Returns what is wrong with the keys of an override.
+pub(crate) fn shape_of(value: &Value) -> Option<ValueRole>
+    ensures { result ≡ shape_of (view value.now) }
 {
-    let picks = read.filter.is_some();
-    if picks && read.default_filter.is_some() {
-        return Some("an override without `filter` or without `default-filter`");
+    if value.get("filter").is_none() {
+        return if has_platform(value) {
+            None
+        } else {
+            Some(ValueRole::ForNothing)
+        };
     }
-    if picks || read.platform.host.is_some() || read.platform.target.is_some() {
-        return None;
-    }
-    Some("an override with `filter` or `platform`")
+    value.get("default-filter").map(|_| ValueRole::ForBoth)
 }
 
 /// Reads an override.
@@ -112,30 +105,17 @@ fn read_override(
     if !value.is_table() {
         return Err(wrong_at(alloc, path, "a table")?);
     }
-    let read = read_settings(alloc, path, file, value)?;
-    match fault_of(&read) {
-        Some(expected) => Err(wrong_at(alloc, path, expected)?),
+    let read = Override {
+        platform: read_platforms(alloc, path, value)?,
+        filter: read_text(alloc, path, value, "filter")?,
+        default_filter: read_text(alloc, path, value, "default-filter")?,
+        test_group: read_group(alloc, path, file, value)?,
+        settings: read_keys_but(alloc, value, &["platform", "filter", "default-filter"])?,
+    };
+    match shape_of(value) {
+        Some(role) => Err(wrong_at(alloc, path, role.expected())?),
         None => Ok(read),
     }
-}
-
-/// Reads each override of a list.
-fn read_items(
-    alloc: Global,
-    path: &str,
-    file: &Value,
-    values: &[Value],
-) -> Result<Vec<Override>, ProfileRefusal>
-    ensures read { IfOk result (λ v. AllZip (IsOverride (view file.now)) (map view values.now) v.items) }
-    ensures refused { IfErr result (Refuses ((os : List Override)
-        × AllZip (IsOverride (view file.now)) (map view values.now) os)) }
-{
-    let mut overrides = Vec::with_capacity(alloc, values.len())?;
-    for (at, value) in values.iter().enumerate() {
-        let path = override_path(alloc, path, at)?;
-        overrides.push(read_override(alloc, path.as_str(), file, value)?)?;
-    }
-    Ok(overrides)
 }
 
 /// Reads the overrides of the profile at `path`.
@@ -153,8 +133,14 @@ pub(crate) fn read_overrides(
     let Some(found) = value.get("overrides") else {
         return Ok(Vec::new(alloc));
     };
-    match found.as_array() {
-        Some(values) => read_items(alloc, path, file, values.as_slice()),
-        None => Err(wrong_under(alloc, path, "overrides", "a list")?),
+    let Some(values) = found.as_array() else {
+        return Err(wrong_under(alloc, path, "overrides", "a list")?);
+    };
+    let items = values.as_slice();
+    let mut overrides = Vec::with_capacity(alloc, items.len())?;
+    for (at, item) in items.iter().enumerate() {
+        let path = override_path(alloc, path, at)?;
+        overrides.push(read_override(alloc, path.as_str(), file, item)?)?;
     }
+    Ok(overrides)
 }

@@ -5,7 +5,6 @@ ghost use Rattle.filterset_configuration.specs.Places.{ArePlaces, ArePlacesAmong
 
 use crate::numbering::Numbering;
 use crate::place::Place;
-use crate::scanning::texts_of;
 use crate::string::is_same;
 use filterset_sources::{Configuration, ConfiguredFilterset, SourceRefusal, read_configuration};
 use std::alloc::{AllocError, Global};
@@ -30,9 +29,25 @@ impl Places {
             ArePlaces file.now (configured_rows configuration.now.filtersets.items) found.places.items) }
     {
         let filtersets = configuration.filtersets.as_slice();
-        Ok(Places {
-            places: find_places(alloc, file, filtersets)?,
-        })
+        let texts: Vec<&str> = filtersets
+            .iter()
+            .map(|one| one.text.as_str())
+            .collect(alloc)?;
+        let none = Places {
+            places: Vec::new(alloc),
+        };
+        let Some(numbering) = Numbering::of(alloc, file, texts)? else {
+            return Ok(none);
+        };
+        match read_configuration(alloc, numbering.text.as_str()) {
+            Ok(other) => {
+                let others = other.filtersets.as_slice();
+                let places = places_among(alloc, file, &numbering, filtersets, others)?;
+                Ok(Places { places })
+            }
+            Err(SourceRefusal::OutOfMemory(refused)) => Err(refused),
+            Err(_) => Ok(none),
+        }
     }
 
     /// Returns the place of the filterset at this position of the configuration, if it was found.
@@ -93,25 +108,4 @@ fn places_among(
         places.push(place_at(alloc, file, numbering, filtersets, others, at)?)?;
     }
     Ok(places)
-}
-
-/// Finds the places of filtersets in the file that they were read from.
-fn find_places(
-    alloc: Global,
-    file: &str,
-    filtersets: &[ConfiguredFilterset],
-) -> Result<Vec<Option<Place>>, AllocError>
-    ensures { IfOk result (λ places. ArePlaces file.now (configured_rows filtersets.now) places.items) }
-{
-    let Some(numbering) = Numbering::of(alloc, file, texts_of(alloc, filtersets)?)? else {
-        return Ok(Vec::new(alloc));
-    };
-    match read_configuration(alloc, numbering.text.as_str()) {
-        Ok(other) => {
-            let others = other.filtersets.as_slice();
-            places_among(alloc, file, &numbering, filtersets, others)
-        }
-        Err(SourceRefusal::OutOfMemory(refused)) => Err(refused),
-        Err(_) => Ok(Vec::new(alloc)),
-    }
 }

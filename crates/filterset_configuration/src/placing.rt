@@ -17,15 +17,6 @@ pub(crate) struct NumberedValues {
     pub values: Vec<ProfileValue>,
 }
 
-/// Returns the texts of values.
-fn texts_of<'v>(alloc: Global, values: &'v [ProfileValue]) -> Result<Vec<&'v str>, AllocError> {
-    let mut texts = Vec::with_capacity(alloc, values.len())?;
-    for value in values {
-        texts.push(value.text.as_str())?;
-    }
-    Ok(texts)
-}
-
 /// Reads the values of a file with numbers, or returns `None` if it is no TOML.
 fn read_numbered(alloc: Global, numbering: Numbering) -> Result<Option<NumberedValues>, AllocError>
     ensures { IfOk result (λ o. IfSome o (λ n. (n.numbering ≡ numbering) × ReadsAs (string_bytes numbering.text) n.values.items)) }
@@ -48,7 +39,10 @@ pub(crate) fn numbered_values(
 ) -> Result<Option<NumberedValues>, AllocError>
     ensures { IfOk result (λ o. IfSome o (AreNumbered file.now)) }
 {
-    let texts = texts_of(alloc, values)?;
+    let texts: Vec<&str> = values
+        .iter()
+        .map(|value| value.text.as_str())
+        .collect(alloc)?;
     match Numbering::of(alloc, file, texts)? {
         Some(numbering) => read_numbered(alloc, numbering),
         None => Ok(None),
@@ -59,13 +53,16 @@ pub(crate) fn numbered_values(
 pub(crate) fn place_in(
     alloc: Global,
     file: &str,
-    numbered: &NumberedValues,
+    numbered: &Option<NumberedValues>,
     at: usize,
     value: &ProfileValue,
 ) -> Result<Option<Place>, AllocError>
-    requires { AreNumbered file.now numbered.now }
+    requires { IfSome numbered.now (AreNumbered file.now) }
     ensures { IfOk result (λ o. IfSome o (IsValuePlace file.now at (value_row value.now))) }
 {
+    let Some(numbered) = numbered else {
+        return Ok(None);
+    };
     let Some(other) = numbered.values.get(at) else {
         return Ok(None);
     };

@@ -1,7 +1,6 @@
 //! Reads profiles.
-ghost use Rattle.std.specs.Prelude.{◌≡◌, List, Some, IfErr, IfOk, codes, string_bytes, unwrap_or};
-ghost use Rattle.toml.specs.Data.{get, no_members, table};
-ghost use Rattle.toml.specs.Parse.{parse_document};
+ghost use Rattle.std.specs.Prelude.{◌≡◌, List, IfErr, IfOk, string_bytes};
+ghost use Rattle.toml.specs.Data.{table};
 ghost use Rattle.toml.specs.View.{table_view, view};
 ghost use Rattle.filterset_configuration.specs.Profiles.{AreProfiles, HasProfiles, IsProfile};
 ghost use Rattle.filterset_configuration.specs.Refusals.{Refuses, RefusesText};
@@ -70,40 +69,22 @@ fn read_members(
     Ok(profiles)
 }
 
-/// Reads the profiles of a file.
-fn read_file(alloc: Global, file: &Value) -> Result<Vec<Profile>, ProfileRefusal>
-    ensures read { IfOk result (λ v. AreProfiles (view file.now)
-        (unwrap_or (get (codes "profile") (view file.now)) (table no_members)) v.items) }
-    ensures refused { IfErr result (Refuses ((ps : List Profile) × AreProfiles (view file.now)
-        (unwrap_or (get (codes "profile") (view file.now)) (table no_members)) ps)) }
-{
-    let Some(found) = file.get("profile") else {
-        return Ok(Vec::new(alloc));
-    };
-    match found.as_table() {
-        Some(members) => read_members(alloc, file, members),
-        None => Err(wrong_at(alloc, "profile", "a table")?),
-    }
-}
-
-/// Parses a text as TOML.
-fn read_toml(alloc: Global, text: &str) -> Result<Table, ProfileRefusal>
-    ensures read { IfOk result (λ file. parse_document text.now ≡ Some (table_view file)) }
-    ensures refused { IfErr result (RefusesText text.now) }
-{
-    match file_of(alloc, text) {
-        Ok(file) => Ok(file),
-        Err(SourceRefusal::NotToml { error, .. }) => Err(ProfileRefusal::NotToml(error)),
-        Err(_) => Err(ProfileRefusal::OutOfMemory(AllocError)),
-    }
-}
-
 /// Reads the profiles of a configuration, as `.config/nextest.toml` has them, by the order of their names. Ignores all
 /// other keys.
 pub fn read_profiles(alloc: Global, text: &str) -> Result<Vec<Profile>, ProfileRefusal>
     ensures read { IfOk result (λ v. HasProfiles text.now v.items) }
     ensures refused { IfErr result (RefusesText text.now) }
 {
-    let file = Value::Table(read_toml(alloc, text)?);
-    read_file(alloc, &file)
+    let file = match file_of(alloc, text) {
+        Ok(file) => Value::Table(file),
+        Err(SourceRefusal::NotToml { error, .. }) => return Err(ProfileRefusal::NotToml(error)),
+        Err(_) => return Err(ProfileRefusal::OutOfMemory(AllocError)),
+    };
+    let Some(found) = file.get("profile") else {
+        return Ok(Vec::new(alloc));
+    };
+    match found.as_table() {
+        Some(members) => read_members(alloc, &file, members),
+        None => Err(wrong_at(alloc, "profile", "a table")?),
+    }
 }

@@ -2,7 +2,6 @@
 ghost use Rattle.std.specs.Prelude.{◌<◌, ◌≤◌, IfOk, IfSome, length};
 
 use crate::stretch::Stretch;
-use filterset_sources::ConfiguredFilterset;
 use std::alloc::{AllocError, Global};
 use toml_parser::text::{first, skip_ws};
 use toml_parser::{ParseError, quoted, starts_string};
@@ -71,18 +70,6 @@ impl Context {
         }
         context
     }
-}
-
-/// Returns the texts of filtersets.
-pub(crate) fn texts_of<'t>(
-    alloc: Global,
-    filtersets: &'t [ConfiguredFilterset],
-) -> Result<Vec<&'t str>, AllocError> {
-    let mut texts = Vec::with_capacity(alloc, filtersets.len())?;
-    for filterset in filtersets {
-        texts.push(filterset.text.as_str())?;
-    }
-    Ok(texts)
 }
 
 /// Finds the strings of a document that are values and are read as one of these texts, in their order.

@@ -3,7 +3,7 @@ ghost use Rattle.std.specs.Prelude.{◌≡◌, ◌≢◌, ◌+◌, ◌≤◌, If
 ghost use Rattle.std.specs.Bool.{OnFalse, OnTrue};
 ghost use Rattle.toml_parser.specs.Strings.{quoted, starts_string};
 ghost use Rattle.filterset_json.specs.Shape.{Text};
-ghost use Rattle.filterset_configuration.specs.Strings.{IsPlaceOf, delimiter_of, is_multi_line, opening_length};
+ghost use Rattle.filterset_configuration.specs.Strings.{IsPlaceOf, is_multi_line, opening_length};
 
 use crate::content::{Delimiter, read_content};
 use crate::place::Place;
@@ -25,16 +25,6 @@ fn is_multi_line(string: &str) -> bool
     ensures { result ≡ is_multi_line string.now }
 {
     byte_at(string, 1) == first(string) && byte_at(string, 2) == first(string)
-}
-
-/// Returns how a string is delimited.
-fn delimiter_of(string: &str) -> Delimiter
-    ensures { result ≡ delimiter_of string.now }
-{
-    Delimiter {
-        byte: first(string),
-        is_multi: is_multi_line(string),
-    }
 }
 
 /// Returns how many bytes of a string are before its text: one delimiter, or three and a line break behind them.
@@ -89,7 +79,11 @@ pub(crate) fn place_of(
         return Ok(None);
     }
     let start = literal.from + opening;
-    match read_content(alloc, file, start, delimiter_of(string), text)? {
+    let delimiter = Delimiter {
+        byte: first(string),
+        is_multi: is_multi_line(string),
+    };
+    match read_content(alloc, file, start, delimiter, text)? {
         Some(content) => Ok(Some(Place {
             literal,
             origins: content.origins,

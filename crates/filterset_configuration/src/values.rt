@@ -2,16 +2,16 @@
 ghost use Rattle.std.specs.Prelude.{◌≡◌, Option, String, IfErr, IfOk, codes, is_some, map, option_and_then, string_bytes};
 ghost use Rattle.std.specs.declared.alloc.Global.{Global};
 ghost use Rattle.toml.specs.Data.{get};
-ghost use Rattle.toml.specs.View.{table_view, view};
+ghost use Rattle.toml.specs.View.{view};
 ghost use Rattle.filterset_configuration.specs.declared.platforms.specification.PlatformSpec.{PlatformSpec};
-ghost use Rattle.filterset_configuration.specs.Profiles.{IsGroup, IsPlatform, IsText, Under, is_group, keys_but, settings_but};
+ghost use Rattle.filterset_configuration.specs.Profiles.{IsGroup, IsPlatform, IsText, Under, is_group, settings_but};
 ghost use Rattle.filterset_configuration.specs.Refusals.{IsWrong, Refuses};
-ghost use Rattle.filterset_sources.specs.Configurations.{keys_of};
 
 use crate::platforms::{PlatformRefusal, PlatformSpec};
 use crate::refusal::ProfileRefusal;
+use crate::wrong::ValueRole;
 use std::alloc::{AllocError, Global};
-use toml::{Table, Value};
+use toml::Value;
 
 /// Makes the refusal of the value under a key of what is at `path`.
 pub(crate) fn wrong_under(
@@ -57,21 +57,6 @@ pub(crate) fn read_text(
     Ok(Some(String::from_str(alloc, text)?))
 }
 
-/// Copies the keys of a table, but for those among `others`.
-fn copy_keys_but(alloc: Global, members: &Table, others: &[&str]) -> Result<Vec<String>, AllocError>
-    ensures { IfOk result (λ keys. map (λ s. string_bytes s) keys.items
-        ≡ keys_but (map (λ o. o.now) others.now) (keys_of (table_view members.now))) }
-{
-    let mut keys = Vec::new(alloc);
-    for key in members.keys() {
-        if others.contains(&key.as_str()) {
-            continue;
-        }
-        keys.push(String::from_str(alloc, key.as_str())?)?;
-    }
-    Ok(keys)
-}
-
 /// Reads the keys that a table sets: all but `others`. There are none if the value is no table.
 pub(crate) fn read_keys_but(
     alloc: Global,
@@ -81,10 +66,17 @@ pub(crate) fn read_keys_but(
     ensures { IfOk result (λ keys. map (λ s. string_bytes s) keys.items
         ≡ settings_but (map (λ o. o.now) others.now) (view value.now)) }
 {
-    match value.as_table() {
-        Some(members) => copy_keys_but(alloc, members, others),
-        None => Ok(Vec::new(alloc)),
+    let mut keys = Vec::new(alloc);
+    let Some(members) = value.as_table() else {
+        return Ok(keys);
+    };
+    for key in members.keys() {
+        if others.contains(&key.as_str()) {
+            continue;
+        }
+        keys.push(String::from_str(alloc, key.as_str())?)?;
     }
+    Ok(keys)
 }
 
 /// Returns whether the table under a key of a file has a member of this name.
@@ -121,8 +113,7 @@ pub(crate) fn read_group(
     if is_group(file, name.as_str()) {
         return Ok(Some(name));
     }
-    let expected = "`@global` or a key of `[test-groups]`";
-    Err(wrong_under(alloc, path, "test-group", expected)?)
+    Err(wrong_under(alloc, path, "test-group", ValueRole::Group.expected())?)
 }
 
 /// Reads the platform under a key, if there is one.
@@ -145,7 +136,7 @@ pub(crate) fn read_platform(
         Ok(platform) => Ok(Some(platform)),
         Err(PlatformRefusal::OutOfMemory(error)) => Err(ProfileRefusal::OutOfMemory(error)),
         Err(PlatformRefusal::Fault(_)) => {
-            Err(wrong_under(alloc, path, key, "a triple, or `cfg(..)`")?)
+            Err(wrong_under(alloc, path, key, ValueRole::Platform.expected())?)
         }
     }
 }

@@ -1,41 +1,16 @@
 //! Finds the values of profiles that are checked.
-ghost use Rattle.std.specs.Prelude.{◌≡◌, ◌∷◌, [], IfOk, OnOk, flat_map, string_bytes};
+ghost use Rattle.std.specs.Prelude.{◌≡◌, ◌∷◌, [], IfOk, OnOk, string_bytes};
 ghost use Rattle.toml.specs.View.{view};
-ghost use Rattle.filterset_configuration.specs.Wrong.{Adds, circle_values, has_platform, name_values, override_values, own_values, platform_values, row, shape_of, text_row, value_rows, value_under, values_of};
-ghost use Rattle.filterset_sources.specs.Sections.{members_under, section_rows};
+ghost use Rattle.filterset_configuration.specs.Wrong.{Adds, circle_values, name_values, override_values, own_values, platform_values, row, text_row, value_rows, value_under, values_of};
+ghost use Rattle.filterset_sources.specs.Sections.{members_under};
 
 use crate::names::is_reserved;
+use crate::overrides::shape_of;
 use crate::wrong::{ProfileValue, ValueRole};
 use filterset_json::{Step, step_text};
 use filterset_sources::{Section, SectionKind, sections_of, table_under};
 use std::alloc::{AllocError, Global};
 use toml::Value;
-
-/// Returns whether an override has platforms.
-fn has_platform(value: &Value) -> bool
-    ensures { result ≡ has_platform (view value.now) }
-{
-    match value.get("platform") {
-        Some(found) => !found.is_table()
-            || found.get("host").is_some()
-            || found.get("target").is_some(),
-        None => false,
-    }
-}
-
-/// Returns what is wrong with the keys of an override.
-fn shape_of(value: &Value) -> Option<ValueRole>
-    ensures { result ≡ shape_of (view value.now) }
-{
-    if value.get("filter").is_none() {
-        return if has_platform(value) {
-            None
-        } else {
-            Some(ValueRole::ForNothing)
-        };
-    }
-    value.get("default-filter").map(|_| ValueRole::ForBoth)
-}
 
 /// The values that were found so far.
 #[derive(Drop)]
@@ -139,17 +114,6 @@ impl Walk {
         }
     }
 
-    /// Adds the values of sections.
-    fn push_sections(&mut self, sections: &[Section<'_>]) -> Result<(), AllocError>
-        ensures { OnOk result (Adds (flat_map (λ s. own_values s.kind s.path s.value) (section_rows sections.now))
-            self.old self.new) }
-    {
-        for section in sections {
-            self.push_section(section)?;
-        }
-        Ok(())
-    }
-
     /// Adds the members of the table under a key of a file whose names are reserved.
     fn push_reserved(&mut self, file: &Value, key: &str, role: ValueRole) -> Result<(), AllocError>
         ensures { OnOk result (Adds (name_values key.now role (members_under key.now (view file.now)))
@@ -176,7 +140,9 @@ pub(crate) fn values_of(alloc: Global, file: &Value) -> Result<Vec<ProfileValue>
     let values = Vec::new(alloc);
     let mut walk = Walk { alloc, values };
     let sections = sections_of(alloc, file)?;
-    walk.push_sections(sections.as_slice())?;
+    for section in &sections {
+        walk.push_section(section)?;
+    }
     walk.push_reserved(file, "profile", ValueRole::ReservedProfile)?;
     walk.push_reserved(file, "test-groups", ValueRole::ReservedGroup)?;
     Ok(walk.values)

@@ -53,12 +53,7 @@ fn word_len(text: &[u8]) -> usize
     ensures value { result ≡ word_len text.now }
     ensures within { result ≤ length text.now }
 {
-    for (i, b) in text.iter().enumerate() {
-        if !is_word_byte(*b) {
-            return i;
-        }
-    }
-    text.len()
+    text.iter().take_while(|b| is_word_byte(**b)).count()
 }
 
 /// Returns whether a byte is an ASCII letter or `_`.

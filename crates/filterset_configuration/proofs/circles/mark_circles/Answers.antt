@@ -1,13 +1,15 @@
-use Rattle.std.proofs.Common.{◌≡◌, Err, List, Ok, Option, Result, ℕ, ap, map, subst, ◌∙◌}
-use Rattle.std.specs.Prelude.{IfOk, option_and_then, option_copied}
-use Rattle.toml.specs.View.{table_view}
+use Rattle.std.proofs.Common.{rules, ◌≡◌, Err, List, Ok, Option, Result, Some, ℕ, ap, map, subst, true, ◌∙◌}
+use Rattle.std.specs.Prelude.{◌↔◌, IfOk, codes, option_and_then, option_copied, slice_get}
+use Rattle.toml.specs.Data.{Members}
+use Rattle.toml.specs.View.{table_view, view}
 use Rattle.filterset_json.specs.Shape.{Text}
-use Rattle.filterset_configuration.specs.Circles.{IsIndex, links_of, position_of}
+use Rattle.filterset_configuration.specs.Circles.{IsIndex, IsProfileInCircle, links_of, position_of}
 use Rattle.filterset_configuration.specs.Leads.{AreFar, MarksEnds}
 use Rattle.filterset_sources.specs.Configurations.{keys_of}
+use Rattle.filterset_sources.specs.Sections.{members_under}
 use Rattle.filterset_configuration.specs.declared.circles.Link.{Link}
 use Rattle.filterset_configuration.proofs.CircleLemmas.{ends_are_circles, names_from_links, parents_from_links}
-use Rattle.filterset_configuration.proofs.circles.mark_profiles.Goals as goal
+use Rattle.filterset_configuration.proofs.circles.mark_circles.Goals as goal
 
 if_ok : {T E : Type 0} (r : Result T E) (P Q : T → Type 0) → ((x : T) → P x → Q x) → IfOk r P → IfOk r Q
 if_ok (Err e) P Q f h = tt
@@ -15,7 +17,7 @@ if_ok (Ok x) P Q f h = f x h
 
 pub returns : goal.returns
 returns c =
-    let ms = table_view c.args.profiles.now in
+    let ms = table_view c.in-Some.profiles.now in
     let links = c.in_ok-links.links.items in
     let positions = c.in_ok-positions.positions in
     let parents = c.in_ok-parents.parents.items in
@@ -29,8 +31,10 @@ returns c =
     c.in_ok-parents.ensures ∙ ap (map (λ (l : Link). place (option_copied l.fallback))) c.as_slice-2.ensures.value
     ∙ parents_from_links links ms place rows in
     let far : AreFar parents leads = subst (λ (ps : List (Option ℕ)). AreFar ps leads) c.as_slice-3.ensures.value c.in_ok-leads.ensures in
+    let under : ms ≡ members_under (codes "profile") (view c.args.file.now) = search (rules, c.in-Some.ensures) in
     if_ok c.mark_ends.result _ _
     (λ marks ends.
-    ends_are_circles ms c.in_ok-links.ensures.distinct positions index parents are leads marks.items far
-    (subst (λ (ls : List (Option ℕ)). MarksEnds ls marks.items) c.as_slice-4.ensures.value ends))
+    subst (λ (rows : Members). (at : ℕ) → (slice_get marks.items at ≡ Some true) ↔ IsProfileInCircle rows at) under
+    (ends_are_circles ms c.in_ok-links.ensures.distinct positions index parents are leads marks.items far
+    (subst (λ (ls : List (Option ℕ)). MarksEnds ls marks.items) c.as_slice-4.ensures.value ends)))
     c.mark_ends.ensures

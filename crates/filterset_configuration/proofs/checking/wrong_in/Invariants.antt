@@ -2,8 +2,8 @@ use Rattle.std.proofs.Common.{take}
 use Rattle.toml.specs.View.{view}
 use Rattle.filterset_configuration.specs.Keys.{Finds}
 use Rattle.filterset_configuration.specs.Wrong.{Judged, value_rows}
-use Rattle.filterset_configuration.proofs.checking.wrong_among.Given as goal
+use Rattle.filterset_configuration.proofs.checking.wrong_in.Given as goal
 
 -- the values so far were checked
 abbrev pub invariant-loop-at : goal.invariant-loop-at
-invariant-loop-at l = Finds (Judged l.file.text.now (view l.file.file.now)) 0 (value_rows (take l.at l.values)) l.found.items
+invariant-loop-at l = Finds (Judged l.text (view l.file)) 0 (value_rows (take l.at l.values)) l.wrong.items

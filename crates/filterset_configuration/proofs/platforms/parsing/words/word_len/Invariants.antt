@@ -1,6 +1,0 @@
-use Rattle.std.proofs.Common.{◌≡◌, ◌+◌, drop}
-use Rattle.filterset_configuration.specs.PlatformGrammar.{word_len}
-use Rattle.filterset_configuration.proofs.platforms.parsing.words.word_len.Given as goal
-
-abbrev pub invariant-loop-i : goal.invariant-loop-i
-invariant-loop-i l = l.i + word_len (drop l.i l.text) ≡ word_len l.text
