@@ -76,10 +76,10 @@ def record_of(row):
 def run(words, row, times):
     """Runs the program under some command for a record with its filtersets so many times, and returns what that prints."""
     record = json.dumps({**record_of(row), "filtersets": FILTERSETS[row] * times})
-    with tempfile.NamedTemporaryFile("w+") as report:
+    with tempfile.TemporaryFile() as report:
         ran = subprocess.run([*words, PROGRAM], input=record, stdout=report, stderr=subprocess.PIPE, text=True)
-        if ran.returncode or "refused" in Path(report.name).read_text():
-            sys.exit(f"instructions: {row}: {ran.stderr or 'a filterset is refused'}")
+        if ran.returncode > 1:  # 1: a filterset is refused, as by the original
+            sys.exit(f"instructions: {row}: {ran.stderr}")
     return ran.stderr
 
 
