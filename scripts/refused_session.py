@@ -2,8 +2,8 @@
 """Refuses each request for memory of the language server in turn, on scripts/lsp/refused.session, and prints how many
 there were: scripts/refused_session.py PROGRAM LIBRARY
 
-LIBRARY is tools/refuse.c, built. The server may report that it is out of memory (status 3), and then writes nothing.
-Otherwise memory runs out for one message, which is answered by that, once. Each of these outcomes comes:
+LIBRARY is tools/refuse.c, built. The server may report that it is out of memory (status 3), after whole answers to the
+messages before. Otherwise memory runs out for one message, which is answered by that, once. Each of these outcomes comes:
 
 - The message is too long to read: the answer has no id, and all documents are forgotten. Later requests about them get
   `null`; `shutdown` or `exit` is not taken, so the session ends with 1.
@@ -65,11 +65,11 @@ def main(program, library):
     if len(answers) != len(MESSAGES) - 1:
         sys.exit("with memory, the session has other answers than one a message but `exit`")
     names = {(status, b"".join(written)): name for name, status, written in outcomes(answers)}
-    left, at, said = set(names.values()), 0, b""
+    left, at, said, fronts = set(names.values()), 0, b"", {b"".join(answers[:n]) for n in range(len(answers))}
     while said != b"no request was refused\n":
         at += 1
         status, written, said = run(REFUSE_AT=str(at), LD_PRELOAD=library)
-        if (status, written, said) != (3, b"", b"memory refused\n"):
+        if (status, said) != (3, b"memory refused\n") or written not in fronts:
             if (status, written) not in names:
                 sys.exit(f"request {at}: status {status}, and none of the outcomes")
             left.discard(names[status, written])
