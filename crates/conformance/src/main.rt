@@ -9,6 +9,8 @@ mod graphs;
 mod matchers;
 mod reading;
 mod report;
+#[cfg(test)]
+mod tests;
 mod texts;
 mod trees;
 

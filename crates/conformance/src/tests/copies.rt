@@ -1,6 +1,6 @@
 //! Copies of filtersets, of faults, and of what they hold; calls on trees; and deep filtersets, whose copies do not overflow
 //! the stack.
-use crate::support::parse;
+use crate::tests::support::parse;
 use nextest_filtering::{
     CompiledExpr, EvalContext, Filterset, FlatExpr, FlatStep, ParseSingleError, ParseStop,
     ParsedExpr, SourceSpan,

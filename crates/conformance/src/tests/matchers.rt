@@ -1,6 +1,6 @@
 //! Globs and patterns.
-use crate::copies::copy;
-use crate::filtersets::ask;
+use crate::tests::copies::copy;
+use crate::tests::filtersets::ask;
 use nextest_filtering::{GenericGlob, GlobRefusal, NameMatcher, PatternRefusal, PatternRegex};
 use std::alloc::AllocError;
 use std::process::Abort;

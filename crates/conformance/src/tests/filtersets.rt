@@ -2,7 +2,7 @@
 ghost use Rattle.std.specs.Prelude.{◌≡◌};
 ghost use Rattle.filterset_matchers.specs.Matcher.{MatchesName};
 
-use crate::support::{id, parse, workspace};
+use crate::tests::support::{id, parse, workspace};
 use nextest_filtering::{
     BinaryQuery, BuildPlatform, CompiledExpr, DependsRefusal, EvalContext, Filterset, FlatExpr,
     GroupLookup, NameMatcher, PackageGraph, RustBinaryId, RustTestBinaryKind, TestCaseName,
