@@ -1,5 +1,5 @@
-//! What may be done with the filtersets in a range of a document: faults mended, and filtersets formatted. Each edit was made
-//! and read again before it is offered.
+//! What may be done with the filtersets in a range of a document: faults mended, and filtersets formatted. Each edit was
+//! made and read again before it is offered. For `filterset_server`.
 #![tactic(auto)]
 
 mod actions;

@@ -1,5 +1,6 @@
 //! What the commands answer: the faults of filtersets, filtersets as they print, the tests that filtersets pick, how two
-//! filtersets differ, why a filterset picks a test or not, and how the overrides of a configuration apply to tests.
+//! filtersets differ, why a filterset picks a test or not, and how the overrides of a configuration apply to tests. For
+//! `filterset_asking`, `filterset_verdicts` and the program.
 #![tactic(auto)]
 
 mod binaries;

@@ -1,5 +1,5 @@
 //! The commands of the program for people and their arguments, as `clap` takes them, and the scripts by which a shell
-//! completes its command lines.
+//! completes its command lines. For `filterset_loading` and the program `filterset`.
 #![tactic(auto)]
 
 mod commands;

@@ -1,4 +1,5 @@
-//! Columns of answers: all tests of a binary are asked at once.
+//! Columns of answers: all tests of a binary are asked at once. An expression and the names of the tests go in; an answer
+//! for each test comes out. For `filterset_report`.
 #![tactic(auto)]
 
 mod bits;

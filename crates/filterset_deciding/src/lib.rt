@@ -1,5 +1,6 @@
 //! Decides questions about filtersets for every possible test: whether they pick the same tests, and whether each test is
-//! picked by at least one, by at most one, or by exactly one of them.
+//! picked by at least one, by at most one, or by exactly one of them. Filtersets go in; yes, or a test that shows why not,
+//! comes out. For `filterset_verdicts`.
 #![tactic(auto)]
 
 mod aspects;

@@ -1,5 +1,5 @@
 //! Documents with filtersets, which are nextest's configuration and lists of filtersets: where their filtersets are, their
-//! diagnostics, and changes of them.
+//! diagnostics, and changes of them. For what a language server offers, does and says.
 #![tactic(auto)]
 
 mod becoming;

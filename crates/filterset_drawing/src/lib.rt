@@ -1,5 +1,5 @@
 //! Remarks on filterset texts for people, for editors and for workflows: drawn under the text, as JSON, and as annotations
-//! that GitHub shows in the changes of a pull request.
+//! that GitHub shows in the changes of a pull request. For all that shows a fault, a warning or a wrong value.
 #![tactic(auto)]
 
 mod annotation;

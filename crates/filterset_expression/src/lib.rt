@@ -1,4 +1,5 @@
-//! Compiled expressions: their leaves, the queries that they take, and their evaluation.
+//! Compiled expressions: their leaves, the queries that they take, and their evaluation. A binary or a test goes in; whether
+//! the expression picks it comes out. For `nextest_filtering`, and for all that asks about tests.
 #![tactic(auto)]
 
 mod context;

@@ -1,4 +1,5 @@
-//! Faults of filterset texts, with their codes, spans, labels and help.
+//! Faults of filterset texts, with their codes, spans, labels and help. The parser and the compiler make them; what shows
+//! faults to people and in editors reads them.
 #![tactic(auto)]
 
 mod error;

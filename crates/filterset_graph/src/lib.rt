@@ -1,4 +1,5 @@
-//! Packages of a workspace, their dependencies, and the ids of their test binaries.
+//! Packages of a workspace, their dependencies, and the ids of their test binaries. Packages go in, and are refused if an id
+//! repeats or a link names no package; sets of ids come out. For all that reads a workspace or asks about its tests.
 #![tactic(auto)]
 
 mod binary;

@@ -1,5 +1,6 @@
 //! Reads typed entries from JSON values, and says where a value is wrong and what it must be. Runs programs that read
-//! standard input to its end and write one text: their readers and writers, their faults and their exit statuses.
+//! standard input to its end and write one text: their readers and writers, their faults and their exit statuses. For all
+//! that reads JSON.
 #![tactic(auto)]
 
 mod entry;

@@ -1,4 +1,5 @@
-//! The language of filtersets: parsed trees, the parser, the printer, and the laws of both.
+//! The language of filtersets: parsed trees, the parser, the printer, and the laws of both. A text goes in; a tree or its
+//! faults come out, and a tree prints as a text. For `nextest_filtering`, and for all that shows or changes texts.
 #![tactic(auto)]
 
 pub mod laws;

@@ -1,5 +1,6 @@
-//! Which tests of a list a filterset picks, how two filtersets differ on it, why a filterset picks a test or not, and what the
-//! list says of the filterset: predicates that match none of its tests, and operands that change nothing.
+//! Which tests of a list a filterset picks, how two filtersets differ on it, why a filterset picks a test or not, and what
+//! the list says of the filterset: predicates that match none of its tests, and operands that change nothing. For commands
+//! and editors.
 #![tactic(auto)]
 
 mod binary;

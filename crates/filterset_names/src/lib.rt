@@ -1,4 +1,5 @@
-//! What a workspace adds to filtersets: the names that may stand in their predicates, and what predicates match.
+//! What a workspace adds to filtersets: the names that may stand in their predicates, and what predicates match. Packages
+//! and a list of tests go in; names, and those that a predicate matches, come out. For what editors offer and show.
 #![tactic(auto)]
 
 mod index;

@@ -1,4 +1,5 @@
-//! What may be typed at a position of a document with filtersets: each offered text stands where it is put.
+//! What may be typed at a position of a document with filtersets: each offered text stands where it is put. For
+//! `filterset_server`.
 #![tactic(auto)]
 
 mod candidates;

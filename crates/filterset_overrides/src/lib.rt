@@ -1,4 +1,6 @@
-//! Which overrides of a configuration apply to tests, and which of them gives a test each of its settings.
+//! Which overrides of a configuration apply to tests, and which of them gives a test each of its settings. A profile and
+//! listed binaries go in; tables and their texts come out. For `filterset_entries`, `filterset_answers` and
+//! `filterset_asking`.
 #![tactic(auto)]
 
 mod applying;

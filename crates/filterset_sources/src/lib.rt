@@ -1,4 +1,5 @@
-//! Reads what `cargo metadata` and `cargo nextest list` write, and nextest's configuration.
+//! Reads what `cargo metadata` and `cargo nextest list` write, and nextest's configuration. JSON and TOML go in; packages,
+//! suites of tests and filtersets with their places come out, or where a value is wrong. For commands and editors.
 #![tactic(auto)]
 
 mod configuration;

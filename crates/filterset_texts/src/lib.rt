@@ -1,4 +1,5 @@
-//! Texts that matchers must match, or must not match: whether there is one.
+//! Texts that matchers must match, or must not match: whether there is one. Matchers go in; such a text, or that there is
+//! none, or that the search took too many steps, comes out. For `filterset_deciding`.
 #![tactic(auto)]
 
 mod counting;

@@ -1,4 +1,5 @@
-//! The public root: parses and compiles filtersets, and exports the public types of the crates below.
+//! The public root: parses and compiles filtersets, and exports the public types of the crates below. A text and what is
+//! known of the workspace go in; a filterset or its faults come out. For test runners, and for all crates that compile.
 #![tactic(auto)]
 
 mod compile;
