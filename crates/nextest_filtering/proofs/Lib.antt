@@ -1,6 +1,6 @@
 pub mod Members
 pub mod NameHits
-pub mod Those
+pub mod Patterns
 pub mod Binaries
 pub mod Banned
 pub mod Unmatched

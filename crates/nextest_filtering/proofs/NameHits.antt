@@ -1,8 +1,7 @@
 -- Names in the text of all names.
-use Rattle.std.proofs.Common.{true, false, ◌≡◌, ◌+◌, ◌-◌, ◌<◌, ◌≤◌, ℕ, List, [], ◌∷◌, ◌++◌, length, map, take, drop, get_or, refl, ap, sym, subst, ◌∙◌, ⊎_elim, inl, inr, arith}
+use Rattle.std.proofs.Common.{◌≡◌, ◌+◌, ◌-◌, ◌<◌, ◌≤◌, ℕ, List, [], ◌∷◌, ◌++◌, length, take, drop, get_or, ap, sym, subst, ◌∙◌, ⊎_elim, inl, inr, arith}
 use Rattle.std.specs.Borrow.{Bor}
-use Rattle.std.specs.List.{range_with_len}
-use Rattle.std.specs.Prelude.{IsTrue}
+use Rattle.std.specs.Prelude.{Contains}
 use Rattle.std.specs.Str.Iter.{HasSubslice}
 use Rattle.std.proofs.Math.Dec.{leb}
 use Rattle.std.proofs.Math.Seq.{take-add, take-length}
@@ -16,11 +15,9 @@ use Rattle.filterset_graph.specs.declared.package.PackageMetadata.{PackageMetada
 use Rattle.filterset_matchers.specs.Substring.{StandsAt}
 use Rattle.filterset_matchers.proofs.Substrings.{byte_of, somewhere_stands, stands_somewhere}
 use Rattle.memchr.specs.Find.{OccursAt, NoneBefore, Nowhere}
-use Rattle.nextest_filtering.specs.Candidates.{AreThose}
 use Rattle.nextest_filtering.specs.Hits.{IsAt, IsNextHit, NoneHas}
 use Rattle.nextest_filtering.specs.Joined.{ends_of, joined, name_of, offset}
 use Rattle.nextest_filtering.specs.declared.compile.members.Hit.{Hit}
-use Rattle.nextest_filtering.proofs.Those.{those_more, those_past}
 
 -- a name is joined behind those before it
 pub joined_more : (packages : List (Bor PackageMetadata)) (p : Bor PackageMetadata) → joined (packages ++ p ∷ []) ≡ joined packages ++ name_of p
@@ -161,37 +158,19 @@ is_hit packages needle from start hay bound q j end size is begins some sized fo
 
 -- ---- the packages that hits find
 
--- the packages up to the next hit, whose name contains the needle
-pub hit_kept : (needle : List ℕ) (packages found : List (Bor PackageMetadata)) (from : ℕ) (hit : Hit) (p : Bor PackageMetadata)
-    → AreThose (λ q. HasSubslice (name_of q) needle) (take from packages) found → IsNextHit needle packages from hit → IsAt packages hit.position p → IsTrue hit.is_within
-    → AreThose (λ q. HasSubslice (name_of q) needle) (take (hit.position + 1) packages) (found ++ p ∷ [])
-hit_kept needle packages found from hit p before is at within =
-    let has = λ (q : Bor PackageMetadata). HasSubslice (name_of q) needle in
-    let passed = those_past has packages found from hit.position (hit.position - from) (omega (arith, is.later)) (omega (arith, is.within)) before (λ k q low high inside here. is.before k q low high (inside, here)) in
-    let more : take (hit.position + 1) packages ≡ take hit.position packages ++ p ∷ [] = take_more packages hit.position p at.0 ∙ ap (λ q. take hit.position packages ++ q ∷ []) at.1 in
-    subst (λ ps. AreThose has ps (found ++ p ∷ [])) (sym more) (those_more has (take hit.position packages) found p passed ((is.has p at).0 within))
+-- packages of which all before a position were found whose names contain the needle
+abbrev pub AllBefore : List ℕ → List (Bor PackageMetadata) → ℕ → List (Bor PackageMetadata) → Type 0
+AllBefore needle packages to found =
+    (k : ℕ) (p : Bor PackageMetadata) → k < to → IsAt packages k p → HasSubslice (name_of p) needle → Contains found p
 
--- whose name does not
-pub hit_left : (needle : List ℕ) (packages found : List (Bor PackageMetadata)) (from : ℕ) (hit : Hit)
-    → AreThose (λ q. HasSubslice (name_of q) needle) (take from packages) found → IsNextHit needle packages from hit → hit.is_within ≡ false
-    → AreThose (λ q. HasSubslice (name_of q) needle) (take (hit.position + 1) packages) found
-hit_left needle packages found from hit before is without =
-    those_past (λ q. HasSubslice (name_of q) needle) packages found from (hit.position + 1) (hit.position + 1 - from) (omega (arith, is.later)) (omega (arith, is.within)) before
-    (λ k q low high inside here. elim (cases_lt k hit.position) [
-      | inl early ↦ is.before k q low early (inside, here)
-      | inr late ↦
-          let same : k ≡ hit.position = omega (arith, late, high) in
-          λ has.
-          let yes : IsTrue hit.is_within = (is.has q (subst (λ n. IsAt packages n q) same (inside, here))).1 has in
-          let clash : false ≡ true = sym without ∙ yes in cc
-    ])
-
--- no hit is left
-pub hits_end : (needle : List ℕ) (packages found : List (Bor PackageMetadata)) (from : ℕ) → from ≤ length packages
-    → AreThose (λ q. HasSubslice (name_of q) needle) (take from packages) found → NoneHas needle packages from (length packages)
-    → AreThose (λ q. HasSubslice (name_of q) needle) packages found
-hits_end needle packages found from below before none =
-    let has = λ (q : Bor PackageMetadata). HasSubslice (name_of q) needle in
-    let count : length packages ≡ from + (length packages - from) = omega (arith, below) in
-    let all = those_past has packages found from (length packages) (length packages - from) count (omega arith) before (λ k q low high inside here. none k q low high (inside, here)) in
-    subst (λ ps. AreThose has ps found) (take-length packages) all
+-- the same past the next hit, if what was found was kept, and the package of the hit is found if its name contains the needle
+pub all_past : (needle : List ℕ) (packages found more : List (Bor PackageMetadata)) (from : ℕ) (hit : Hit) → IsNextHit needle packages from hit
+    → AllBefore needle packages from found → ((p : Bor PackageMetadata) → Contains found p → Contains more p)
+    → ((p : Bor PackageMetadata) → IsAt packages hit.position p → HasSubslice (name_of p) needle → Contains more p)
+    → AllBefore needle packages (hit.position + 1) more
+all_past needle packages found more from hit next before kept here = λ k p below at has. ⊎_elim
+    (λ early. kept p (before k p early at has))
+    (λ late. ⊎_elim
+    (λ skipped. absurd (next.before k p late skipped at has))
+    (λ over. let same : k ≡ hit.position = omega (arith, over, below) in here p (subst (λ n. IsAt packages n p) same at) has)
+    (cases_lt k hit.position)) (cases_lt k from)

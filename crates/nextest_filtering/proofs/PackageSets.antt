@@ -1,19 +1,16 @@
 -- Sets of packages: by name, and along paths.
 use Rattle.std.proofs.Common.{◌≡◌, ◌≢◌, ◌↔◌, ◌⊎◌, inl, inr, ⊎_elim, ℕ, ◌+◌, ◌<◌, Bool, true, Bor, List, [], ◌∷◌, ◌++◌, map, length, refl, sym, ◌∙◌, ap, subst, arith}
 use Rattle.std.specs.Prelude.{Contains, Some, IsTrue, slice_get, string_bytes, Vec}
-use Rattle.std.specs.BTreeSet.{BTreeSet, IsFromIterResult, insert_key}
-use Rattle.std.specs.declared.cmp.Ordering.{Ordering}
-use Rattle.std.specs.declared.cmp.Ordering.TheVariants.{Less, Equal, Greater}
+use Rattle.std.specs.BTreeSet.{BTreeSet, IsFromIterResult}
+use Rattle.std.specs.declared.cmp.Ordering.TheVariants.{Equal}
 use Rattle.std.specs.Cmp.Lexicographic.{slice_cmp}
 use Rattle.std.specs.Ordering.{nat_cmp, is_eq}
 use Rattle.std.specs.Global.{Global}
-use Rattle.std.specs.Str.Iter.{HasSubslice}
 use Rattle.std.proofs.lemmas.Cmp.{nat_list_cmp_total}
 use Rattle.std.proofs.lemmas.List.Elements.{Contains-append_left, Contains-append_right, Contains-append_cases}
 use Rattle.std.proofs.lemmas.Map.Text.{is_eq-slice_cmp}
 use Rattle.std.proofs.lemmas.Map.Views.{btree_set_contains_from_list, btree_set_contains_iff}
 use Rattle.std.proofs.lemmas.Slice.Eq.{bytes_eq-Decides}
-use Rattle.std.proofs.lemmas.Str.{IsUtf8-string_bytes}
 use Rattle.std.proofs.lemmas.Option.{same_Some, slice_get_within}
 use Rattle.std.proofs.lemmas.Bool.{cases_lt}
 use Rattle.filterset_graph.proofs.Rows.{pushed_at, pushed_keeps, pushed_cases}
@@ -27,45 +24,10 @@ use Rattle.filterset_expression.specs.Meaning.{IsMember, IsNamed, IsPackage, IsD
 use Rattle.nextest_filtering.specs.Binaries.{members_of}
 use Rattle.nextest_filtering.specs.PackageMarks.{IsMatchAt, HasNamed, IsNamedAt, MarksNamed, IsMarkedMember}
 use Rattle.nextest_filtering.specs.Candidates.{AreCandidates}
-use Rattle.nextest_filtering.specs.Joined.{name_of}
-use Rattle.nextest_filtering.proofs.Those.{those_found, those_items}
-use Rattle.nextest_filtering.proofs.Members.{none_in, first, later, first_or_later, kept, from_filter}
-
--- ---- a set with one id more
+use Rattle.nextest_filtering.proofs.Members.{none_in, first, first_or_later, kept, from_filter}
 
 same_text : (a b : List ℕ) → slice_cmp nat_cmp a b ≡ Equal → a ≡ b
 same_text a b e = (bytes_eq-Decides a b).0 (sym (is_eq-slice_cmp a b) ∙ ap is_eq e)
-
-abbrev with_id : List (List ℕ) → List ℕ → List (List ℕ)
-with_id keys id = insert_key (slice_cmp nat_cmp) keys id
-
-module _ (id x : List ℕ) where
-  inserted_to : (ks : List (List ℕ)) → Contains (with_id ks id) x → Contains ks x ⊎ (id ≡ x)
-  inserted_to [] c = ⊎_elim (λ same. inr same) (λ rest. inl rest) (first_or_later id [] x c)
-  inserted_to (k ∷ ks) c = by (slice_cmp nat_cmp id k) refl c (inserted_to ks)
-    where
-      by : (o : Ordering) → slice_cmp nat_cmp id k ≡ o → Contains (with_id (k ∷ ks) id) x → (Contains (with_id ks id) x → Contains ks x ⊎ (id ≡ x)) → Contains (k ∷ ks) x ⊎ (id ≡ x)
-      by Less e d more = ⊎_elim (λ same. inr same) (λ rest. inl rest) (first_or_later id (k ∷ ks) x (rw e at d))
-      by Equal e d more = inl (rw e at d)
-      by Greater e d more = ⊎_elim (λ same. inl (subst (λ (z : List ℕ). Contains (k ∷ ks) z) same (first k ks)))
-          (λ rest. ⊎_elim (λ c. inl (later k ks x c)) (λ same. inr same) (more rest)) (first_or_later k (with_id ks id) x (rw e at d))
-
-  inserted_from : (ks : List (List ℕ)) → Contains ks x ⊎ (id ≡ x) → Contains (with_id ks id) x
-  inserted_from [] (inl c) = absurd (none_in x c)
-  inserted_from [] (inr same) = subst (λ (z : List ℕ). Contains (id ∷ []) z) same (first id [])
-  inserted_from (k ∷ ks) h = by (slice_cmp nat_cmp id k) refl h (inserted_from ks)
-    where
-      by : (o : Ordering) → slice_cmp nat_cmp id k ≡ o → Contains (k ∷ ks) x ⊎ (id ≡ x) → (Contains ks x ⊎ (id ≡ x) → Contains (with_id ks id) x) → Contains (with_id (k ∷ ks) id) x
-      by Less e (inl c) more = rw e (later id (k ∷ ks) x c)
-      by Less e (inr same) more = rw e (subst (λ (z : List ℕ). Contains (id ∷ k ∷ ks) z) same (first id (k ∷ ks)))
-      by Equal e (inl c) more = rw e c
-      by Equal e (inr same) more = rw e (subst (λ (z : List ℕ). Contains (k ∷ ks) z) (sym (same_text id k e) ∙ same) (first k ks))
-      by Greater e (inl c) more = rw e (⊎_elim (λ same. subst (λ (z : List ℕ). Contains (k ∷ with_id ks id) z) same (first k (with_id ks id)))
-          (λ rest. later k (with_id ks id) x (more (inl rest))) (first_or_later k ks x c))
-      by Greater e (inr same) more = rw e (later k (with_id ks id) x (more (inr same)))
-
-  pub inserted : (keys : List (List ℕ)) → Contains (with_id keys id) x ↔ (Contains keys x ⊎ (id ≡ x))
-  inserted keys = (inserted_to keys, inserted_from keys)
 
 -- ---- a list with one id more, and the set that is collected of a list
 
@@ -199,22 +161,12 @@ module _ (Gives : ℕ → List ℕ → Type 0) where
   none_given keys none id = ((λ c. absurd (none_in id (subst (λ (ks : List (List ℕ)). Contains ks id) none c))), (λ is. absurd (omega (arith, is.1))))
 
   module _ (keys : List (List ℕ)) (n : ℕ) (so_far : (id : List ℕ) → Contains keys id ↔ IsGivenBefore n id) where
-    -- the next position gives an id, which is there too
-    one_more : (new : List (List ℕ)) (key : List ℕ) → ((id : List ℕ) → Contains new id ↔ (Contains keys id ⊎ (key ≡ id))) → Gives n key → ((id : List ℕ) → Gives n id → key ≡ id) → (id : List ℕ) → Contains new id ↔ IsGivenBefore (n + 1) id
-    one_more new key more here only id = (
-      (λ c. ⊎_elim (λ old. given_still n id ((so_far id).0 old)) (λ same. (n, omega arith, subst (Gives n) same here)) ((more id).0 c)),
-      (λ g. (more id).1 (⊎_elim (λ old. inl ((so_far id).1 old)) (λ now. inr (only id now)) (given_before n id g))),
-    )
-
-    -- it is put in
-    pub one_given : (new : List (List ℕ)) (key : List ℕ) → new ≡ with_id keys key → Gives n key → ((id : List ℕ) → Gives n id → key ≡ id) → (id : List ℕ) → Contains new id ↔ IsGivenBefore (n + 1) id
-    one_given new key is =
-        one_more new key (λ id. subst (λ (ks : List (List ℕ)). Contains ks id ↔ (Contains keys id ⊎ (key ≡ id))) (sym is) (inserted key id keys))
-
-    -- it comes last
+    -- the next position gives an id, which is put last
     pub one_pushed : (new : List (List ℕ)) (key : List ℕ) → new ≡ keys ++ key ∷ [] → Gives n key → ((id : List ℕ) → Gives n id → key ≡ id) → (id : List ℕ) → Contains new id ↔ IsGivenBefore (n + 1) id
-    one_pushed new key is =
-        one_more new key (λ id. subst (λ (ks : List (List ℕ)). Contains ks id ↔ (Contains keys id ⊎ (key ≡ id))) (sym is) (pushed key id keys))
+    one_pushed new key is here only id = (
+      (λ c. ⊎_elim (λ old. given_still n id ((so_far id).0 old)) (λ same. (n, omega arith, subst (Gives n) same here)) ((pushed key id keys).0 (subst (λ (ks : List (List ℕ)). Contains ks id) is c))),
+      (λ g. subst (λ (ks : List (List ℕ)). Contains ks id) (sym is) ((pushed key id keys).1 (⊎_elim (λ old. inl ((so_far id).1 old)) (λ now. inr (only id now)) (given_before n id g)))),
+    )
 
     -- it gives none
     pub passed_over : ((id : List ℕ) → ¬ Gives n id) → (id : List ℕ) → Contains keys id ↔ IsGivenBefore (n + 1) id
@@ -248,23 +200,29 @@ match_members packages matcher members are id = (to, from)
 -- what is named among candidates is named among all
 pub match_candidates : (packages found : List (Bor PackageMetadata)) (matcher : Matcher) (id : List ℕ) → AreCandidates packages matcher found
     → HasNamed found matcher id ↔ HasNamed packages matcher id
-match_candidates packages found matcher id are = (to, from)
-  where
-    has : Bor PackageMetadata → Type 0
-    has p = HasSubslice (name_of p) are.text
+match_candidates packages found matcher id are = (
+  (λ is.
+      let p = is.1.0 in
+      let at = position_from_Contains packages p (are.some p (Contains-from_position found p is.0 is.1.1)) in
+      (at.0, (p, at.1, is.1.2, is.1.3))),
+  (λ is.
+      let p = is.1.0 in
+      let at = position_from_Contains found p (are.all p (Contains-from_position packages p is.0 is.1.1) is.1.2) in
+      (at.0, (p, at.1, is.1.2, is.1.3))),
+)
 
-    to : HasNamed found matcher id → HasNamed packages matcher id
-    to is =
-        let p = is.1.0 in
-        let at = position_from_Contains packages p (those_items has packages found p are.those (Contains-from_position found p is.0 is.1.1)) in
-        (at.0, (p, at.1, is.1.2, is.1.3))
-
-    from : HasNamed packages matcher id → HasNamed found matcher id
-    from is =
-        let p = is.1.0 in
-        let has_text = are.stands (name_of p) (IsUtf8-string_bytes p.now.name) is.1.2 in
-        let at = position_from_Contains found p (those_found has packages found p are.those (Contains-from_position packages p is.0 is.1.1) has_text) in
-        (at.0, (p, at.1, is.1.2, is.1.3))
+-- a package has the id of a named one exactly where it is named
+pub named_by_id : (packages : List PackageMetadata) (matcher : Matcher) → AllDiffer (ids packages) → (k : ℕ) (p : PackageMetadata) → slice_get packages k ≡ Some p
+    → IsPackage packages matcher p.id ↔ IsNamedAt packages matcher k
+named_by_id packages matcher differ k p at = (
+  (λ is.
+      let q = is.0 in
+      let there = position_from_Contains packages q is.1.0.0 in
+      let same_id = mapped_at (λ (r : PackageMetadata). r.id) packages there.0 q there.1 ∙ ap (λ (t : List ℕ). Some t) is.2 in
+      let position = same_position (ids packages) differ there.0 k p.id same_id (mapped_at (λ (r : PackageMetadata). r.id) packages k p at) in
+      subst (IsNamedAt packages matcher) position (named_at packages matcher there.0 q there.1 is.1)),
+  (λ is. let named = named_from packages matcher k is in (named.0, named.2, ap (λ (r : PackageMetadata). r.id) (same_Some named.0 p (sym named.1 ∙ at)))),
+)
 
 -- one mark more
 pub marked_one_more : (packages : List PackageMetadata) (matcher : Matcher) (marks : List Bool) (n : ℕ) (mark : Bool) → length marks ≡ n

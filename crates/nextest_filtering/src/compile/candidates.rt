@@ -3,7 +3,7 @@ ghost use Rattle.std.specs.Prelude.{IfOk, IfSome};
 ghost use Rattle.filterset_matchers.specs.Matchers.{matcher_of};
 ghost use Rattle.nextest_filtering.specs.Candidates.{AreCandidates};
 
-use crate::compile::literal::{Samples, find_literal};
+use crate::compile::literal::find_texts;
 use crate::compile::members::Members;
 use filterset_graph::PackageMetadata;
 use filterset_matchers::NameMatcher;
@@ -13,7 +13,8 @@ use std::alloc::{AllocError, Global};
 const LEAST_SEARCHED: usize = 64;
 
 /// Returns packages of the workspace among which are all whose names the matcher matches, or `None` if every package may
-/// be one. The only error is out of memory.
+/// be one. A package may be listed more than once. The only error is out of memory.
+#[inline(never)]
 pub(super) fn list_candidates<'g>(
     alloc: Global,
     members: &Members<'g>,
@@ -22,33 +23,18 @@ pub(super) fn list_candidates<'g>(
     ensures { IfOk result (λ found. IfSome found (λ candidates.
         AreCandidates members.now.packages.items (matcher_of matcher.now) candidates.items)) }
 {
-    match members.packages() {
-        [first, .., last] if members.packages().len() >= LEAST_SEARCHED => {
-            let samples = Samples {
-                first: first.name(),
-                last: last.name(),
-            };
-            search(alloc, members, matcher, samples)
-        }
-        _ => Ok(None),
-    }
-}
-
-/// Returns the packages whose names contain a text that each name contains that the matcher matches, or `None` if no such
-/// text is worth a search. The only error is out of memory.
-#[inline(never)]
-fn search<'g>(
-    alloc: Global,
-    members: &Members<'g>,
-    matcher: &NameMatcher,
-    samples: Samples<'_>,
-) -> Result<Option<Vec<&'g PackageMetadata>>, AllocError>
-    ensures { IfOk result (λ found. IfSome found (λ candidates.
-        AreCandidates members.now.packages.items (matcher_of matcher.now) candidates.items)) }
-{
-    let literal = find_literal(alloc, matcher, samples)?;
-    if literal.is_empty() {
+    let (first, last) = match members.packages() {
+        [first, .., last] if members.packages().len() >= LEAST_SEARCHED => (first, last),
+        _ => return Ok(None),
+    };
+    let samples = [first.name(), last.name()];
+    let Some(texts) = find_texts(alloc, matcher, samples)? else {
         return Ok(None);
+    };
+    let mut found = Vec::new(alloc);
+    for text in &texts {
+        let mut more = members.list_containing(alloc, text)?;
+        found.append(&mut more)?;
     }
-    Ok(Some(members.list_containing(alloc, literal.as_str())?))
+    Ok(Some(found))
 }

@@ -28,10 +28,8 @@ struct Hit {
 }
 
 impl<'g> Members<'g> {
-    ghost use Rattle.std.specs.Str.Iter.{HasSubslice};
-    ghost use Rattle.nextest_filtering.specs.Candidates.{AreThose};
+    ghost use Rattle.nextest_filtering.specs.Candidates.{AreContaining};
     ghost use Rattle.nextest_filtering.specs.Hits.{IsNextHit, NoneHas};
-    ghost use Rattle.nextest_filtering.specs.Joined.{name_of};
 
     /// Joins the names of these packages. The only error is out of memory.
     pub fn new(alloc: Global, packages: Vec<&'g PackageMetadata>) -> Result<Members<'g>, AllocError>
@@ -61,13 +59,12 @@ impl<'g> Members<'g> {
     pub fn list_containing(
         &self,
         alloc: Global,
-        text: &str,
+        text: &[u8],
     ) -> Result<Vec<&'g PackageMetadata>, AllocError>
         requires { 0 < length text.now }
-        ensures { IfOk result (λ found.
-            AreThose (λ p. HasSubslice (name_of p) text.now) self.now.packages.items found.items) }
+        ensures { IfOk result (λ found. AreContaining self.now.packages.items text.now found.items) }
     {
-        let finder = Finder::new(text.as_bytes());
+        let finder = Finder::new(text);
         let mut found = Vec::new(alloc);
         let mut next = 0;
         while let Some(hit) = self.next_hit(&finder, next) {
@@ -117,16 +114,10 @@ impl<'g> Members<'g> {
         ensures start { offset self.now.packages.items result ≤ at }
         ensures end { at < offset self.now.packages.items (result + 1) }
     {
-        let mut low = from;
-        let mut high = self.ends.len() - 1;
-        while low < high {
-            let middle = low + (high - low) / 2;
-            if self.ends[middle] <= at {
-                low = middle + 1;
-            } else {
-                high = middle;
-            }
+        let mut position = from;
+        while self.ends[position] <= at {
+            position += 1;
         }
-        low
+        position
     }
 }

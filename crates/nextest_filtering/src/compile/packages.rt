@@ -29,7 +29,8 @@ pub(super) fn select_named(
     }
 }
 
-/// Returns those of these packages whose names match.
+/// Returns those of these packages whose names match. There may be many, so it sorts their ids once instead of inserting
+/// them one by one.
 fn select_among(
     alloc: Global,
     packages: &[&PackageMetadata],
@@ -39,13 +40,13 @@ fn select_among(
         ↔ HasNamed packages.now (matcher_of matcher.now) id) }
 {
     let mut ready = ReadyMatcher::new(alloc, matcher)?;
-    let mut ids = BTreeSet::new(alloc);
+    let mut ids = Vec::new(alloc);
     for package in packages {
         if ready.matches(alloc, package.name())? {
-            ids.insert(package.id.try_clone(alloc)?)?;
+            ids.push(package.id.try_clone(alloc)?)?;
         }
     }
-    Ok(ids)
+    Ok(ids.into_iter().collect(alloc)?)
 }
 
 /// Returns the packages of the workspace whose names match, and those that they depend on.
@@ -58,7 +59,7 @@ pub(super) fn select_dependencies(
         ↔ IsDependency (packages_of cx.now) (matcher_of matcher.now) id) }
 {
     let packages = cx.graph().packages();
-    let starts = mark_named(alloc, packages, matcher)?;
+    let starts = mark_named(alloc, cx, matcher)?;
     let marks = cx.graph().mark_reached(alloc, &starts)?;
     collect_marked(alloc, packages, &marks)
 }
@@ -73,7 +74,7 @@ pub(super) fn select_dependents(
         ↔ IsDependent (packages_of cx.now) (matcher_of matcher.now) id) }
 {
     let packages = cx.graph().packages();
-    let ends = mark_named(alloc, packages, matcher)?;
+    let ends = mark_named(alloc, cx, matcher)?;
     let marks = cx.graph().mark_reaching(alloc, &ends)?;
     collect_marked(alloc, packages, &marks)
 }
@@ -81,23 +82,22 @@ pub(super) fn select_dependents(
 /// Marks each package of the workspace whose name matches.
 fn mark_named(
     alloc: Global,
-    packages: &[PackageMetadata],
+    cx: &ParseContext<'_>,
     matcher: &NameMatcher,
 ) -> Result<Vec<bool>, AllocError>
-    ensures len { IfOk result (λ marks. vec_len marks ≡ length packages.now) }
-    ensures marks { IfOk result (λ marks. MarksNamed packages.now (matcher_of matcher.now) marks.items) }
+    ensures len { IfOk result (λ marks. vec_len marks ≡ length (packages_of cx.now)) }
+    ensures marks { IfOk result (λ marks. MarksNamed (packages_of cx.now) (matcher_of matcher.now) marks.items) }
 {
-    let mut ready = ReadyMatcher::new(alloc, matcher)?;
+    let named = select_named(alloc, cx, matcher)?;
+    let packages = cx.graph().packages();
     let mut marks = Vec::with_capacity(alloc, packages.len())?;
     for package in packages {
-        let is_named = package.in_workspace && ready.matches(alloc, package.name())?;
-        marks.push(is_named)?;
+        marks.push(named.contains(&package.id))?;
     }
     Ok(marks)
 }
 
-/// Returns the ids of the marked packages of the workspace. There may be many, so it sorts them once instead of inserting
-/// them one by one.
+/// Returns the ids of the marked packages of the workspace.
 fn collect_marked(
     alloc: Global,
     packages: &[PackageMetadata],

@@ -9,4 +9,4 @@ use Rattle.nextest_filtering.proofs.compile.packages.select_among.Given as goal
 abbrev pub invariant-loop-package : goal.invariant-loop-package
 invariant-loop-package l =
     (ready_matcher l.ready ≡ matcher_of l.matcher)
-    × ((id : List ℕ) → Contains l.ids.keys id ↔ IsGivenBefore (IsMatchAt l.packages (matcher_of l.matcher)) l.package-index id)
+    × ((id : List ℕ) → Contains l.ids.items id ↔ IsGivenBefore (IsMatchAt l.packages (matcher_of l.matcher)) l.package-index id)

@@ -6,7 +6,7 @@ use Rattle.filterset_graph.specs.declared.package.PackageMetadata.{PackageMetada
 use Rattle.filterset_matchers.specs.Matchers.{matcher_of}
 use Rattle.nextest_filtering.specs.Compiling.{packages_of}
 use Rattle.filterset_expression.specs.Meaning.{IsDependent}
-use Rattle.nextest_filtering.specs.PackageMarks.{IsMarkedMember, MarksNamed}
+use Rattle.nextest_filtering.specs.PackageMarks.{IsMarkedMember}
 use Rattle.nextest_filtering.proofs.PackageSets as sets
 use Rattle.nextest_filtering.proofs.compile.packages.select_dependents.Goals as goal
 
@@ -17,7 +17,7 @@ returns c =
     let starts = c.in_ok-ends.ends.items in
     let marks = c.in_ok-marks.marks in
     let list : c.packages-packages.result.now ≡ packages = c.packages-packages.ensures.list ∙ c.graph.ensures in
-    let marked = subst (λ (ps : List PackageMetadata). MarksNamed ps matcher starts) list c.in_ok-ends.ensures.marks in
+    let marked = c.in_ok-ends.ensures.marks in
     let differ = subst (λ (ps : List PackageMetadata). AllDiffer (ids ps)) c.graph.ensures c.packages-packages.ensures.distinct in
     let reached = subst (λ (ps : List PackageMetadata). MarksReaching ps starts marks) c.graph-2.ensures (subst (λ (ms : List Bool). MarksReaching c.graph-2.result.now ms marks) c.deref.ensures.value c.in_ok-marks.ensures.exact) in
     IfOk-weaker c.collect_marked.result _ (λ found. (id : List ℕ) → Contains found.keys id ↔ IsDependent packages matcher id)

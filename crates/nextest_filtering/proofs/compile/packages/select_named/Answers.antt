@@ -1,6 +1,4 @@
-use Rattle.std.proofs.Common.{Bor, List, ℕ, subst}
 use Rattle.std.proofs.lemmas.Result.{IfOk-weaker}
-use Rattle.filterset_graph.specs.declared.package.PackageMetadata.{PackageMetadata}
 use Rattle.filterset_matchers.specs.Matchers.{matcher_of}
 use Rattle.nextest_filtering.specs.Candidates.{AreCandidates}
 use Rattle.nextest_filtering.specs.Compiling.{packages_of}

@@ -1,7 +1,8 @@
-use Rattle.std.proofs.Common.{◌≤◌, ◌-◌, length, take}
+use Rattle.std.proofs.Common.{◌≤◌, ◌-◌, Bor, Contains, length}
 use Rattle.std.specs.Str.Iter.{HasSubslice}
-use Rattle.nextest_filtering.specs.Candidates.{AreThose}
+use Rattle.filterset_graph.specs.declared.package.PackageMetadata.{PackageMetadata}
 use Rattle.nextest_filtering.specs.Joined.{name_of}
+use Rattle.nextest_filtering.proofs.NameHits.{AllBefore}
 use Rattle.nextest_filtering.proofs.compile.members.Members.list_containing.Given as goal
 
 abbrev pub decreases-loop-hit : goal.decreases-loop-hit
@@ -10,5 +11,6 @@ decreases-loop-hit l = length l.self.packages.items - l.next
 abbrev pub invariant-loop-hit : goal.invariant-loop-hit
 invariant-loop-hit l = record {
   place : l.next ≤ length l.self.packages.items;
-  those : AreThose (λ p. HasSubslice (name_of p) l.text) (take l.next l.self.packages.items) l.found.items;
+  some : (p : Bor PackageMetadata) → Contains l.found.items p → Contains l.self.packages.items p × HasSubslice (name_of p) l.text;
+  all : AllBefore l.text l.self.packages.items l.next l.found.items;
 }

@@ -1,4 +1,4 @@
-use Rattle.std.proofs.Common.{◌≡◌, ◌+◌, ◌∷◌, ◌++◌, [], ℕ, List, ◌∙◌, ap, sym, length, string_bytes, take, arith}
+use Rattle.std.proofs.Common.{◌≡◌, ◌+◌, ◌∷◌, ◌++◌, [], ◌∙◌, ap, sym, length, string_bytes, take, arith}
 use Rattle.nextest_filtering.specs.Hits.{IsAt}
 use Rattle.nextest_filtering.specs.Joined.{ends_of, joined, offset}
 use Rattle.nextest_filtering.proofs.NameHits.{ends_more, first_more}

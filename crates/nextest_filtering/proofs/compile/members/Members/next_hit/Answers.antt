@@ -1,4 +1,4 @@
-use Rattle.std.proofs.Common.{◌≡◌, ◌+◌, ◌-◌, ◌∙◌, ap, drop, length, take, arith}
+use Rattle.std.proofs.Common.{◌≡◌, ◌-◌, ◌∙◌, ap, drop, length, take, arith}
 use Rattle.std.proofs.lemmas.List.{take_rest}
 use Rattle.nextest_filtering.specs.Joined.{joined, offset}
 use Rattle.nextest_filtering.proofs.NameHits.{end_read, ends_counted, is_hit, no_hit, start_within}
