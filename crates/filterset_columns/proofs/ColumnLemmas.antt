@@ -1,12 +1,20 @@
 -- Columns that are answered item by item.
-use Rattle.std.proofs.Common.{◌≡◌, ◌↔◌, ◌+◌, ◌<◌, ℕ, zero, suc, [], ◌∷◌, Bool, true, false, ◌&&◌, ◌||◌, ◌==◌, IsTrue, List, length, refl, sym, subst, ◌∙◌, ◌≤◌, ⊎_elim, inl, inr, arith}
+use Rattle.std.proofs.Common.{◌≡◌, ◌↔◌, ◌+◌, ◌<◌, ℕ, zero, suc, [], ◌∷◌, Bool, true, false, ◌&&◌, ◌||◌, ◌==◌, IsTrue, List, length, not, refl, sym, ap, subst, ◌∙◌, ◌≤◌, ⊎_elim, inl, inr, arith, All, Bor, IfSome, None, Option, Some}
 use Rattle.std.proofs.Math.Bool.{or-false}
 use Rattle.std.proofs.lemmas.Bool.{cases_eq, cases_lt, eq-eqb, ne_eqb}
 use Rattle.std.proofs.lemmas.List.{get_or_read}
+use Rattle.std.proofs.lemmas.List.Elements.{All-get_or}
+use Rattle.std.proofs.lemmas.List.Folds.{list_any_at}
 use Rattle.std.proofs.lemmas.Slice.Eq.{bytes_eq-Decides}
+use Rattle.std.specs.List.{list_any}
+use Rattle.std.specs.Slice.{IsItemAt}
 use Rattle.std.specs.Str.{bytes_eq}
 use Rattle.filterset_columns.specs.Bits.{bit_of}
-use Rattle.filterset_columns.specs.Columns.{Answered, IsAt}
+use Rattle.filterset_expression.specs.Connectives.{Connects, Decides, connected}
+use Rattle.filterset_expression.specs.declared.logic.Connective.{Connective}
+use Rattle.filterset_expression.specs.declared.logic.Connective.TheVariants.{Conjunction, Disjunction, ExclusiveDisjunction}
+use Rattle.filterset_expression.proofs.Connectives.{connected_decides}
+use Rattle.filterset_columns.specs.Columns.{answer_of, Answered, AnsweredWhere, IsAt}
 use Rattle.filterset_columns.specs.Searching.{AnsweredSoFar}
 use Rattle.filterset_columns.specs.declared.column.Column.{Column}
 
@@ -69,3 +77,54 @@ some_item (x ∷ items) zero within = (x, (within, refl))
 some_item (x ∷ items) (suc i) within =
     let rest = some_item items i (omega (arith, within)) in
     (rest.0, (within, rest.1.1))
+
+-- no item is as `p` says where none is found
+pub none_found : {A : Type 0} (p : A → Bool) (items : List A) (i : ℕ) (item : A) → list_any p items ≡ false → IsAt items i item → p item ≡ true → ⊥
+none_found p items i item none at is =
+    let there : list_any p items ≡ true = list_any_at p items i item at.0 (ap p at.1 ∙ is) in
+    let clash : false ≡ true = sym none ∙ there in cc
+
+-- what holds of all items holds of one that is looked up
+pub item_of_all : {X : Type 0} (P : X → Type 0) (xs : List X) (i : ℕ) (found : Option (Bor X)) → IsItemAt xs i found → All P xs → IfSome found (λ x. P x.now)
+item_of_all P xs i None is all = tt
+item_of_all P xs i (Some x) is all = subst P (sym is.1) (All-get_or P xs i x.now is.3.0 all)
+
+-- ---- connectives
+
+negated_answer : (a : Bool) (P : Type 0) → (IsTrue a ↔ P) → IsTrue (not a) ↔ (¬ P)
+negated_answer true P own = (λ no. absurd (let clash : false ≡ true = no in cc), λ none. absurd (none (own.0 refl)))
+negated_answer false P own = (λ yes held. let clash : false ≡ true = own.1 held in cc, λ none. refl)
+
+-- the right operand's answer is needed only where the left one does not decide the connective
+needed_answer : (c : Connective) (a b : Bool) (P Q : Type 0) → (IsTrue a ↔ P) → ((¬ Decides true false c a) → IsTrue b ↔ Q)
+    → IsTrue (connected c a b) ↔ Connects c P Q
+needed_answer Conjunction false b P Q own other = (λ yes. absurd (let clash : false ≡ true = yes in cc), λ held. own.1 held.0)
+needed_answer Disjunction true b P Q own other = (λ yes. inl (own.0 refl), λ held. refl)
+needed_answer Conjunction true b P Q own other = connected_decides Conjunction true b P Q own (other (λ is. let clash : true ≡ false = is in cc))
+needed_answer Disjunction false b P Q own other = connected_decides Disjunction false b P Q own (other (λ is. let clash : false ≡ true = is in cc))
+needed_answer ExclusiveDisjunction a b P Q own other = connected_decides ExclusiveDisjunction a b P Q own (other (λ is. is))
+
+-- the negated answers
+pub all_negated : {A : Type 0} (wanted old new : Column) (items : List A) (P : A → Type 0) → new.len ≡ old.len
+    → ((i : ℕ) → i < old.len → answer_of new i ≡ not (answer_of old i)) → AnsweredWhere wanted old items P
+    → AnsweredWhere wanted new items (λ item. ¬ P item)
+all_negated wanted old new items P len negated own = record {
+  counted = len ∙ own.counted;
+  each = λ i item at asked.
+      let within : i < old.len = omega (arith, at.0, own.counted) in
+      rw (negated i within) (negated_answer (answer_of old i) (P item) (own.each i item at asked));
+}
+
+-- the answers of both operands, where the right one is answered where it is needed
+pub both_combined : {A : Type 0} (c : Connective) (wanted narrowed left right column : Column) (items : List A) (P Q : A → Type 0)
+    → column.len ≡ left.len → ((i : ℕ) → i < left.len → answer_of column i ≡ connected c (answer_of left i) (answer_of right i))
+    → wanted.len ≡ length items
+    → ((i : ℕ) → i < wanted.len → IsTrue (answer_of wanted i) → (¬ Decides true false c (answer_of left i)) → IsTrue (answer_of narrowed i))
+    → AnsweredWhere wanted left items P → AnsweredWhere narrowed right items Q
+    → AnsweredWhere wanted column items (λ item. Connects c (P item) (Q item))
+both_combined c wanted narrowed left right column items P Q len combined counted least own other = record {
+  counted = len ∙ own.counted;
+  each = λ i item at asked.
+      let within : i < left.len = omega (arith, at.0, own.counted) in
+      rw (combined i within) (needed_answer c (answer_of left i) (answer_of right i) (P item) (Q item) (own.each i item at asked) (λ open_one. other.each i item at (least i (omega (arith, at.0, counted)) asked open_one)));
+}

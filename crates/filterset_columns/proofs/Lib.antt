@@ -2,3 +2,4 @@ pub mod BitLemmas
 pub mod ColumnLemmas
 pub mod Defaults
 pub mod HitLemmas
+pub mod OperatorLemmas

@@ -1,18 +1,15 @@
 //! Evaluates expressions for all tests of a binary at once.
-ghost use Rattle.std.specs.Prelude.{◌≡◌, ◌<◌, ◌↔◌, Bool, false, IfOk, IsTrue, List, length, ℕ};
-ghost use Rattle.filterset_faults.specs.declared.span.SourceSpan.{SourceSpan};
-ghost use Rattle.filterset_graph.specs.declared.package.PackageMetadata.{PackageMetadata};
-ghost use Rattle.filterset_grammar.specs.Tree.{Tree};
-ghost use Rattle.filterset_expression.specs.Contexts.{default_of};
-ghost use Rattle.filterset_expression.specs.Expression.{compiled_leaf, formula, has_leaf, is_default, is_group, leaf_with_default, no_groups, with_default};
-ghost use Rattle.filterset_expression.specs.Expression.{Holds, HoldsOfBinary, HoldsOfTest, IsDefinite};
+ghost use Rattle.std.specs.Prelude.{◌≡◌, ◌<◌, ◌↔◌, true, false, IfOk, IsTrue, length, ℕ};
+ghost use Rattle.filterset_expression.specs.Connectives.{Decides};
+ghost use Rattle.filterset_expression.specs.Expression.{compiled_leaf, formula, leaf_with_default, with_default};
+ghost use Rattle.filterset_expression.specs.Expression.{HoldsOfBinary, HoldsOfTest};
 ghost use Rattle.filterset_expression.specs.Formula.{TrueWhere};
-ghost use Rattle.filterset_expression.specs.Meaning.{IsCompiled, Meaning};
 ghost use Rattle.filterset_columns.specs.Columns.{answer_of, names_of, test_of, Answered, AnsweredWhere};
 
 use crate::column::Column;
 use crate::groups::PlacedLookup;
 use crate::names::Names;
+use crate::operators::{Operator, list_operators};
 use crate::search::{Searchers, search_groups, search_names};
 use filterset_expression::{BinaryQuery, CompiledExpr, Connective, FiltersetLeaf};
 use filterset_matchers::NameMatcher;
@@ -62,28 +59,21 @@ fn searches(expr: &CompiledExpr) -> bool {
     }
 }
 
-/// Returns the tests for which the right operand of a conjunction is wanted: at least those that the left one matches.
-/// The only error is out of memory.
-fn narrow_to_matched(
-    right: &CompiledExpr,
-    wanted: &Column,
-    left: &Column,
-) -> Result<Column, AllocError>
-    requires { wanted.now.len ≡ left.now.len }
-    ensures len { IfOk result (λ narrowed. narrowed.len ≡ wanted.now.len) }
-    ensures least { IfOk result (λ narrowed. (i : ℕ) → i < wanted.now.len → IsTrue (answer_of wanted.now i)
-        → IsTrue (answer_of left.now i) → IsTrue (answer_of narrowed i)) }
+/// Returns whether each answer of the left operand decides the connective, and no word holds them.
+fn is_decided(connective: Connective, left: &Column) -> bool
+    ensures { IsTrue result → (i : ℕ) → Decides true false connective (answer_of left.now i) }
 {
-    if searches(right) {
-        wanted.both(left)
-    } else {
-        wanted.try_clone()
+    match connective {
+        Connective::Conjunction => left.is_same(false),
+        Connective::Disjunction => left.is_same(true),
+        Connective::ExclusiveDisjunction => false,
     }
 }
 
-/// Returns the tests for which the right operand of a union is wanted: at least those that the left one does not match. The
-/// only error is out of memory.
-fn narrow_to_unmatched(
+/// Returns the tests for which the right operand is wanted: at least those for which the left one does not decide the
+/// connective, and none if it decides all. The only error is out of memory.
+fn narrow(
+    connective: Connective,
     right: &CompiledExpr,
     wanted: &Column,
     left: &Column,
@@ -91,12 +81,15 @@ fn narrow_to_unmatched(
     requires { wanted.now.len ≡ left.now.len }
     ensures len { IfOk result (λ narrowed. narrowed.len ≡ wanted.now.len) }
     ensures least { IfOk result (λ narrowed. (i : ℕ) → i < wanted.now.len → IsTrue (answer_of wanted.now i)
-        → answer_of left.now i ≡ false → IsTrue (answer_of narrowed i)) }
+        → (¬ Decides true false connective (answer_of left.now i)) → IsTrue (answer_of narrowed i)) }
 {
-    if searches(right) {
-        wanted.without(left)
-    } else {
-        wanted.try_clone()
+    if is_decided(connective, left) {
+        return Ok(Column::same(wanted.len(), false));
+    }
+    match connective {
+        Connective::Conjunction if searches(right) => wanted.both(left),
+        Connective::Disjunction if searches(right) => wanted.without(left),
+        _ => wanted.try_clone(),
     }
 }
 
@@ -134,6 +127,8 @@ fn evaluate_leaf<'a>(
 /// Evaluates an expression for the wanted tests, where the answers of the default filter replace each `default` leaf. A
 /// right operand is evaluated only for tests for which the left one does not decide the connective, if that pays. The
 /// only error is out of memory, here or in the lookup.
+///
+/// It calls itself only for right operands, so a long chain of operators takes no stack.
 fn evaluate_where<'a>(
     alloc: Global,
     expr: &'a CompiledExpr,
@@ -151,54 +146,29 @@ fn evaluate_where<'a>(
         TrueWhere (HoldsOfTest (test_of query.now name) (matches_group groups.now))
         (with_default default.now.filter.now expr.now))) }
 {
-    match expr {
-        CompiledExpr::Not(operand) => {
-            let column = evaluate_where(
-                alloc, operand, query, names, groups, default, wanted, searchers,
-            )?;
-            Ok(column.negated())
-        }
-        CompiledExpr::Union(left, right) => {
-            let column = evaluate_where(
-                alloc, left, query, names, groups, default, wanted, searchers,
-            )?;
-            if column.is_same(true) {
-                searchers.pass(right);
-                return Ok(column);
-            }
-            let narrowed = narrow_to_unmatched(right, wanted, &column)?;
-            let other = evaluate_where(
-                alloc, right, query, names, groups, default, &narrowed, searchers,
-            )?;
-            Ok(column.combined(Connective::Disjunction, other))
-        }
-        CompiledExpr::Intersection(left, right) => {
-            let column = evaluate_where(
-                alloc, left, query, names, groups, default, wanted, searchers,
-            )?;
-            if column.is_same(false) {
-                searchers.pass(right);
-                return Ok(column);
-            }
-            let narrowed = narrow_to_matched(right, wanted, &column)?;
-            let other = evaluate_where(
-                alloc, right, query, names, groups, default, &narrowed, searchers,
-            )?;
-            Ok(column.combined(Connective::Conjunction, other))
-        }
-        CompiledExpr::SymmetricDifference(left, right) => {
-            let column = evaluate_where(
-                alloc, left, query, names, groups, default, wanted, searchers,
-            )?;
-            let other = evaluate_where(
-                alloc, right, query, names, groups, default, wanted, searchers,
-            )?;
-            Ok(column.combined(Connective::ExclusiveDisjunction, other))
-        }
-        CompiledExpr::Set(leaf) => evaluate_leaf(
-            alloc, leaf, query, names, groups, default, wanted, searchers,
-        ),
+    if wanted.is_same(false) {
+        searchers.pass(expr);
+        return Ok(Column::same(names.len(), false));
     }
+    let mut operators = searchers.take_operators(alloc);
+    let leaf = list_operators(expr, &mut operators)?;
+    let mut column = evaluate_leaf(
+        alloc, leaf, query, names, groups, default, wanted, searchers,
+    )?;
+    while let Some(operator) = operators.pop() {
+        column = match operator {
+            Operator::Negation => column.negated(),
+            Operator::Binary(connective, right) => {
+                let narrowed = narrow(connective, right, wanted, &column)?;
+                let other = evaluate_where(
+                    alloc, right, query, names, groups, default, &narrowed, searchers,
+                )?;
+                column.combined(connective, other)
+            }
+        };
+    }
+    searchers.keep_operators(operators)?;
+    Ok(column)
 }
 
 /// Evaluates an expression, where the answers of the default filter replace each `default` leaf. The only error is out of

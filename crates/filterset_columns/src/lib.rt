@@ -9,9 +9,10 @@ mod expression;
 mod groups;
 mod hits;
 mod names;
+mod operators;
 mod search;
 
 pub use column::Column;
 pub use expression::ColumnExpr;
-pub use groups::PlacedLookup;
+pub use groups::{GroupedTest, PlacedLookup};
 pub use names::Names;

@@ -1,20 +1,28 @@
 //! Searches of names for a matcher.
-ghost use Rattle.std.specs.Prelude.{◌≡◌, ◌↔◌, ◌<◌, ◌+◌, ◌/◌, List, ℕ, IfOk, IsTrue, length, vec_len};
+ghost use Rattle.std.specs.Prelude.{◌≡◌, ◌↔◌, ◌<◌, ◌+◌, ◌/◌, [], List, ℕ, IfOk, IfSome, IsTrue, length, vec_len};
+ghost use Rattle.std.specs.List.{list_any};
+ghost use Rattle.std.specs.Str.{bytes_eq};
 ghost use Rattle.std.specs.Str.Iter.{HasSubslice};
 ghost use Rattle.filterset_matchers.specs.Matcher.{MatchesName};
 ghost use Rattle.filterset_matchers.specs.Matchers.{matcher_of};
 ghost use Rattle.filterset_columns.specs.Columns.{names_of, test_of, Answered, AnsweredWhere};
+ghost use Rattle.filterset_columns.specs.Grouped.{IsGrouped, Knows};
 ghost use Rattle.filterset_columns.specs.Searching.{AnsweredSoFar};
 
 use crate::bits::Bits;
 use crate::column::Column;
-use crate::groups::PlacedLookup;
+use crate::groups::{GroupMatcher, GroupedTest, PlacedLookup};
 use crate::hits::{Place, next_hit};
 use crate::names::Names;
+use crate::operators::Operator;
 use filterset_expression::{BinaryQuery, CompiledExpr, FiltersetLeaf, TestQuery};
+use filterset_graph::GLOBAL_TEST_GROUP;
 use filterset_matchers::{GlobMatcher, NameMatcher, PatternMatcher};
 use memchr::memmem::Finder;
 use std::alloc::{AllocError, Global};
+
+/// The least number of names that are searched for a text at once. For fewer, a search of each is faster.
+const MANY_NAMES: usize = 16;
 
 /// A matcher that is prepared for many names.
 #[derive(Drop)]
@@ -89,6 +97,8 @@ pub(crate) struct Searchers<'a> {
     kept: Vec<Option<Searcher<'a>>>,
     /// The place of the next leaf among the `test` leaves.
     next: usize,
+    /// Empty lists of operators, so that an evaluation allocates none.
+    spare: Vec<Vec<Operator<'a>>>,
 }
 
 impl<'a> Searchers<'a> {
@@ -99,7 +109,25 @@ impl<'a> Searchers<'a> {
         Searchers {
             kept: Vec::new(alloc),
             next: 0,
+            spare: Vec::new(alloc),
         }
+    }
+
+    /// Returns an empty list of operators.
+    pub(crate) fn take_operators(&mut self, alloc: Global) -> Vec<Operator<'a>>
+        ensures { result.items ≡ [] }
+    {
+        let mut operators = self.spare.pop().unwrap_or(Vec::new(alloc));
+        operators.clear();
+        operators
+    }
+
+    /// Keeps a list of operators for another evaluation. The only error is out of memory.
+    pub(crate) fn keep_operators(
+        &mut self,
+        operators: Vec<Operator<'a>>,
+    ) -> Result<(), AllocError> {
+        Ok(self.spare.push(operators)?)
     }
 
     /// Begins again with the first leaf.
@@ -175,7 +203,7 @@ pub(crate) fn search_names<'a>(
             searchers.advance();
             find_name(alloc, value.as_str(), names)
         }
-        NameMatcher::Contains { value, implicit: _ } => {
+        NameMatcher::Contains { value, implicit: _ } if names.len() >= MANY_NAMES => {
             searchers.advance();
             find_text(alloc, value.as_str(), names)
         }
@@ -183,10 +211,20 @@ pub(crate) fn search_names<'a>(
     }
 }
 
+/// Returns whether a name is equal to the value.
+fn has_name(value: &str, names: &Names<'_>) -> bool
+    ensures { result ≡ list_any (λ name. bytes_eq name.now value.now) (names_of names.now) }
+{
+    names.tests.iter().any(|name| name.as_str() == value)
+}
+
 /// Finds the names that are equal to a value. The only error is out of memory.
 fn find_name(alloc: Global, value: &str, names: &Names<'_>) -> Result<Column, AllocError>
     ensures { IfOk result (λ column. Answered column (names_of names.now) (λ name. name.now ≡ value.now)) }
 {
+    if !has_name(value, names) {
+        return Ok(Column::same(names.len(), false));
+    }
     let mut bits = Bits::with_len(alloc, names.len())?;
     for (position, name) in names.tests.iter().enumerate() {
         let answer = name.as_str() == value;
@@ -249,23 +287,32 @@ fn search_each<'a>(
     Ok(Column::of_bits(names.len(), bits))
 }
 
-/// Asks for the group of the test if it is wanted: returns whether it is and the matcher matches it. The only error is out
-/// of memory, here or in the lookup.
-fn is_member_if(
+/// Asks for the group of the test if it is wanted, where the one at its position may be the same test: returns whether
+/// it is wanted and the matcher matches its group. The only error is out of memory, here or in the lookup.
+fn is_member_if<'a>(
     alloc: Global,
     is_wanted: bool,
-    matcher: &NameMatcher,
-    position: usize,
+    matcher: &mut GroupMatcher<'a>,
+    placed: Option<&GroupedTest<'a>>,
     test: &TestQuery<'_>,
     groups: &dyn PlacedLookup,
 ) -> Result<bool, AllocError>
-    ensures { IfOk result (λ found. IsTrue found
-        ↔ (IsTrue is_wanted × matches_group groups.now test.now (matcher_of matcher.now))) }
+    requires known { Knows matcher.old }
+    requires placed { IfSome placed (λ p. IsGrouped (matches_group groups.now) test.now.binary_query p.now) }
+    ensures found { IfOk result (λ found. IsTrue found
+        ↔ (IsTrue is_wanted × matches_group groups.now test.now (matcher_of matcher.old.matcher.now))) }
+    ensures same { matcher.new.matcher.now ≡ matcher.old.matcher.now }
+    ensures known { Knows matcher.new }
 {
     if !is_wanted {
         return Ok(false);
     }
-    groups.is_member_at(alloc, position, test, matcher)
+    if let Some(placed) = placed {
+        if *placed.name == *test.test_name {
+            return matcher.is_match(alloc, placed.group);
+        }
+    }
+    groups.is_member_test(alloc, test, matcher.matcher)
 }
 
 /// Asks for the groups of the wanted tests: the answer for one is whether the matcher matches its group. The only error is
@@ -282,6 +329,8 @@ pub(crate) fn search_groups(
     ensures { IfOk result (λ column. AnsweredWhere wanted.now column (names_of names.now)
         (λ name. matches_group groups.now (test_of query.now name) (matcher_of matcher.now))) }
 {
+    let grouped = groups.grouped_tests(query);
+    let mut asked = GroupMatcher::new(alloc, matcher, GLOBAL_TEST_GROUP)?;
     let mut bits = Bits::with_len(alloc, names.len())?;
     for (position, name) in names.tests.iter().enumerate() {
         let test = TestQuery {
@@ -289,7 +338,8 @@ pub(crate) fn search_groups(
             test_name: *name,
         };
         let is_wanted = wanted.get(position);
-        let answer = is_member_if(alloc, is_wanted, matcher, position, &test, groups)?;
+        let placed = grouped.get(position);
+        let answer = is_member_if(alloc, is_wanted, &mut asked, placed, &test, groups)?;
         bits.put(position, answer);
     }
     Ok(Column::of_bits(names.len(), bits))

@@ -1,5 +1,5 @@
 -- The steps that make an index of items by texts of theirs.
-use Rattle.std.proofs.Common.{arith, inl, inr, subst, ◌≡◌, ◌<◌, ◌+◌, ◌∙◌, ◌++◌, ◌∷◌, [], ℕ, Bool, true, false, cond, List, Option, None, Some, is_some, length, get_or, take, sym, ap, refl}
+use Rattle.std.proofs.Common.{◌≡◌, ◌<◌, ◌+◌, ◌∙◌, ◌++◌, ◌∷◌, [], ℕ, Bool, true, false, cond, List, Option, None, Some, is_some, length, get_or, take, sym, ap, refl}
 use Rattle.std.specs.Prelude.{option_map}
 use Rattle.std.specs.Borrow.{Bor}
 use Rattle.std.specs.BTreeMap.{BTreeMap}
@@ -7,16 +7,11 @@ use Rattle.std.specs.List.{find}
 use Rattle.std.specs.Map.{update}
 use Rattle.std.specs.Option.{option_or}
 use Rattle.std.specs.Str.{bytes_eq}
-use Rattle.std.proofs.Math.ListN.{get_or-append}
-use Rattle.std.proofs.Math.Seq.{get_or-append_seam}
-use Rattle.std.proofs.lemmas.Bool.{cases_eq}
-use Rattle.std.proofs.lemmas.List.{get_or_read, length-append, take_more}
+use Rattle.std.proofs.lemmas.List.{take_more}
 use Rattle.std.proofs.lemmas.List.Folds.{find-append}
 use Rattle.std.proofs.lemmas.Slice.Eq.{bytes_eq-Decides}
 use Rattle.filterset_json.specs.Shape.{Text}
-use Rattle.filterset_report.specs.declared.record.binaries.TestEntry.{TestEntry}
-use Rattle.filterset_columns.specs.Columns.{IsAt}
-use Rattle.filterset_report.specs.Index.{group_with, HasGroups, IsIndexOf, entry_at}
+use Rattle.filterset_report.specs.Index.{IsIndexOf, entry_at}
 
 module _ {A V : Type 0} (text_of : A → Text) (item_of : V → A) where
   -- the first item with a text, among one more
@@ -70,24 +65,3 @@ module _ {A V : Type 0} (text_of : A → Text) (item_of : V → A) where
       let same : text_of item ≡ text = (bytes_eq-Decides (text_of item) text).0 equal in
       sym (is text) ∙ ap (λ (t : Text). option_map item_of (entry_at old t)) (sym same) ∙ mapped_none (entry_at old (text_of item)) absent) in
       ap (option_map item_of) (updates text) ∙ now ∙ sym (first_more items i item text lt at)
-
--- ---- groups by position
-
-one_item : {A : Type 0} (items : List A) (n : ℕ) (x y : A) → IsAt items n x → IsAt items n y → x ≡ y
-one_item items n x y at other = get_or_read items n x at.0 (sym at.1) y ∙ other.1
-
--- there is one group more, that of the first test with the name of the next test
-pub more_groups : (tests : List TestEntry) (groups : List (Bor Text)) (group : Bor Text) (test : TestEntry) → IsAt tests (length groups) test
-    → group_with test.name tests ≡ Some group.now → HasGroups tests groups → HasGroups tests (groups ++ group ∷ [])
-more_groups tests groups group test here is before position found there at_found at_there =
-    let len : length (groups ++ group ∷ []) ≡ length groups + 1 = length-append groups (group ∷ []) in
-    elim (cases_eq position (length groups)) [
-      | inl same ↦
-          let own : test ≡ there = one_item tests (length groups) test there here (subst (λ k. IsAt tests k there) same at_there) in
-          let last : get_or (groups ++ group ∷ []) (length groups) found ≡ found = subst (λ k. get_or (groups ++ group ∷ []) k found ≡ found) same at_found.1 in
-          let e : group ≡ found = sym (get_or-append_seam groups group [] found) ∙ last in
-          rw (← own, ← e) is
-      | inr other ↦
-          let lt : position < length groups = omega (arith, at_found.0, len, other) in
-          before position found there (lt, sym (get_or-append groups (group ∷ []) found position lt) ∙ at_found.1) at_there
-    ]

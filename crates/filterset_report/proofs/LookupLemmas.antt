@@ -4,8 +4,13 @@ use Rattle.std.specs.Prelude.{IsSomeAnd, option_map, string_bytes}
 use Rattle.std.specs.List.{find}
 use Rattle.std.specs.Str.{bytes_eq}
 use Rattle.filterset_matchers.specs.Matcher.{Matcher, MatchesName}
+use Rattle.filterset_expression.specs.declared.query.BinaryQuery.{BinaryQuery}
 use Rattle.filterset_expression.specs.declared.query.TestQuery.{TestQuery}
+use Rattle.filterset_columns.specs.Columns.{test_of}
+use Rattle.filterset_columns.specs.Grouped.{IsGrouped}
+use Rattle.filterset_columns.specs.declared.groups.GroupedTest.{GroupedTest}
 use Rattle.filterset_json.specs.Shape.{Text}
+use Rattle.filterset_report.specs.Index.{group_with}
 use Rattle.filterset_report.specs.Record.{BinaryRow, TestRow}
 use Rattle.filterset_report.specs.Lookup.{group_in, matches_recorded_group, recorded_group}
 use Rattle.filterset_report.specs.Rows.{binary_row, test_row}
@@ -87,3 +92,15 @@ pub recorded : (binaries : List BinaryEntry) (query : TestQuery) (matcher : Matc
     → IsSomeAnd (recorded_group binaries query) (MatchesName matcher) ↔ matches_recorded_group (map binary_row binaries) query matcher
 recorded binaries query matcher =
     recorded_in binaries query matcher (find (λ (b : BinaryEntry). bytes_eq b.id query.binary_query.binary_id.now) binaries) refl
+
+-- a listed test of the first binary with the id is in its group
+pub listed_group : (binaries : List BinaryEntry) (asked : BinaryQuery) (binary : BinaryEntry) (test : GroupedTest)
+    → find (λ (b : BinaryEntry). bytes_eq b.id asked.binary_id.now) binaries ≡ Some binary
+    → group_with test.name.now binary.tests.items ≡ Some test.group.now → IsGrouped (matches_recorded_group (map binary_row binaries)) asked test
+listed_group binaries asked binary test found is name matcher named =
+    let own : recorded_group binaries (test_of asked name) ≡ Some test.group.now =
+    ap (λ (b : Option BinaryEntry). group_in b name.now) found ∙ ap (λ (n : Text). group_with n binary.tests.items) named ∙ is in
+    let same = recorded binaries (test_of asked name) matcher in (
+      λ held. subst (λ (o : Option Text). IsSomeAnd o (MatchesName matcher)) own (same.1 held),
+      λ held. same.0 (subst (λ (o : Option Text). IsSomeAnd o (MatchesName matcher)) (sym own) held),
+    )

@@ -1,12 +1,12 @@
 -- Indexes of a record's binaries by their ids, and of a binary's tests by their names.
-use Rattle.std.specs.Prelude.{◌≡◌, ℕ, List, Option, Some, option_map, string_bytes}
+use Rattle.std.specs.Prelude.{◌≡◌, All, List, Option, Some, option_map, string_bytes}
 use Rattle.std.specs.Borrow.{Bor}
 use Rattle.std.specs.BTreeMap.{BTreeMap, get_by}
 use Rattle.std.specs.Cmp.Lexicographic.{slice_cmp}
 use Rattle.std.specs.List.{find}
 use Rattle.std.specs.Ordering.{nat_cmp}
 use Rattle.std.specs.Str.{bytes_eq}
-use Rattle.filterset_columns.specs.Columns.{IsAt}
+use Rattle.filterset_columns.specs.declared.groups.GroupedTest.{GroupedTest}
 use Rattle.filterset_json.specs.Shape.{Text}
 use Rattle.filterset_report.specs.declared.record.binaries.TestEntry.{TestEntry}
 
@@ -29,7 +29,6 @@ HasFirsts tests index = (name : Text) (test : Bor TestEntry)
 abbrev pub group_with : Text → List TestEntry → Option Text
 group_with name tests = option_map (λ (t : TestEntry). string_bytes t.group) (find (λ t. bytes_eq t.name name) tests)
 
--- the group at a position, if there is one, is that of the first test with the name of the test at this position
-abbrev pub HasGroups : List TestEntry → List (Bor Text) → Type 0
-HasGroups tests groups = (position : ℕ) (group : Bor Text) (test : TestEntry)
-    → IsAt groups position group → IsAt tests position test → group_with test.name tests ≡ Some group.now
+-- each listed test is in the group of the first test with its name
+abbrev pub HaveGroups : List TestEntry → List GroupedTest → Type 0
+HaveGroups tests grouped = All (λ test. group_with test.name.now tests ≡ Some test.group.now) grouped

@@ -4,19 +4,16 @@ ghost use Rattle.std.specs.List.{find};
 ghost use Rattle.std.specs.Str.{bytes_eq};
 ghost use Rattle.filterset_matchers.specs.Matcher.{MatchesName};
 ghost use Rattle.filterset_matchers.specs.Matchers.{matcher_of};
-ghost use Rattle.filterset_report.specs.Index.{group_with, HasFirsts, HasGroups, IsIndexOf};
+ghost use Rattle.filterset_report.specs.Index.{group_with, HasFirsts, HaveGroups, IsIndexOf};
 ghost use Rattle.filterset_report.specs.Lookup.{matches_recorded_group, recorded_group};
 ghost use Rattle.filterset_report.specs.Rows.{binary_row};
 
 use crate::listed::{ListedBinary, list_binaries};
 use crate::record::{BinaryEntry, TestEntry};
-use filterset_columns::PlacedLookup;
-use nextest_filtering::{GroupLookup, NameMatcher, RustBinaryId, TestCaseName, TestQuery};
+use filterset_columns::{GroupedTest, PlacedLookup};
+use nextest_filtering::{BinaryQuery, NameMatcher, RustBinaryId, TestCaseName, TestQuery};
 use std::alloc::{AllocError, Global};
 use std::collections::BTreeMap;
-
-/// Binaries with no more tests than this get no index: a scan is as fast.
-const FEW_TESTS: usize = 8;
 
 /// A binary with an index of its tests.
 #[derive(Debug, Drop)]
@@ -24,10 +21,10 @@ struct IndexedBinary<'a> {
     binary: &'a BinaryEntry,
     /// The first test with each name; empty if there is no index.
     by_name: BTreeMap<&'a str, &'a TestEntry>,
-    /// For each test, the group of the first test with its name; empty if there is no index.
-    groups: Vec<&'a str>,
+    /// Each test with the group of the first test with its name; empty if there is no index.
+    grouped: Vec<GroupedTest<'a>>,
     ghost firsts: { HasFirsts binary.now.tests.items by_name },
-    ghost placed: { HasGroups binary.now.tests.items groups.items },
+    ghost placed: { HaveGroups binary.now.tests.items grouped.items },
 }
 
 /// Indexes tests by their names: the first test with each name.
@@ -47,7 +44,7 @@ fn tests_by_name<'a>(
     Ok(index)
 }
 
-/// Indexes tests by their names if an index is wanted and they are not few. Returns an empty index otherwise.
+/// Indexes tests by their names if an index is wanted. Returns an empty index otherwise.
 fn index_if_wanted<'a>(
     alloc: Global,
     tests: &'a [TestEntry],
@@ -55,30 +52,33 @@ fn index_if_wanted<'a>(
 ) -> Result<BTreeMap<&'a str, &'a TestEntry>, AllocError>
     ensures { IfOk result (λ index. HasFirsts tests.now index) }
 {
-    if is_wanted && tests.len() > FEW_TESTS {
+    if is_wanted {
         tests_by_name(alloc, tests)
     } else {
         Ok(BTreeMap::new(alloc))
     }
 }
 
-/// Lists for each test the group of the first test with its name. Stops at a test that the index does not have.
-fn groups_of_tests<'a>(
+/// Lists the tests with the groups of the first tests with their names. Stops at a test that the index does not have.
+fn group_tests<'a>(
     alloc: Global,
-    tests: &[TestEntry],
+    tests: &'a [TestEntry],
     by_name: &BTreeMap<&'a str, &'a TestEntry>,
-) -> Result<Vec<&'a str>, AllocError>
+) -> Result<Vec<GroupedTest<'a>>, AllocError>
     requires { HasFirsts tests.now by_name.now }
-    ensures { IfOk result (λ groups. HasGroups tests.now groups.items) }
+    ensures { IfOk result (λ grouped. HaveGroups tests.now grouped.items) }
 {
-    let mut groups = Vec::new(alloc);
+    let mut grouped = Vec::new(alloc);
     for test in tests {
         match by_name.get(test.name.as_str()) {
-            Some(first) => groups.push(first.group.as_str())?,
-            None => return Ok(groups),
+            Some(first) => grouped.push(GroupedTest {
+                name: &test.name,
+                group: first.group.as_str(),
+            })?,
+            None => return Ok(grouped),
         }
     }
-    Ok(groups)
+    Ok(grouped)
 }
 
 impl IndexedBinary<'_> {
@@ -98,16 +98,6 @@ impl IndexedBinary<'_> {
     {
         let test = self.test_with(name)?;
         Some(test.group.as_str())
-    }
-
-    /// Does the same, where a test with the name may stand at a position.
-    fn group_at(&self, position: usize, name: &TestCaseName) -> Option<&str>
-        ensures { option_map (λ group. group.now) result ≡ group_with name.now self.now.binary.now.tests.items }
-    {
-        match (self.binary.tests.get(position), self.groups.get(position)) {
-            (Some(test), Some(group)) if test.name == *name => Some(*group),
-            _ => self.group_with(name),
-        }
     }
 }
 
@@ -137,13 +127,13 @@ fn binaries_by_id<'a>(
         let id = binary.id.as_str();
         if !index.contains_key(id) {
             let by_name = index_if_wanted(alloc, &binary.tests, is_wanted)?;
-            let groups = groups_of_tests(alloc, &binary.tests, &by_name)?;
+            let grouped = group_tests(alloc, &binary.tests, &by_name)?;
             index.insert(
                 id,
                 IndexedBinary {
                     binary,
                     by_name,
-                    groups,
+                    grouped,
                 },
             )?;
         }
@@ -152,8 +142,8 @@ fn binaries_by_id<'a>(
 }
 
 impl<'a> RecordLookup<'a> {
-    /// Lists and indexes these binaries, and indexes their tests too if that is wanted: it takes longer, and groups are found faster. The
-    /// only error is out of memory.
+    /// Lists and indexes these binaries, and indexes their tests too if that is wanted: it takes longer, and groups are
+    /// found faster. The only error is out of memory.
     pub fn new(
         alloc: Global,
         binaries: &'a [BinaryEntry],
@@ -185,14 +175,6 @@ impl<'a> RecordLookup<'a> {
         let binary = self.binary_with(test.binary_query.binary_id)?;
         binary.group_with(test.test_name)
     }
-
-    /// Does the same for a test that may stand at this position in its binary.
-    fn group_at(&self, position: usize, test: &TestQuery<'_>) -> Option<&str>
-        ensures { option_map (λ group. group.now) result ≡ recorded_group self.now.binaries.now test.now }
-    {
-        let binary = self.binary_with(test.binary_query.binary_id)?;
-        binary.group_at(position, test.test_name)
-    }
 }
 
 /// Returns whether a test in this group, if it is in one, is in a group that the matcher matches. The only error is out of
@@ -211,8 +193,15 @@ fn is_in_group(
     }
 }
 
-impl GroupLookup for RecordLookup<'_> {
+impl PlacedLookup for RecordLookup<'_> {
     ghost matches_group = { λ lookup. matches_recorded_group (map binary_row lookup.binaries.now) };
+
+    fn grouped_tests(&self, query: &BinaryQuery<'_>) -> &[GroupedTest<'_>] {
+        let Some(binary) = self.binary_with(query.binary_id) else {
+            return &[];
+        };
+        &binary.grouped
+    }
 
     fn is_member_test(
         &self,
@@ -221,20 +210,5 @@ impl GroupLookup for RecordLookup<'_> {
         matcher: &NameMatcher,
     ) -> Result<bool, AllocError> {
         is_in_group(alloc, matcher, self.group_of(test))
-    }
-}
-
-/// A group is found by the position of its test, if the test stands there in its binary.
-impl PlacedLookup for RecordLookup<'_> {
-    ghost matches_group = { λ lookup. matches_recorded_group (map binary_row lookup.binaries.now) };
-
-    fn is_member_at(
-        &self,
-        alloc: Global,
-        position: usize,
-        test: &TestQuery<'_>,
-        matcher: &NameMatcher,
-    ) -> Result<bool, AllocError> {
-        is_in_group(alloc, matcher, self.group_at(position, test))
     }
 }

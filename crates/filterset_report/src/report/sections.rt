@@ -21,15 +21,12 @@ use crate::listed::ListedBinary;
 use crate::lookup::RecordLookup;
 use crate::record::{BinaryEntry, Command, FiltersetEntry};
 use crate::report::faults::push_faults;
-use crate::report::lines::{answer_tests, push_binary_line, push_test_line};
-use crate::report::setting::{Setting, query_of, test_query_of};
+use crate::report::lines::{answer_tests, push_binary_line};
+use crate::report::setting::{Setting, query_of};
 use filterset_columns::ColumnExpr;
 use nextest_filtering::{BinaryQuery, Filterset, FlatExpr, ParseSingleError, laws};
 use std::alloc::{AllocError, Global};
 use std::fmt::Write;
-
-/// Binaries with no fewer tests than this are asked by columns: for fewer, a question for each is faster.
-const MANY_TESTS: usize = 32;
 
 /// Adds the lines of a binary: its own, and one for each of its tests. Asks about the binary once, and only then about its
 /// tests if they differ.
@@ -52,8 +49,7 @@ fn push_binary(
     push_tests(lines, alloc, flat, columns, lookup, told, &asked, listed)
 }
 
-/// Adds the lines of a binary's tests. The binary has the answer `told`. If that decides the tests, their lines are copied;
-/// if not, many tests are asked about at once, and few one by one.
+/// Adds the lines of a binary's tests. The binary has the answer `told`. Asks about the tests if that does not decide them.
 fn push_tests(
     lines: &mut String,
     alloc: Global,
@@ -72,14 +68,10 @@ fn push_tests(
         (map test_row listed.now.binary.now.tests.items) text)) }
     ensures same { IsSameExpr columns.old columns.new }
 {
-    if let Some(answer) = told {
-        return push_told_tests(lines, flat, answer, asked, listed);
+    match told {
+        Some(answer) => push_told_tests(lines, flat, answer, asked, listed),
+        None => push_asked_tests(lines, alloc, columns, lookup, asked, listed),
     }
-    let asks_all = listed.binary.tests.len() >= MANY_TESTS;
-    if asks_all {
-        return push_many_tests(lines, alloc, columns, lookup, asked, listed);
-    }
-    push_few_tests(lines, alloc, flat, lookup, told, asked, listed.binary)
 }
 
 /// Adds the lines of a binary's tests, which all have the answer of the binary.
@@ -100,38 +92,9 @@ fn push_told_tests(
     lines.push_str(listed.lines_between(answer, 0, listed.binary.tests.len()))
 }
 
-/// Adds the lines of a binary's tests, and asks for each. The binary has the answer `told`.
-fn push_few_tests<'a>(
-    lines: &mut String,
-    alloc: Global,
-    flat: &FlatExpr<'_>,
-    lookup: &RecordLookup<'_>,
-    told: Option<bool>,
-    asked: &BinaryQuery<'a>,
-    binary: &'a BinaryEntry,
-) -> Result<(), AllocError>
-    requires told { IsTold flat.now asked.now told }
-    requires about { IsAboutBinary asked.now (binary_row binary.now) }
-    ensures { OnOk result ((text : Text) × (string_bytes lines.new ≡ string_bytes lines.old ++ text)
-        × ForItsTree flat.now (λ background tree. IsLookupOf background.binaries lookup.now
-        → Pieces (TestLine background tree (binary_row binary.now)) (map test_row binary.now.tests.items) text)) }
-{
-    let Some(first) = binary.tests.first() else {
-        return Ok(());
-    };
-    // One query serves all tests, since its part about the binary stays the same.
-    let mut query = test_query_of(asked, first);
-    for test in &binary.tests {
-        query.test_name = &test.name;
-        push_test_line(lines, alloc, flat, lookup, told, &query)?;
-    }
-    Ok(())
-}
-
 /// Adds the lines of a binary's tests, and asks for all of them at once. Copies the lines of tests in a row that have the
-/// same answer together. It is not inlined, which would slow down the questions for few tests.
-#[inline(never)]
-fn push_many_tests(
+/// same answer together.
+fn push_asked_tests(
     lines: &mut String,
     alloc: Global,
     columns: &mut ColumnExpr<'_>,

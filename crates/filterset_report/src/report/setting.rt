@@ -1,11 +1,10 @@
 //! What the filtersets of a record are parsed and evaluated with.
-ghost use Rattle.std.specs.Prelude.{◌≡◌};
 ghost use Rattle.filterset_report.specs.Rows.{binary_row};
 ghost use Rattle.filterset_report.specs.Library.{IsAboutBinary};
 
 use crate::lookup::RecordLookup;
-use crate::record::{BinaryEntry, Command, TestEntry};
-use nextest_filtering::{BinaryQuery, EvalContext, KnownGroups, ParseContext, TestQuery};
+use crate::record::{BinaryEntry, Command};
+use nextest_filtering::{BinaryQuery, EvalContext, KnownGroups, ParseContext};
 
 /// What the filtersets of a record are parsed and evaluated with, and what to write about the accepted ones.
 #[derive(Debug, Drop)]
@@ -27,16 +26,5 @@ pub fn query_of(binary: &BinaryEntry) -> BinaryQuery<'_>
         binary_name: binary.name.as_str(),
         kind: &binary.kind,
         platform: binary.platform,
-    }
-}
-
-/// Returns the query about a test of the binary that `binary` is about.
-pub fn test_query_of<'a>(binary: &BinaryQuery<'a>, test: &'a TestEntry) -> TestQuery<'a>
-    ensures binary { result.binary_query ≡ binary.now }
-    ensures test { result.test_name.now ≡ test.now.name }
-{
-    TestQuery {
-        binary_query: *binary,
-        test_name: &test.name,
     }
 }

@@ -5,7 +5,7 @@ use Rattle.filterset_report.specs.declared.lookup.IndexedBinary.{IndexedBinary}
 use Rattle.filterset_report.specs.Index.{entry_at}
 use Rattle.filterset_report.proofs.IndexLemmas.{index_added, index_kept}
 use Rattle.filterset_report.proofs.lookup.binaries_by_id.Goals as goal
-use Rattle.filterset_report.proofs.lookup.binaries_by_id.Goals.{then-not-contains_key+in_ok-by_name+in_ok-groups+in_ok-insert+in-None-1, then-not-contains_key+in_ok-by_name+in_ok-groups+in_ok-insert+in-Some-1, else-not-contains_key}
+use Rattle.filterset_report.proofs.lookup.binaries_by_id.Goals.{then-not-contains_key+in_ok-by_name+in_ok-grouped+in_ok-insert+in-None-1, then-not-contains_key+in_ok-by_name+in_ok-grouped+in_ok-insert+in-Some-1, else-not-contains_key}
 
 pub loop-binary-preserved : goal.loop-binary-preserved
 loop-binary-preserved c =
@@ -15,11 +15,11 @@ loop-binary-preserved c =
     let lt : i < length binaries = omega (arith, c.loop-binary-test.true) in
     let at : get_or binaries i binary ≡ binary = search (rules, c.binary-item.is) in
     elim c.if-not-contains_key.branch [
-      | then-not-contains_key+in_ok-by_name+in_ok-groups+in_ok-insert+in-None-1 w ↦
+      | then-not-contains_key+in_ok-by_name+in_ok-grouped+in_ok-insert+in-None-1 w ↦
           (let absent : is_some (entry_at c.loop-binary.index binary.id) ≡ false = search (rules, c.contains_key.ensures, c.as_str-id.ensures, w.if-not-contains_key.true) in
           let updates = btree_map_updates_str c.as_str-id.result.now c.loop-binary.index w.insert.new.self _ w.in_ok-insert.ensures.updates in
           rw w.index-is (index_added (λ (b : BinaryEntry). b.id) (λ (b : IndexedBinary). b.binary.now) binaries i binary _ c.loop-binary.index w.insert.new.self lt at refl absent (rw c.as_str-id.ensures at updates) c.loop-binary.invariant))
-      | then-not-contains_key+in_ok-by_name+in_ok-groups+in_ok-insert+in-Some-1 w ↦
+      | then-not-contains_key+in_ok-by_name+in_ok-grouped+in_ok-insert+in-Some-1 w ↦
           (let absent : is_some (entry_at c.loop-binary.index binary.id) ≡ false = search (rules, c.contains_key.ensures, c.as_str-id.ensures, w.if-not-contains_key.true) in
           let updates = btree_map_updates_str c.as_str-id.result.now c.loop-binary.index w.insert.new.self _ w.in_ok-insert.ensures.updates in
           rw w.index-is (index_added (λ (b : BinaryEntry). b.id) (λ (b : IndexedBinary). b.binary.now) binaries i binary _ c.loop-binary.index w.insert.new.self lt at refl absent (rw c.as_str-id.ensures at updates) c.loop-binary.invariant))

@@ -14,7 +14,7 @@ use Rattle.filterset_report.specs.Rows.{binary_row, test_row}
 use Rattle.filterset_report.specs.declared.record.binaries.TestEntry.{TestEntry}
 use Rattle.filterset_report.proofs.ListedLemmas.{Pieces-run}
 use Rattle.filterset_report.proofs.ReportLemmas.{taken_all}
-use Rattle.filterset_report.proofs.report.sections.push_many_tests.Goals as goal
+use Rattle.filterset_report.proofs.report.sections.push_asked_tests.Goals as goal
 
 pub loop-position-init : goal.loop-position-init
 loop-position-init c = ([], sym (append-nil _), λ background tree is of_default of_binaries. no_pieces, omega arith)

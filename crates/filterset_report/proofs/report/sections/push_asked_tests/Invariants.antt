@@ -4,7 +4,7 @@ use Rattle.filterset_json.specs.Shape.{Text}
 use Rattle.filterset_json.specs.Pieces.{Pieces}
 use Rattle.filterset_report.specs.Report.{TestLine}
 use Rattle.filterset_report.specs.Rows.{binary_row, test_row}
-use Rattle.filterset_report.proofs.report.sections.push_many_tests.Given as goal
+use Rattle.filterset_report.proofs.report.sections.push_asked_tests.Given as goal
 
 abbrev pub decreases-loop-position : goal.decreases-loop-position
 decreases-loop-position l = l.column.len - l.position

@@ -1,0 +1,22 @@
+use Rattle.std.proofs.Common.{◌≡◌, Some, map, sym}
+use Rattle.std.specs.List.{find}
+use Rattle.std.specs.Str.{bytes_eq}
+use Rattle.std.proofs.lemmas.List.Elements.{All-weaker}
+use Rattle.filterset_columns.specs.Grouped.{IsGrouped}
+use Rattle.filterset_columns.specs.declared.groups.GroupedTest.{GroupedTest}
+use Rattle.filterset_report.specs.Index.{group_with}
+use Rattle.filterset_report.specs.Lookup.{matches_recorded_group}
+use Rattle.filterset_report.specs.Rows.{binary_row}
+use Rattle.filterset_report.specs.declared.record.binaries.BinaryEntry.{BinaryEntry}
+use Rattle.filterset_report.proofs.LookupLemmas.{listed_group}
+use Rattle.filterset_report.proofs.lookup.RecordLookupPlacedLookup.grouped_tests.Goals as goal
+
+pub returns : goal.returns
+returns c =
+    let asked = c.args.query.now in
+    let binaries = c.args.self.now.binaries.now in
+    let binary = c.in-Some.binary.now in
+    let found : find (λ (b : BinaryEntry). bytes_eq b.id asked.binary_id.now) binaries ≡ Some binary.binary.now = sym c.in-Some.ensures in
+    let grouped = All-weaker (λ (test : GroupedTest). group_with test.name.now binary.binary.now.tests.items ≡ Some test.group.now) (IsGrouped (matches_recorded_group (map binary_row binaries)) asked)
+    (λ test is. listed_group binaries asked binary.binary.now test found is) binary.grouped.items binary.placed in
+    rw c.deref.ensures.value grouped
