@@ -4,13 +4,14 @@ ghost use Rattle.filterset_expression.specs.Meaning.{tree_formula};
 ghost use Rattle.filterset_faults.specs.declared.span.SourceSpan.{SourceSpan};
 ghost use Rattle.filterset_grammar.specs.Grammar.{Spells};
 ghost use Rattle.filterset_grammar.specs.Printing.{WellFormed, printed};
-ghost use Rattle.filterset_grammar.specs.Tree.{Join, SameTree, Tree, Union};
+ghost use Rattle.filterset_grammar.specs.Tree.{SameTree, Tree};
 ghost use Rattle.filterset_language.specs.Views.{tree_of};
 ghost use Rattle.filterset_rewriting.specs.Showing as spec;
 ghost use Rattle.filterset_rewriting.specs.Showing.{enclosed_if, is_joiner, is_other_joiner, shown, without_parens};
 
 use filterset_language::laws::printed_reads_back;
-use filterset_language::{Joiner, OrOperator, ParsedExpr};
+use filterset_language::nodes::{copy_set, enclose, join, negate, unite};
+use filterset_language::{Joiner, ParsedExpr, ParsedNode};
 use std::alloc::{AllocError, Global};
 
 /// Returns whether operators are of one sort: both intersections, differences or symmetric differences.
@@ -28,14 +29,10 @@ fn are_one_sort(one: Joiner, other: Joiner) -> bool
 fn joiner_of<S>(expr: &ParsedExpr<S>) -> Option<Joiner>
     ensures { result ≡ spec.joiner_of (tree_of expr.now) }
 {
-    match expr {
-        ParsedExpr::Intersection(operator, _, _) => Some(Joiner::Both(*operator)),
-        ParsedExpr::Difference(operator, _, _) => Some(Joiner::Without(*operator)),
-        ParsedExpr::SymmetricDifference(operator, _, _) => Some(Joiner::ExactlyOne(*operator)),
-        ParsedExpr::Not(_, _) => None,
-        ParsedExpr::Union(_, _, _) => None,
-        ParsedExpr::Parens(_) => None,
-        ParsedExpr::Set(_) => None,
+    match expr.node() {
+        ParsedNode::Join(operator, _, _) => Some(operator),
+        ParsedNode::Not(_, _) | ParsedNode::Union(_, _, _) => None,
+        ParsedNode::Parens(_) | ParsedNode::Set(_) => None,
     }
 }
 
@@ -60,7 +57,7 @@ fn is_joined_otherwise<S>(operator: Joiner, expr: &ParsedExpr<S>) -> bool
 }
 
 /// Encloses a tree in parentheses, or leaves it as it is.
-pub fn enclose_if<S: Drop>(
+fn enclose_if<S: Drop>(
     alloc: Global,
     encloses: bool,
     expr: Box<ParsedExpr<S>>,
@@ -68,100 +65,30 @@ pub fn enclose_if<S: Drop>(
     ensures { IfOk result (λ made. tree_of made.value ≡ enclosed_if encloses (tree_of expr.value)) }
 {
     if encloses {
-        Ok(Box::new(alloc, ParsedExpr::Parens(expr))?)
+        enclose(alloc, expr)
     } else {
         Ok(expr)
     }
-}
-
-/// Unites copies of two operands, each in parentheses if an operator of the level of `and` joins it.
-#[inline(never)]
-fn unite<S: Drop>(
-    alloc: Global,
-    operator: OrOperator,
-    operands: (&ParsedExpr<S>, &ParsedExpr<S>),
-    left: Box<ParsedExpr<S>>,
-    right: Box<ParsedExpr<S>>,
-) -> Result<Box<ParsedExpr<S>>, AllocError>
-    ensures { IfOk result (λ made. tree_of made.value ≡ Union operator
-        (enclosed_if (is_joiner (spec.joiner_of (tree_of operands.entry.0.now))) (tree_of left.value))
-        (enclosed_if (is_joiner (spec.joiner_of (tree_of operands.entry.1.now))) (tree_of right.value))) }
-{
-    let left = enclose_if(alloc, is_joined(operands.0), left)?;
-    let right = enclose_if(alloc, is_joined(operands.1), right)?;
-    Ok(Box::new(alloc, ParsedExpr::Union(operator, left, right))?)
-}
-
-/// Joins two trees by an operator of the level of `and`.
-pub fn join<S: Drop>(
-    alloc: Global,
-    operator: Joiner,
-    left: Box<ParsedExpr<S>>,
-    right: Box<ParsedExpr<S>>,
-) -> Result<Box<ParsedExpr<S>>, AllocError>
-    ensures { IfOk result (λ made. tree_of made.value ≡ Join operator (tree_of left.value) (tree_of right.value)) }
-{
-    let expr = match operator {
-        Joiner::Both(operator) => ParsedExpr::Intersection(operator, left, right),
-        Joiner::Without(operator) => ParsedExpr::Difference(operator, left, right),
-        Joiner::ExactlyOne(operator) => ParsedExpr::SymmetricDifference(operator, left, right),
-    };
-    Ok(Box::new(alloc, expr)?)
-}
-
-/// Joins copies of two operands, the left one in parentheses if an operator of another sort joins it.
-#[inline(never)]
-fn join_shown<S: Drop>(
-    alloc: Global,
-    operator: Joiner,
-    operand: &ParsedExpr<S>,
-    left: Box<ParsedExpr<S>>,
-    right: Box<ParsedExpr<S>>,
-) -> Result<Box<ParsedExpr<S>>, AllocError>
-    ensures { IfOk result (λ made. tree_of made.value ≡ Join operator
-        (enclosed_if (is_other_joiner operator (spec.joiner_of (tree_of operand.now))) (tree_of left.value))
-        (tree_of right.value)) }
-{
-    let left = enclose_if(alloc, is_joined_otherwise(operator, operand), left)?;
-    join(alloc, operator, left, right)
 }
 
 /// Copies a tree, with parentheses that show how it is read.
 fn show<S: Copy>(alloc: Global, expr: &ParsedExpr<S>) -> Result<Box<ParsedExpr<S>>, AllocError>
     ensures { IfOk result (λ new. tree_of new.value ≡ shown (tree_of expr.now)) }
 {
-    match expr {
-        ParsedExpr::Not(operator, operand) => {
-            let operand = show(alloc, operand)?;
-            Ok(Box::new(alloc, ParsedExpr::Not(*operator, operand))?)
+    match expr.node() {
+        ParsedNode::Not(operator, operand) => negate(alloc, operator, show(alloc, operand)?),
+        ParsedNode::Union(operator, left, right) => {
+            let first = enclose_if(alloc, is_joined(left), show(alloc, left)?)?;
+            let second = enclose_if(alloc, is_joined(right), show(alloc, right)?)?;
+            unite(alloc, operator, first, second)
         }
-        ParsedExpr::Union(operator, left, right) => {
-            let first = show(alloc, left)?;
-            unite(alloc, *operator, (left, right), first, show(alloc, right)?)
+        ParsedNode::Join(operator, left, right) => {
+            let encloses = is_joined_otherwise(operator, left);
+            let left = enclose_if(alloc, encloses, show(alloc, left)?)?;
+            join(alloc, operator, left, show(alloc, right)?)
         }
-        ParsedExpr::Intersection(operator, left, right) => {
-            let first = show(alloc, left)?;
-            let second = show(alloc, right)?;
-            join_shown(alloc, Joiner::Both(*operator), left, first, second)
-        }
-        ParsedExpr::Difference(operator, left, right) => {
-            let first = show(alloc, left)?;
-            let second = show(alloc, right)?;
-            join_shown(alloc, Joiner::Without(*operator), left, first, second)
-        }
-        ParsedExpr::SymmetricDifference(operator, left, right) => {
-            let first = show(alloc, left)?;
-            let second = show(alloc, right)?;
-            join_shown(alloc, Joiner::ExactlyOne(*operator), left, first, second)
-        }
-        ParsedExpr::Parens(inner) => {
-            let inner = show(alloc, inner)?;
-            Ok(Box::new(alloc, ParsedExpr::Parens(inner))?)
-        }
-        ParsedExpr::Set(leaf) => {
-            let leaf = leaf.try_clone(alloc)?;
-            Ok(Box::new(alloc, ParsedExpr::Set(leaf))?)
-        }
+        ParsedNode::Parens(inner) => enclose(alloc, show(alloc, inner)?),
+        ParsedNode::Set(leaf) => copy_set(alloc, leaf),
     }
 }
 
