@@ -8,20 +8,17 @@ use Rattle.filterset_expression.specs.Formula as formulas
 use Rattle.filterset_expression.specs.Meaning.{IsCompiled, IsCompiledLeaf, tree_formula}
 use Rattle.filterset_expression.specs.declared.expression.CompiledExpr.{CompiledExpr}
 use Rattle.filterset_expression.specs.declared.logic.Connective.{Connective}
-use Rattle.filterset_expression.specs.declared.logic.Connective.TheVariants.{Conjunction, Disjunction, ExclusiveDisjunction}
+use Rattle.filterset_expression.specs.declared.logic.Connective.TheVariants.{Conjunction}
 use Rattle.filterset_faults.specs.declared.span.SourceSpan.{SourceSpan}
 use Rattle.filterset_grammar.specs.Tree.{Tree, Not, Union, Join, Parens, Set}
-use Rattle.filterset_grammar.specs.declared.operators.AndOperator.{AndOperator}
 use Rattle.filterset_grammar.specs.declared.operators.DifferenceOperator.{DifferenceOperator}
-use Rattle.filterset_grammar.specs.declared.operators.Joiner.TheVariants.{Both, Without, ExactlyOne}
+use Rattle.filterset_grammar.specs.declared.operators.Joiner.TheVariants.{Without}
 use Rattle.filterset_grammar.specs.declared.operators.NotOperator.{NotOperator}
 use Rattle.filterset_grammar.specs.declared.operators.NotOperator.TheVariants.{LiteralNot}
-use Rattle.filterset_grammar.specs.declared.operators.OrOperator.{OrOperator}
-use Rattle.filterset_grammar.specs.declared.operators.SymmetricDifferenceOperator.{SymmetricDifferenceOperator}
 use Rattle.filterset_graph.specs.declared.package.PackageMetadata.{PackageMetadata}
 use Rattle.filterset_listing.specs.Operands.{left_of, negated_by, right_of}
 use Rattle.filterset_listing.proofs.ValueLemmas.{compound_value, negated_alike, negation_value, operands_alike, parens_value}
-use Rattle.filterset_listing.specs.Columns.{values_of, first_of, second_of, Fits}
+use Rattle.filterset_listing.specs.Columns.{values_of, first_of, second_of, Fits, IsConnected}
 use Rattle.filterset_listing.specs.SubjectValues.{Basis, HasColumn}
 use Rattle.filterset_listing.specs.declared.columns.Columns.{Columns}
 use Rattle.filterset_listing.specs.declared.subjects.Subject.{Subject}
@@ -49,16 +46,9 @@ module _ (basis : Basis) where
 
   difference_column : (op : DifferenceOperator) (a b : Tree SourceSpan) (subjects : List Subject) (xs ys : List (Option Bool))
       → HasColumn basis subjects a xs → HasColumn basis subjects b ys
-      → HasColumn basis subjects (Join (Without op) a b) (map (λ p. kleene Conjunction p.0 (kleene_not p.1)) (zip xs ys))
-  difference_column op a b [] [] ys all also = tt
-  difference_column op a b [] (x ∷ xs) ys all also = absurd all
-  difference_column op a b (s ∷ subjects) [] ys all also = absurd all
-  difference_column op a b (s ∷ subjects) (x ∷ xs) [] all also = absurd also
-  difference_column op a b (s ∷ subjects) (x ∷ xs) (y ∷ ys) all also = (
-    compound_value s.group.now basis.packages basis.default s.candidate Conjunction (Join (Without op) a b) a (Not LiteralNot b) x (kleene_not y) refl all.0
-        (negation_value s.group.now basis.packages basis.default s.candidate LiteralNot b y also.0),
-    difference_column op a b subjects xs ys all.1 also.1,
-  )
+      → HasColumn basis subjects (Join (Without op) a b) (map (λ p. kleene Conjunction p.0 p.1) (zip xs (map kleene_not ys)))
+  difference_column op a b subjects xs ys all also =
+      compound_column Conjunction (Join (Without op) a b) a (Not LiteralNot b) refl subjects xs (map kleene_not ys) all (negated_column LiteralNot b subjects ys also)
 
   parens_column : (e : Tree SourceSpan) (subjects : List Subject) (xs : List (Option Bool)) → HasColumn basis subjects e xs → HasColumn basis subjects (Parens e) xs
   parens_column e [] [] all = tt
@@ -73,7 +63,7 @@ module _ (basis : Basis) where
   own_column subjects (Union op l r) columns fits = fits.0
   own_column subjects (Join op l r) columns fits = fits.0
   own_column subjects (Parens e) columns fits = parens_column e subjects (values_of columns) (own_column subjects e columns fits)
-  own_column subjects (Set leaf) columns fits = fits
+  own_column subjects (Set leaf) columns fits = fits.0
 
 -- ---- trees and what they are compiled to
 
@@ -100,41 +90,17 @@ module _ (default : CompiledExpr) (subjects : List Subject) (c : CompiledExpr) w
         subst (Fits (BasisOf packages) subjects e) (sym first) own,
       )
 
-  pub union_fits : (op : OrOperator) (a b : Tree SourceSpan) (l r : CompiledExpr) (left right columns : Columns) → formula l ≡ left_of (formula c) → formula r ≡ right_of (formula c)
-      → FitsCompiled default subjects a l left → FitsCompiled default subjects b r right
-      → values_of columns ≡ map (λ p. kleene Disjunction p.0 p.1) (zip (values_of left) (values_of right)) → first_of columns ≡ left → second_of columns ≡ right
-      → FitsCompiled default subjects (Union op a b) c columns
-  union_fits op a b l r left right columns at_l at_r one other values first second packages is =
-      let parts = operands_alike (IsCompiledLeaf packages) Disjunction (tree_formula a) (tree_formula b) (formula c) is in
+  -- an operator whose operands are compiled to those of the expression
+  pub two_fits : (k : Connective) (t a b : Tree SourceSpan) (l r : CompiledExpr) (left right columns : Columns) → tree_formula t ≡ Compound k (tree_formula a) (tree_formula b)
+      → ((basis : Basis) → HasColumn basis subjects t (values_of columns) × Fits basis subjects a (first_of columns) × Fits basis subjects b (second_of columns) → Fits basis subjects t columns)
+      → formula l ≡ left_of (formula c) → formula r ≡ right_of (formula c) → FitsCompiled default subjects a l left → FitsCompiled default subjects b r right
+      → IsConnected k left right columns → FitsCompiled default subjects t c columns
+  two_fits k t a b l r left right columns of_t fits at_l at_r one other (values, first, second) packages is =
+      let parts = operands_alike (IsCompiledLeaf packages) k (tree_formula a) (tree_formula b) (formula c) (subst (λ f. SameShape (IsCompiledLeaf packages) f (formula c)) of_t is) in
       let own = one packages (compiled_at packages a _ l at_l parts.0) in
-      let own' = other packages (compiled_at packages b _ r at_r parts.1) in (
-        subst (HasColumn (BasisOf packages) subjects (Union op a b)) (sym values) (compound_column (BasisOf packages) Disjunction (Union op a b) a b refl subjects (values_of left) (values_of right) (own_column (BasisOf packages) subjects a left own) (own_column (BasisOf packages) subjects b right own')),
-        subst (Fits (BasisOf packages) subjects a) (sym first) own,
-        subst (Fits (BasisOf packages) subjects b) (sym second) own',
-      )
-
-  pub both_fits : (op : AndOperator) (a b : Tree SourceSpan) (l r : CompiledExpr) (left right columns : Columns) → formula l ≡ left_of (formula c) → formula r ≡ right_of (formula c)
-      → FitsCompiled default subjects a l left → FitsCompiled default subjects b r right
-      → values_of columns ≡ map (λ p. kleene Conjunction p.0 p.1) (zip (values_of left) (values_of right)) → first_of columns ≡ left → second_of columns ≡ right
-      → FitsCompiled default subjects (Join (Both op) a b) c columns
-  both_fits op a b l r left right columns at_l at_r one other values first second packages is =
-      let parts = operands_alike (IsCompiledLeaf packages) Conjunction (tree_formula a) (tree_formula b) (formula c) is in
-      let own = one packages (compiled_at packages a _ l at_l parts.0) in
-      let own' = other packages (compiled_at packages b _ r at_r parts.1) in (
-        subst (HasColumn (BasisOf packages) subjects (Join (Both op) a b)) (sym values) (compound_column (BasisOf packages) Conjunction (Join (Both op) a b) a b refl subjects (values_of left) (values_of right) (own_column (BasisOf packages) subjects a left own) (own_column (BasisOf packages) subjects b right own')),
-        subst (Fits (BasisOf packages) subjects a) (sym first) own,
-        subst (Fits (BasisOf packages) subjects b) (sym second) own',
-      )
-
-  pub one_fits : (op : SymmetricDifferenceOperator) (a b : Tree SourceSpan) (l r : CompiledExpr) (left right columns : Columns) → formula l ≡ left_of (formula c) → formula r ≡ right_of (formula c)
-      → FitsCompiled default subjects a l left → FitsCompiled default subjects b r right
-      → values_of columns ≡ map (λ p. kleene ExclusiveDisjunction p.0 p.1) (zip (values_of left) (values_of right)) → first_of columns ≡ left → second_of columns ≡ right
-      → FitsCompiled default subjects (Join (ExactlyOne op) a b) c columns
-  one_fits op a b l r left right columns at_l at_r one other values first second packages is =
-      let parts = operands_alike (IsCompiledLeaf packages) ExclusiveDisjunction (tree_formula a) (tree_formula b) (formula c) is in
-      let own = one packages (compiled_at packages a _ l at_l parts.0) in
-      let own' = other packages (compiled_at packages b _ r at_r parts.1) in (
-        subst (HasColumn (BasisOf packages) subjects (Join (ExactlyOne op) a b)) (sym values) (compound_column (BasisOf packages) ExclusiveDisjunction (Join (ExactlyOne op) a b) a b refl subjects (values_of left) (values_of right) (own_column (BasisOf packages) subjects a left own) (own_column (BasisOf packages) subjects b right own')),
+      let own' = other packages (compiled_at packages b _ r at_r parts.1) in
+      fits (BasisOf packages) (
+        subst (HasColumn (BasisOf packages) subjects t) (sym values) (compound_column (BasisOf packages) k t a b of_t subjects (values_of left) (values_of right) (own_column (BasisOf packages) subjects a left own) (own_column (BasisOf packages) subjects b right own')),
         subst (Fits (BasisOf packages) subjects a) (sym first) own,
         subst (Fits (BasisOf packages) subjects b) (sym second) own',
       )
@@ -142,7 +108,7 @@ module _ (default : CompiledExpr) (subjects : List Subject) (c : CompiledExpr) w
   -- the right operand of a difference is compiled to a negation
   pub without_fits : (op : DifferenceOperator) (a b : Tree SourceSpan) (l m r : CompiledExpr) (left right columns : Columns) → formula l ≡ left_of (formula c) → formula m ≡ right_of (formula c) → formula r ≡ negated_by (formula m)
       → FitsCompiled default subjects a l left → FitsCompiled default subjects b r right
-      → values_of columns ≡ map (λ p. kleene Conjunction p.0 (kleene_not p.1)) (zip (values_of left) (values_of right)) → first_of columns ≡ left → second_of columns ≡ right
+      → values_of columns ≡ map (λ p. kleene Conjunction p.0 p.1) (zip (values_of left) (map kleene_not (values_of right))) → first_of columns ≡ left → second_of columns ≡ right
       → FitsCompiled default subjects (Join (Without op) a b) c columns
   without_fits op a b l m r left right columns at_l at_m at_r one other values first second packages is =
       let parts = operands_alike (IsCompiledLeaf packages) Conjunction (tree_formula a) (Negation (tree_formula b)) (formula c) is in

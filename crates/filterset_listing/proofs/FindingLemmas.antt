@@ -155,4 +155,4 @@ unmatched_are basis subjects (Join op l r) columns fits = (
   unmatched_are basis subjects r (second_of columns) fits.2,
 )
 unmatched_are basis subjects (Parens e) columns fits = unmatched_are basis subjects e columns fits
-unmatched_are basis subjects (Set leaf) columns fits = (values_of columns, fits, refl)
+unmatched_are basis subjects (Set leaf) columns fits = (values_of columns, fits.0, refl)

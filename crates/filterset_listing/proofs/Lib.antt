@@ -14,8 +14,7 @@ pub mod Defaults
 pub mod NamedLemmas
 pub mod ValueLemmas
 pub mod NodeLemmas
-pub mod PossibleLemmas
-pub mod AmongLemmas
+pub mod SharedLemmas
 pub mod SubjectLemmas
 pub mod Values
 pub mod ColumnLemmas

@@ -3,18 +3,14 @@ use Rattle.std.proofs.Common.{◌≡◌, ◌↔◌, Bool, true, false, List, ref
 use Rattle.filterset_faults.specs.declared.span.SourceSpan.{SourceSpan}
 use Rattle.filterset_graph.specs.Packages.{Text}
 use Rattle.filterset_graph.specs.declared.package.PackageMetadata.{PackageMetadata}
-use Rattle.filterset_grammar.specs.Tree.{Tree, Leaf, Matching, Not, Parens, Set}
+use Rattle.filterset_grammar.specs.Tree.{Tree, Leaf, Not, Parens}
 use Rattle.filterset_grammar.specs.declared.operators.NotOperator.{NotOperator}
-use Rattle.filterset_grammar.specs.declared.predicate.Predicate.TheVariants.{Package, Deps, Rdeps}
 use Rattle.filterset_expression.specs.BinaryMeaning.{EitherOfBinary, is_either_of_test, tree_leaf_with_default, tree_with_default}
 use Rattle.filterset_expression.specs.Connectives.{connected, kleene, kleene_not}
 use Rattle.filterset_expression.specs.declared.logic.Connective.{Connective}
 use Rattle.filterset_expression.specs.declared.logic.Connective.TheVariants.{Conjunction, Disjunction, ExclusiveDisjunction}
-use Rattle.filterset_expression.specs.Expression as compiled
-use Rattle.filterset_expression.specs.Expression.{CompiledLeaf, formula}
-use Rattle.filterset_expression.specs.Formula as formulas
 use Rattle.filterset_expression.specs.Formula.{Formula, Negation, Compound, SameShape, TrueWhere, replaced}
-use Rattle.filterset_expression.specs.Meaning.{IsCompiledLeaf, MeansOfTest, tree_formula}
+use Rattle.filterset_expression.specs.Meaning.{MeansOfTest, tree_formula}
 use Rattle.filterset_expression.specs.declared.expression.CompiledExpr.{CompiledExpr}
 use Rattle.filterset_expression.specs.declared.query.BinaryQuery.{BinaryQuery}
 use Rattle.filterset_expression.proofs.Connectives.{connected_decides}
@@ -22,7 +18,6 @@ use Rattle.filterset_expression.proofs.Folding.{decides_not}
 use Rattle.filterset_expression.proofs.Operands.{Takes, compound_takes, negation_takes}
 use Rattle.filterset_listing.specs.Asking.{in_group}
 use Rattle.filterset_listing.specs.Operands.{left_of, negated_by, right_of}
-use Rattle.filterset_listing.specs.NamedPackages.{set_of, stands_for_packages}
 use Rattle.filterset_listing.specs.Values.{HasValueIn}
 use Rattle.filterset_listing.specs.declared.explaining.candidate.Candidate.{Candidate}
 use Rattle.filterset_listing.specs.declared.explaining.candidate.Candidate.TheVariants.{Binary, Test}
@@ -78,17 +73,3 @@ operands_alike R c f g _ is = absurd is
 pub negated_alike : {A B : Type 0} (R : A → B → Type 0) (f : Formula A) (h : Formula B) → SameShape R (Negation f) h → SameShape R f (negated_by h)
 negated_alike R f (Negation k) is = is
 negated_alike R f _ is = absurd is
-
--- a predicate that is compiled to no set of packages stands for none
-plain : (packages : List PackageMetadata) (leaf : Leaf SourceSpan) (l : CompiledLeaf) → set_of (formulas.Leaf l) ≡ None → IsCompiledLeaf packages leaf l → stands_for_packages (Set leaf) ≡ false
-plain packages (Matching Package m s) (compiled.Packages ids) none are = absurd (let clash : Some ids ≡ None = none in cc)
-plain packages (Matching Deps m s) (compiled.Packages ids) none are = absurd (let clash : Some ids ≡ None = none in cc)
-plain packages (Matching Rdeps m s) (compiled.Packages ids) none are = absurd (let clash : Some ids ≡ None = none in cc)
-plain packages (Matching Package m s) _ none are = absurd are
-plain packages (Matching Deps m s) _ none are = absurd are
-plain packages (Matching Rdeps m s) _ none are = absurd are
-plain packages _ _ none are = refl
-
-is_set : (l : CompiledLeaf) (set : List Text) → set_of (formulas.Leaf l) ≡ Some set → l ≡ compiled.Packages set
-is_set (compiled.Packages ids) set e = let same : Some ids ≡ Some set = e in cc
-is_set _ set e = absurd (let clash : None ≡ Some set = e in cc)

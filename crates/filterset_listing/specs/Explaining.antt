@@ -1,25 +1,27 @@
 -- What is said of the nodes of a tree.
-use Rattle.std.specs.Prelude.{◌≡◌, ℕ, Bool, true, List, [], ◌∷◌, ◌++◌, Option, Some, None, is_none, reverse}
+use Rattle.std.specs.Prelude.{◌≡◌, ℕ, Bool, true, false, not, cond, List, [], ◌∷◌, ◌++◌, Option, Some, None, is_none}
 use Rattle.std.specs.Borrow.{Bor}
-use Rattle.std.specs.List.{AllZip, list_any}
+use Rattle.std.specs.List.{AllZip, list_all, list_any}
 use Rattle.filterset_faults.specs.declared.span.SourceSpan.{SourceSpan}
 use Rattle.filterset_graph.specs.declared.package.PackageMetadata.{PackageMetadata}
 use Rattle.filterset_grammar.specs.Tree.{Tree}
 use Rattle.filterset_language.specs.Views.{tree_of}
-use Rattle.filterset_expression.specs.Contexts.{default_of}
-use Rattle.filterset_expression.specs.Meaning.{IsCompiled}
 use Rattle.filterset_expression.specs.declared.expression.CompiledExpr.{CompiledExpr}
 use Rattle.filterset_listing.specs.Asking.{Text}
+use Rattle.filterset_listing.specs.Columns.{Fits}
 use Rattle.filterset_listing.specs.Groups.{HangsOn}
 use Rattle.filterset_listing.specs.Nodes.{tree_nodes}
 use Rattle.filterset_listing.specs.NamedPackages.{NamesPackages}
-use Rattle.filterset_listing.specs.Values.{HasValue, HasValueIn}
+use Rattle.filterset_listing.specs.SubjectValues.{Basis, HasColumn, may_be}
+use Rattle.filterset_listing.specs.Values.{HasValue}
+use Rattle.filterset_listing.specs.declared.columns.Columns.{Columns}
 use Rattle.filterset_listing.specs.declared.explaining.ExplainedNode.{ExplainedNode}
 use Rattle.filterset_listing.specs.declared.explaining.Explanation.{Explanation}
 use Rattle.filterset_listing.specs.declared.explaining.candidate.Candidate.{Candidate}
 use Rattle.filterset_listing.specs.declared.explaining.candidate.Candidate.TheVariants.{Test}
-use Rattle.filterset_listing.specs.declared.explaining.values.Inquiry.{Inquiry}
+use Rattle.filterset_listing.specs.declared.explaining.packages.NamedPackages.{NamedPackages}
 use Rattle.filterset_listing.specs.declared.groups.GroupOverride.{GroupOverride}
+use Rattle.filterset_listing.specs.declared.subjects.Subject.{Subject}
 
 -- the node with its depth, the value of its own tree, and the packages that it stands for
 abbrev pub IsExplained : (Tree SourceSpan → Option Bool → Type 0) → List PackageMetadata → (ℕ × Tree SourceSpan) → ExplainedNode → Type 0
@@ -42,20 +44,31 @@ IsExplanation candidate overrides packages default e explanation =
     AllZip (IsExplained (HasValue candidate overrides packages default) packages) (tree_nodes 0 e) explanation.nodes.items
     × NamesOverride candidate overrides default (has_unknown explanation.nodes.items) explanation.unknown_platform
 
--- ---- in one group
+-- ---- by columns
 
--- a tree has the value for which it is asked
-abbrev pub HasAsked : Inquiry → Tree SourceSpan → Option Bool → Type 0
-HasAsked inquiry = HasValueIn inquiry.lookup.group.now inquiry.candidate inquiry.graph.now (default_of inquiry.context)
+-- the value that all of these are; none if one is unknown, or if they differ
+abbrev pub shared_value : List (Option Bool) → Option Bool
+shared_value values = cond (list_all (λ v. not (may_be v false)) values) (Some true)
+    (cond (list_all (λ v. not (may_be v true)) values) (Some false) None)
 
--- an operator was added
-abbrev pub AddsOperator : ℕ → Tree SourceSpan → Option Bool → List ExplainedNode → List ExplainedNode → Type 0
-AddsOperator depth e value before after =
-    (added : ExplainedNode) × (after ≡ before ++ added ∷ []) × (added.depth ≡ depth) × (tree_of added.node.now ≡ e)
-    × (added.value ≡ value) × (added.packages ≡ None)
+-- the tree has the value for all of the subjects
+abbrev pub HasShared : Basis → List Subject → Tree SourceSpan → Option Bool → Type 0
+HasShared basis subjects e value =
+    (values : List (Option Bool)) × HasColumn basis subjects e values × (value ≡ shared_value values)
 
--- the nodes of a tree were added, from the end, and this is the value of the tree
-abbrev pub Explains : Inquiry → ℕ → Tree SourceSpan → CompiledExpr → Option Bool → List ExplainedNode → List ExplainedNode → Type 0
-Explains inquiry depth e compiled value before after = IsCompiled inquiry.graph.now e compiled → HasAsked inquiry e value
-    × ((added : List ExplainedNode) × (after ≡ before ++ reverse added)
-    × AllZip (IsExplained (HasAsked inquiry) inquiry.graph.now) (tree_nodes depth e) added)
+-- a node was added
+abbrev pub AddsNode :
+    ℕ → Tree SourceSpan → Option Bool → Option NamedPackages → List ExplainedNode → List ExplainedNode → Type 0
+AddsNode depth e value packages before after = (added : ExplainedNode) × (after ≡ before ++ added ∷ [])
+    × (added.depth ≡ depth) × (tree_of added.node.now ≡ e) × (added.value ≡ value) × (added.packages ≡ packages)
+
+-- the nodes of the tree were added, with the values that they have for all of the subjects
+abbrev pub ExplainsBy : Basis → List Subject → ℕ → Tree SourceSpan → List ExplainedNode → List ExplainedNode → Type 0
+ExplainsBy basis subjects depth e before after = (added : List ExplainedNode) × (after ≡ before ++ added)
+    × AllZip (IsExplained (HasShared basis subjects) basis.packages) (tree_nodes depth e) added
+
+-- so they were, if these are the values
+abbrev pub Explains : List PackageMetadata → ℕ → Tree SourceSpan → Columns → List ExplainedNode → List ExplainedNode → Type 0
+Explains packages depth e columns before after = (default : CompiledExpr) (subjects : List Subject)
+    → Fits (record { packages = packages; default = default }) subjects e columns
+    → ExplainsBy (record { packages = packages; default = default }) subjects depth e before after

@@ -8,7 +8,6 @@ pub mod Explaining
 pub mod ExplanationText
 pub mod Finding
 pub mod Groups
-pub mod Joining
 pub mod ListJson
 pub mod ListText
 pub mod Listing
@@ -18,7 +17,6 @@ pub mod Nodes
 pub mod Operands
 pub mod Overrides
 pub mod Pickers
-pub mod Possible
 pub mod Selection
 pub mod SubjectValues
 pub mod Subjects

@@ -8,11 +8,7 @@ use Rattle.filterset_graph.specs.declared.package.PackageMetadata.{PackageMetada
 use Rattle.filterset_grammar.specs.Tree.{Tree, Leaf, Matching, Set}
 use Rattle.filterset_grammar.specs.declared.predicate.Predicate.TheVariants.{Package, Deps, Rdeps}
 use Rattle.filterset_expression.specs.Expression as compiled
-use Rattle.filterset_expression.specs.Expression.{CompiledLeaf, formula}
-use Rattle.filterset_expression.specs.Formula as formulas
-use Rattle.filterset_expression.specs.Formula.{Formula}
 use Rattle.filterset_expression.specs.Meaning.{IsCompiledLeaf}
-use Rattle.filterset_expression.specs.declared.expression.CompiledExpr.{CompiledExpr}
 use Rattle.filterset_listing.specs.declared.explaining.packages.NamedPackages.{NamedPackages}
 
 -- the packages of the graph whose ids are in the set, each once and in the order of the graph
@@ -24,20 +20,6 @@ abbrev pub Names : List PackageMetadata → NamedPackages → Type 0
 Names packages named =
     (map (λ n. n.now) named.names.items ≡ map (λ (p : PackageMetadata). string_bytes p.name) (take 10 packages))
     × (named.others ≡ length packages - 10)
-
--- the ids that the formula is of, if it is a set of packages
-abbrev pub set_of : Formula CompiledLeaf → Option (List Text)
-set_of (formulas.Leaf (compiled.Packages set)) = Some set
-set_of _ = None
-
--- packages are named for a set of packages alone
-abbrev pub NamesOf : List PackageMetadata → Option (List Text) → Option NamedPackages → Type 0
-NamesOf packages (Some set) (Some named) = Names (members set packages) named
-NamesOf packages None None = Unit {0}
-NamesOf packages _ _ = ⊥
-
-abbrev pub NamesSet : List PackageMetadata → CompiledExpr → Option NamedPackages → Type 0
-NamesSet packages expr named = NamesOf packages (set_of (formula expr)) named
 
 -- the predicate matches packages
 abbrev pub stands_for_packages : {S : Type 0} → Tree S → Bool

@@ -1,10 +1,11 @@
 -- What filtersets are asked about for a list of tests.
-use Rattle.std.specs.Prelude.{◌≡◌, true, false, List, [], ◌∷◌, ◌++◌, All, Contains, map}
+use Rattle.std.specs.Prelude.{◌≡◌, true, false, List, [], ◌∷◌, ◌++◌, All, Contains, Option, Some, None, map}
+use Rattle.std.specs.Borrow.{Bor}
 use Rattle.filterset_expression.specs.declared.expression.CompiledExpr.{CompiledExpr}
 use Rattle.filterset_expression.specs.declared.query.BinaryQuery.{BinaryQuery}
 use Rattle.filterset_expression.specs.declared.query.TestQuery.{TestQuery}
 use Rattle.filterset_listing.specs.Asking.{Text}
-use Rattle.filterset_listing.specs.Groups.{MayBeIn}
+use Rattle.filterset_listing.specs.Groups.{HangsOn, MayBeIn}
 use Rattle.filterset_listing.specs.declared.binary.AskedBinary.{AskedBinary}
 use Rattle.filterset_listing.specs.declared.explaining.candidate.Candidate.{Candidate}
 use Rattle.filterset_listing.specs.declared.explaining.candidate.Candidate.TheVariants.{Binary, Test}
@@ -20,6 +21,18 @@ AreGroupsOf default overrides test groups = All (MayBeIn default overrides test)
 abbrev pub AreOfTest : CompiledExpr → List GroupOverride → TestQuery → List Subject → Type 0
 AreOfTest default overrides test subjects = All (λ s. s.candidate ≡ Test test) subjects
     × AreGroupsOf default overrides test (map (λ s. s.group.now) subjects)
+
+-- If the test may be in several groups, this is the path of the override that it hangs on. It is in one, if there is none.
+abbrev pub HangsBy : CompiledExpr → List GroupOverride → TestQuery → List Subject → Option (Bor Text) → Type 0
+HangsBy default overrides test subjects (Some path) = HangsOn default overrides test path.now
+HangsBy default overrides test subjects None = (subject : Subject) × (subjects ≡ subject ∷ [])
+
+-- the binary, or the test in each group that it may be in
+abbrev pub AreOfCandidate : CompiledExpr → List GroupOverride → Candidate → List Subject → Option (Bor Text) → Type 0
+AreOfCandidate default overrides (Binary query) subjects path =
+    (path ≡ None) × ((subject : Subject) × (subjects ≡ subject ∷ []) × (subject.candidate ≡ Binary query))
+AreOfCandidate default overrides (Test test) subjects path =
+    AreOfTest default overrides test subjects × HangsBy default overrides test subjects path
 
 -- the test of the binary with this name, in each such group
 abbrev pub AreOfName : CompiledExpr → List GroupOverride → BinaryQuery → Text → List Subject → Type 0

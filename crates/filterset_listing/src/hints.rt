@@ -36,7 +36,7 @@ fn all_deciding(alloc: Global, subjects: &[Subject<'_>]) -> Result<Vec<bool>, Al
 }
 
 /// Returns whether each predicate of a filterset matches a test, and so does the filterset.
-fn picks_by_all(unmatched: &[UnmatchedPredicate<'_>], columns: &Columns) -> bool
+fn picks_by_all(unmatched: &[UnmatchedPredicate<'_>], columns: &Columns<'_>) -> bool
     ensures { result ≡ picks_by_all (unmatched_of unmatched.now) (values_of columns.now) }
 {
     unmatched.is_empty() && any_yes(columns.values())
@@ -46,7 +46,7 @@ fn picks_by_all(unmatched: &[UnmatchedPredicate<'_>], columns: &Columns) -> bool
 fn needless_of<'t>(
     alloc: Global,
     tree: &'t ParsedExpr,
-    columns: &Columns,
+    columns: &Columns<'_>,
     subjects: &[Subject<'_>],
     unmatched: &[UnmatchedPredicate<'_>],
 ) -> Result<Vec<NeedlessOperand<'t>>, AllocError>

@@ -70,7 +70,7 @@ fn beside(
 /// Returns the constant that changes nothing in place of a tree, if it is an operand. Parentheses are none.
 fn constant_for(
     tree: &ParsedExpr,
-    columns: &Columns,
+    columns: &Columns<'_>,
     deciding: &[bool],
     is_operand: bool,
 ) -> Option<bool>
@@ -93,7 +93,7 @@ fn constant_for(
 fn beside_both(
     alloc: Global,
     deciding: &[bool],
-    columns: &Columns,
+    columns: &Columns<'_>,
     right: bool,
     left: bool,
 ) -> Result<(Vec<bool>, Vec<bool>), AllocError>
@@ -111,7 +111,7 @@ fn beside_both(
 pub fn find_needless<'t>(
     alloc: Global,
     tree: &'t ParsedExpr,
-    columns: &Columns,
+    columns: &Columns<'_>,
     deciding: &[bool],
     is_operand: bool,
     found: &mut Vec<NeedlessOperand<'t>>,

@@ -7,14 +7,13 @@ ghost use Rattle.filterset_faults.specs.declared.span.SourceSpan.{SourceSpan};
 ghost use Rattle.filterset_grammar.specs.Tree.{Tree};
 ghost use Rattle.filterset_graph.specs.declared.package.PackageMetadata.{PackageMetadata};
 ghost use Rattle.filterset_listing.specs.Overrides.{AreLaid, AreTold};
-ghost use Rattle.filterset_listing.specs.Subjects.{AreOfBinary, AreOfTest, AreSubjects};
+ghost use Rattle.filterset_listing.specs.Subjects.{AreOfBinary, AreOfCandidate, AreOfTest, AreSubjects, HangsBy};
 ghost use Rattle.filterset_listing.specs.Values.{HasValueIn};
 ghost use Rattle.filterset_listing.specs.declared.groups.GroupOverride as groups;
 ghost use Rattle.filterset_listing.specs.declared.subjects.Subject as declared;
 
 use crate::binary::AskedBinary;
 use crate::explaining::candidate::Candidate;
-use crate::explaining::possible::possible_groups;
 use crate::groups::{FlatOverride, GroupOverride, ToldOverride, lay_out, picks_in, told_overrides};
 use crate::lookup::OneGroup;
 use filterset_expression::{CompiledExpr, EvalContext, FlatExpr, TestQuery};
@@ -50,30 +49,38 @@ impl Subject<'_> {
     }
 }
 
-/// Adds the test in each group that it may be in. `rows` are the overrides that may apply to tests of its binary.
+/// Adds the test in each group that it may be in, where `rows` are the overrides that may apply to tests of its binary. Returns
+/// the path of the override that its group hangs on: the first one that picks it and whose platforms are unknown.
 fn push_test<'s>(
     subjects: &mut Vec<Subject<'s>>,
     alloc: Global,
     rows: &[ToldOverride<'_, 's, '_>],
     test: TestQuery<'s>,
-) -> Result<(), AllocError>
-    ensures { OnOk result ((default : compiled.CompiledExpr) (overrides : List groups.GroupOverride)
+) -> Result<Option<&'s str>, AllocError>
+    ensures { IfOk result (λ path. (default : compiled.CompiledExpr) (overrides : List groups.GroupOverride)
         → AreTold default overrides test.entry.binary_query rows.now
         → (added : List declared.Subject) × (subjects.new.items ≡ subjects.old.items ++ added)
-        × AreOfTest default overrides test.entry added) }
+        × AreOfTest default overrides test.entry added × HangsBy default overrides test.entry added path) }
 {
-    let possible = possible_groups(alloc, rows, &test)?;
-    for over in &possible.undecided {
-        subjects.push(Subject {
-            candidate: Candidate::Test(test),
-            group: over.group,
-        })?;
+    let mut path = None;
+    for row in rows {
+        if row.covers(alloc, &test)? {
+            let given = row.laid.given;
+            subjects.push(Subject {
+                candidate: Candidate::Test(test),
+                group: given.group,
+            })?;
+            if row.is_sure {
+                return Ok(path);
+            }
+            path = Some(path.unwrap_or(given.path));
+        }
     }
     subjects.push(Subject {
         candidate: Candidate::Test(test),
-        group: possible.last,
+        group: GLOBAL_TEST_GROUP,
     })?;
-    Ok(())
+    Ok(path)
 }
 
 /// Adds what filtersets are asked about for a binary: the binary if it was skipped, or else each of its tests, in each group
@@ -105,6 +112,36 @@ fn push_binary<'s>(
         push_test(subjects, alloc, &rows, test)?;
     }
     Ok(())
+}
+
+/// Returns what a filterset is asked about for a binary or a test, and for a test that may be in several groups the path of
+/// the override that this hangs on.
+pub fn subjects_for<'s>(
+    alloc: Global,
+    overrides: &[GroupOverride<'s>],
+    context: &EvalContext<'s>,
+    candidate: Candidate<'s>,
+) -> Result<(Vec<Subject<'s>>, Option<&'s str>), AllocError>
+    ensures { IfOk result (λ made.
+        AreOfCandidate (default_of context.now) overrides.now candidate.entry made.0.items made.1) }
+{
+    match candidate {
+        Candidate::Binary(_) => {
+            let subject = Subject {
+                candidate,
+                group: GLOBAL_TEST_GROUP,
+            };
+            Ok((vec![in alloc; subject]?, None))
+        }
+        Candidate::Test(test) => {
+            let all = CompiledExpr::ALL;
+            let laid = lay_out(alloc, overrides, &all, context)?;
+            let rows = told_overrides(alloc, &laid, &test.binary_query)?;
+            let mut subjects = Vec::new(alloc);
+            let path = push_test(&mut subjects, alloc, &rows, test)?;
+            Ok((subjects, path))
+        }
+    }
 }
 
 /// Returns what filtersets are asked about for binaries: each test of a binary that was listed, in each group that

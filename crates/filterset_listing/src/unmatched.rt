@@ -60,7 +60,7 @@ fn count_unknown(values: &[Option<bool>]) -> usize
 /// Adds the predicates of a tree that match no test, from left to right.
 pub fn find_unmatched<'t>(
     tree: &'t ParsedExpr,
-    columns: &Columns,
+    columns: &Columns<'_>,
     found: &mut Vec<UnmatchedPredicate<'t>>,
 ) -> Result<(), AllocError>
     ensures { OnOk result (unmatched_of found.new.items

@@ -1,8 +1,12 @@
 //! The packages that a predicate matches, by name.
 ghost use Rattle.std.specs.Prelude.{◌≡◌, ◌++◌, ◌∷◌, [], IfOk, List, OnOk, string_bytes};
+ghost use Rattle.filterset_faults.specs.declared.span.SourceSpan.{SourceSpan};
+ghost use Rattle.filterset_grammar.specs.Tree.{Leaf, Set};
 ghost use Rattle.filterset_graph.specs.declared.package.PackageMetadata as declared;
-ghost use Rattle.filterset_listing.specs.NamedPackages.{Names, NamesSet, members};
+ghost use Rattle.filterset_listing.specs.Columns.{Keeps};
+ghost use Rattle.filterset_listing.specs.NamedPackages.{Names, NamesPackages, members};
 
+use crate::columns::Columns;
 use crate::counting::add_count;
 use filterset_expression::{CompiledExpr, FiltersetLeaf};
 use filterset_graph::{PackageGraph, PackageId, PackageMetadata};
@@ -70,18 +74,21 @@ fn name_members<'g>(
     Ok(named)
 }
 
-/// Returns the packages that a predicate is compiled to, or `None` if it is compiled to something else.
-pub fn named_packages<'g>(
-    alloc: Global,
-    graph: &'g PackageGraph,
-    expr: &CompiledExpr,
-) -> Result<Option<NamedPackages<'g>>, AllocError>
-    ensures { IfOk result (NamesSet graph.now expr.now) }
-{
-    match expr {
-        CompiledExpr::Set(FiltersetLeaf::Packages(ids)) => {
-            Ok(Some(name_members(alloc, graph, ids)?))
+impl Columns<'_> {
+    /// Returns the packages that the predicate is compiled to, or `None` if it is compiled to something else.
+    pub fn packages<'g>(
+        &self,
+        alloc: Global,
+        graph: &'g PackageGraph,
+    ) -> Result<Option<NamedPackages<'g>>, AllocError>
+        ensures { IfOk result (λ named. (leaf : Leaf SourceSpan) → Keeps graph.now (Set leaf) self.now
+            → NamesPackages graph.now (Set leaf) named) }
+    {
+        match self {
+            Columns::Leaf(_, CompiledExpr::Set(FiltersetLeaf::Packages(ids))) => {
+                Ok(Some(name_members(alloc, graph, ids)?))
+            }
+            _ => Ok(None),
         }
-        _ => Ok(None),
     }
 }

@@ -1,29 +1,58 @@
-use Rattle.std.proofs.Common.{arith, ◌≡◌, ◌<◌, ◌++◌, List, length, get_or, map, subst, sym, take}
-use Rattle.std.proofs.lemmas.List.{append-nil, take_all}
-use Rattle.filterset_listing.specs.Subjects.{AreOfTest}
-use Rattle.filterset_listing.specs.declared.groups.GroupOverride.{GroupOverride}
-use Rattle.filterset_listing.proofs.SubjectLemmas.{in_each, in_group, more_added, of_possible, one_in_group}
+use Rattle.std.proofs.Common.{arith, ◌≡◌, ◌∙◌, ◌<◌, ◌+◌, ◌∷◌, [], ◌++◌, Some, None, ap, cond, drop, get_or, length, map, refl, subst, sym, true}
+use Rattle.std.proofs.lemmas.Bool.{false≢true}
+use Rattle.std.proofs.lemmas.List.{append-nil, drop_all}
+use Rattle.filterset_listing.specs.Overrides.{MayApply, given_of}
+use Rattle.filterset_listing.proofs.SubjectLemmas.{Walked, begins, ended, left_from, more_added, opened, passed, surely}
 use Rattle.filterset_listing.proofs.subjects.push_test.Goals as goal
+use Rattle.filterset_listing.proofs.subjects.push_test.Goals.{then-branch+in_ok-push+else-row, else-branch}
 
-pub loop-over-init : goal.loop-over-init
-loop-over-init c = sym (append-nil _)
-
-pub loop-over-preserved : goal.loop-over-preserved
-loop-over-preserved c =
-    let overs = c.deref-over-items.result.now in
-    let i = c.loop-over.over-index in
-    let over = c.over-item.result in
-    let lt : i < length overs = omega (arith, c.loop-over-test.true) in
-    let at : get_or overs i over ≡ over = sym c.over-item.is in
-    one_in_group c.args.test overs i over lt at _ _ _ c.loop-over.invariant c.in_ok-push.ensures.items
+pub loop-row-init : goal.loop-row-init
+loop-row-init c default overrides told =
+    ([], sym (append-nil _), begins default overrides c.args.test (map given_of c.args.rows.now) (told.1 c.args.test refl))
 
 pub returns : goal.returns
 returns c default overrides told =
     let test = c.args.test in
-    let possible = c.in_ok-possible.possible in
-    let overs = c.deref-over-items.result.now in
-    let before = subst (λ (l : List GroupOverride). c.loop-over.subjects.items ≡ c.args.subjects.now.items ++ map (λ (o : GroupOverride). in_group test o.group) l)
-    (take_all c.loop-over.over-index overs c.loop-over-test.false) c.loop-over.invariant in
-    let are = subst (λ l. AreOfTest default overrides test (in_each test l possible.last)) (sym c.deref-over-items.ensures.value)
-    (of_possible default overrides test possible (c.in_ok-possible.ensures default overrides told)) in
-    (in_each test overs possible.last, more_added _ _ _ _ _ before c.in_ok-push-2.ensures.items, are)
+    let rows = c.args.rows.now in
+    let before = c.loop-row.invariant default overrides told in
+    let none = drop_all c.loop-row.row-index rows c.loop-row-test.false in
+    let walked = subst (λ l. Walked default overrides test before.0 c.loop-row.path (map given_of l)) none before.2 in
+    let done = ended default overrides test before.0 _ c.loop-row.path walked refl refl in
+    (before.0 ++ _ ∷ [], more_added _ _ _ _ _ before.1 c.in_ok-push-2.ensures.items, done.0, done.1)
+
+pub loop-row-preserved : goal.loop-row-preserved
+loop-row-preserved c default overrides told =
+    let test = c.args.test in
+    let rows = c.args.rows.now in
+    let i = c.loop-row.row-index in
+    let row = c.row-item.result in
+    let before = c.loop-row.invariant default overrides told in
+    let lt : i < length rows = omega (arith, c.loop-row-test.true) in
+    let at : get_or rows i row ≡ row = sym c.row-item.is in
+    let may : MayApply default test.binary_query row = subst (MayApply default test.binary_query) at (told.0 i row lt) in
+    let walked = subst (Walked default overrides test before.0 c.loop-row.path) (left_from rows i row lt at) before.2 in
+    let left = map given_of (drop (i + 1) rows) in
+    let covers = c.in_ok-covers.ensures default may in
+    elim c.if-branch.branch [
+      | then-branch+in_ok-push+else-row w ↦
+          let unknown = may.2 ∙ ap (λ b. cond b (Some true) None) w.if-row.false in
+          let done = opened default overrides test before.0 _ (given_of row) left (covers.0 w.if-branch.true) refl refl c.loop-row.path walked unknown in
+          rw (w.subjects-is, w.path-is, w.unwrap_or.ensures) (before.0 ++ _ ∷ [], more_added _ _ _ _ _ before.1 w.in_ok-push.ensures.items, done)
+      | else-branch w ↦
+          rw (w.subjects-is, w.path-is) (before.0, before.1, passed default overrides test before.0 c.loop-row.path (given_of row) left (λ is. false≢true (sym w.if-branch.false ∙ covers.1 is)) walked)
+    ]
+
+pub returns-then-row : goal.returns-then-row
+returns-then-row c default overrides told =
+    let test = c.args.test in
+    let rows = c.args.rows.now in
+    let i = c.loop-row.row-index in
+    let row = c.row-item.result in
+    let before = c.loop-row.invariant default overrides told in
+    let lt : i < length rows = omega (arith, c.loop-row-test.true) in
+    let at : get_or rows i row ≡ row = sym c.row-item.is in
+    let may : MayApply default test.binary_query row = subst (MayApply default test.binary_query) at (told.0 i row lt) in
+    let walked = subst (Walked default overrides test before.0 c.loop-row.path) (left_from rows i row lt at) before.2 in
+    let covers = (c.in_ok-covers.ensures default may).0 c.if-branch.true in
+    let done = surely default overrides test before.0 _ (given_of row) (map given_of (drop (i + 1) rows)) covers refl refl c.loop-row.path walked (may.2 ∙ ap (λ b. cond b (Some true) None) c.if-row.true) in
+    (before.0 ++ _ ∷ [], more_added _ _ _ _ _ before.1 c.in_ok-push.ensures.items, done.0, done.1)

@@ -1,8 +1,13 @@
-use Rattle.std.proofs.Common.{◌≡◌, ◌++◌, map, take}
-use Rattle.filterset_listing.proofs.SubjectLemmas.{in_group}
+use Rattle.std.proofs.Common.{◌≡◌, ◌++◌, List, drop, map}
+use Rattle.filterset_expression.specs.declared.expression.CompiledExpr.{CompiledExpr}
+use Rattle.filterset_listing.specs.Overrides.{AreTold, given_of}
+use Rattle.filterset_listing.specs.declared.groups.GroupOverride.{GroupOverride}
+use Rattle.filterset_listing.specs.declared.subjects.Subject.{Subject}
+use Rattle.filterset_listing.proofs.SubjectLemmas.{Walked}
 use Rattle.filterset_listing.proofs.subjects.push_test.Given as goal
 
--- the test was added in the groups so far
-abbrev pub invariant-loop-over : goal.invariant-loop-over
-invariant-loop-over l = l.subjects.items ≡ l.initial.subjects.items
-    ++ map (λ over. in_group l.test over.group) (take l.over-index l.over-items)
+-- the test was added in the groups of the overrides so far
+abbrev pub invariant-loop-row : goal.invariant-loop-row
+invariant-loop-row l = (default : CompiledExpr) (overrides : List GroupOverride) → AreTold default overrides l.test.binary_query l.rows
+    → (added : List Subject) × (l.subjects.items ≡ l.initial.subjects.items ++ added)
+    × Walked default overrides l.test added l.path (map given_of (drop l.row-index l.rows))

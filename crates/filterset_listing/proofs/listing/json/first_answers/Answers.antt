@@ -1,4 +1,3 @@
-use Rattle.std.proofs.Common.{[], sym}
 use Rattle.std.proofs.lemmas.List.{append-nil}
 use Rattle.filterset_listing.specs.Listing.{tests_of, uncounted_of, unknown_of}
 use Rattle.filterset_listing.proofs.MarkingLemmas.{first_none, first_one}

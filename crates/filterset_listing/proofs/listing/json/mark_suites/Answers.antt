@@ -1,6 +1,6 @@
-use Rattle.std.proofs.Common.{rules, ◌≡◌, ◌∷◌, [], subst}
+use Rattle.std.proofs.Common.{rules, ◌≡◌, ◌∷◌, []}
 use Rattle.serde_json.specs.View.{members_view, view}
-use Rattle.filterset_listing.specs.ListJson.{MarksSuites, next_suite, no_suites}
+use Rattle.filterset_listing.specs.ListJson.{next_suite, no_suites}
 use Rattle.filterset_listing.proofs.MarkingLemmas.{made_one, made_all, marked_object, marked_other, suite_marked}
 use Rattle.filterset_listing.proofs.listing.json.mark_suites.Goals as goal
 

@@ -1,4 +1,4 @@
-use Rattle.std.proofs.Common.{arith, ◌≡◌, ◌<◌, Some, length, get_or, refl, sym, true}
+use Rattle.std.proofs.Common.{arith, ◌≡◌, ◌<◌, length, get_or, refl, sym, true}
 use Rattle.std.proofs.lemmas.List.{take_all}
 use Rattle.std.proofs.lemmas.Map.Text.{btree_map_updates_str}
 use Rattle.filterset_listing.specs.Listing.{tests_of, unknown_of}
