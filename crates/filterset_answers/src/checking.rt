@@ -1,5 +1,5 @@
 //! The faults of texts.
-ghost use Rattle.std.specs.Prelude.{◌≡◌, ◌++◌, IfOk, OnOk, [], codes, if◌then◌else◌, ℕ, length, map, string_bytes};
+ghost use Rattle.std.specs.Prelude.{◌≡◌, ◌++◌, IfOk, OnOk, [], codes, if◌then◌else◌, ℕ, map, string_bytes};
 ghost use Rattle.filterset_drawing.specs.Columns.{Text};
 ghost use Rattle.filterset_drawing.specs.Remarks.{remark_row};
 ghost use Rattle.nextest_filtering.specs.Groups.{IsKnown};
@@ -97,13 +97,6 @@ fn push_summary(
     }
 }
 
-/// Counts the texts.
-fn count_of(texts: &[TextEntry<'_>]) -> usize
-    ensures { result ≡ length (map text_row texts.now) }
-{
-    texts.len()
-}
-
 /// Writes the faults of texts, and counts the texts that have any.
 fn push_texts(
     output: &mut String,
@@ -140,7 +133,7 @@ pub fn check(
 {
     let mut text = String::new(alloc);
     let faulty = push_texts(&mut text, alloc, names, form, texts)?;
-    push_summary(&mut text, names, form, count_of(texts), faulty)?;
+    push_summary(&mut text, names, form, texts.len(), faulty)?;
     Ok(Answer {
         text,
         ending: ending_of(faulty),

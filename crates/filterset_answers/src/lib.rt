@@ -18,5 +18,6 @@ pub use checking::check;
 pub use compiling::{CompiledTexts, QuestionFiltersets, SettingFiltersets, compile_texts};
 pub use explaining::explain_filterset;
 pub use formatting::{format_texts, simplify_texts};
+pub use grouping::group_overrides;
 pub use overriding::explain_test_overrides;
 pub use picking::ask_workspace;

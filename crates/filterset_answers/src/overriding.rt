@@ -122,12 +122,12 @@ pub fn answer_overrides(
 }
 
 /// Explains the filter of an override for a test, if it has one.
-fn reason_of(
+fn reason_of<'x>(
     alloc: Global,
     setting: &Setting<'_>,
     made: &Option<Filterset>,
-    context: &EvalContext<'_>,
-    query: &TestQuery<'_>,
+    context: &EvalContext<'x>,
+    query: &TestQuery<'x>,
 ) -> Result<String, AllocError>
     ensures { IfOk result (λ reason.
         IsReasonFor query.now setting.now (default_of context.now) made.now (string_bytes reason)) }

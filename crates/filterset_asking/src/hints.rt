@@ -5,8 +5,9 @@ ghost use Rattle.filterset_listing.specs.Finding.{found_of, unmatched_of};
 ghost use Rattle.filterset_language.specs.Views.{leaf_of, tree_of};
 ghost use Rattle.filterset_asking.specs.Warnings.{constant_text, needless_remark, remarks_of, unmatched_remark};
 
-use crate::span::{leaf_span, span_of};
+use crate::span::span_of;
 use filterset_drawing::{Remark, Severity};
+use filterset_entries::leaf_span;
 use filterset_listing::{Hints, NeedlessOperand, UnmatchedPredicate};
 use std::alloc::{AllocError, Global};
 

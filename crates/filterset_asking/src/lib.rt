@@ -8,7 +8,6 @@ mod checking;
 mod configured;
 mod explaining;
 mod hints;
-mod overrides;
 mod overriding;
 mod profiled;
 mod setting;

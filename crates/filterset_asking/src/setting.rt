@@ -7,9 +7,8 @@ ghost use Rattle.filterset_faults.specs.declared.kind.FiltersetKind.TheVariants 
 ghost use Rattle.nextest_filtering.specs.Groups.{IsKnown};
 ghost use Rattle.filterset_asking.specs.Warnings.{AnswersWarnings, is_skipped, skipped_line, summary, warned_ending};
 
-use crate::overrides::group_overrides;
 use crate::texts::{WarningContext, warn_texts};
-use filterset_answers::{CompiledTexts, QuestionFiltersets, compile_texts};
+use filterset_answers::{CompiledTexts, QuestionFiltersets, compile_texts, group_overrides};
 use filterset_entries::{Answer, Ending, Form, Setting, TextEntry, WarningEnd};
 use filterset_listing::{AskedBinary, subjects_of};
 use nextest_filtering::{EvalContext, ParseContext};

@@ -1,30 +1,11 @@
 //! Spans of the parts of a filterset.
 ghost use Rattle.std.specs.Prelude.{◌≡◌};
-ghost use Rattle.filterset_language.specs.Faults.{leaf_span};
-ghost use Rattle.filterset_language.specs.Views.{leaf_of, tree_of};
+ghost use Rattle.filterset_language.specs.Views.{tree_of};
 ghost use Rattle.filterset_asking.specs.Spans.{cover, joined, tree_span};
 
+use filterset_entries::leaf_span;
 use filterset_faults::SourceSpan;
-use filterset_language::{ParsedExpr, ParsedLeaf};
-
-/// Returns the span of a predicate, if it has one.
-pub fn leaf_span(leaf: &ParsedLeaf) -> Option<SourceSpan>
-    ensures { result ≡ leaf_span (leaf_of leaf.now) }
-{
-    match leaf {
-        ParsedLeaf::Package(_, span)
-        | ParsedLeaf::Deps(_, span)
-        | ParsedLeaf::Rdeps(_, span)
-        | ParsedLeaf::Kind(_, span)
-        | ParsedLeaf::Binary(_, span)
-        | ParsedLeaf::BinaryId(_, span)
-        | ParsedLeaf::Test(_, span)
-        | ParsedLeaf::Group(_, span)
-        | ParsedLeaf::Platform(_, span)
-        | ParsedLeaf::Default(span) => Some(*span),
-        ParsedLeaf::All | ParsedLeaf::None => None,
-    }
-}
+use filterset_language::ParsedExpr;
 
 /// Returns the span from the start of one span to the end of another.
 fn cover(first: SourceSpan, last: SourceSpan) -> SourceSpan

@@ -1,15 +1,10 @@
 -- The steps in which lists are made part by part.
-use Rattle.std.proofs.Common.{◌≡◌, ℕ, zero, suc, arith, ◌+◌, ◌<◌, List, [], ◌∷◌, ◌++◌, length, map, take, get_or, ◌∙◌, sym, ap, subst, append_assoc}
+use Rattle.std.proofs.Common.{◌≡◌, ℕ, ◌+◌, ◌<◌, List, [], ◌∷◌, ◌++◌, length, map, take, get_or, sym, subst, append_assoc}
 use Rattle.std.proofs.lemmas.List.{append-nil, map-append, take_more}
 use Rattle.std.specs.List.{AllZip}
 use Rattle.filterset_configuration.proofs.Zips.{zip_push}
+pub use Rattle.filterset_entries.proofs.RowsLemmas.{rows_more}
 use Rattle.filterset_documents.specs.Joins.{Joins, no_parts, next_part}
-
--- the rows of one element more
-pub rows_more : {A B : Type 0} (f : A → B) (xs : List A) (i : ℕ) (x : A) → i < length xs → get_or xs i x ≡ x
-    → map f (take (i + 1) xs) ≡ map f (take i xs) ++ f x ∷ []
-rows_more f xs i x lt at =
-    ap (map f) (take_more xs i x lt ∙ ap (λ y. take i xs ++ y ∷ []) at) ∙ map-append f (take i xs) (x ∷ [])
 
 -- one more part
 pub Joins-push : {A B : Type 0} (P : A → List B → Type 0) (xs : List A) (x : A) (ys added : List B) → Joins P xs ys → P x added → Joins P (xs ++ x ∷ []) (ys ++ added)
@@ -56,11 +51,3 @@ pub Zips-items : {A B C : Type 0} (R : A → B → Type 0) (g : C → B) (xs : L
     → i < length xs → get_or xs i x ≡ x → AllZip R (take i xs) (map g ys) → R x (g y)
     → AllZip R (take (i + 1) xs) (map g (ys ++ y ∷ []))
 Zips-items R g xs i x ys y lt at are is = Zips-next R g xs i x ys y lt are (subst (λ z. R z (g y)) (sym at) is)
-
--- the pair at a position
-pub Zips-at : {A B : Type 0} (R : A → B → Type 0) (xs : List A) (ys : List B) (i : ℕ) (x : A) (y : B)
-    → i < length xs → AllZip R xs ys → R (get_or xs i x) (get_or ys i y)
-Zips-at R [] ys i x y lt are = absurd (omega arith)
-Zips-at R (z ∷ xs) [] i x y lt are = absurd are
-Zips-at R (z ∷ xs) (w ∷ ys) zero x y lt are = are.0
-Zips-at R (z ∷ xs) (w ∷ ys) (suc i) x y lt are = Zips-at R xs ys i x y (omega arith) are.1

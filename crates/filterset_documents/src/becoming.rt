@@ -21,13 +21,6 @@ pub fn list_strings(alloc: Global, strings: &[String]) -> Result<Vec<&str>, Allo
     Ok(texts)
 }
 
-/// Returns whether names are the same as others.
-fn have_same_names(names: &[&str], others: &[&str]) -> bool
-    ensures { Decides result (map (λ n. n.now) names.now ≡ map (λ n. n.now) others.now) }
-{
-    names == others
-}
-
 /// Lists the names of the groups of a configuration. A list has none.
 fn group_names<'g>(alloc: Global, content: Content<'g, '_>) -> Result<Vec<&'g str>, AllocError>
     ensures { IfOk result (λ names. map (λ n. n.now) names.items ≡ unwrap_or (content_row content.entry).groups []) }
@@ -80,7 +73,8 @@ fn has_texts(
 {
     let groups = group_names(alloc, content)?;
     let others = group_names(alloc, other)?;
-    if !have_same_names(others.as_slice(), groups.as_slice()) {
+    let are_same = others.as_slice() == groups.as_slice();
+    if !are_same {
         return Ok(false);
     }
     Ok(are_rewritten(content.entries, texts, other.entries))

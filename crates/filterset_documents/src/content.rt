@@ -3,11 +3,11 @@ ghost use Rattle.std.specs.Prelude.{◌≡◌, IfErr, IfOk, List, false, map};
 ghost use Rattle.filterset_entries.specs.Checked.{TextRow, text_row};
 ghost use Rattle.filterset_sources.specs.Configurations.{RefusesConfiguration};
 ghost use Rattle.filterset_documents.specs.Contents.{AreRowsOf, Holds, content_row, names_in};
-ghost use Rattle.filterset_documents.specs.Filtersets.{AreTexts, SaysWhy};
+ghost use Rattle.filterset_documents.specs.Filtersets.{SaysWhy};
 
 use filterset_configuration::Places;
 use filterset_drawing::Source;
-use filterset_entries::{ConfiguredTexts, TextEntry, configured_entries, line_entries};
+use filterset_entries::{TextEntry, configured_entries, configured_texts, line_entries};
 use filterset_sources::{Configuration, ConfiguredFilterset, SourceRefusal, read_configuration};
 use nextest_filtering::FiltersetKind;
 use std::alloc::{AllocError, Global};
@@ -17,21 +17,6 @@ use std::alloc::{AllocError, Global};
 pub enum Filtersets<'t> {
     Lines(Source<'t>),
     Configured(Source<'t>, Vec<ConfiguredFilterset>, Places),
-}
-
-/// Returns the filtersets of a configuration, with its file and their places in it.
-fn configured_texts<'t>(
-    file: &'t Source<'t>,
-    filtersets: &'t [ConfiguredFilterset],
-    places: &'t Places,
-) -> ConfiguredTexts<'t>
-    ensures { AreTexts file.entry.now filtersets.entry.now places.entry.now result }
-{
-    ConfiguredTexts {
-        file,
-        filtersets,
-        places,
-    }
 }
 
 impl Filtersets<'_> {

@@ -2,39 +2,17 @@
 ghost use Rattle.std.specs.Prelude.{◌≡◌, find, option_map};
 ghost use Rattle.filterset_entries.specs.Checked.{text_row};
 ghost use Rattle.filterset_entries.specs.Placements.{placement_of};
-ghost use Rattle.filterset_language.specs.Faults.{leaf_span};
-ghost use Rattle.filterset_language.specs.Views.{leaf_of};
 ghost use Rattle.filterset_documents.specs.Filtersets.{is_in, is_placed_at, is_row_at};
 
 use crate::places::{stretch_at, stretch_span};
 use filterset_entries::{FilePlace, TextEntry};
 use filterset_faults::SourceSpan;
-use filterset_language::ParsedLeaf;
 
 /// Returns whether an offset is in a span or at its end.
 pub fn is_in(span: SourceSpan, offset: usize) -> bool
     ensures { result ≡ is_in span offset }
 {
     span.offset() <= offset && offset - span.offset() <= span.len()
-}
-
-/// Returns the span of a predicate, if it has one.
-pub fn leaf_span(leaf: &ParsedLeaf) -> Option<SourceSpan>
-    ensures { result ≡ leaf_span (leaf_of leaf.now) }
-{
-    match leaf {
-        ParsedLeaf::Package(_, span)
-        | ParsedLeaf::Deps(_, span)
-        | ParsedLeaf::Rdeps(_, span)
-        | ParsedLeaf::Kind(_, span)
-        | ParsedLeaf::Binary(_, span)
-        | ParsedLeaf::BinaryId(_, span)
-        | ParsedLeaf::Test(_, span)
-        | ParsedLeaf::Group(_, span)
-        | ParsedLeaf::Platform(_, span)
-        | ParsedLeaf::Default(span) => Some(*span),
-        ParsedLeaf::All | ParsedLeaf::None => None,
-    }
 }
 
 /// Returns whether a filterset at this place is at this offset of the file.

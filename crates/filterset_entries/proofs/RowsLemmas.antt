@@ -2,7 +2,7 @@
 use Rattle.std.proofs.Common.{◌≡◌, ℕ, ◌+◌, ◌<◌, arith, List, [], ◌∷◌, ◌++◌, length, map, take, get_or, ◌∙◌, sym, ap, refl, Option, None, Some, subst, false, String, Global, string_bytes}
 use Rattle.std.proofs.lemmas.List.{map-append, length-map, length-take-le, take_more}
 use Rattle.std.proofs.lemmas.List.Elements.{filter_map-append}
-use Rattle.std.specs.List.{enumerate_from, filter_map, AllZip}
+use Rattle.std.specs.List.{enumerate_from, filter_map}
 use Rattle.std.specs.Prelude.{option_map, option_to_list}
 use Rattle.std.specs.Borrow.{Bor}
 use Rattle.filterset_drawing.specs.Columns.{Text}
@@ -21,6 +21,7 @@ use Rattle.nextest_filtering.specs.declared.filterset.ParseRefusal.{ParseRefusal
 use Rattle.nextest_filtering.specs.declared.filterset.ParseRefusal.TheVariants.{Faults}
 use Rattle.filterset_faults.specs.declared.parse_errors.FiltersetParseErrors.{FiltersetParseErrors}
 use Rattle.nextest_filtering.specs.declared.compile.context.KnownGroups.{KnownGroups}
+pub use Rattle.filterset_sources.proofs.TestLemmas.{AllZip-push}
 
 -- one more element, with the number behind those of the others
 enumerate_from-push : {A : Type 0} (n : ℕ) (xs : List A) (x : A)
@@ -120,13 +121,6 @@ pub remark_has_no_float : (origin text : Text) (part : Option FileSpan) (number 
 remark_has_no_float origin text part number remark d (here, there, at, in_file, is) =
     ap has_float is
     ∙ simp (number_data-has_float, text_data-has_float) refl
-
--- one more pair
-pub AllZip-push : {A B : Type 0} (R : A → B → Type 0) (xs : List A) (ys : List B) (x : A) (y : B) → AllZip R xs ys → R x y → AllZip R (xs ++ x ∷ []) (ys ++ y ∷ [])
-AllZip-push R [] [] x y all one = (one, tt)
-AllZip-push R [] (b ∷ ys) x y all one = absurd all
-AllZip-push R (a ∷ xs) [] x y all one = absurd all
-AllZip-push R (a ∷ xs) (b ∷ ys) x y all one = (all.0, AllZip-push R xs ys x y all.1 one)
 
 -- the faults of a refusal are ones that refuse the text
 pub refusal_faults : (input : String Global) (text : Text) (kind : FiltersetKind) (packages : List PackageMetadata) (groups : KnownGroups) (refusal : ParseRefusal) (refused : FiltersetParseErrors)

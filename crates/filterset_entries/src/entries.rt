@@ -62,10 +62,7 @@ fn unmarked(line: &str) -> &str
     ensures value { result.now ≡ unmarked line.now }
     ensures bound { length result.now ≤ length line.now }
 {
-    match line.strip_prefix("\u{feff}") {
-        Some(rest) => rest,
-        None => line,
-    }
+    line.strip_prefix("\u{feff}").unwrap_or(line)
 }
 
 /// Returns whether a line has no entry: it is a comment, or blank.
@@ -182,6 +179,23 @@ pub struct ConfiguredTexts<'t> {
     pub file: &'t Source<'t>,
     pub filtersets: &'t [ConfiguredFilterset],
     pub places: &'t Places,
+}
+
+/// Puts the filtersets of a file and their places together.
+pub fn configured_texts<'t>(
+    file: &'t Source<'t>,
+    filtersets: &'t [ConfiguredFilterset],
+    places: &'t Places,
+) -> ConfiguredTexts<'t>
+    ensures file { result.file.now ≡ file.entry.now }
+    ensures filtersets { result.filtersets.now ≡ filtersets.entry.now }
+    ensures places { result.places.now ≡ places.entry.now }
+{
+    ConfiguredTexts {
+        file,
+        filtersets,
+        places,
+    }
 }
 
 /// Returns the place of the filterset at a position of a configuration, if it was found.

@@ -1,14 +1,9 @@
 //! The faults of a text.
-ghost use Rattle.std.specs.Prelude.{◌≡◌, ◌≤◌, ◌∷◌, [], IfErr, IfOk, filter, map};
+ghost use Rattle.std.specs.Prelude.{◌≡◌, ◌∷◌, [], IfErr, IfOk, map};
 ghost use Rattle.filterset_drawing.specs.Remarks.{fault_remark, remark_row};
-ghost use Rattle.filterset_faults.specs.declared.span.SourceSpan.{SourceSpan};
-ghost use Rattle.filterset_grammar.specs.Grammar.{Spells};
-ghost use Rattle.filterset_grammar.specs.Tree.{Tree};
-ghost use Rattle.filterset_rewriting.specs.Nesting.Depth.{depth, most_levels};
 ghost use Rattle.nextest_filtering.specs.Compiling.{packages_of};
 ghost use Rattle.nextest_filtering.specs.Groups.{IsKnown};
 ghost use Rattle.filterset_entries.specs.Checked.{HasFaults, IsFiltersetFor, IsRefusedFor, all_remarks, deep_remark, text_row};
-ghost use Rattle.filterset_entries.specs.Names.{is_judged};
 
 use crate::names::Names;
 use crate::text::TextEntry;
@@ -18,27 +13,6 @@ use filterset_rewriting::TextRefusal;
 use filterset_rewriting::nesting::{MOST_LEVELS, find_deep_place};
 use nextest_filtering::{Filterset, KnownGroups, ParseContext, ParseSingleError};
 use std::alloc::{AllocError, Global};
-
-/// Parses a text that nests no more deeply than a text may.
-fn parse_shallow(
-    alloc: Global,
-    context: &ParseContext<'_>,
-    groups: &KnownGroups,
-    entry: &TextEntry<'_>,
-) -> Result<Result<Filterset, TextRefusal>, AllocError>
-    requires known { IsKnown groups.now }
-    requires shallow { (e : Tree SourceSpan) → Spells entry.now.text.now e → depth e ≤ most_levels }
-    ensures made { IfOk result (λ made.
-        IfOk made (IsFiltersetFor (packages_of context.now) groups.now (text_row entry.now))) }
-    ensures refused { IfOk result (λ made.
-        IfErr made (IsRefusedFor (packages_of context.now) groups.now (text_row entry.now))) }
-{
-    let input = String::from_str(alloc, entry.text)?;
-    match Filterset::parse(alloc, input, context, entry.kind, groups) {
-        Ok(filterset) => Ok(Ok(filterset)),
-        Err(refusal) => Ok(Err(TextRefusal::Found(refusal.into_faults()?.errors))),
-    }
-}
 
 /// Parses a text as a filterset of its kind, or returns why it is none. The outer error is out of memory.
 pub fn parse_entry(
@@ -53,9 +27,13 @@ pub fn parse_entry(
     ensures refused { IfOk result (λ made.
         IfErr made (IsRefusedFor (packages_of context.now) groups.now (text_row entry.now))) }
 {
-    match find_deep_place(alloc, entry.text, MOST_LEVELS)? {
-        Some(place) => Ok(Err(TextRefusal::TooDeep(place))),
-        None => parse_shallow(alloc, context, groups, entry),
+    if let Some(place) = find_deep_place(alloc, entry.text, MOST_LEVELS)? {
+        return Ok(Err(TextRefusal::TooDeep(place)));
+    }
+    let input = String::from_str(alloc, entry.text)?;
+    match Filterset::parse(alloc, input, context, entry.kind, groups) {
+        Ok(filterset) => Ok(Ok(filterset)),
+        Err(refusal) => Ok(Err(TextRefusal::Found(refusal.into_faults()?.errors))),
     }
 }
 
@@ -96,20 +74,6 @@ pub fn fault_remarks(alloc: Global, faults: &TextRefusal) -> Result<Vec<Remark>,
     }
 }
 
-/// Keeps the faults that count.
-fn judge(
-    alloc: Global,
-    names: &Names<'_>,
-    faults: Vec<ParseSingleError>,
-) -> Result<Vec<ParseSingleError>, AllocError>
-    ensures { IfOk result (λ judged. judged.items ≡ filter (is_judged names.now) faults.items) }
-{
-    faults
-        .into_iter()
-        .filter(|fault| names.judges(fault))
-        .collect(alloc)
-}
-
 /// Parses a text as a filterset of its kind, and returns a remark on each fault that counts.
 pub fn faults_of(
     alloc: Global,
@@ -122,7 +86,10 @@ pub fn faults_of(
     match parse_entry(alloc, &names.parse_context, &names.known_groups, entry)? {
         Ok(_filterset) => Ok(Vec::new(alloc)),
         Err(TextRefusal::Found(found)) => {
-            let judged = judge(alloc, names, found)?;
+            let judged: Vec<ParseSingleError> = found
+                .into_iter()
+                .filter(|fault| names.judges(fault))
+                .collect(alloc)?;
             found_remarks(alloc, judged.as_slice())
         }
         Err(TextRefusal::TooDeep(place)) => deep_remarks(alloc, place),

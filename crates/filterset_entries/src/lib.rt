@@ -15,13 +15,13 @@ mod text;
 mod unread;
 
 pub use entries::{
-    ConfiguredTexts, configured_entries, default_entry, entry_of, given_entries, input_entries,
-    line_entries, question_entries,
+    ConfiguredTexts, configured_entries, configured_texts, default_entry, entry_of, given_entries,
+    input_entries, line_entries, question_entries,
 };
 pub use faults::{fault_remarks, faults_of, parse_entry};
 pub use form::{Form, RemarkWriter, push_faults};
 pub use names::Names;
-pub use place::{FilePlace, Spot, file_part};
+pub use place::{FilePlace, Spot, file_part, leaf_span};
 pub use profile::{asked_profiles, entry_at, override_entries};
 pub use question::Question;
 pub use setting::{OverrideEntry, Setting};

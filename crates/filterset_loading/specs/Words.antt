@@ -246,16 +246,12 @@ abbrev pub IsWorkspaceAsked : Found → Option WorkspacePaths → Type 0
 IsWorkspaceAsked found None = first_value found (codes "metadata") ≡ None
 IsWorkspaceAsked found (Some paths) = AreFilesAsked found paths × (paths.run_ignored ≡ All)
 
--- `lsp` asks for an editor to be served, with a workspace or without
-abbrev pub IsServiceAsked : ArgMatches → Option WorkspacePaths → Type 0
-IsServiceAsked matches paths = (found : Found) × Gives matches (codes "lsp") found × IsWorkspaceAsked found paths
-
 -- the words ask for a request, in which standard input stands for one thing at most, for the script of a shell, or to serve
--- an editor
+-- an editor, with a workspace or without
 abbrev pub IsTask : ArgMatches → Task → Type 0
 IsTask matches (Answer request) = IsAsked matches request × (input_count request ≤ 1)
 IsTask matches (Complete shell) = IsShellAsked matches shell
-IsTask matches (Serve paths) = IsServiceAsked matches paths
+IsTask matches (Serve paths) = (found : Found) × Gives matches (codes "lsp") found × IsWorkspaceAsked found paths
 
 -- an argument is missing, `-` is given beside other filtersets, or the budget is no number
 abbrev pub IsFaultOf : Found → CommandFault → Type 0

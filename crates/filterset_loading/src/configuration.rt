@@ -7,9 +7,7 @@ ghost use Rattle.filterset_loading.specs.Files.{BySource, IsFileFault, OrMemory}
 use crate::fault::{CommandFault, FileRole};
 use crate::files::{FileSource, read_text};
 use filterset_configuration::Places;
-use filterset_drawing::Source;
-use filterset_entries::ConfiguredTexts;
-use filterset_sources::{Configuration, ConfiguredFilterset, read_configuration};
+use filterset_sources::{Configuration, read_configuration};
 use std::alloc::Global;
 
 /// A configuration, the text that it was read from, and where its filtersets are in it.
@@ -64,21 +62,4 @@ pub fn read_configuration_file<F: FileSource>(
         configuration,
         places,
     })
-}
-
-/// Puts the filtersets of a file and their places together.
-pub fn configured_texts<'t>(
-    file: &'t Source<'t>,
-    filtersets: &'t [ConfiguredFilterset],
-    places: &'t Places,
-) -> ConfiguredTexts<'t>
-    ensures file { result.file.now ≡ file.entry.now }
-    ensures filtersets { result.filtersets.now ≡ filtersets.entry.now }
-    ensures places { result.places.now ≡ places.entry.now }
-{
-    ConfiguredTexts {
-        file,
-        filtersets,
-        places,
-    }
 }

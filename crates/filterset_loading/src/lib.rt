@@ -12,9 +12,10 @@ mod request;
 mod words;
 mod workspace;
 
-pub use configuration::{ConfigurationFile, configured_texts, read_configuration_file};
+pub use configuration::{ConfigurationFile, read_configuration_file};
 pub use fault::{CommandFault, FileFault, FileRole};
 pub use files::{FileSource, HostFiles, WithInput};
+pub use filterset_entries::configured_texts;
 pub use input::{INPUT_NAME, name_of, read_input};
 pub use profile::{
     ChosenFilter, KnownPlatforms, ProfileRequest, ProfilesFile, choose, lineage_of, profiles_in,

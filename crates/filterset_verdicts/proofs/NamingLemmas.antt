@@ -25,9 +25,6 @@ pub contains_image : {A B : Type 0} (f : A → B) (xs : List A) (n : ℕ) (x : A
 contains_image f xs n x h = (n, rw (length-map xs f) h.0, get_or-map f xs n x (f x) h.0 ∙ ap f (sym h.1))
 
 -- what holds at the variant that an option is
-pub at_some : {A : Type 0} (o : Option A) (a : A) (P : Type 0) (Q : A → Type 0) → o ≡ Some a → Q a → MatchOption o P Q
-at_some o a P Q is q = subst (λ v. MatchOption v P Q) (sym is) q
-
 pub at_none : {A : Type 0} (o : Option A) (P : Type 0) (Q : A → Type 0) → o ≡ None → P → MatchOption o P Q
 at_none o P Q is p = subst (λ v. MatchOption v P Q) (sym is) p
 

@@ -8,19 +8,12 @@ use Rattle.filterset_deciding.specs.declared.demand.Demand.{Demand}
 use Rattle.filterset_deciding.specs.declared.demand.Doubt.{Doubt}
 use Rattle.filterset_deciding.specs.declared.demand.TestField.{TestField}
 use Rattle.filterset_deciding.specs.declared.question.Question.{Question}
-use Rattle.filterset_deciding.specs.declared.question.Question.TheVariants.{AllAlike, AtLeastOne, AtMostOne, ExactlyOne}
 use Rattle.filterset_deciding.specs.declared.witness.PossibleTest.{PossibleTest}
 use Rattle.filterset_drawing.specs.Columns.{Text}
 use Rattle.filterset_graph.specs.Platforms.{platform_text}
 use Rattle.filterset_graph.specs.declared.package.PackageMetadata.{PackageMetadata}
+use Rattle.filterset_loading.specs.Words.{decision_name}
 use Rattle.filterset_verdicts.specs.VerdictText.{IsPackageText, demand_text}
-
--- what a question is called
-abbrev pub question_word : Question → Text
-question_word AllAlike = codes "same"
-question_word AtLeastOne = codes "cover"
-question_word AtMostOne = codes "disjoint"
-question_word ExactlyOne = codes "partition"
 
 -- the numbers of the filtersets that pick the test, where the first has this number
 abbrev pub picked_numbers : ℕ → List Bool → List ℕ
@@ -50,7 +43,7 @@ doubt_data doubt = array (items_of (map (demand_item doubt.field) doubt.demands.
 abbrev pub verdict_data : Text → Bool → Data → Data → Data → Question → Data → Data
 verdict_data answer is_spent doubt listed picks question test = object (member (codes "answer") (string answer)
     (member (codes "budget_spent") (boolean is_spent) (member (codes "hangs_on") doubt (member (codes "listed") listed
-    (member (codes "picked_by") picks (member (codes "question") (string (question_word question))
+    (member (codes "picked_by") picks (member (codes "question") (string (decision_name question))
     (member (codes "test") test no_members)))))))
 
 -- what is written about a verdict, whose test is one of the list or not

@@ -3,7 +3,8 @@ ghost use Rattle.std.specs.Prelude.{◌≡◌, ◌++◌, IfOk, codes, false, map
 ghost use Rattle.serde_json.specs.Data.{Data, null};
 ghost use Rattle.serde_json.specs.View.{view};
 ghost use Rattle.serde_json.specs.Written.{compact_text};
-ghost use Rattle.filterset_verdicts.specs.VerdictJson.{IsVerdictData, demand_item, doubt_data, number_item, picked_numbers, question_word, test_data, verdict_data};
+ghost use Rattle.filterset_loading.specs.Words.{decision_name};
+ghost use Rattle.filterset_verdicts.specs.VerdictJson.{IsVerdictData, demand_item, doubt_data, number_item, picked_numbers, test_data, verdict_data};
 
 use crate::text::{demand_text, package_text, platform_word};
 use filterset_deciding::{Demand, Doubt, PossibleTest, Question, TestField, Verdict, Witness};
@@ -13,7 +14,7 @@ use std::alloc::{AllocError, Global};
 
 /// Returns what a question is called.
 fn question_word(question: Question) -> &'static str
-    ensures { result.now ≡ question_word question }
+    ensures { result.now ≡ decision_name question }
 {
     match question {
         Question::AllAlike => "same",

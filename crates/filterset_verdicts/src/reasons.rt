@@ -41,12 +41,12 @@ fn indent(alloc: Global, text: &str) -> Result<String, AllocError>
 }
 
 /// Writes why a filterset picks the test in this group or not, as `explain` does, but moved in by two blanks.
-fn explain_in(
+fn explain_in<'x>(
     alloc: Global,
     graph: &PackageGraph,
-    context: &EvalContext<'_>,
-    query: &TestQuery<'_>,
-    group: &str,
+    context: &EvalContext<'x>,
+    query: &TestQuery<'x>,
+    group: &'x str,
     filterset: &Filterset,
 ) -> Result<String, AllocError>
     ensures { IfOk result (λ text.

@@ -28,4 +28,4 @@ loop-remark-preserved c =
     let at : get_or remarks i remark ≡ remark = search (rules, c.remark-item.is) in
     rw c.in_ok-push.ensures.items
     (Zips-rows (λ r d. IsRemarkAt shown.encoding shown.lines.text.now (unwrap_or r.span (span 0 0)) r d) remark_row view remarks i remark c.loop-remark.values.items _
-    lt at c.loop-remark.invariant c.in_ok-unread_warning.ensures)
+    lt at c.loop-remark.invariant (rw (c.unwrap_or-span.ensures, c.new.ensures) at c.in_ok-remark_value.ensures))

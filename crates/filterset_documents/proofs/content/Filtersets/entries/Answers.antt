@@ -8,10 +8,10 @@ returns-in-Lines c = rw c.in-Lines.is (IfOk-weaker c.line_entries.result _ _ (λ
 
 pub returns-in-Configured : goal.returns-in-Configured
 returns-in-Configured c =
-    let (file, filtersets, places) = c.configured_texts-configured.ensures in
+    let made = c.configured_texts-configured.ensures in
     rw c.in-Configured.is
     (IfOk-weaker c.configured_entries.result _ _
     (λ entries are.
     texts_are c.in-Configured.file c.in-Configured.filtersets c.in-Configured.places c.configured_texts-configured.result _ are
-    (file, filtersets ∙ c.as_slice.ensures.value, places))
+    (made.file, made.filtersets ∙ c.as_slice.ensures.value, made.places))
     c.configured_entries.ensures)
