@@ -4,3 +4,4 @@ pub mod Records
 pub mod Statuses
 pub mod Steps
 pub mod Storing
+pub mod Texts

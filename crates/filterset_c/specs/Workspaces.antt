@@ -22,10 +22,6 @@ use Rattle.filterset_c.specs.declared.object.Workspace.{Workspace}
 abbrev pub usual_depth : ℕ
 usual_depth = 256
 
--- the text is a default filter of the workspace, within its limit
-abbrev pub IsDefaultText : Workspace → List ℕ → Type 0
-IsDefaultText workspace text = (filterset : Filterset) × IsFiltersetWithin workspace text DefaultFilter filterset
-
 -- the workspace has the packages of what `cargo metadata` writes, no custom groups, and the default filter all()
 pub record IsOfMetadata (text : List ℕ) (workspace : Workspace) : Type 0 where
   pub value : Data
@@ -104,9 +100,9 @@ pub record HasDepth (levels : ℕ) (before after : Workspace) : Type 0 where
   pub groups : after.known_groups ≡ before.known_groups
   pub default : after.default_filter ≡ before.default_filter
 
--- only the default filter changes, to this text, which is one
+-- only the default filter changes, to this text, which is one within the limit
 pub record HasFilter (text : List ℕ) (before after : Workspace) : Type 0 where
-  pub filter : IsDefaultText before text
+  pub filter : (filterset : Filterset) × IsFiltersetWithin before text DefaultFilter filterset
   pub kept : option_map (λ s. string_bytes s) after.default_filter ≡ Some text
   pub packages : after.graph ≡ before.graph
   pub groups : after.known_groups ≡ before.known_groups

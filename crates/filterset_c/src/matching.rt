@@ -11,7 +11,7 @@ use crate::failure::Failure;
 use crate::object::{BoundFilterset, Object};
 use crate::queries::{Binary, KnownBinary, KnownTest, Test, are_texts, platform_of};
 use nextest_filtering::{BinaryQuery, FlatExpr};
-use std::alloc::Global;
+use std::alloc::{AllocError, Global};
 
 /// Returns the number of an answer.
 pub fn yes_or_no(answer: bool) -> u8
@@ -68,35 +68,38 @@ pub fn number_of_binary(alloc: Global, object: &Object, binary: &Binary<'_>) -> 
     }
 }
 
-/// Returns the number of the answer for a test, given what was told of its binary.
+/// Returns the number of the answer for a test, given what was told of its binary. The only error is out of memory.
 fn flat_number(
     alloc: Global,
     flat: &FlatExpr<'_>,
     binary_query: &BinaryQuery<'_>,
     told: Option<bool>,
     test: &Test<'_>,
-) -> Result<u8, Failure>
-    requires { IsTold flat.now binary_query.now told }
-    ensures number { IfOk result (IsFlatNumber flat.now binary_query.now test.now) }
-    ensures not_utf8 { (IsWellTest test.now → ⊥) → result ≡ Err NotUtf8 }
-    ensures well { IsWellTest test.now → IfErr result (λ failure. failure ≡ OutOfMemory) }
+) -> Result<u8, AllocError>
+    requires told { IsTold flat.now binary_query.now told }
+    requires well { IsWellTest test.now }
+    ensures { IfOk result (IsFlatNumber flat.now binary_query.now test.now) }
 {
+    if let Some(answer) = told {
+        return Ok(yes_or_no(answer));
+    }
     let known_test = KnownTest::read(alloc, test)?;
     let query = known_test.query(*binary_query);
-    let answer = flat.matches_test_of_told(alloc, told, &query, &known_test.group)?;
+    let answer = flat.matches_test_with_groups(alloc, &query, &known_test.group)?;
     Ok(yes_or_no(answer))
 }
 
-/// Returns the numbers of the answers for all tests of a binary, which is asked about first.
+/// Returns the numbers of the answers for all tests of a binary, which is asked about first. The only error is out of
+/// memory.
 fn numbers_by_steps(
     alloc: Global,
     bound: &BoundFilterset,
     binary_query: &BinaryQuery<'_>,
     tests: &[Test<'_>],
-) -> Result<Vec<u8>, Failure>
-    ensures numbers { IfOk result (λ numbers. (binary : BinaryOfC) → IsAbout binary binary_query.now
+) -> Result<Vec<u8>, AllocError>
+    requires { All IsWellTest tests.now }
+    ensures { IfOk result (λ numbers. (binary : BinaryOfC) → IsAbout binary binary_query.now
         → AllZip (IsTestNumber bound.now binary) tests.now numbers.items) }
-    ensures well { All IsWellTest tests.now → IfErr result (λ failure. failure ≡ OutOfMemory) }
 {
     let flat = FlatExpr::new(alloc, &bound.filterset.compiled, &bound.eval_context())?;
     let told = flat.matches_binary(alloc, binary_query)?;

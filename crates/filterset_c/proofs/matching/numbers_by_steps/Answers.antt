@@ -1,4 +1,4 @@
-use Rattle.std.proofs.Common.{rules, arith, ◌<◌, [], length, subst}
+use Rattle.std.proofs.Common.{arith, ◌<◌, [], length, subst}
 use Rattle.std.proofs.lemmas.List.{take_more}
 use Rattle.filterset_expression.specs.FlatExpressions.{IsFlat}
 use Rattle.filterset_expression.specs.declared.expression.CompiledExpr.{CompiledExpr}
@@ -17,11 +17,9 @@ loop-test-preserved c binary about =
     let flat = c.in_ok-flat.flat in
     let is_flat = subst (λ (default : CompiledExpr). IsFlat flat bound.filterset.compiled default) c.eval_context.ensures c.in_ok-flat.ensures.flat in
     rw (c.in_ok-push.ensures.items, take_more xs i none lt) (AllZip-more (IsTestNumber bound binary) _ _ _ _ (c.loop-test.invariant binary about)
-    (number_of_steps bound flat binary c.args.binary_query.now _ _ is_flat about c.in_ok-flat_number.ensures.number))
+    (number_of_steps bound flat binary c.args.binary_query.now _ _ is_flat about c.in_ok-flat_number.ensures))
 
-pub returns-in_err-flat_number-clause-well : goal.returns-in_err-flat_number-clause-well
-returns-in_err-flat_number-clause-well c all =
+pub flat_number-requires-clause-well : goal.flat_number-requires-clause-well
+flat_number-requires-clause-well c =
     let none : Test = record { name = record { ref_ptr = (0, 0); now = [] }; group = record { ref_ptr = (0, 0); now = [] } } in
-    let lt : c.loop-test.test-index < length c.args.tests.now = omega (arith, c.loop-test-test.true) in
-    let is = c.in_err-flat_number.ensures.well (all c.loop-test.test-index none lt) in
-    first_of (search (rules, is, c.from_residual-in_err-flat_number.ensures), grind (arith, is, c.from_residual-in_err-flat_number.ensures))
+    c.requires c.loop-test.test-index none (omega (arith, c.loop-test-test.true))
