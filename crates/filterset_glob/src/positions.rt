@@ -166,7 +166,7 @@ impl Positions {
         let mut reached = false;
         for position in 0..text.len() {
             reached = reached || self.holds(position);
-            if reached && text.is_slash(position) {
+            if reached && text.number(position) == '/' as u32 {
                 self.hold(position + 1);
             }
         }
@@ -222,7 +222,7 @@ impl Positions {
         if word != word::mask_of(position) || position as usize >= text.len() {
             return 0;
         }
-        if !words::are_none(&self.later) {
+        if !self.later.is_empty() && !words::are_none(&self.later) {
             return 0;
         }
         let run = text.count_admitted(position as usize, tokens);

@@ -3,7 +3,7 @@ use Rattle.std.proofs.lemmas.Bool.{cases_lt, cases_eq}
 use Rattle.filterset_glob.specs.Positions.{Holds}
 use Rattle.filterset_glob.specs.Matching.{slash}
 use Rattle.filterset_glob.proofs.positions.Positions.add_behind_slashes.Goals as goal
-use Rattle.filterset_glob.proofs.positions.Positions.add_behind_slashes.Goals.{then-reached, else-reached, then-reached-2+then-is_slash, else-reached-2, else-reached-2-via-then-reached-2+else-is_slash, else-reached-2-via-else-reached-2}
+use Rattle.filterset_glob.proofs.positions.Positions.add_behind_slashes.Goals.{then-reached, else-reached, then-reached-2+then-number, else-reached-2, else-reached-2-via-then-reached-2+else-number, else-reached-2-via-else-reached-2}
 
 pub loop-position-preserved : goal.loop-position-preserved
 loop-position-preserved c =
@@ -27,19 +27,19 @@ loop-position-preserved c =
       | then-reached w ↦ λ x lt h. w.reached-is ∙ w.if-reached.true
       | else-reached w ↦ λ x lt h. ⊎_elim (λ is. w.reached-is ∙ w.holds-reached.ensures.1 (subst (Holds self) is (i.kept x h))) (λ ne. absurd (let yes = i.comes x (omega arith) h in let no = w.if-reached.false in cc)) (cases_eq x at)
     ] in
-    let long : length new ≡ length self = elim c.if-reached-2.branch [ then-reached-2+then-is_slash w ↦ ap length w.self-is ∙ w.hold.ensures.length | else-reached-2 w ↦ ap length w.self-is ] in
+    let long : length new ≡ length self = elim c.if-reached-2.branch [ then-reached-2+then-number w ↦ ap length w.self-is ∙ w.hold.ensures.length | else-reached-2 w ↦ ap length w.self-is ] in
     let kept : (k : ℕ) → Holds self k → Holds new k = elim c.if-reached-2.branch [
-      | then-reached-2+then-is_slash w ↦ λ k h. subst (λ p. Holds p k) (sym w.self-is) ((w.hold.ensures.held k).1 (inr h))
+      | then-reached-2+then-number w ↦ λ k h. subst (λ p. Holds p k) (sym w.self-is) ((w.hold.ensures.held k).1 (inr h))
       | else-reached-2 w ↦ λ k h. subst (λ p. Holds p k) (sym w.self-is) h
     ] in
     let only : (k : ℕ) → Holds new k → Holds self k ⊎ ((k ≡ at + 1) × (get_or text at 0 ≡ slash) × (now ≡ true)) = elim c.if-reached-2.branch [
-      | then-reached-2+then-is_slash w ↦ λ k h. ⊎_elim (λ is. inr (is, w.is_slash.ensures.0 w.if-is_slash.true, w.if-reached-2.true)) (λ h. inl h) ((w.hold.ensures.held k).0 (subst (λ p. Holds p k) w.self-is h))
+      | then-reached-2+then-number w ↦ λ k h. ⊎_elim (λ is. inr (is, sym w.number.ensures ∙ w.if-number.true, w.if-reached-2.true)) (λ h. inl h) ((w.hold.ensures.held k).0 (subst (λ p. Holds p k) w.self-is h))
       | else-reached-2 w ↦ λ k h. inl (subst (λ p. Holds p k) w.self-is h)
     ] in
     let matches : get_or text at 0 ≡ slash → now ≡ true → Holds new (at + 1) = elim c.if-reached-2.branch [
-      | then-reached-2+then-is_slash w ↦ λ is r. subst (λ p. Holds p (at + 1)) (sym w.self-is) ((w.hold.ensures.held (at + 1)).1 (inl refl))
+      | then-reached-2+then-number w ↦ λ is r. subst (λ p. Holds p (at + 1)) (sym w.self-is) ((w.hold.ensures.held (at + 1)).1 (inl refl))
       | else-reached-2 w ↦ λ is r. absurd (elim w.else-reached-2.branch [
-        | else-reached-2-via-then-reached-2+else-is_slash v ↦ let yes = v.is_slash.ensures.1 is in let no = v.if-is_slash.false in cc
+        | else-reached-2-via-then-reached-2+else-number v ↦ absurd (v.if-number.false (v.number.ensures ∙ is))
         | else-reached-2-via-else-reached-2 v ↦ let no = v.if-reached-2.false in cc
       ])
     ] in

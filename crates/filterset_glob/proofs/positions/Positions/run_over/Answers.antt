@@ -8,6 +8,7 @@ use Rattle.filterset_glob.specs.Tokens.{token_of, tokens_of}
 use Rattle.filterset_glob.proofs.PositionSets.{opened, long, length-positions_of, Has-low, Has-cases, Has-within, Has-from_Holds}
 use Rattle.filterset_glob.proofs.Passing.{moves_nowhere}
 use Rattle.filterset_glob.proofs.Runs.{first_of_some, moves_alone, moves_stopped}
+use Rattle.filterset_glob.proofs.positions.Positions.run_over.Goals.{else-not-is_empty-via-then-not-is_empty+else-not-are_none, else-not-is_empty-via-else-not-is_empty}
 use Rattle.filterset_glob.proofs.positions.Positions.run_over.Goals as goal
 
 pub returns-then-is_empty-clause-moved : goal.returns-then-is_empty-clause-moved
@@ -36,8 +37,10 @@ returns-then-run-eq0-clause-moved c =
     let f = c.self.inside.first in
     let ws = c.self.inside.later.items in
     let at = c.lowest-position.result in
-    let plain : c.are_none.result ≡ true = search rules in
-    let none : (i : ℕ) → ¬ Has ws i = rw c.deref.ensures.value at (c.are_none.ensures plain) in
+    let none : (i : ℕ) → ¬ Has ws i = elim c.else-not-is_empty.branch [
+      | else-not-is_empty-via-then-not-is_empty+else-not-are_none w ↦ let plain : w.are_none.result ≡ true = search rules in rw w.deref.ensures.value at (w.are_none.ensures plain)
+      | else-not-is_empty-via-else-not-is_empty w ↦ let none : length ws ≡ 0 = sym c.self.inside.later.ok.0 ∙ eqb-true _ 0 (sym c.is_empty-2.ensures ∙ w.if-not-is_empty.false) in λ i h. omega (arith, Has-within ws i h)
+    ] in
     let o = opened n (f ∷ ws) c.args.self.now c.self.view_is in
     let only_p : (i : ℕ) → Holds c.args.self.now i → i ≡ at = λ i h.
     ⊎_elim (λ p. c.mask_of.ensures.alone i (ap (λ w. bit_at w i) (sym c.if-word-mask_of.false) ∙ p.1)) (λ p. absurd (none p.0 p.2)) (Has-cases f ws i ((o i).0 h).1) in
@@ -59,8 +62,10 @@ returns-clause-moved c =
     let ws = c.self.inside.later.items in
     let at = c.lowest-position.result in
     let run = c.count_admitted-run.result in
-    let plain : c.are_none.result ≡ true = search rules in
-    let none : (i : ℕ) → ¬ Has ws i = rw c.deref.ensures.value at (c.are_none.ensures plain) in
+    let none : (i : ℕ) → ¬ Has ws i = elim c.else-not-is_empty.branch [
+      | else-not-is_empty-via-then-not-is_empty+else-not-are_none w ↦ let plain : w.are_none.result ≡ true = search rules in rw w.deref.ensures.value at (w.are_none.ensures plain)
+      | else-not-is_empty-via-else-not-is_empty w ↦ let none : length ws ≡ 0 = sym c.self.inside.later.ok.0 ∙ eqb-true _ 0 (sym c.is_empty-2.ensures ∙ w.if-not-is_empty.false) in λ i h. omega (arith, Has-within ws i h)
+    ] in
     let o = opened n (f ∷ ws) c.args.self.now c.self.view_is in
     let only_p : (i : ℕ) → Holds c.args.self.now i → i ≡ at = λ i h.
     ⊎_elim (λ p. c.mask_of.ensures.alone i (ap (λ w. bit_at w i) (sym c.if-word-mask_of.false) ∙ p.1)) (λ p. absurd (none p.0 p.2)) (Has-cases f ws i ((o i).0 h).1) in

@@ -1,5 +1,5 @@
 use Rattle.std.proofs.Common.{◌≡◌, ℕ, ◌<◌, get_or}
-use Rattle.filterset_glob.proofs.words.have_none.Given as goal
+use Rattle.filterset_glob.proofs.words.are_none.Given as goal
 
 abbrev pub invariant-loop-at : goal.invariant-loop-at
 invariant-loop-at l = (k : ℕ) → k < l.at → get_or l.words k 0 ≡ 0
