@@ -1,7 +1,8 @@
 -- Positions in lists, and the rows of positions that an index keeps.
 use Rattle.std.proofs.Common.{zero, suc, ◌≡◌, ◌<◌, ℕ, List, [], ◌∷◌, Option, Some, length, map, refl, sym, ◌∙◌, ap, arith}
 use Rattle.std.specs.Prelude.{Contains, slice_get}
-use Rattle.std.proofs.lemmas.Option.{same_Some, slice_get-get_or, slice_get_within, get_or_from_slice_get}
+use Rattle.std.proofs.lemmas.Grind.{common_steps}
+use Rattle.std.proofs.lemmas.Option.{gets, same_Some, slice_get-get_or, slice_get_within, get_or_from_slice_get}
 
 -- an element of a list has a position, and what stands at a position is an element
 pub position_from_Contains : {X : Type 0} (xs : List X) (x : X) → Contains xs x → (k : ℕ) × (slice_get xs k ≡ Some x)
@@ -23,9 +24,7 @@ element_from_mapped f (x ∷ xs) zero y e = (x, refl, same_Some (f x) y e)
 element_from_mapped f (x ∷ xs) (suc k) y e = element_from_mapped f xs k y e
 
 pub mapped_at : {X Y : Type 0} (f : X → Y) (xs : List X) (k : ℕ) (x : X) → slice_get xs k ≡ Some x → slice_get (map f xs) k ≡ Some (f x)
-mapped_at f [] k x e = absurd (cc)
-mapped_at f (z ∷ xs) zero x e = ap Some (ap f (same_Some z x e))
-mapped_at f (z ∷ xs) (suc k) x e = mapped_at f xs k x e
+mapped_at f xs k x e = grind (arith, common_steps, gets)
 
 -- a row that lists what f finds of each element
 pub row_names : {X : Type 0} (f : X → Option ℕ) (xs : List X) (row : List ℕ) → map f xs ≡ map Some row → (b : ℕ) → Contains row b → (x : X) × Contains xs x × (f x ≡ Some b)

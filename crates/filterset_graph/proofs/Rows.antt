@@ -1,5 +1,5 @@
 -- The steps that make the index.
-use Rattle.std.proofs.Common.{zero, suc, Vec, ◌≡◌, ◌+◌, ◌<◌, ◌≤◌, ◌↔◌, ◌⊎◌, inl, inr, ℕ, Bool, true, false, cond, List, [], ◌∷◌, ◌++◌, Option, Some, None, is_some, length, get_or, take, refl, sym, ◌∙◌, ap, subst, arith}
+use Rattle.std.proofs.Common.{Vec, ◌≡◌, ◌+◌, ◌<◌, ◌≤◌, ◌↔◌, ◌⊎◌, inl, inr, ℕ, Bool, true, false, cond, List, [], ◌∷◌, ◌++◌, Option, Some, None, is_some, length, get_or, take, refl, sym, ◌∙◌, ap, subst, arith}
 use Rattle.std.specs.Prelude.{Contains, All, slice_get}
 use Rattle.std.specs.Global.{Global}
 use Rattle.std.specs.BTreeMap.{BTreeMap}
@@ -12,7 +12,8 @@ use Rattle.std.proofs.lemmas.Slice.Eq.{bytes_eq-Decides}
 use Rattle.std.proofs.lemmas.Map.Text.{is_eq-slice_cmp}
 use Rattle.std.proofs.lemmas.List.{take_more, length-map, length-take-le}
 use Rattle.std.proofs.lemmas.List.Elements.{Contains-append_left, Contains-get_or, Contains-push, Contains-push_cases}
-use Rattle.std.proofs.lemmas.Option.{none-some, same_Some, slice_get-get_or, slice_get_within, get_or_from_slice_get}
+use Rattle.std.proofs.lemmas.Grind.{common_steps}
+use Rattle.std.proofs.lemmas.Option.{gets, none-some, same_Some, slice_get-get_or, slice_get_within, get_or_from_slice_get}
 use Rattle.filterset_graph.specs.declared.package.PackageMetadata.{PackageMetadata}
 use Rattle.filterset_graph.specs.Edges.{HasEdge}
 use Rattle.filterset_graph.specs.Packages.{Text, ids, AllDiffer, IsFirstRepeat, LinksKnown, IsUnknownLink, IsFirstUnknownLink}
@@ -23,32 +24,20 @@ use Rattle.filterset_graph.proofs.Steps.{slice_get-set_same, slice_get-set_other
 
 -- the first elements of a list
 pub slice_get-take : {X : Type 0} (n : ℕ) (xs : List X) (k : ℕ) → k < n → slice_get (take n xs) k ≡ slice_get xs k
-slice_get-take zero xs k h = absurd (omega (arith, h))
-slice_get-take (suc n) [] k h = refl
-slice_get-take (suc n) (x ∷ xs) zero h = refl
-slice_get-take (suc n) (x ∷ xs) (suc k) h = slice_get-take n xs k (omega (arith, h))
+slice_get-take n xs k h = grind (arith, common_steps, gets)
 
 pub taken_within : {X : Type 0} (n : ℕ) (xs : List X) (k : ℕ) (x : X) → slice_get (take n xs) k ≡ Some x → (k < n) × (slice_get xs k ≡ Some x)
-taken_within zero xs k x e = absurd (cc)
-taken_within (suc n) [] k x e = absurd (cc)
-taken_within (suc n) (y ∷ xs) zero x e = (omega arith, e)
-taken_within (suc n) (y ∷ xs) (suc k) x e = let h = taken_within n xs k x e in (omega (arith, h.0), h.1)
+taken_within n xs k x e = grind (arith, common_steps, gets)
 
 -- a list with one more element at its end
 pub pushed_at : {X : Type 0} (xs : List X) (x : X) → slice_get (xs ++ x ∷ []) (length xs) ≡ Some x
-pushed_at [] x = refl
-pushed_at (y ∷ xs) x = pushed_at xs x
+pushed_at xs x = grind (arith, common_steps, gets)
 
 pub pushed_keeps : {X : Type 0} (xs : List X) (x : X) (k : ℕ) (y : X) → slice_get xs k ≡ Some y → slice_get (xs ++ x ∷ []) k ≡ Some y
-pushed_keeps [] x k y e = absurd (cc)
-pushed_keeps (z ∷ xs) x zero y e = e
-pushed_keeps (z ∷ xs) x (suc k) y e = pushed_keeps xs x k y e
+pushed_keeps xs x k y e = grind (arith, common_steps, gets)
 
 pub pushed_cases : {X : Type 0} (xs : List X) (x : X) (k : ℕ) (y : X) → slice_get (xs ++ x ∷ []) k ≡ Some y → (slice_get xs k ≡ Some y) ⊎ ((k ≡ length xs) × (x ≡ y))
-pushed_cases [] x zero y e = inr (refl, same_Some x y e)
-pushed_cases [] x (suc k) y e = absurd (cc)
-pushed_cases (z ∷ xs) x zero y e = inl e
-pushed_cases (z ∷ xs) x (suc k) y e = elim (pushed_cases xs x k y e) [ inl h ↦ inl h | inr h ↦ inr (omega (arith, h.0), h.1) ]
+pushed_cases xs x k y e = grind (arith, common_steps, gets)
 
 -- one more id with its position
 pub PositionsAre-push : (old new : BTreeMap Text ℕ) (names : List Text) (id : Text) → index_of old id ≡ None → ((q : Text) → index_of new q ≡ cond (is_eq (slice_cmp nat_cmp id q)) (Some (length names)) (index_of old q)) → PositionsAre old names → PositionsAre new (names ++ id ∷ [])

@@ -1,30 +1,23 @@
 -- The steps of the search over plain lists.
-use Rattle.std.proofs.Common.{zero, suc, Vec, ◌≡◌, ◌≢◌, ◌+◌, ◌<◌, ◌⊎◌, ℕ, Bool, true, false, List, [], ◌∷◌, ◌++◌, Some, length, get_or, take, refl, sym, ◌∙◌, ap, subst, inl, inr, arith, length-append, ◌↔◌}
+use Rattle.std.proofs.Common.{Vec, ◌≡◌, ◌≢◌, ◌+◌, ◌<◌, ◌⊎◌, ℕ, Bool, true, false, List, [], ◌∷◌, ◌++◌, Some, length, get_or, take, refl, sym, ◌∙◌, ap, subst, inl, inr, arith, length-append, ◌↔◌}
 use Rattle.std.specs.Prelude.{Contains, slice_get}
-use Rattle.std.proofs.Math.Seq.{take-append_seam}
 use Rattle.std.proofs.Math.ListN.{set, length-set}
 use Rattle.std.proofs.lemmas.Grind.{common_steps}
-use Rattle.std.proofs.lemmas.List.{get_or-set_same, take_more}
+use Rattle.std.proofs.lemmas.List.{take_more}
 use Rattle.std.proofs.lemmas.List.Elements.{Contains-append_left, Contains-push, Contains-push_cases}
 use Rattle.std.proofs.lemmas.List.Sums.{sum_by-set}
 use Rattle.std.proofs.lemmas.Bool.{cases_eq}
-use Rattle.std.proofs.lemmas.Option.{same_Some, gets, slice_get-get_or, slice_get_within, get_or_from_slice_get}
+use Rattle.std.proofs.lemmas.Option.{same_Some, gets, slice_get_within, get_or_from_slice_get}
 use Rattle.std.specs.declared.alloc.Global.{Global}
 use Rattle.filterset_graph.specs.Edges.{HasEdge, IsReached, Walk}
 use Rattle.filterset_graph.specs.Walks.{Follows, IsMarked}
 use Rattle.filterset_graph.specs.Search.{unmarked, MarksAll, Spreads}
 
 pub slice_get-set_same : {X : Type 0} (xs : List X) (i : ℕ) (x : X) → i < length xs → slice_get (set xs i x) i ≡ Some x
-slice_get-set_same xs i x h =
-    let long : i < length (set xs i x) = rw length-set h in
-    slice_get-get_or (set xs i x) i x long ∙ ap Some (get_or-set_same xs i x x h)
+slice_get-set_same xs i x h = grind (arith, common_steps, gets)
 
 pub slice_get-set_other : {X : Type 0} (xs : List X) (i : ℕ) (x : X) (k : ℕ) → k ≢ i → slice_get (set xs i x) k ≡ slice_get xs k
-slice_get-set_other [] i x k apart = refl
-slice_get-set_other (y ∷ ys) zero x zero apart = absurd (apart refl)
-slice_get-set_other (y ∷ ys) zero x (suc k) apart = refl
-slice_get-set_other (y ∷ ys) (suc i) x zero apart = refl
-slice_get-set_other (y ∷ ys) (suc i) x (suc k) apart = slice_get-set_other ys i x k (λ e. apart (ap suc e))
+slice_get-set_other xs i x k apart = grind (arith, common_steps, gets)
 
 -- a position that is marked anew, or was marked before
 pub marked-set_cases : (marks : List Bool) (position k : ℕ) → position < length marks → IsMarked (set marks position true) k → (k ≡ position) ⊎ IsMarked marks k
@@ -136,7 +129,3 @@ Spreads-done edges starts marks pending empty far = λ k. (
   far.sound k,
   (λ reached. closed_along edges marks (λ a b m edge. elim (far.closed a m) [ inl c ↦ absurd (omega (arith, c.1, empty)) | inr all ↦ all b edge ]) reached.0 reached.2.0 k (far.started reached.0 reached.1) reached.2.1),
 )
-
--- what a slice wrote over a whole list leaves
-pub take-append_all : {X : Type 0} (n : ℕ) (xs ys : List X) → n ≡ length xs → take n (xs ++ ys) ≡ xs
-take-append_all n xs ys e = rw e (take-append_seam xs ys)

@@ -1,11 +1,11 @@
 use Rattle.std.proofs.Common.{Vec, drop, ◌≡◌, ◌<◌, ℕ, Some, length, get_or, arith, sym, ◌∙◌, ap}
 use Rattle.std.specs.Prelude.{slice_get}
 use Rattle.std.specs.Global.{Global}
+use Rattle.std.proofs.lemmas.List.{take_at}
 use Rattle.std.proofs.lemmas.List.Elements.{Contains-get_or}
 use Rattle.std.proofs.lemmas.Option.{slice_get-get_or}
 use Rattle.filterset_graph.specs.Index.{AddsEdges}
 use Rattle.filterset_graph.proofs.Rows.{ReversedBelow-none, ReversedBelow-more, ReversedBelow-all}
-use Rattle.filterset_graph.proofs.Steps.{take-append_all}
 use Rattle.filterset_graph.proofs.index.reverse.Goals as goal
 
 pub loop-from-init : goal.loop-from-init
@@ -26,7 +26,7 @@ loop-from-preserved c =
     let added : AddsEdges c.loop-from.back.items row.items c.loop-from.from c.add_to_rows.new.rows = rw (← c.as_slice.ensures.value, ← c.deref_mut.ensures.value) c.in_ok-add_to_rows.ensures in
     let size : c.loop-from.back.len ≡ length c.add_to_rows.new.rows = omega (arith, c.add_to_rows.auto.rows, c.deref_mut.ensures.len) in (
       c.loop-from.invariant.0,
-      rw (take-append_all c.loop-from.back.len c.add_to_rows.new.rows (drop (length c.add_to_rows.new.rows) c.loop-from.back.items) size)
+      rw (take_at c.add_to_rows.new.rows (drop (length c.add_to_rows.new.rows) c.loop-from.back.items) c.loop-from.back.len (sym size))
           (ReversedBelow-more c.args.links.now c.loop-from.back.items c.add_to_rows.new.rows c.loop-from.from row here c.loop-from.invariant.1 added),
     )
 

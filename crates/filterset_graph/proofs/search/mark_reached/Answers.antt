@@ -1,9 +1,10 @@
 use Rattle.std.proofs.Common.{Vec, drop, ◌≡◌, ◌<◌, ℕ, Some, length, get_or, arith, Contains, sym, ◌∙◌, ap}
+use Rattle.std.proofs.lemmas.List.{take_at}
 use Rattle.std.proofs.lemmas.List.Elements.{Contains-get_or}
 use Rattle.std.proofs.lemmas.Option.{slice_get-get_or}
 use Rattle.std.specs.Prelude.{slice_get}
 use Rattle.std.specs.declared.alloc.Global.{Global}
-use Rattle.filterset_graph.proofs.Steps.{take-append_all, Spreads-pending_within, Spreads-step, Spreads-done}
+use Rattle.filterset_graph.proofs.Steps.{Spreads-pending_within, Spreads-step, Spreads-done}
 use Rattle.filterset_graph.proofs.search.mark_reached.Goals as goal
 
 pub bounds-edges-position : goal.bounds-edges-position
@@ -32,7 +33,7 @@ loop-position-preserved c =
     let here : slice_get c.args.edges.now c.in-Some.position ≡ Some row = slice_get-get_or c.args.edges.now c.in-Some.position row within ∙ ap Some (sym c.index-edges-position.is) in
     let done = rw (c.as_slice.ensures.value, c.deref_mut.ensures.value) at c.in_ok-mark_all.ensures in
     let size : c.loop-position.marks.len ≡ length c.mark_all.new.marks = omega (arith, done.size, c.loop-position.marks.ok.0) in
-    rw (take-append_all c.loop-position.marks.len c.mark_all.new.marks (drop (length c.mark_all.new.marks) c.loop-position.marks.items) size)
+    rw (take_at c.mark_all.new.marks (drop (length c.mark_all.new.marks) c.loop-position.marks.items) c.loop-position.marks.len (sym size))
     (Spreads-step c.args.edges.now c.args.starts.now c.loop-position.marks.items c.mark_all.new.marks c.loop-position.pending.items c.pop.new.self.items c.mark_all.new.pending.items c.in-Some.position row c.in-Some.ensures.items here c.loop-position.invariant done)
 
 pub returns-clause-exact : goal.returns-clause-exact
