@@ -1,5 +1,5 @@
 -- Characters of a text.
-use Rattle.std.proofs.Common.{◌≡◌, ℕ, List, [], ◌∷◌, ◌++◌, refl, Bool, true, cond, IsUtf8}
+use Rattle.std.proofs.Common.{◌≡◌, ℕ, List, ◌∷◌, ◌++◌, refl, Bool, true, cond, IsUtf8}
 use Rattle.std.specs.Prelude.{chars, encode_utf8}
 use Rattle.std.proofs.lemmas.Str.{chars_past_char}
 use Rattle.filterset_matchers.specs.PrintedMatcher.{printed_first, printed_value, printed_implicit}

@@ -16,7 +16,6 @@ use Rattle.regex_syntax.specs.Verdict.{Refuses}
 use Rattle.regex_syntax.specs.declared.error.Error as parser
 use Rattle.regex_syntax.specs.declared.error.ErrorKind.{ErrorKind}
 use Rattle.regex_syntax.specs.declared.error.ErrorKind.TheVariants as kinds
-use Rattle.regex_compile.specs.declared.error.Error.TheVariants as compiled
 use Rattle.regex.specs.declared.error.Error.{Error}
 use Rattle.regex.specs.declared.error.Error.TheVariants.{Syntax, CompiledTooBig, OutOfMemory}
 use Rattle.regex.specs.Failures.{IsOfParser, IsRightKind}

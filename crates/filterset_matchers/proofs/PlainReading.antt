@@ -1,7 +1,7 @@
 -- A plain pattern is read as the text that it stands for. The text inside of a pattern is read as `regex_syntax` proves it
 -- of escaped texts (`EscapeLemmas`); here a character may be escaped or not.
-use Rattle.std.proofs.Common.{ℕ, ◌≤◌, ◌<◌, ◌⊎◌, ◌≡◌, ◌+◌, ◌-◌, ◌*◌, ◌==◌, ◌&&◌, ◌∷◌, ◌++◌, [], Bool, true, false, not, List, Option, Some, None, IsSomeAnd, map, option_map, length, nat_lt, chars, encode_utf8, IsUtf8, if◌then◌else◌, refl, sym, ap, ◌∙◌, subst, ⊎_elim, arith, ne_eqb, true≢false, append-nil, append_assoc, add-zero, zero-add, length-append}
-use Rattle.std.proofs.lemmas.Bool.{both_ways, cases_Bool, cond-false, and_left, and_right, cond_both, and_parts, and_from}
+use Rattle.std.proofs.Common.{ℕ, ◌≤◌, ◌<◌, ◌⊎◌, ◌≡◌, ◌+◌, ◌-◌, ◌*◌, ◌==◌, ◌&&◌, ◌∷◌, ◌++◌, [], Bool, true, false, not, List, Option, Some, None, IsSomeAnd, map, option_map, length, nat_lt, chars, encode_utf8, IsUtf8, if◌then◌else◌, refl, sym, ap, ◌∙◌, subst, ⊎_elim, arith, ne_eqb, true≢false, append-nil, append_assoc, zero-add}
+use Rattle.std.proofs.lemmas.Bool.{cases_Bool, cond-false, and_left, and_right, cond_both, and_parts, and_from}
 use Rattle.std.proofs.lemmas.Bool.Decides.{nat_tests}
 use Rattle.std.proofs.lemmas.Str.{scalars-chars}
 use Rattle.std.specs.Char.{is_digit, is_ascii, is_ascii_alphanumeric}

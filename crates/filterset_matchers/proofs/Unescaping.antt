@@ -1,5 +1,5 @@
 -- How the text of a plain pattern is found, character by character.
-use Rattle.std.proofs.Common.{◌≡◌, ◌<◌, ◌+◌, ◌==◌, ℕ, Bool, true, false, List, [], ◌∷◌, ◌++◌, Option, Some, None, option_map, length, drop, get_or, encode_utf8, encode_utf8_all, refl, sym, ap, ◌∙◌, ne_eqb, append_assoc}
+use Rattle.std.proofs.Common.{◌≡◌, ◌<◌, ◌+◌, ℕ, Bool, true, false, List, [], ◌∷◌, ◌++◌, Option, Some, None, option_map, length, drop, get_or, encode_utf8, encode_utf8_all, refl, sym, ap, ◌∙◌, ne_eqb, append_assoc}
 use Rattle.std.proofs.lemmas.List.{at_drop_more, length_push}
 use Rattle.filterset_matchers.specs.Pattern.{has_meaning, is_escapable, plain_from}
 

@@ -3,7 +3,7 @@ ghost use Rattle.std.specs.Prelude.{◌≡◌, ◌<◌, ◌≤◌, ◌↔◌, �
 ghost use Rattle.std.specs.Fmt.{WritesOnOk};
 ghost use Rattle.std.specs.List.{flat_map};
 ghost use Rattle.filterset_matchers.specs.Matchers.{matcher_of};
-ghost use Rattle.filterset_matchers.specs.PrintedMatcher.{printed_matcher, printed_char, printed_first, printed_implicit, printed_value, printed_slash, printed_pattern};
+ghost use Rattle.filterset_matchers.specs.PrintedMatcher.{printed_matcher, printed_char, printed_first, printed_implicit, printed_value, printed_slash};
 ghost use Rattle.filterset_matchers.specs.Runs.{IsPlain};
 
 use crate::matcher::NameMatcher;
@@ -33,7 +33,11 @@ impl fmt::Display for NameMatcher {
                 value.as_str(),
             ),
             NameMatcher::Glob { glob, implicit } => write_signed(f, "#", *implicit, glob.as_str()),
-            NameMatcher::Regex(pattern) => write_pattern(f, pattern.as_str()),
+            NameMatcher::Regex(pattern) => {
+                f.write_str("/")?;
+                write_slashed(f, pattern.as_str())?;
+                f.write_str("/")
+            }
         }
     }
 }
@@ -104,15 +108,6 @@ fn is_plain(b: u8) -> bool
     ensures { IsTrue result ↔ IsPlain b }
 {
     matches!(b, b' '..=b'~') && !matches!(b, b'/' | b')' | b',' | b'\\')
-}
-
-/// Writes a pattern between slashes.
-fn write_pattern<W: fmt::Write>(f: &mut fmt::Formatter<W>, pattern: &str) -> fmt::Result
-    ensures { WritesOnOk W.write_str_gives f.old result (printed_pattern pattern.now) f.new }
-{
-    f.write_str("/")?;
-    write_slashed(f, pattern)?;
-    f.write_str("/")
 }
 
 /// Writes a pattern, in runs between its slashes.

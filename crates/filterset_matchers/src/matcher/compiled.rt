@@ -2,7 +2,6 @@
 //! parts of `regex` compile them, within the limits of `Regex::new`, and one DFA searches for them. A `Regex` would choose
 //! among more ways to search, which costs more than it saves on names of tests.
 ghost use Rattle.std.specs.Prelude.{◌≡◌, ◌↔◌, List, ℕ, IfOk, IfSome, IsTrue, vec_len};
-ghost use Rattle.regex.specs.Patterns.{literal};
 ghost use Rattle.regex_hir.specs.Meaning.{meaning};
 ghost use Rattle.filterset_matchers.specs.Compiled.{HasLiteral, IsCompiledOf, IsPlaceOf, IsReadAs, WalksBy, told_by_end, told_by_start};
 
@@ -66,14 +65,7 @@ fn find_first_literal(tree: &Hir) -> Option<&str>
     if parts.is_empty() {
         return None;
     }
-    literal_of(&parts[0])
-}
-
-/// Returns the text of the tree, if it is a literal.
-fn literal_of(tree: &Hir) -> Option<&str>
-    ensures { IfSome result (λ text. meaning tree.now ≡ literal text.now) }
-{
-    match tree {
+    match &parts[0] {
         Hir::Literal(bytes) => str::from_utf8(bytes).ok(),
         _ => None,
     }

@@ -204,15 +204,11 @@ fn list_alone(alloc: Global, text: String) -> Result<Vec<String>, AllocError>
 /// Returns whether to parse the text before a regex is built: it may be a choice of few texts, or its matches may have a
 /// known place. The answer does not change what the pattern matches.
 fn is_worth_reading(text: &str) -> bool {
-    text.starts_with("^") || text.ends_with("$") || begins_with_literal(text) || may_be_choice(text)
-}
-
-/// Returns whether none of the first `LEAST_LITERAL` characters of the text has a meaning of its own.
-fn begins_with_literal(text: &str) -> bool {
-    !text
+    let begins_with_literal = !text
         .chars()
         .take(LEAST_LITERAL)
-        .any(|character| is_special(character))
+        .any(|character| is_special(character));
+    begins_with_literal || text.starts_with("^") || text.ends_with("$") || may_be_choice(text)
 }
 
 /// Returns whether the text has none of the characters that are rare in a choice of few texts.

@@ -1,9 +1,9 @@
-use Rattle.std.proofs.Common.{◌≡◌, ◌==◌, ◌<◌, ◌++◌, ◌+◌, ◌∷◌, [], ℕ, zero, suc, false, true≢false, get_or, arith, List, length, take, drop, map, refl, sym, ap, ◌∙◌, subst}
+use Rattle.std.proofs.Common.{Result, Ok, Err, IfSome, ◌≡◌, ◌==◌, ◌<◌, ◌++◌, ◌+◌, ◌∷◌, [], ℕ, zero, suc, false, true≢false, get_or, arith, List, length, take, drop, map, refl, sym, ap, ◌∙◌, subst}
 use Rattle.std.proofs.lemmas.List.{take-append-drop}
-use Rattle.std.proofs.lemmas.Option.{IfSome_then}
+use Rattle.std.specs.Result.{MatchResult, result_ok}
 use Rattle.regex.specs.Patterns.{Re, literal, cat, cat_all}
 use Rattle.regex_hir.specs.Meaning.{meaning}
-use Rattle.regex_hir.proofs.MeaningLemmas.{meaning-Concat}
+use Rattle.regex_hir.proofs.MeaningLemmas.{meaning-Concat, meaning-Literal}
 use Rattle.regex_hir.proofs.TextLemmas.{has_bytes_at_parts}
 use Rattle.filterset_matchers.specs.Compiled.{HasLiteral}
 use Rattle.filterset_matchers.proofs.matcher.compiled.find_first_literal.Goals as goal
@@ -20,12 +20,17 @@ first_and_others : {A : Type 0} (xs : List A) (default : A) → 0 < length xs �
 first_and_others [] default some = absurd (omega arith)
 first_and_others (x ∷ xs) default some = refl
 
-pub returns : goal.returns
-returns c =
+what_is_ok : {A E : Type 0} {P R : A → Type 0} (Q : E → Type 0) (r : Result A E) → MatchResult r P Q → ((x : A) → P x → R x) → IfSome (result_ok r) R
+what_is_ok Q (Ok x) p f = f x p
+what_is_ok Q (Err e) p f = tt
+
+pub returns-in-Literal : goal.returns-in-Literal
+returns-in-Literal c =
     let parts = c.in-Concat.parts in
-    IfSome_then c.literal_of.result c.literal_of.ensures (λ text is.
+    rw c.ok.ensures.value (what_is_ok _ c.from_utf8.result c.from_utf8.ensures.cases (λ text same.
+    let is : meaning c.index.result.now ≡ literal text.now = ap meaning c.in-Literal.is ∙ meaning-Literal c.in-Literal.bytes ∙ ap literal (sym (same.0 ∙ c.deref.ensures.value)) in
     let sequence : meaning c.args.tree.now ≡ cat (literal text.now) (cat_all (map meaning (drop 1 parts.items))) =
     ap meaning c.in-Concat.is ∙ meaning-Concat parts
     ∙ ap (λ xs. cat_all (map meaning xs)) (first_and_others parts.items c.index.result.now (omega (arith, some_of_test _ c.if-is_empty.ensures, parts.ok)))
     ∙ ap (λ x. cat x (cat_all (map meaning (drop 1 parts.items)))) (ap meaning (sym c.index.ensures) ∙ is) in
-    subst (λ x. HasLiteral x text.now) (sym sequence) (stands_first text.now (cat_all (map meaning (drop 1 parts.items)))))
+    subst (λ x. HasLiteral x text.now) (sym sequence) (stands_first text.now (cat_all (map meaning (drop 1 parts.items))))))
