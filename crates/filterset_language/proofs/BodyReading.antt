@@ -1,7 +1,8 @@
 -- Bodies of regular expressions: what is written is read, and what is read is written.
 use Rattle.std.proofs.Common.{◌≡◌, ℕ, suc, ◌+◌, ◌<◌, ◌≤◌, Bool, true, false, cond, eqb, List, [], ◌∷◌, ◌++◌, length, take, drop, get_or, IsCharBoundary, Some, refl, sym, ap, ◌∙◌, subst, arith, length-append, ◌-◌}
 use Rattle.std.specs.Prelude.{◌&&◌, not}
-use Rattle.std.proofs.lemmas.Bool.{eqb-true, eqb-false}
+use Rattle.std.proofs.lemmas.Bool.{eqb-false}
+use Rattle.std.proofs.lemmas.Bool.Decides.{nat_tests}
 use Rattle.std.proofs.lemmas.List.{take-append-drop, take_at, drop_at, length-take}
 use Rattle.std.proofs.lemmas.Str.{IsCharBoundary-from_rest}
 use Rattle.std.proofs.Math.Seq.{get_or-append_seam}
@@ -18,6 +19,7 @@ use Rattle.filterset_language.specs.Parsing.Recovery.{Found}
 use Rattle.filterset_language.specs.declared.parsing.input.Input.{Input}
 use Rattle.filterset_language.proofs.StepsTakeText.{after_takes}
 use Rattle.filterset_language.proofs.EscapeReading.{map_is}
+use Rattle.filterset_language.proofs.Formed.{ends_front}
 use Rattle.filterset_language.proofs.RawTextFaults.{size, begins_here}
 
 pub body_within : (before : ℕ) (t : List ℕ) → body_len before t ≤ length t
@@ -29,20 +31,10 @@ body_within before (b ∷ t) = with_test (eqb b 47 && not (eqb before 92)) (body
     with_test false h = omega arith
 
 slash_is : (b before : ℕ) → (eqb b 47 && not (eqb before 92)) ≡ true → (b ≡ 47) × (eqb before 92 ≡ false)
-slash_is b before e = from (eqb b 47) (eqb before 92) refl refl e
-  where
-    from : (v w : Bool) → eqb b 47 ≡ v → eqb before 92 ≡ w → (v && not w) ≡ true → (b ≡ 47) × (eqb before 92 ≡ false)
-    from true true h i e = absurd cc
-    from true false h i e = (eqb-true b 47 h, i)
-    from false w h i e = absurd cc
+slash_is b before e = grind (arith, nat_tests)
 
 slash_follows : (b before : ℕ) → (eqb b 47 && not (eqb before 92)) ≡ false → b ≡ 47 → before ≡ 92
-slash_follows b before e is = from (eqb b 47) (eqb before 92) refl refl e
-  where
-    from : (v w : Bool) → eqb b 47 ≡ v → eqb before 92 ≡ w → (v && not w) ≡ false → before ≡ 92
-    from true true h i e = eqb-true before 92 i
-    from true false h i e = absurd cc
-    from false w h i e = absurd (eqb-false b 47 h is)
+slash_follows b before e is = grind (arith, nat_tests)
 
 -- after a body, where the text goes on, a `/` stands
 body_stop : (before : ℕ) (t : List ℕ) → body_len before t < length t → get_or t (body_len before t) 0 < 128
@@ -71,13 +63,9 @@ body_again before (b ∷ body) u slashes end =
         absurd (eqb-false before 92 s.1 (slashes.0 s.0))
     from false e on = ap suc on
 
-from_start : (body : List ℕ) → ends_in_backslash body ≡ false → ends_in_backslash (0 ∷ body) ≡ false
-from_start [] e = refl
-from_start (b ∷ body) e = e
-
 pub regex_again : (at : ℕ) (body pattern u : List ℕ) → Body body pattern → body_at (position at (body ++ (47 ∷ u))) ≡ Some ((pattern, span at (length body)), position (at + length body + 1) u)
 regex_again at body pattern u is =
-    let n = body_again 0 body u is.slashes (from_start body is.end) in
+    let n = body_again 0 body u is.slashes (ends_front body ∙ is.end) in
     let t : take (length body) (body ++ (47 ∷ u)) ≡ body = take_at body (47 ∷ u) (length body) refl in
     let d : drop (length body) (body ++ (47 ∷ u)) ≡ 47 ∷ u = drop_at body (47 ∷ u) (length body) refl in
     let step : body_by (length body) (position at (body ++ (47 ∷ u))) ≡ Some ((with_slashes body, span at (length body)), position (at + length body + 1) u) = rw (t, d) refl in
@@ -102,10 +90,6 @@ body_ends before (b ∷ t) u e = from (eqb b 47 && not (eqb before 92)) refl (λ
     from true h on e = (slash_is b before h).1
     from false h on e = on e
 
-to_start : (body : List ℕ) → ends_in_backslash (0 ∷ body) ≡ false → ends_in_backslash body ≡ false
-to_start [] e = refl
-to_start (b ∷ body) e = e
-
 pub regex_takes : (p : Position) (pattern : List ℕ) (s : SourceSpan) (q : Position) → body_at p ≡ Some ((pattern, s), q) → BodyTaken p pattern s q
 regex_takes p pattern s q e =
     let n = body_len 0 p.rest in
@@ -118,7 +102,7 @@ regex_takes p pattern s q e =
     let size : length (take n p.rest) ≡ n = omega (arith, length-take n p.rest) in
     record {
       body = take n p.rest;
-      is = record { slashes = body_slashes 0 p.rest; end = to_start (take n p.rest) (body_ends 0 p.rest q.rest t.parts); replaced = sym first };
+      is = record { slashes = body_slashes 0 p.rest; end = sym (ends_front (take n p.rest)) ∙ body_ends 0 p.rest q.rest t.parts; replaced = sym first };
       parts = sym (take-append-drop n p.rest) ∙ ap (λ (x : List ℕ). take n p.rest ++ x) t.parts;
       offset = let o = t.offset in omega arith;
       span_is = sym second ∙ ap (span p.at) (sym size);

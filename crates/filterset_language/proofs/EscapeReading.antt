@@ -4,8 +4,8 @@ use Rattle.std.specs.Prelude.{◌&&◌}
 use Rattle.std.specs.Option.{option_map, option_and_then}
 use Rattle.std.specs.Char.{IsScalar}
 use lib.Utf8.{scalar}
-use Rattle.std.proofs.lemmas.Bool.{lt-ltb, ltb-true, ne_eqb, eqb-true}
-use Rattle.std.proofs.lemmas.Bool.Decides.{eqb_tells}
+use Rattle.std.proofs.lemmas.Bool.{lt-ltb, ne_eqb, eqb-true}
+use Rattle.std.proofs.lemmas.Bool.Decides.{eqb_tells, nat_tests}
 use Rattle.std.proofs.lemmas.Str.{IsCharBoundary-after_ascii}
 use Rattle.std.proofs.Math.Seq.{get_or-append_seam}
 use Rattle.filterset_grammar.specs.Text.{hex_value, HexDigits, Letter, line_feed, carriage_return, tab, backspace, form_feed, backslash, slash, close, comma, Escape, letter, hexadecimal}
@@ -29,18 +29,14 @@ some_same x y e = cc
 
 -- ---- digits
 
-digit_by : (v : ℕ) → v < 16 → cond (ltb v 16) (Some v) None ≡ Some v
-digit_by v h = rw (lt-ltb v 16 h) refl
-
 digit_again : (d : ℕ) → hex_value d < 16 → digit_at d ≡ Some (hex_value d)
-digit_again d h = digit_by (hex_value d) h
+digit_again d h = rw (lt-ltb (hex_value d) 16 h) refl
 
-digit_from : (t : Bool) (v d : ℕ) → ltb v 16 ≡ t → cond t (Some v) None ≡ Some d → (v < 16) × (d ≡ v)
-digit_from true v d h e = (ltb-true v 16 h, let f : d ≡ v = cc in f)
-digit_from false v d h e = absurd cc
+digit_from : (v d : ℕ) → cond (ltb v 16) (Some v) None ≡ Some d → (v < 16) × (d ≡ v)
+digit_from v d e = grind (arith, nat_tests)
 
 digit_is : (b d : ℕ) → digit_at b ≡ Some d → (hex_value b < 16) × (d ≡ hex_value b)
-digit_is b d e = digit_from (ltb (hex_value b) 16) (hex_value b) d refl e
+digit_is b d e = digit_from (hex_value b) d e
 
 pub digit_low : (b d : ℕ) → Some d ≡ digit_at b → d < 16
 digit_low b d e =

@@ -1,5 +1,5 @@
 -- What stands at a position of a text.
-use Rattle.std.proofs.Common.{◌≡◌, ◌≢◌, ℕ, ◌+◌, ◌-◌, ◌≤◌, true, false, List, [], ◌∷◌, ◌++◌, length, take, drop, Option, Some, None, refl, sym, ap, ◌∙◌, subst, arith, length-take, IsCharBoundary}
+use Rattle.std.proofs.Common.{◌≡◌, ◌≢◌, ℕ, ◌+◌, ◌-◌, ◌≤◌, true, false, List, ◌∷◌, ◌++◌, length, take, drop, Option, Some, None, refl, sym, ap, ◌∙◌, subst, arith, length-take, IsCharBoundary}
 use Rattle.std.specs.Prelude.{codes, All}
 use Rattle.std.specs.Option.{option_map}
 use Rattle.std.proofs.lemmas.List.{take-append-drop, take_at}
@@ -7,14 +7,15 @@ use Rattle.std.proofs.Math.Seq.{take-append-add}
 use Rattle.std.proofs.lemmas.Str.{IsCharBoundary-from_rest}
 use Rattle.filterset_grammar.specs.Text.{Blanks, WhiteSpace}
 use Rattle.filterset_language.specs.Parsing.Front.{blank_len, close_len, is_white}
-use Rattle.filterset_language.specs.Parsing.Position.{Position, position, position_of, skip, skip_from, after, IsBehind}
+use Rattle.std.specs.Borrow.{Bor}
+use Rattle.filterset_language.specs.Parsing.Position.{Position, position, position_of, skip, skip_from, after, after_word, IsBehind}
 use Rattle.filterset_language.specs.Parsing.Words.{choose, with, not_at, name_at, joiner_at, or_at, name_text}
 use Rattle.filterset_grammar.specs.declared.operators.Joiner.{Joiner}
 use Rattle.filterset_grammar.specs.declared.predicate.Predicate.{Predicate}
 use Rattle.filterset_grammar.specs.Grammar.{Name, not_text, join_text, or_text, not_ends}
 use Rattle.filterset_language.specs.Faults.{ClosesArgument, InvalidAnd, InvalidOr, Misplaced, misplaced_and, misplaced_or, misplaced_AND, misplaced_OR, misplaced_ampersands, misplaced_pipes, EndsWith, BehindBlanks, BeginsOperand, with_name, with_negation, with_parenthesis, IsName, Opener, parenthesis, invalid_and, invalid_or, BeforeOperand, at_start, behind_opener, FaultStands}
 use Rattle.filterset_language.specs.Faults as faults
-use Rattle.filterset_language.specs.Parsing.Recovery.{Found, AtOperand, AtName, behind_misplaced, IsMisplaced, NoMisplacedWord, NoMisplacedSign, IsCapitalNot}
+use Rattle.filterset_language.specs.Parsing.Recovery.{Found, AtOperand, AtName, behind_misplaced, IsMisplaced}
 use Rattle.filterset_faults.specs.Span.{span}
 use Rattle.filterset_language.specs.declared.parsing.misplaced.Misplaced.{Misplaced as Found-operator}
 use Rattle.filterset_language.specs.declared.parsing.input.Input.{Input}
@@ -26,6 +27,8 @@ use Rattle.filterset_language.specs.declared.parsing.names.PredicateName.{Predic
 use Rattle.filterset_language.specs.declared.parsing.names.PredicateName.TheVariants as names
 use Rattle.filterset_faults.specs.declared.error.ParseSingleError.TheVariants.{ExpectedOpenParenthesis, ExpectedCloseParenthesis, ExpectedExpr, UnexpectedComma, UnexpectedArgument, InvalidAndOperator, InvalidOrOperator, ExprFoundBinaryOp, ExprFoundUnaryOp}
 use Rattle.filterset_language.proofs.Positions.{behind_same, skip_again}
+use Rattle.filterset_language.proofs.SpelledIsRead.{not_stop}
+use Rattle.filterset_language.proofs.SpelledLeavesAreRead.{close_stop, name_stop, open_stop}
 use Rattle.filterset_language.proofs.StepsTakeText.{Takes, word_after, after_takes, skip_takes, JoinerTaken, joiner_takes, OrTaken, or_takes, not_takes, name_takes}
 use Rattle.filterset_language.proofs.RawTextFaults.{size, begins_here, point_ends, rest_ends, piece_ends}
 use Rattle.filterset_language.proofs.ClosingParenthesis.{close_within, close_behind, close_none, close_boundary}
@@ -64,31 +67,8 @@ no_word word p stop none b =
     let no : None ≡ Some (position (p.at + length blanks + length word) u) = none ∙ some in
     cc
 
-pub open_first : (u : List ℕ) → blank_len (40 ∷ u) ≡ 0
-open_first [] = refl
-open_first (b ∷ u) = refl
-
-pub close_first : (u : List ℕ) → blank_len (41 ∷ u) ≡ 0
-close_first [] = refl
-close_first (b ∷ u) = refl
-
-not_first : (op : NotOperator) (u : List ℕ) → blank_len (not_text op ++ u) ≡ 0
-not_first LiteralNot u = refl
-not_first Exclamation [] = refl
-not_first Exclamation (b ∷ u) = refl
-
-matching_first : (p : Predicate) (u : List ℕ) → blank_len (Name p ++ u) ≡ 0
-matching_first matching.Package u = refl
-matching_first matching.Deps u = refl
-matching_first matching.Rdeps u = refl
-matching_first matching.Kind u = refl
-matching_first matching.Binary u = refl
-matching_first matching.BinaryId u = refl
-matching_first matching.Test u = refl
-matching_first matching.Group u = refl
-
 name_first : {name : List ℕ} → IsName name → (u : List ℕ) → blank_len (name ++ u) ≡ 0
-name_first (faults.matching p) u = matching_first p u
+name_first (faults.matching p) u = name_stop p u
 name_first faults.platform u = refl
 name_first faults.default u = refl
 name_first faults.all u = refl
@@ -130,11 +110,11 @@ no_operand p s skipped no_name no_not no_open blanks u are is (with_name {t} {na
     let at : s ≡ position (p.at + length blanks) (name ++ v) = skipped ∙ ap (skip_from p.at) (is ∙ ap (λ (t : List ℕ). blanks ++ t) begins.parts) ∙ skip_again are p.at (name ++ v) (name_first n v) in
     name_stands n _ v (no_name ∙ ap name_at at)
 no_operand p s skipped no_name no_not no_open blanks u are is (with_negation {t} op v e ends) =
-    let at : s ≡ position (p.at + length blanks) (not_text op ++ v) = skipped ∙ ap (skip_from p.at) (is ∙ ap (λ (t : List ℕ). blanks ++ t) e) ∙ skip_again are p.at (not_text op ++ v) (not_first op v) in
+    let at : s ≡ position (p.at + length blanks) (not_text op ++ v) = skipped ∙ ap (skip_from p.at) (is ∙ ap (λ (t : List ℕ). blanks ++ t) e) ∙ skip_again are p.at (not_text op ++ v) (not_stop op v) in
     not_stands op _ v ends (no_not ∙ ap not_at at)
 no_operand p s skipped no_name no_not no_open blanks u are is (with_parenthesis {t} begins) =
     let v = begins.rest in
-    let at : s ≡ position (p.at + length blanks) (40 ∷ v) = skipped ∙ ap (skip_from p.at) (is ∙ ap (λ (t : List ℕ). blanks ++ t) begins.parts) ∙ skip_again are p.at (40 ∷ v) (open_first v) in
+    let at : s ≡ position (p.at + length blanks) (40 ∷ v) = skipped ∙ ap (skip_from p.at) (is ∙ ap (λ (t : List ℕ). blanks ++ t) begins.parts) ∙ skip_again are p.at (40 ∷ v) (open_stop v) in
     let f : None ≡ Some (position (p.at + length blanks + 1) v) = no_open ∙ ap (after (codes "(")) at in
     cc
 
@@ -153,7 +133,7 @@ open_found i s n name skipped none = record {
     within = let e = size i in omega arith;
     begins = begins_here i;
     ends = point_ends i;
-    there = (refl, (λ behind. no_word (codes "(") (position_of i) open_first (none ∙ ap (after (codes "(")) skipped) (subst (BehindBlanks (codes "(")) i.seam.onward behind)), (name_text n, is_name n, name));
+    there = (refl, (λ behind. no_word (codes "(") (position_of i) open_stop (none ∙ ap (after (codes "(")) skipped) (subst (BehindBlanks (codes "(")) i.seam.onward behind)), (name_text n, is_name n, name));
   };
   inside = refl;
 }
@@ -164,7 +144,7 @@ close_found i s skipped none = record {
     within = let e = size i in omega arith;
     begins = begins_here i;
     ends = point_ends i;
-    there = (refl, λ behind. no_word (codes ")") (position_of i) close_first (none ∙ ap (after (codes ")")) skipped) (subst (BehindBlanks (codes ")")) i.seam.onward behind));
+    there = (refl, λ behind. no_word (codes ")") (position_of i) close_stop (none ∙ ap (after (codes ")")) skipped) (subst (BehindBlanks (codes ")")) i.seam.onward behind));
   };
   inside = refl;
 }
@@ -251,20 +231,18 @@ misplaced_stands p op suggest q is = from is.suggested is.stands
     from misplaced_ampersands e = e
     from misplaced_pipes e = e
 
--- and none does where neither a word nor a sign stands
-pub none_misplaced : (p : Position) → NoMisplacedWord p → NoMisplacedSign p → (op suggest : List ℕ) (q : Position) → IsMisplaced p op suggest q → ⊥
-none_misplaced p words signs op suggest q is = from is.suggested is.stands
+-- and none does where none of the words and signs stands
+pub none_misplaced : (p : Position) → None ≡ after_word (codes "and") p → None ≡ after_word (codes "or") p → None ≡ after_word (codes "AND") p
+    → None ≡ after_word (codes "OR") p → None ≡ after (codes "&&") p → None ≡ after (codes "||") p → (op suggest : List ℕ) (q : Position) → IsMisplaced p op suggest q → ⊥
+none_misplaced p no_and no_or no_AND no_OR no_ampersands no_pipes op suggest q is = from is.suggested is.stands
   where
-    never : {o : Option Position} → None ≡ o → o ≡ Some q → ⊥
-    never none e = let nothing = none ∙ e in absurd cc
-
     from : {op suggest : List ℕ} (m : Misplaced op suggest) → behind_misplaced m p ≡ Some q → ⊥
-    from misplaced_and e = never words.no_and e
-    from misplaced_or e = never words.no_or e
-    from misplaced_AND e = never words.no_AND e
-    from misplaced_OR e = never words.no_OR e
-    from misplaced_ampersands e = never signs.no_ampersands e
-    from misplaced_pipes e = never signs.no_pipes e
+    from misplaced_and e = absurd cc
+    from misplaced_or e = absurd cc
+    from misplaced_AND e = absurd cc
+    from misplaced_OR e = absurd cc
+    from misplaced_ampersands e = absurd cc
+    from misplaced_pipes e = absurd cc
 
 pub binary_found : (i s : Input) (found : Found-operator) → s.text.now ≡ i.text.now → IsMisplaced (position_of s) found.op.now found.suggest.now (position_of found.end) → IsBehind s found.end
     → Found i.text.now (ExprFoundBinaryOp (span s.offset (found.end.offset - s.offset)) found.op found.suggest)
@@ -281,20 +259,20 @@ binary_found i s found same is b = record {
     stands : after found.op.now (position_of s) ≡ Some (position_of found.end)
     stands = misplaced_stands (position_of s) found.op.now found.suggest.now (position_of found.end) is
 
-pub unary_found : (i s : Input) (found : Found-operator) → s.text.now ≡ i.text.now → IsCapitalNot (position_of s) found.op.now found.suggest.now (position_of found.end) → IsBehind s found.end
-    → Found i.text.now (ExprFoundUnaryOp (span s.offset (found.end.offset - s.offset)) found.op found.suggest)
-unary_found i s found same is b = record {
+pub unary_found : (i s r : Input) (op suggest : Bor (List ℕ)) → s.text.now ≡ i.text.now → Some (position_of r) ≡ after_word op.now (position_of s) → op.now ≡ codes "NOT"
+    → suggest.now ≡ codes "not" → IsBehind s r → Found i.text.now (ExprFoundUnaryOp (span s.offset (r.offset - s.offset)) op suggest)
+unary_found i s r op suggest same is not suggested b = record {
   stands = record {
-    within = span_within i s found.end same b.text (omega (arith, b.end, b.shorter));
+    within = span_within i s r same b.text (omega (arith, b.end, b.shorter));
     begins = begins_in i s same;
-    ends = ends_in i s found.end found.op.now same stands;
-    there = (piece_at i s found.end found.op.now same stands, is.is, is.suggested);
+    ends = ends_in i s r op.now same stands;
+    there = (piece_at i s r op.now same stands, not, suggested);
   };
   inside = refl;
 }
   where
-    stands : after found.op.now (position_of s) ≡ Some (position_of found.end)
-    stands = word_after found.op.now (position_of s) (position_of found.end) is.stands
+    stands : after op.now (position_of s) ≡ Some (position_of r)
+    stands = word_after op.now (position_of s) (position_of r) (sym is)
 
 pub and_found : (s r : Input) → Some (None, position_of r) ≡ joiner_at (position_of s) → IsBehind s r → Found s.text.now (InvalidAndOperator (span s.offset (r.offset - s.offset)))
 unfolding JoinerTaken

@@ -1,5 +1,5 @@
 -- Where the spans of a spelled tree's leaves lie in its text: within it, and between two characters.
-use Rattle.std.proofs.Common.{◌≡◌, ℕ, ◌+◌, ◌<◌, ◌≤◌, List, [], ◌∷◌, ◌++◌, length, get_or, IsUtf8, IsCharBoundary, Some, refl, sym, ap, ◌∙◌, subst, arith, append_assoc, length-append}
+use Rattle.std.proofs.Common.{◌≡◌, ℕ, ◌+◌, ◌<◌, ◌≤◌, List, [], ◌∷◌, ◌++◌, length, get_or, IsUtf8, IsCharBoundary, refl, sym, ap, ◌∙◌, subst, arith, append_assoc, length-append}
 use Rattle.std.specs.Prelude.{codes, All, IfSome}
 use Rattle.std.proofs.Math.Seq.{get_or-append_seam}
 use Rattle.std.proofs.lemmas.List.{append-nil}
@@ -10,10 +10,7 @@ use Rattle.filterset_faults.specs.declared.span.SourceSpan.{SourceSpan}
 use Rattle.filterset_grammar.specs.Grammar as grammar
 use Rattle.filterset_grammar.specs.Grammar.{Name, not_text, or_text, join_text, BehindMatcher, Call, LeafText, Basic, AndLevel, OrLevel, Spells}
 use Rattle.filterset_grammar.specs.Text.{Blanks, no_blank, space, newline, return_newline}
-use Rattle.filterset_grammar.specs.Tree as tree
 use Rattle.filterset_grammar.specs.Tree.{Leaf, Tree, tree_leaves}
-use Rattle.filterset_grammar.specs.declared.predicate.Predicate.{Predicate}
-use Rattle.filterset_grammar.specs.declared.predicate.Predicate.TheVariants.{Package, Deps, Rdeps, Kind, Binary, BinaryId, Test, Group}
 use Rattle.filterset_language.specs.Faults.{leaf_span}
 use Rattle.filterset_matchers.specs.Matcher.{Matcher, Equal, Contains, Glob, Regex}
 

@@ -1,5 +1,5 @@
 -- The argument of `platform`: blanks, which belong to the raw text, and what is read after them.
-use Rattle.std.proofs.Common.{◌≡◌, ◌≢◌, ℕ, ◌+◌, ◌-◌, ◌<◌, Bool, true, false, cond, eqb, List, [], ◌∷◌, ◌++◌, length, take, drop, IsUtf8, Some, refl, sym, ap, ◌∙◌, subst, arith, append_assoc, length-append}
+use Rattle.std.proofs.Common.{◌≡◌, ℕ, ◌+◌, ◌-◌, ◌<◌, Bool, true, false, cond, eqb, List, [], ◌∷◌, ◌++◌, length, take, drop, IsUtf8, Some, refl, sym, ap, ◌∙◌, subst, arith, append_assoc, length-append}
 use Rattle.std.specs.Prelude.{All, encode_utf8_all, ◌&&◌, ◌||◌}
 use Rattle.std.specs.Str.{trim, trim_start, trim_end}
 use lib.Utf8.{encode}
@@ -173,10 +173,6 @@ name_some Host = omega arith
 names_some : (v : List ℕ) (p : BuildPlatform) → Names v p → 0 < length v
 names_some v p names = omega (arith, ap length names.parts, length-append names.before (platform_text p ++ names.behind), length-append (platform_text p) names.behind, name_some p)
 
-not_empty : (t : List ℕ) → 0 < length t → t ≢ []
-not_empty [] lt e = absurd (omega arith)
-not_empty (b ∷ t) lt e = cc
-
 pub argument_again : (p : BuildPlatform) (at : ℕ) (raw value u : List ℕ) → Spelled raw value → Names value p → EndsText u
     → (v : List ℕ) × (raw_at (skip (position at (raw ++ u))) ≡ Some (v, position (at + length raw) u)) × (platform_in v ≡ Some p)
 argument_again p at raw value u x names ends =
@@ -186,7 +182,7 @@ argument_again p at raw value u x names ends =
     let some = spelled_none o.spelled (names_some o.rest p own) in
     let whole : raw ++ u ≡ f.blanks ++ (f.rest ++ u) = ap (λ (y : List ℕ). y ++ u) f.parts ∙ append_assoc f.blanks f.rest u in
     let skipped : skip (position at (raw ++ u)) ≡ position (at + length f.blanks) (f.rest ++ u) = ap (λ (y : List ℕ). skip (position at y)) whole ∙ skip_again f.are at (f.rest ++ u) f.stop in
-    let read = text_again (at + length f.blanks) f.rest o.rest u o.spelled (not_empty f.rest some) ends in
+    let read = text_again (at + length f.blanks) f.rest o.rest u o.spelled (λ e. absurd (omega (arith, ap length e, some))) ends in
     let end : at + length f.blanks + length f.rest ≡ at + length raw = let e = ap length f.parts in omega (arith, e, length-append f.blanks f.rest) in
     (o.rest, ap raw_at skipped ∙ read ∙ ap (λ (k : ℕ). Some (o.rest, position k u)) end, platform_again p o.rest own)
 

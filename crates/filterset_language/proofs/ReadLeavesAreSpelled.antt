@@ -1,5 +1,5 @@
 -- A predicate that is read is spelled so.
-use Rattle.std.proofs.Common.{◌≡◌, ◌≢◌, ℕ, suc, ◌+◌, ◌<◌, Bool, true, false, cond, List, [], ◌∷◌, ◌++◌, length, take, Option, Some, None, refl, sym, ap, ◌∙◌, subst, arith, append_assoc, length-append, length-take, ⊎_elim}
+use Rattle.std.proofs.Common.{◌≡◌, ◌≢◌, ℕ, suc, ◌+◌, Bool, true, false, cond, List, [], ◌∷◌, ◌++◌, length, take, Option, Some, None, refl, sym, ap, ◌∙◌, subst, arith, append_assoc, length-append, length-take, ⊎_elim}
 use Rattle.std.specs.Prelude.{codes, chars, Result, Ok, Err}
 use Rattle.std.specs.Option.{option_map}
 use Rattle.std.proofs.lemmas.List.{take-append-drop, nil_from_length}
@@ -55,10 +55,6 @@ no_blanks : (q : Position) (t : List ℕ) → EndsText q.rest → Takes q t (ski
 no_blanks q t ends takes =
     let at : (skip q).at ≡ q.at = ap (λ (p : Position). p.at) (none_skipped q ends) in
     nil_from_length t (omega (arith, takes.offset))
-
-not_empty : (t : List ℕ) → 0 < length t → t ≢ []
-not_empty [] lt e = absurd (omega arith)
-not_empty (b ∷ t) lt e = cc
 
 -- ---- what a matcher without a sign begins with
 
@@ -174,7 +170,7 @@ signed_takes predicate how p i x front e =
     record {
       raw = matching_sign how ∷ t.raw;
       takes = Takes-then p i x.1 (matching_sign how ∷ []) t.raw front (raw_takes is.text);
-      text = grammar.signed how is.value t.spelled (not_empty t.raw is.text.some) (made_matches how false is.value x.0 is.is);
+      text = grammar.signed how is.value t.spelled (λ e. absurd (omega (arith, ap length e, is.text.some))) (made_matches how false is.value x.0 is.is);
       behind = λ blanks are takes. text_behind is blanks takes;
     }
 
@@ -186,7 +182,7 @@ implicit_takes predicate p x unsigned e =
     record {
       raw = t.raw;
       takes = takes;
-      text = grammar.implicit is.value t.spelled (not_empty t.raw is.text.some) (plainly p x.1 t.raw unsigned takes) (made_matches (own_matching predicate) true is.value x.0 is.is);
+      text = grammar.implicit is.value t.spelled (λ e. absurd (omega (arith, ap length e, is.text.some))) (plainly p x.1 t.raw unsigned takes) (made_matches (own_matching predicate) true is.value x.0 is.is);
       behind = λ blanks are takes. text_behind is blanks takes;
     }
 

@@ -35,7 +35,7 @@ ends_more : (own u : List ℕ) → 0 < length own → ends_word own ≡ true →
 ends_more [] u lt h = absurd (omega arith)
 ends_more (b ∷ own) u lt h = h
 
-not_stop : (op : NotOperator) (u : List ℕ) → blank_len (not_text op ++ u) ≡ 0
+pub not_stop : (op : NotOperator) (u : List ℕ) → blank_len (not_text op ++ u) ≡ 0
 not_stop LiteralNot u = refl
 not_stop Exclamation u = byte_stop 33 u refl refl
 

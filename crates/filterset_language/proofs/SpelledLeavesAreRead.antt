@@ -196,7 +196,7 @@ no_id (space r) v = refl
 no_id (newline r) v = refl
 no_id (return_newline r) v = refl
 
-name_stop : (p : Predicate) (v : List ℕ) → blank_len (Name p ++ v) ≡ 0
+pub name_stop : (p : Predicate) (v : List ℕ) → blank_len (Name p ++ v) ≡ 0
 name_stop predicates.Package v = refl
 name_stop predicates.Deps v = refl
 name_stop predicates.Rdeps v = refl

@@ -107,24 +107,6 @@ pub record IsMisplaced (p : Position) (op suggest : List ℕ) (q : Position) : T
   pub suggested : Misplaced op suggest
   pub stands : behind_misplaced suggested p ≡ Some q
 
--- none of the words among these operators stands at the position
-pub record NoMisplacedWord (p : Position) : Type 0 where
-  pub no_and : None ≡ after_word (codes "and") p
-  pub no_or : None ≡ after_word (codes "or") p
-  pub no_AND : None ≡ after_word (codes "AND") p
-  pub no_OR : None ≡ after_word (codes "OR") p
-
--- none of the signs does
-pub record NoMisplacedSign (p : Position) : Type 0 where
-  pub no_ampersands : None ≡ after (codes "&&") p
-  pub no_pipes : None ≡ after (codes "||") p
-
--- `NOT` stands at a position where an operand belongs
-pub record IsCapitalNot (p : Position) (op suggest : List ℕ) (q : Position) : Type 0 where
-  pub stands : after_word op p ≡ Some q
-  pub is : op ≡ codes "NOT"
-  pub suggested : suggest ≡ codes "not"
-
 -- after the blanks no operand begins
 pub record NoOperand (p s : Position) : Type 0 where
   pub skipped : s ≡ skip p

@@ -74,14 +74,11 @@ named word name p = choose (after word p) (with name) None
 abbrev pub either : List ℕ → PredicateName → List ℕ → PredicateName → Position → Option (PredicateName × Position)
 either first name second other p = choose (after first p) (with name) (named second other p)
 
-abbrev pub binary_name_at : Position → Option (PredicateName × Position)
-binary_name_at p = either (codes "binary_id") (names.Matching BinaryId) (codes "binary") (names.Matching Binary) p
-
 -- the name that begins with this byte and stands here
 abbrev pub name_by : ℕ → Position → Option (PredicateName × Position)
 name_by b p =
     if b ∈ "a" then named (codes "all") names.All p
-    else (if b ∈ "b" then binary_name_at p
+    else (if b ∈ "b" then either (codes "binary_id") (names.Matching BinaryId) (codes "binary") (names.Matching Binary) p
     else (if b ∈ "d" then either (codes "deps") (names.Matching Deps) (codes "default") names.Default p
     else (if b ∈ "g" then named (codes "group") (names.Matching Group) p
     else (if b ∈ "k" then named (codes "kind") (names.Matching Kind) p

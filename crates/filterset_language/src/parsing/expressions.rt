@@ -1,16 +1,16 @@
 //! Reads expressions.
-ghost use Rattle.std.specs.Prelude.{◌≡◌, ℕ, suc, ◌<◌, ◌≤◌, length, IfOk, Some};
+ghost use Rattle.std.specs.Prelude.{◌≡◌, suc, ◌<◌, length, IfOk, Some};
 ghost use Rattle.std.specs.Option.{option_map};
 ghost use Rattle.filterset_grammar.specs.Tree.{Not, Parens, Set};
 ghost use Rattle.filterset_language.specs.Views.{leaf_of};
 ghost use Rattle.filterset_language.specs.Parsing.Position.{position_of, IsBehind, IsAtOrBehind};
 ghost use Rattle.filterset_language.specs.Parsing.Words.{joiner_at, or_at};
 ghost use Rattle.filterset_language.specs.Parsing.Descent.{boxed_tree, operand_at, and_level_by, or_level_by, join, unite, set_at};
-ghost use Rattle.filterset_language.specs.Parsing.Recovery.{StillStand, GoesOn, EndsBehind, joined, Checked, AtOperand, AtName, NoOperand};
+ghost use Rattle.filterset_language.specs.Parsing.Recovery.{StillStand, EndsBehind, joined, Checked, AtOperand, AtName, NoOperand};
 ghost use Rattle.filterset_language.specs.Parsing.Outcome.{ReadsTree, ReadsSet, ReadsNegation, ReadsParens, ReadsOn};
 
 use crate::parsing::input::{Input, Read};
-use crate::parsing::misplaced::{find_misplaced, find_misplaced_not};
+use crate::parsing::misplaced::find_misplaced;
 use crate::parsing::names::{PredicateName, read_name};
 use crate::parsing::operators::{is_before_caret, read_joiner, read_not, read_or};
 use crate::parsing::predicates::{read_close, read_predicate};
@@ -89,7 +89,7 @@ fn read_parens<'a>(
     })
 }
 
-/// Reports that no operand is at `start`, and returns no value.
+/// Reports what is at `start` instead of an operand, and returns no value. Reading goes on after a misplaced operator.
 #[inline(never)]
 fn read_nothing<'a>(
     faults: &mut Vec<ParseSingleError>,
@@ -103,44 +103,30 @@ fn read_nothing<'a>(
     ensures stand { StillStand input.entry faults.old faults.new result }
     ensures behind { EndsBehind input.entry result }
 {
-    Ok(Read {
-        value: None,
-        end: report_no_operand(faults, input, start)?,
-    })
-}
-
-/// Reports what is at `start` instead of an operand, and returns where to go on: after a misplaced operator.
-#[inline(never)]
-fn report_no_operand<'a>(
-    faults: &mut Vec<ParseSingleError>,
-    input: Input<'a>,
-    start: Input<'a>,
-) -> Result<Input<'a>, AllocError>
-    requires at { AtOperand input }
-    requires nothing { NoOperand (position_of input) (position_of start) }
-    requires start { IsAtOrBehind input start }
-    ensures more { IfOk result (λ r. length faults.old.items < length faults.new.items) }
-    ensures stand { StillStand input.entry faults.old faults.new result }
-    ensures behind { GoesOn input.entry result }
-{
     if let Some(found) = find_misplaced(start) {
         faults.push(ParseSingleError::ExprFoundBinaryOp {
             op: found.op,
             suggest: found.suggest,
             span: start.up_to(found.end),
         })?;
-        return Ok(found.end);
+        return Ok(Read {
+            value: None,
+            end: found.end,
+        });
     }
-    if let Some(found) = find_misplaced_not(start) {
+    if let Some(end) = start.after_word("NOT") {
         faults.push(ParseSingleError::ExprFoundUnaryOp {
-            op: found.op,
-            suggest: found.suggest,
-            span: start.up_to(found.end),
+            op: "NOT",
+            suggest: "not",
+            span: start.up_to(end),
         })?;
-        return Ok(found.end);
+        return Ok(Read { value: None, end });
     }
     faults.push(ParseSingleError::ExpectedExpr(input.to_end()))?;
-    Ok(input)
+    Ok(Read {
+        value: None,
+        end: input,
+    })
 }
 
 /// Reads operands of the level of `and`. If the first one took up no text, the level ends before `^`.

@@ -1,7 +1,6 @@
 //! Positions in a text, and steps from one to the next: over blanks, a word, or all up to the next `)`.
-ghost use Rattle.std.specs.Prelude.{◌≡◌, ◌+◌, ◌-◌, ◌≤◌, ◌<◌, ◌^◌, ◌∷◌, [], ◌++◌, length, min, take, drop, IsCharBoundary, MatchOption, IfSome, chars};
+ghost use Rattle.std.specs.Prelude.{◌≡◌, ◌+◌, ◌-◌, ◌≤◌, ◌<◌, ◌^◌, length, min, IsCharBoundary, IfSome};
 ghost use Rattle.std.specs.Option.{option_map};
-ghost use Rattle.filterset_grammar.specs.Text.{ends_word};
 ghost use Rattle.filterset_language.specs.Parsing.Front.{blank_len, close_len};
 ghost use Rattle.filterset_language.specs.Parsing.Seam.{IsSeam, AreBlanks};
 ghost use Rattle.filterset_faults.specs.Span.{span};
@@ -150,21 +149,10 @@ impl<'a> Input<'a> {
         ensures behind { IfSome result (λ x. 0 < length word.now → IsBehind self.entry x) }
     {
         let input = self.after(word)?;
-        if ends_word(input.rest.as_bytes()) {
-            Some(input)
-        } else {
-            None
+        match input.rest.as_bytes() {
+            [b, ..] if b.is_ascii_alphanumeric() || *b == b'_' => None,
+            _ => Some(input),
         }
-    }
-}
-
-/// Returns whether a word may end before the text.
-fn ends_word(text: &[u8]) -> bool
-    ensures { result ≡ ends_word text.now }
-{
-    match text {
-        [] => true,
-        [b, ..] => !b.is_ascii_alphanumeric() && *b != b'_',
     }
 }
 

@@ -1,7 +1,7 @@
 //! Finds operators where an operand belongs.
 ghost use Rattle.std.specs.Prelude.{◌≡◌, ℕ, List, IfSome, None};
 ghost use Rattle.filterset_language.specs.Parsing.Position.{Position, position_of, IsBehind};
-ghost use Rattle.filterset_language.specs.Parsing.Recovery.{IsMisplaced, NoMisplacedWord, NoMisplacedSign, IsCapitalNot};
+ghost use Rattle.filterset_language.specs.Parsing.Recovery.{IsMisplaced};
 
 use crate::parsing::input::Input;
 
@@ -13,23 +13,11 @@ pub struct Misplaced<'a> {
     pub end: Input<'a>,
 }
 
-/// Finds an operator of two operands here.
+/// Finds an operator of two operands here, in one of its spellings or as other languages write it.
 pub fn find_misplaced(input: Input<'_>) -> Option<Misplaced<'_>>
     ensures value { IfSome result (λ x. IsMisplaced (position_of input.entry) x.op.now x.suggest.now (position_of x.end)) }
     ensures none { result ≡ None → (op suggest : List ℕ) (q : Position)
         → IsMisplaced (position_of input.entry) op suggest q → ⊥ }
-    ensures behind { IfSome result (λ x. IsBehind input.entry x.end) }
-{
-    match find_misplaced_word(input) {
-        Some(found) => Some(found),
-        None => find_misplaced_sign(input),
-    }
-}
-
-/// Finds one of these operators that is a word.
-fn find_misplaced_word(input: Input<'_>) -> Option<Misplaced<'_>>
-    ensures value { IfSome result (λ x. IsMisplaced (position_of input.entry) x.op.now x.suggest.now (position_of x.end)) }
-    ensures none { result ≡ None → NoMisplacedWord (position_of input.entry) }
     ensures behind { IfSome result (λ x. IsBehind input.entry x.end) }
 {
     if let Some(end) = input.after_word("and") {
@@ -53,20 +41,13 @@ fn find_misplaced_word(input: Input<'_>) -> Option<Misplaced<'_>>
             end,
         });
     }
-    let end = input.after_word("OR")?;
-    Some(Misplaced {
-        op: "OR",
-        suggest: "or",
-        end,
-    })
-}
-
-/// Finds one of these operators that is a sign, as other languages write it.
-fn find_misplaced_sign(input: Input<'_>) -> Option<Misplaced<'_>>
-    ensures value { IfSome result (λ x. IsMisplaced (position_of input.entry) x.op.now x.suggest.now (position_of x.end)) }
-    ensures none { result ≡ None → NoMisplacedSign (position_of input.entry) }
-    ensures behind { IfSome result (λ x. IsBehind input.entry x.end) }
-{
+    if let Some(end) = input.after_word("OR") {
+        return Some(Misplaced {
+            op: "OR",
+            suggest: "or",
+            end,
+        });
+    }
     if let Some(end) = input.after("&&") {
         return Some(Misplaced {
             op: "&&",
@@ -78,21 +59,6 @@ fn find_misplaced_sign(input: Input<'_>) -> Option<Misplaced<'_>>
     Some(Misplaced {
         op: "||",
         suggest: "|",
-        end,
-    })
-}
-
-/// Finds `NOT` here.
-pub fn find_misplaced_not(input: Input<'_>) -> Option<Misplaced<'_>>
-    ensures value { IfSome result (λ x. IsCapitalNot (position_of input.entry) x.op.now x.suggest.now (position_of x.end)) }
-    ensures none { result ≡ None → (op suggest : List ℕ) (q : Position)
-        → IsCapitalNot (position_of input.entry) op suggest q → ⊥ }
-    ensures behind { IfSome result (λ x. IsBehind input.entry x.end) }
-{
-    let end = input.after_word("NOT")?;
-    Some(Misplaced {
-        op: "NOT",
-        suggest: "not",
         end,
     })
 }

@@ -2,7 +2,7 @@
 ghost use Rattle.std.specs.Prelude.{◌≡◌, ◌<◌, length, IfSome};
 ghost use Rattle.std.specs.Option.{option_map};
 ghost use Rattle.filterset_language.specs.Parsing.Position.{position_of, IsBehind};
-ghost use Rattle.filterset_language.specs.Parsing.Words.{seen, first_byte, named, either, binary_name_at, name_at};
+ghost use Rattle.filterset_language.specs.Parsing.Words.{seen, first_byte, named, either, name_at};
 
 use crate::parsing::input::Input;
 use filterset_grammar::Predicate;
@@ -24,7 +24,11 @@ pub fn read_name(input: Input<'_>) -> Option<(PredicateName, Input<'_>)>
 {
     match first_byte(input.rest.as_bytes()) {
         b'a' => read_named(input, "all", PredicateName::All),
-        b'b' => read_binary_name(input),
+        b'b' => {
+            let id = PredicateName::Matching(Predicate::BinaryId);
+            let binary = PredicateName::Matching(Predicate::Binary);
+            read_either(input, "binary_id", id, "binary", binary)
+        }
         b'd' => {
             let deps = PredicateName::Matching(Predicate::Deps);
             read_either(input, "deps", deps, "default", PredicateName::Default)
@@ -46,16 +50,6 @@ pub fn read_name(input: Input<'_>) -> Option<(PredicateName, Input<'_>)>
         b't' => read_named(input, "test", PredicateName::Matching(Predicate::Test)),
         _ => None,
     }
-}
-
-/// Reads `binary_id` or `binary`.
-fn read_binary_name(input: Input<'_>) -> Option<(PredicateName, Input<'_>)>
-    ensures value { option_map seen result ≡ binary_name_at (position_of input.entry) }
-    ensures behind { IfSome result (λ x. IsBehind input.entry x.1) }
-{
-    let id = PredicateName::Matching(Predicate::BinaryId);
-    let binary = PredicateName::Matching(Predicate::Binary);
-    read_either(input, "binary_id", id, "binary", binary)
 }
 
 /// Reads `word`, and returns `name` for it.

@@ -1,7 +1,7 @@
 //! Reads operators. Each reader returns the position after the operator.
-ghost use Rattle.std.specs.Prelude.{◌≡◌, ℕ, IfSome, None, codes, false, is_some};
+ghost use Rattle.std.specs.Prelude.{◌≡◌, IfSome, codes, is_some};
 ghost use Rattle.std.specs.Option.{option_map};
-ghost use Rattle.filterset_language.specs.Parsing.Position.{position, position_of, skip, after, IsBehind};
+ghost use Rattle.filterset_language.specs.Parsing.Position.{position_of, skip, after, IsBehind};
 ghost use Rattle.filterset_language.specs.Parsing.Words.{seen, not_at, joiner_at, or_at};
 
 use crate::parsing::input::Input;
@@ -21,12 +21,16 @@ pub fn read_not(input: Input<'_>) -> Option<(NotOperator, Input<'_>)>
     Some((NotOperator::Exclamation, rest))
 }
 
-/// Reads an operator of the level of `and`. `&&` and `AND` are read without a value.
+/// Reads an operator of the level of `and`. `&&` and `AND` are read without a value. Most levels end at a byte with which
+/// none begins.
 pub fn read_joiner(input: Input<'_>) -> Option<(Option<Joiner>, Input<'_>)>
     ensures value { option_map seen result ≡ joiner_at (position_of input.entry) }
     ensures behind { IfSome result (λ x. IsBehind input.entry x.1) }
 {
-    if !may_begin_joiner(input.rest.as_bytes()) {
+    if !matches!(
+        input.rest.as_bytes(),
+        [b'&' | b'A' | b'a' | b'-' | b'^', ..]
+    ) {
         return None;
     }
     if let Some(rest) = input.after("&&") {
@@ -49,13 +53,6 @@ pub fn read_joiner(input: Input<'_>) -> Option<(Option<Joiner>, Input<'_>)>
         Some(Joiner::ExactlyOne(SymmetricDifferenceOperator::Caret)),
         rest,
     ))
-}
-
-/// Returns whether an operator of the level of `and` may begin with the first byte. Most levels end where it may not.
-fn may_begin_joiner(text: &[u8]) -> bool
-    ensures { result ≡ false → (at : ℕ) → joiner_at (position at text.now) ≡ None }
-{
-    matches!(text, [b'&' | b'A' | b'a' | b'-' | b'^', ..])
 }
 
 /// Returns whether `^` follows here after blanks.

@@ -1,5 +1,5 @@
 //! Parses whole texts.
-ghost use Rattle.std.specs.Prelude.{◌≡◌, ℕ, suc, List, [], ◌∷◌, ◌++◌, ◌⊎◌, length, take, All, Some, IfOk, IfErr};
+ghost use Rattle.std.specs.Prelude.{◌≡◌, List, [], ◌∷◌, ◌++◌, ◌⊎◌, take, All, IfOk, IfErr};
 ghost use Rattle.std.specs.Option.{option_map};
 ghost use Rattle.filterset_grammar.specs.Tree.{Tree};
 ghost use Rattle.filterset_language.specs.Views.{tree_of};
@@ -8,7 +8,7 @@ ghost use Rattle.filterset_language.specs.Faults.{FaultStands};
 ghost use Rattle.filterset_language.specs.Parsed.{Reads, Comes, HasRefusedBodies, SpellsNothing, IsRefusalOf};
 ghost use Rattle.filterset_language.specs.Parsing.Descent.{boxed_tree};
 ghost use Rattle.filterset_language.specs.Parsing.Whole.{Wholly};
-ghost use Rattle.filterset_faults.specs.Span.{span, offset_of};
+ghost use Rattle.filterset_faults.specs.Span.{offset_of};
 ghost use Rattle.filterset_faults.specs.declared.span.SourceSpan.{SourceSpan};
 ghost use Rattle.filterset_faults.specs.declared.error.ParseSingleError.{ParseSingleError};
 ghost use Rattle.filterset_faults.specs.declared.error.ParseSingleError.TheVariants.{ExpectedEndOfExpression};
@@ -98,17 +98,8 @@ fn read_whole(alloc: Global, text: &str) -> Result<Parsed, AllocError>
     if whole.end.skip_blanks().rest.is_empty() {
         return Ok(Parsed { tree, faults });
     }
-    report_rest(&mut faults, whole.end)?;
+    faults.push(ParseSingleError::ExpectedEndOfExpression(whole.end.to_end()))?;
     Ok(Parsed { tree, faults })
-}
-
-/// Reports that the text goes on at `rest`, after the expression.
-fn report_rest(faults: &mut Vec<ParseSingleError>, rest: Input<'_>) -> Result<(), AllocError>
-    ensures { IfOk result (λ u. faults.new.items
-        ≡ faults.old.items ++ ExpectedEndOfExpression (span rest.entry.offset (length rest.entry.rest.now)) ∷ []) }
-{
-    faults.push(ParseSingleError::ExpectedEndOfExpression(rest.to_end()))?;
-    Ok(())
 }
 
 /// Moves the tree out of its box.

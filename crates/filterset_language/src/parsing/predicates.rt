@@ -1,5 +1,5 @@
 //! Reads predicates.
-ghost use Rattle.std.specs.Prelude.{◌∷◌, [], ◌≡◌, ◌<◌, ◌≤◌, length, IfOk, Some, codes, false, true};
+ghost use Rattle.std.specs.Prelude.{◌≡◌, codes};
 ghost use Rattle.std.specs.Option.{option_map};
 ghost use Rattle.filterset_matchers.specs.Matchers.{matcher_of};
 ghost use Rattle.filterset_grammar.specs.Tree.{Matching};
@@ -199,6 +199,7 @@ fn read_platform<'a>(
 }
 
 /// Reads a predicate after its name, which begins at `start`.
+#[tactic(auto, using(crate::proofs::Onward::ends_onward, crate::proofs::Onward::stands_onward))]
 pub fn read_predicate<'a>(
     alloc: Global,
     faults: &mut Vec<ParseSingleError>,

@@ -1,7 +1,6 @@
 //! Reads raw texts.
 ghost use Rattle.std.specs.Prelude.{◌≡◌, ◌≤◌, length, take, IfOk, IfSome, Some, codes};
 ghost use Rattle.std.specs.String.{string_bytes};
-ghost use Rattle.filterset_grammar.specs.Text.{is_plain};
 ghost use Rattle.filterset_language.specs.Faults.{EndsText};
 ghost use Rattle.filterset_language.specs.Parsing.Position.{position_of, after, advanced, IsAtOrBehind};
 ghost use Rattle.filterset_language.specs.Parsing.RawTexts.{plain_len, raw_at, SpelledTo};
@@ -65,18 +64,11 @@ fn plain_len(text: &[u8]) -> usize
     ensures within { result ≤ length text.now }
 {
     for (i, b) in text.iter().enumerate() {
-        if !is_plain(*b) {
+        if matches!(*b, b',' | b')' | b'\\') {
             return i;
         }
     }
     text.len()
-}
-
-/// Returns whether a byte means itself in a raw text.
-fn is_plain(b: u8) -> bool
-    ensures { result ≡ is_plain b }
-{
-    !matches!(b, b',' | b')' | b'\\')
 }
 
 /// Skips the rest of a raw text, and reports each backslash that begins no escape.

@@ -1,8 +1,7 @@
 //! Reads bodies of regular expressions.
 ghost use Rattle.std.specs.Prelude.{◌≡◌, ◌≤◌, length, IfOk, IfSome};
 ghost use Rattle.std.specs.String.{string_bytes};
-ghost use Rattle.filterset_grammar.specs.Text.{with_slashes};
-ghost use Rattle.filterset_language.specs.Parsing.Position.{position_of, IsAtOrBehind};
+ghost use Rattle.filterset_language.specs.Parsing.Position.{position_of};
 ghost use Rattle.filterset_language.specs.Parsing.RawTexts.{body_len, body_at, BodyTaken};
 ghost use Rattle.filterset_language.specs.Parsing.Bodies.{seen_body};
 ghost use Rattle.filterset_language.specs.Parsing.Recovery.{ReadsAs, StillStand, EndsBehind};
@@ -37,7 +36,7 @@ pub fn read_regex_body<'a>(
     let slash = input.advance(count);
     match slash.after("/") {
         Some(end) => {
-            let pattern = pattern_of(alloc, &input.rest[..count])?;
+            let pattern = input.rest[..count].replace(alloc, "\\/", "/")?;
             Ok(Read {
                 value: Some(RegexBody {
                     pattern,
@@ -67,11 +66,4 @@ fn body_len(text: &[u8]) -> usize
         before = *b;
     }
     text.len()
-}
-
-/// Returns the pattern of a body: its text with `/` for each `\/`.
-fn pattern_of(alloc: Global, body: &str) -> Result<String, AllocError>
-    ensures { IfOk result (λ p. string_bytes p ≡ with_slashes body.now) }
-{
-    body.replace(alloc, "\\/", "/")
 }

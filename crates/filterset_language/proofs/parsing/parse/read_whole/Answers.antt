@@ -28,5 +28,5 @@ returns c =
     let some : c.skip_blanks.result.rest.now ≢ [] = λ e. (let f : false ≡ true = sym c.if-is_empty.false ∙ c.is_empty.ensures ∙ ap (λ (t : List ℕ). length t == 0) e in cc) in
     rw c.unbox-tree.ensures (whole_unread text _ c.in_ok-whole.whole.end (position_of c.skip_blanks.result) _ (c.in_ok-whole.ensures.behind.text ∙ c.new.ensures.text) c.skip_blanks.ensures.value
     (first_found _ _ _ _ c.new.ensures.text c.new-faults.ensures.items c.in_ok-whole.ensures.stand)
-    some _ c.in_ok-report_rest.ensures
+    some _ (rw c.to_end.ensures at c.in_ok-push.ensures.items)
     (first_gives _ _ _ _ _ _ _ _ c.new.ensures.text c.new-faults.ensures.items (ap (or_level_by (operand_at (suc (length text)))) c.new.ensures.value) (c.in_ok-whole.ensures.value (length text) le)))

@@ -3,7 +3,6 @@ use Rattle.filterset_language.specs.Parsing.Position.{position_of}
 use Rattle.filterset_grammar.specs.Tree as tree
 use Rattle.filterset_language.specs.declared.parsing.names.PredicateName.TheVariants as names
 use Rattle.filterset_language.proofs.Matching.{leaf_gives, platform_gives, default_gives, bare_gives}
-use Rattle.filterset_language.proofs.Positions.{AtOrBehind-then}
 use Rattle.filterset_language.proofs.Recovering.{if_ok, keeps_then}
 use Rattle.filterset_language.proofs.parsing.predicates.read_predicate.Goals as goal
 
@@ -16,9 +15,6 @@ returns-in-Matching-clause-value c =
 
 pub returns-in-Matching-clause-stand : goal.returns-in-Matching-clause-stand
 returns-in-Matching-clause-stand c = if_ok c.read_matching.result _ _ (λ r keeps. keeps_then _ _ _ _ _ _ refl c.in_ok-inside.ensures.behind.text c.in_ok-inside.ensures.stand keeps) c.read_matching.ensures.stand
-
-pub returns-in-Matching-clause-behind : goal.returns-in-Matching-clause-behind
-returns-in-Matching-clause-behind c = if_ok c.read_matching.result _ _ (λ r behind. AtOrBehind-then _ _ _ c.in_ok-inside.ensures.behind behind) c.read_matching.ensures.behind
 
 pub returns-in-Platform-clause-value : goal.returns-in-Platform-clause-value
 returns-in-Platform-clause-value c =
@@ -47,27 +43,3 @@ returns-in-None-clause-value c =
     if_ok c.read_bare-in-None.result _ _
     (λ r v. rw c.in-None.is (leaf_gives inside.text.now c.args.input.text.now names.None c.args.start.offset (position_of c.args.input) (position_of r.end) (position_of inside) _ _ _ _ c.in_ok-inside.ensures.behind.text c.in_ok-inside.ensures.value (bare_gives inside.text.now tree.None (position_of inside) (position_of r.end) _ _ _ tt v)))
     c.read_bare-in-None.ensures.value
-
-pub returns-in-Platform-clause-stand : goal.returns-in-Platform-clause-stand
-returns-in-Platform-clause-stand c = if_ok c.read_platform.result _ _ (λ r keeps. keeps_then _ _ _ _ _ _ refl c.in_ok-inside.ensures.behind.text c.in_ok-inside.ensures.stand keeps) c.read_platform.ensures.stand
-
-pub returns-in-Platform-clause-behind : goal.returns-in-Platform-clause-behind
-returns-in-Platform-clause-behind c = if_ok c.read_platform.result _ _ (λ r behind. AtOrBehind-then _ _ _ c.in_ok-inside.ensures.behind behind) c.read_platform.ensures.behind
-
-pub returns-in-Default-clause-stand : goal.returns-in-Default-clause-stand
-returns-in-Default-clause-stand c = if_ok c.read_default.result _ _ (λ r keeps. keeps_then _ _ _ _ _ _ refl c.in_ok-inside.ensures.behind.text c.in_ok-inside.ensures.stand keeps) c.read_default.ensures.stand
-
-pub returns-in-Default-clause-behind : goal.returns-in-Default-clause-behind
-returns-in-Default-clause-behind c = if_ok c.read_default.result _ _ (λ r behind. AtOrBehind-then _ _ _ c.in_ok-inside.ensures.behind behind) c.read_default.ensures.behind
-
-pub returns-in-All-clause-stand : goal.returns-in-All-clause-stand
-returns-in-All-clause-stand c = if_ok c.read_bare.result _ _ (λ r keeps. keeps_then _ _ _ _ _ _ refl c.in_ok-inside.ensures.behind.text c.in_ok-inside.ensures.stand keeps) c.read_bare.ensures.stand
-
-pub returns-in-All-clause-behind : goal.returns-in-All-clause-behind
-returns-in-All-clause-behind c = if_ok c.read_bare.result _ _ (λ r behind. AtOrBehind-then _ _ _ c.in_ok-inside.ensures.behind behind) c.read_bare.ensures.behind
-
-pub returns-in-None-clause-stand : goal.returns-in-None-clause-stand
-returns-in-None-clause-stand c = if_ok c.read_bare-in-None.result _ _ (λ r keeps. keeps_then _ _ _ _ _ _ refl c.in_ok-inside.ensures.behind.text c.in_ok-inside.ensures.stand keeps) c.read_bare-in-None.ensures.stand
-
-pub returns-in-None-clause-behind : goal.returns-in-None-clause-behind
-returns-in-None-clause-behind c = if_ok c.read_bare-in-None.result _ _ (λ r behind. AtOrBehind-then _ _ _ c.in_ok-inside.ensures.behind behind) c.read_bare-in-None.ensures.behind

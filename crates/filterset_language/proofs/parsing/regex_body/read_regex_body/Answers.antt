@@ -1,4 +1,6 @@
-use Rattle.std.proofs.Common.{◌≡◌, ◌∙◌, drop, sym, ap, subst}
+use Rattle.std.proofs.Common.{◌≡◌, ◌∙◌, drop, refl, rules, sym, ap, subst}
+use Rattle.std.specs.Prelude.{string_bytes}
+use Rattle.filterset_grammar.specs.Text.{with_slashes}
 use Rattle.filterset_language.specs.Parsing.Front.{close_len}
 use Rattle.filterset_language.specs.Parsing.Position.{Position}
 use Rattle.filterset_language.specs.Parsing.RawTexts.{body_len}
@@ -6,6 +8,7 @@ use Rattle.filterset_language.specs.Faults.{ClosesArgument}
 use Rattle.filterset_language.proofs.BodyReading.{body_boundary, body_taken}
 use Rattle.filterset_language.proofs.ClosingParenthesis.{close_behind}
 use Rattle.filterset_language.proofs.Recovering.{reported, keeps_along}
+use Rattle.filterset_language.proofs.Replacing.{all_replaced}
 use Rattle.filterset_language.proofs.RawTextFaults.{unclosed_found}
 use Rattle.filterset_language.proofs.parsing.regex_body.read_regex_body.Goals as goal
 
@@ -20,4 +23,9 @@ returns-in_ok-push-in-None-clause-stand c =
 
 pub returns-in_ok-pattern-in-Some-clause-taken : goal.returns-in_ok-pattern-in-Some-clause-taken
 returns-in_ok-pattern-in-Some-clause-taken c =
-    body_taken c.args.input c.advance-slash.result c.in-Some.end _ _ _ _ (c.body_len-count.ensures.value ∙ ap (body_len 0) c.as_bytes.ensures.value) c.advance-slash.ensures.value c.in-Some.ensures.value c.range.ensures.value c.in_ok-pattern-in-Some.ensures c.up_to.ensures
+    body_taken c.args.input c.advance-slash.result c.in-Some.end _ _ _ _ (c.body_len-count.ensures.value ∙ ap (body_len 0) c.as_bytes.ensures.value) c.advance-slash.ensures.value c.in-Some.ensures.value c.range.ensures.value (all_replaced c.in_ok-pattern-in-Some.ensures.ok.0 _ _ _ refl c.in_ok-pattern-in-Some.ensures.ok.1) c.up_to.ensures
+
+pub returns-in_ok-pattern-in-Some-clause-value : goal.returns-in_ok-pattern-in-Some-clause-value
+returns-in_ok-pattern-in-Some-clause-value c =
+    let pattern : string_bytes c.in_ok-pattern-in-Some.pattern ≡ with_slashes c.range.result.now = all_replaced c.in_ok-pattern-in-Some.ensures.ok.0 _ _ _ refl c.in_ok-pattern-in-Some.ensures.ok.1 in
+    search rules

@@ -1,14 +1,15 @@
+use Rattle.std.proofs.Common.{arith, refl}
 use Rattle.filterset_language.proofs.Recovering.{reported}
 use Rattle.filterset_language.proofs.FaultsStand.{binary_found, unary_found, expr_found}
-use Rattle.filterset_language.proofs.parsing.expressions.report_no_operand.Goals as goal
+use Rattle.filterset_language.proofs.parsing.expressions.read_nothing.Goals as goal
 
 pub returns-in-Some-clause-stand : goal.returns-in-Some-clause-stand
 returns-in-Some-clause-stand c =
     reported _ _ _ _ c.in_ok-push.ensures.items (rw c.up_to.ensures (binary_found c.args.input c.args.start c.in-Some.found c.requires.start.text c.in-Some.ensures.value c.in-Some.ensures.behind))
 
-pub returns-in-Some-find_misplaced_not-clause-stand : goal.returns-in-Some-find_misplaced_not-clause-stand
-returns-in-Some-find_misplaced_not-clause-stand c =
-    reported _ _ _ _ c.in_ok-push-2.ensures.items (rw c.up_to-in-Some-find_misplaced_not.ensures (unary_found c.args.input c.args.start c.in-Some-find_misplaced_not.found c.requires.start.text c.in-Some-find_misplaced_not.ensures.value c.in-Some-find_misplaced_not.ensures.behind))
+pub returns-in-Some-after_word-clause-stand : goal.returns-in-Some-after_word-clause-stand
+returns-in-Some-after_word-clause-stand c =
+    reported _ _ _ _ c.in_ok-push-2.ensures.items (rw c.up_to-in-Some-after_word.ensures (unary_found c.args.input c.args.start c.in-Some-after_word.end _ _ c.requires.start.text c.in-Some-after_word.ensures.value refl refl (c.in-Some-after_word.ensures.behind (omega arith))))
 
 pub returns-clause-stand : goal.returns-clause-stand
 returns-clause-stand c =
