@@ -2,13 +2,14 @@
 use Rattle.std.proofs.Common.{◌≡◌, ◌≤◌, ◌+◌, ◌-◌, ℕ, suc, true, sym, ◌∙◌, subst, refl, arith, List, [], ◌∷◌, ◌++◌, length, drop, length-append, append_assoc, inl, inr, ap}
 use Rattle.std.proofs.Math.Seq.{drop-append_seam}
 use Rattle.std.proofs.lemmas.List.{append-nil}
+use Rattle.std.proofs.lemmas.Bool.{and_parts}
 use Rattle.filterset_expression.specs.Connectives.{Connective}
 use Rattle.filterset_expression.specs.Folds.{Folds}
 use Rattle.filterset_expression.specs.Formula.{Formula, Leaf, Negation, Compound}
 use Rattle.filterset_expression.specs.FlatSteps.{Step, Push, Negate, Combine, postfix}
 use Rattle.filterset_expression.specs.Passing.{Advances}
 use Rattle.filterset_expression.specs.Running.{finds_operands, leaves_one, greatest_height}
-use Rattle.filterset_expression.proofs.FlatSteps.{and_right, postfix_leaves_one, greatest_past}
+use Rattle.filterset_expression.proofs.FlatSteps.{postfix_leaves_one, greatest_past}
 
 -- the formulas that the steps make of those on the stack, whose top comes first
 abbrev pub decoded : {A : Type 0} → List (Step A) → List (Formula A) → List (Formula A)
@@ -108,7 +109,7 @@ module _ {A L : Type 0} (not_of : L → L) (connect : Connective → L → L →
       let runs : leaves_one (postfix right ++ Combine c ∷ rest) (suc (length front)) ≡ true = rw (l, v) at h.0 in
       let fits : greatest_height (postfix right ++ Combine c ∷ rest) (suc (length front)) ≤ room = rw (l, v) at h.1 in
       let past : greatest_height (Combine c ∷ rest) (suc (suc (length front))) ≤ greatest_height (postfix right ++ Combine c ∷ rest) (suc (length front)) = greatest_past right (Combine c ∷ rest) (suc (length front)) in (
-        rw v (and_right (finds_operands {A = A} (Combine c) (suc (suc (length front)))) _ (sym (postfix_leaves_one right (Combine c ∷ rest) (suc (length front))) ∙ runs)),
+        rw v ((and_parts (finds_operands {A = A} (Combine c) (suc (suc (length front)))) _ (sym (postfix_leaves_one right (Combine c ∷ rest) (suc (length front))) ∙ runs)).1),
         rw v (omega (arith, fits, past)),
         pass_stands all left rest c right values front x v l decided h.2,
       )

@@ -1,9 +1,11 @@
 -- Lists of steps, and how they run.
-use Rattle.std.proofs.Common.{◌≡◌, ℕ, zero, suc, ◌+◌, ◌-◌, ◌<◌, ◌≤◌, max, Bool, true, false, ◌&&◌, ◌||◌, refl, sym, ap, ◌∙◌, subst, List, [], ◌∷◌, ◌++◌, length, drop, get_or, append_assoc, arith}
+use Rattle.std.proofs.Common.{◌≡◌, ℕ, zero, suc, ◌+◌, ◌-◌, ◌<◌, ◌≤◌, max, Bool, true, false, ◌||◌, refl, sym, ap, ◌∙◌, subst, List, [], ◌∷◌, ◌++◌, length, drop, get_or, append_assoc, arith}
 use Rattle.std.specs.List.{list_any}
 use Rattle.std.proofs.lemmas.List.{append-nil, drop_more, map-append}
 use Rattle.std.proofs.lemmas.List.Folds.{list_any-append}
 use Rattle.std.proofs.Math.Bool.{or-false}
+use Rattle.std.proofs.lemmas.Bool.{and_parts, or_parts}
+use Rattle.std.proofs.lemmas.Bool.Decides.{nat_tests}
 use Rattle.filterset_expression.specs.Connectives.{Connective}
 use Rattle.filterset_expression.specs.Expression as compiled
 use Rattle.filterset_expression.specs.Expression.{CompiledLeaf, formula, is_default, is_group, leaf_with_default, with_default, has_leaf}
@@ -14,11 +16,9 @@ use Rattle.filterset_expression.specs.FlatSteps.{Step, Negate, Combine, steps_by
 use Rattle.filterset_expression.specs.declared.expression.CompiledExpr.{CompiledExpr}
 use Rattle.filterset_expression.specs.declared.flat.steps.FlatStep.{FlatStep}
 use Rattle.filterset_expression.specs.declared.flat.steps.FlatStep.TheVariants as step
-use Rattle.filterset_expression.specs.declared.leaves.FiltersetLeaf.TheVariants as leaf
 
 pub one_less-is : (n : ℕ) → one_less n ≡ n - 1
-one_less-is zero = omega arith
-one_less-is (suc n) = omega arith
+one_less-is n = grind (arith, nat_tests)
 
 -- each step of a formula finds its operands, and one value is left for it
 pub postfix_leaves_one : {A : Type 0} (f : Formula A) (rest : List (Step A)) (height : ℕ) → leaves_one (postfix f ++ rest) height ≡ leaves_one rest (suc height)
@@ -61,39 +61,23 @@ leaf_or-plain : (others : List (Step CompiledLeaf)) (l : CompiledLeaf) → is_de
 leaf_or-plain others compiled.Default e = absurd (let clash : true ≡ false = e in cc)
 leaf_or-plain others _ e = refl
 
-or_false_left : (a b : Bool) → (a || b) ≡ false → a ≡ false
-or_false_left true b e = e
-or_false_left false b e = refl
-
-or_false_right : (a b : Bool) → (a || b) ≡ false → b ≡ false
-or_false_right true b e = absurd (let clash : true ≡ false = e in cc)
-or_false_right false b e = e
-
 -- an expression without `default` leaves has its own steps alone
 steps_without_default : (others : List (Step CompiledLeaf)) (f : Formula CompiledLeaf) → list_any is_default (leaves f) ≡ false → steps_by (leaf_or others) f ≡ postfix f
-steps_without_default others (Leaf l) e = leaf_or-plain others l (or_false_left (is_default l) false e)
+steps_without_default others (Leaf l) e = leaf_or-plain others l (or_parts (is_default l) false e).0
 steps_without_default others (Negation f) e = ap (λ s. s ++ Negate ∷ []) (steps_without_default others f e)
 steps_without_default others (Compound c f g) e =
     let both : (list_any is_default (leaves f) || list_any is_default (leaves g)) ≡ false = sym (list_any-append is_default (leaves f) (leaves g)) ∙ e in
-    let left = steps_without_default others f (or_false_left (list_any is_default (leaves f)) (list_any is_default (leaves g)) both) in
-    let right = steps_without_default others g (or_false_right (list_any is_default (leaves f)) (list_any is_default (leaves g)) both) in
+    let left = steps_without_default others f (or_parts (list_any is_default (leaves f)) (list_any is_default (leaves g)) both).0 in
+    let right = steps_without_default others g (or_parts (list_any is_default (leaves f)) (list_any is_default (leaves g)) both).1 in
     cc
 
 pub default_steps : (default : CompiledExpr) (others : List (Step CompiledLeaf)) → has_leaf is_default default ≡ false → steps_by (leaf_or others) (formula default) ≡ postfix (formula default)
 default_steps default others e = steps_without_default others (formula default) e
 
-pub and_left : (a b : Bool) → (a && b) ≡ true → a ≡ true
-and_left true b e = refl
-and_left false b e = e
-
-pub and_right : (a b : Bool) → (a && b) ≡ true → b ≡ true
-and_right true b e = e
-and_right false b e = absurd (let clash : false ≡ true = e in cc)
-
 module _ {A : Type 0} (s : Step A) (rest : List (Step A)) (height after : ℕ) where
   -- the steps that are left after one
   pub leaves_one_on : height_after s height ≡ after → leaves_one (s ∷ rest) height ≡ true → leaves_one rest after ≡ true
-  leaves_one_on e runs = rw (← e) (and_right (finds_operands s height) _ runs)
+  leaves_one_on e runs = rw (← e) (and_parts (finds_operands s height) _ runs).1
 
   pub greatest_on : height_after s height ≡ after → greatest_height (s ∷ rest) height ≡ max height (greatest_height rest after)
   greatest_on e = rw e refl
@@ -141,21 +125,17 @@ combined_steps at c f g old left right new s e l r n =
 pub postfix_runs : {A : Type 0} (f : Formula A) → leaves_one (postfix f) 0 ≡ true
 postfix_runs f = subst (λ s. leaves_one s 0 ≡ true) (append-nil (postfix f)) (postfix_leaves_one f [] 0)
 
-or_none : (a b : Bool) → a ≡ false → b ≡ false → (a || b) ≡ false
-or_none true b e k = e
-or_none false b e k = k
-
 none_joined : {X : Type 0} (p : X → Bool) (xs ys : List X) → list_any p xs ≡ false → list_any p ys ≡ false → list_any p (xs ++ ys) ≡ false
-none_joined p xs ys e k = list_any-append p xs ys ∙ or_none (list_any p xs) (list_any p ys) e k
+none_joined p xs ys e k = list_any-append p xs ys ∙ rw (e, k) refl
 
 -- where no leaf passes a test, and none of what stands in the place of a leaf does, none of the whole does
 module _ {A B : Type 0} (p : A → Bool) (q : B → Bool) (at : A → Formula B) (none_at : (leaf : A) → p leaf ≡ false → list_any q (leaves (at leaf)) ≡ false) where
   pub none_replaced : (f : Formula A) → list_any p (leaves f) ≡ false → list_any q (leaves (replaced at f)) ≡ false
-  none_replaced (Leaf leaf) e = none_at leaf (or_false_left (p leaf) false e)
+  none_replaced (Leaf leaf) e = none_at leaf (or_parts (p leaf) false e).0
   none_replaced (Negation f) e = none_replaced f e
   none_replaced (Compound c f g) e =
       let both : (list_any p (leaves f) || list_any p (leaves g)) ≡ false = sym (list_any-append p (leaves f) (leaves g)) ∙ e in
-      none_joined q (leaves (replaced at f)) (leaves (replaced at g)) (none_replaced f (or_false_left (list_any p (leaves f)) (list_any p (leaves g)) both)) (none_replaced g (or_false_right (list_any p (leaves f)) (list_any p (leaves g)) both))
+      none_joined q (leaves (replaced at f)) (leaves (replaced at g)) (none_replaced f (or_parts (list_any p (leaves f)) (list_any p (leaves g)) both).0) (none_replaced g (or_parts (list_any p (leaves f)) (list_any p (leaves g)) both).1)
 
 no_group_with_default : (default : CompiledExpr) → has_leaf is_group default ≡ false → (l : CompiledLeaf) → is_group l ≡ false → list_any is_group (leaves (leaf_with_default default l)) ≡ false
 no_group_with_default default none compiled.Default e = none

@@ -4,7 +4,7 @@ use Rattle.std.specs.Prelude.{IfSome}
 use Rattle.std.proofs.lemmas.List.{append-nil, reverse-append, length-reverse, take-append-drop}
 use Rattle.std.proofs.Math.Seq.{take-append_seam, drop-append_seam}
 use Rattle.filterset_expression.specs.Connectives.{Connective}
-use Rattle.std.proofs.lemmas.Bool.{and_from}
+use Rattle.std.proofs.lemmas.Bool.{and_from, and_parts}
 use Rattle.filterset_expression.specs.EqualityLaws.{connective_is, connective_self}
 use Rattle.filterset_expression.specs.FlatSteps.{Step, Push, Negate, Combine, postfix}
 use Rattle.filterset_expression.specs.Expression as compiled
@@ -12,7 +12,7 @@ use Rattle.filterset_expression.specs.Expression.{CompiledLeaf, leaf_with_defaul
 use Rattle.filterset_expression.specs.Formula.{Formula, Leaf, Negation, Compound, replaced}
 use Rattle.filterset_expression.specs.Passing.{Advances, IsRightOperand, IsPassedOver, ArePassedOver, begins_with, is_right_operand, is_passed_over, are_passed_over}
 use Rattle.filterset_expression.specs.Running.{leaves_one}
-use Rattle.filterset_expression.proofs.FlatSteps.{and_left, and_right, postfix_runs}
+use Rattle.filterset_expression.proofs.FlatSteps.{postfix_runs}
 use Rattle.filterset_expression.specs.declared.expression.CompiledExpr.TheBlock as variant
 use Rattle.filterset_expression.specs.declared.leaves.FiltersetLeaf.TheVariants as leaf
 use Rattle.filterset_expression.specs.declared.flat.passing.RightOperand.{RightOperand}
@@ -129,8 +129,8 @@ right_of_is c zero steps e = absurd (let clash : false ≡ true = e in cc)
 right_of_is {A} c (suc n) steps e =
     let less : suc n - 1 ≡ n = omega arith in
     let both : (leaves_one (take n steps) 0 && begins_with c (drop n steps)) ≡ true = subst (λ k. (leaves_one (take k steps) 0 && begins_with c (drop k steps)) ≡ true) less e in
-    let own : (f : Formula A) × (take n steps ≡ postfix f) = read_back (take n steps) [] (and_left _ _ both) in
-    let last = begins c (drop n steps) (and_right (leaves_one (take n steps) 0) _ both) in
+    let own : (f : Formula A) × (take n steps ≡ postfix f) = read_back (take n steps) [] (and_parts _ _ both).0 in
+    let last = begins c (drop n steps) (and_parts (leaves_one (take n steps) 0) _ both).1 in
     let whole : steps ≡ postfix own.0 ++ Combine c ∷ last.0 = sym (take-append-drop n steps) ∙ ap (λ s. s ++ drop n steps) own.1 ∙ ap (λ s. postfix own.0 ++ s) last.1 in
     let counted : length (take n steps) ≡ n = omega (arith, length-take n steps, length-drop n steps, ap length last.1) in
     (own.0, last.0, whole, omega (arith, counted, ap length own.1))
@@ -141,9 +141,9 @@ passed_at steps [] at found other e within is = absurd (omega (arith, within))
 passed_at [] (operand ∷ operands) at found other e within is = absurd (let clash : false ≡ true = e in cc)
 passed_at (s ∷ steps) (None ∷ operands) zero found other e within is = rw is tt
 passed_at (s ∷ steps) (Some operand ∷ operands) zero found other e within is =
-    rw is (right_of_is operand.connective operand.steps steps (and_left _ _ e))
+    rw is (right_of_is operand.connective operand.steps steps (and_parts _ _ e).0)
 passed_at (s ∷ steps) (operand ∷ operands) (suc n) found other e within is =
-    passed_at steps operands n found other (and_right _ _ e) (omega (arith, within)) is
+    passed_at steps operands n found other (and_parts _ _ e).1 (omega (arith, within)) is
 
 -- a right operand is within the steps
 pub right_within : {A : Type 0} (connective : Connective) (count at : ℕ) (steps : List (Step A)) → IsRightOperand connective count (drop (suc at) steps) → count + (at + 1) ≤ length steps

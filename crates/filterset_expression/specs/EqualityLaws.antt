@@ -3,15 +3,16 @@ use Rattle.std.specs.Prelude.{◌≡◌, ◌&&◌, Bool, true, refl}
 use Rattle.std.specs.Bool.{Decides, one_answer}
 use Rattle.std.specs.Cmp.{IsEquivalence}
 use Rattle.std.specs.Cmp.Lexicographic.{pointwise_decides}
-use Rattle.std.proofs.Common.{ap, sym, subst, ◌∙◌}
+use Rattle.std.proofs.Common.{arith, ap, sym, subst, ◌∙◌}
 use Rattle.std.proofs.lemmas.Bool.{and_parts, false≢true}
 use Rattle.std.proofs.lemmas.Slice.Eq.{bytes_eq-Decides}
+use Rattle.std.proofs.lemmas.Bool.Decides.{nat_tests}
 use Rattle.filterset_faults.specs.declared.span.SourceSpan.{SourceSpan}
 use Rattle.filterset_grammar.specs.Equality.{compared_matcher, same_platform, same_span}
 use Rattle.filterset_grammar.specs.EqualityLaws.{alike, alike_Decides, alike_equiv, kept_matcher, same_platform_Decides, same_span_Decides}
 use Rattle.filterset_matchers.specs.Equality.{same_compared}
 use Rattle.filterset_matchers.specs.Matcher.{Matcher}
-use Rattle.filterset_expression.specs.Connectives.{Connective, Conjunction, Disjunction, ExclusiveDisjunction, same_connective}
+use Rattle.filterset_expression.specs.Connectives.{Connective, same_connective}
 use Rattle.filterset_expression.specs.Equality.{same_compiled_leaf, same_formula, compared_compiled, compared_formula}
 use Rattle.filterset_expression.specs.Expression.{CompiledLeaf, Packages, Kind, Platform, Binary, BinaryId, Test, Group, Default, All, None}
 use Rattle.filterset_expression.specs.Formula.{Formula, Leaf, Negation, Compound}
@@ -92,15 +93,10 @@ pub same_compiled_leaf_equiv : IsEquivalence same_compiled_leaf
 same_compiled_leaf_equiv = by_compared compared_compiled same_compiled_leaf same_compiled_leaf_Decides
 
 pub connective_is : (c d : Connective) → same_connective c d ≡ true → c ≡ d
-connective_is Conjunction Conjunction h = refl
-connective_is Disjunction Disjunction h = refl
-connective_is ExclusiveDisjunction ExclusiveDisjunction h = refl
-connective_is _ _ h = absurd (false≢true h)
+connective_is c d h = grind (arith, nat_tests)
 
 pub connective_self : (c : Connective) → same_connective c c ≡ true
-connective_self Conjunction = refl
-connective_self Disjunction = refl
-connective_self ExclusiveDisjunction = refl
+connective_self c = grind (arith, nat_tests)
 
 -- whether compiled expressions are equal
 abbrev same : Formula CompiledLeaf → Formula CompiledLeaf → Bool
