@@ -6,6 +6,8 @@ use Rattle.std.proofs.lemmas.Bool.Decides.{nat_tests}
 use Rattle.std.proofs.lemmas.List.{drop_at}
 use Rattle.filterset_grammar.specs.Grammar.{begins_plainly}
 use Rattle.filterset_grammar.specs.Text.{Blanks, Escape, HexDigits, SlashesFollow, Spelled, ends_in_backslash, escaped, hex_value, hexadecimal, is_plain, letter, newline, no_blank, nothing, plain, return_newline, space}
+use Rattle.filterset_language.proofs.Formed.{ends_front}
+use Rattle.filterset_language.proofs.Positions.{one_blank, one_newline}
 use Rattle.filterset_language.specs.Parsing.Front.{blank_len}
 use Rattle.filterset_language.specs.Parsing.RawTexts.{body_len}
 use Rattle.filterset_rewriting.specs.Nesting.Arguments.{IsBody, raw_len}
@@ -18,10 +20,7 @@ over_plain b t is = by_tests (eqb b 44) (eqb b 41) (eqb b 92) is
   where
     by_tests : (p q r : Bool) → cond (p || (q || r)) false true ≡ true
         → cond (p || q) 0 (suc (raw_len r t)) ≡ suc (raw_len false t)
-    by_tests true q r is = absurd cc
-    by_tests false true r is = absurd cc
-    by_tests false false true is = absurd cc
-    by_tests false false false is = refl
+    by_tests p q r is = grind (arith, nat_tests)
 
 hex_plain : (d : ℕ) → hex_value d < 16 → is_plain d ≡ true
 hex_plain d lt = grind (arith, nat_tests)
@@ -55,14 +54,6 @@ over_raw (escaped {more = own} {raw} {value} {c} e is more whole) t =
 
 -- ---- blanks
 
-blank_space : (t : List ℕ) → blank_len (32 ∷ t) ≡ 1
-blank_space [] = refl
-blank_space (c ∷ t) = refl
-
-blank_newline : (t : List ℕ) → blank_len (10 ∷ t) ≡ 1
-blank_newline [] = refl
-blank_newline (c ∷ t) = refl
-
 -- blanks that are left before a text without any
 pub record Left (rest t : List ℕ) : Type 0 where
   pub blanks : List ℕ
@@ -76,10 +67,10 @@ one_less rest t n left stop is some = from left.blanks left.are left.text
     from : (blanks : List ℕ) → Blanks blanks → rest ≡ blanks ++ t → Left (drop n rest) t
     from blanks no_blank text = absurd (omega (arith, is, ap blank_len text, stop, some))
     from blanks (space {t = more} are) text =
-        let count : n ≡ 1 = is ∙ ap blank_len text ∙ blank_space (more ++ t) in
+        let count : n ≡ 1 = is ∙ ap blank_len text ∙ one_blank (more ++ t) in
         record { blanks = more; are = are; text = ap (λ (k : ℕ). drop k rest) count ∙ ap (drop 1) text }
     from blanks (newline {t = more} are) text =
-        let count : n ≡ 1 = is ∙ ap blank_len text ∙ blank_newline (more ++ t) in
+        let count : n ≡ 1 = is ∙ ap blank_len text ∙ one_newline (more ++ t) in
         record { blanks = more; are = are; text = ap (λ (k : ℕ). drop k rest) count ∙ ap (drop 1) text }
     from blanks (return_newline {t = more} are) text =
         let count : n ≡ 2 = is ∙ ap blank_len text in
@@ -90,8 +81,8 @@ none_left rest t left none = from left.blanks left.are left.text
   where
     from : (blanks : List ℕ) → Blanks blanks → rest ≡ blanks ++ t → rest ≡ t
     from blanks no_blank text = text
-    from blanks (space {t = more} are) text = absurd (omega (arith, none, ap blank_len text, blank_space (more ++ t)))
-    from blanks (newline {t = more} are) text = absurd (omega (arith, none, ap blank_len text, blank_newline (more ++ t)))
+    from blanks (space {t = more} are) text = absurd (omega (arith, none, ap blank_len text, one_blank (more ++ t)))
+    from blanks (newline {t = more} are) text = absurd (omega (arith, none, ap blank_len text, one_newline (more ++ t)))
     from blanks (return_newline {t = more} are) text = absurd (let two : blank_len (13 ∷ 10 ∷ (more ++ t)) ≡ 2 = refl in omega (arith, none, ap blank_len text, two))
 
 -- ---- raw texts that begin plainly
@@ -133,12 +124,7 @@ cut text inside rest n is size = ap (drop n) is ∙ drop_at inside rest n (sym s
 -- ---- bodies of regular expressions
 
 slash_is : (b before : ℕ) → (eqb b 47 && not (eqb before 92)) ≡ true → (b ≡ 47) × (eqb before 92 ≡ false)
-slash_is b before e = from (eqb b 47) (eqb before 92) refl refl e
-  where
-    from : (v w : Bool) → eqb b 47 ≡ v → eqb before 92 ≡ w → (v && not w) ≡ true → (b ≡ 47) × (eqb before 92 ≡ false)
-    from true true h i e = absurd cc
-    from true false h i e = (eqb-true b 47 h, i)
-    from false w h i e = absurd cc
+slash_is b before e = grind (arith, nat_tests)
 
 over_slashes : (before : ℕ) (body u : List ℕ) → SlashesFollow before body → ends_in_backslash (before ∷ body) ≡ false → body_len before (body ++ 47 ∷ u) ≡ length body
 over_slashes before [] u slashes end = rw end refl
@@ -149,10 +135,6 @@ over_slashes before (b ∷ body) u slashes end =
     from true e on = let s = slash_is b before e in absurd (eqb-false before 92 s.1 (slashes.0 s.0))
     from false e on = ap suc on
 
-from_start : (body : List ℕ) → ends_in_backslash body ≡ false → ends_in_backslash (0 ∷ body) ≡ false
-from_start [] e = refl
-from_start (b ∷ body) e = e
-
 -- a body goes on up to its slash
 pub over_body : (body u : List ℕ) → IsBody body → body_len 0 (body ++ 47 ∷ u) ≡ length body
-over_body body u is = over_slashes 0 body u is.1.slashes (from_start body is.1.end)
+over_body body u is = over_slashes 0 body u is.1.slashes (ends_front body ∙ is.1.end)

@@ -4,6 +4,7 @@ use Rattle.std.specs.Prelude.{not, IsTrue}
 use Rattle.std.specs.Bool.{one_answer}
 use Rattle.std.proofs.lemmas.Bool.{false≢true}
 use Rattle.std.proofs.lemmas.List.{length-replicate}
+use Rattle.std.proofs.Math.Bool.{not-not}
 use Rattle.filterset_expression.specs.BinaryMeaning.{EitherLeaf, is_either_of_test, EitherOfBinary, tree_leaf_with_default, tree_with_default, IsDefiniteTree, IsUndecidedTree}
 use Rattle.filterset_expression.specs.Connectives.{connected}
 use Rattle.filterset_expression.specs.declared.logic.Connective.{Connective}
@@ -29,11 +30,11 @@ use Rattle.filterset_rewriting.specs.Simplifying.Reducing.{reduced, tree_of_rest
 use Rattle.filterset_rewriting.proofs.Later.{Later, at_once, bind, decided}
 use Rattle.filterset_rewriting.proofs.Leaves.{binary_alike, test_alike}
 use Rattle.filterset_rewriting.proofs.Resting.{reduced_takes}
-use Rattle.filterset_rewriting.proofs.Taking.{not_twice, Takes}
+use Rattle.filterset_rewriting.proofs.Taking.{Takes}
 
 -- the value whose negation says that a proposition fails
 turned_value : (P : Type 0) (d v : Bool) → (IsTrue d ↔ P) → (IsTrue v ↔ (¬ P)) → d ≡ not v
-turned_value P d v is isnt = sym (not_twice d) ∙ ap not (one_answer (not d) v (decides_not d P is) isnt)
+turned_value P d v is isnt = sym (not-not d) ∙ ap not (one_answer (not d) v (decides_not d P is) isnt)
 
 -- the values of constants
 all_value : (v : Bool) → (IsTrue v ↔ Unit {0}) ↔ (v ≡ true)
@@ -60,7 +61,7 @@ module _ {S : Type 0} (packages : List PackageMetadata) (test : TestQuery) (defa
 
   takes_means : (e : Tree S) (v : Bool) → Takes Answers e v → (IsTrue v ↔ TrueWhere Means (tree_formula e))
   takes_means (Not op e) v t =
-      subst (λ b. IsTrue b ↔ (¬ TrueWhere Means (tree_formula e))) (not_twice v) (decides_not (not v) (TrueWhere Means (tree_formula e)) (takes_means e (not v) t))
+      subst (λ b. IsTrue b ↔ (¬ TrueWhere Means (tree_formula e))) (not-not v) (decides_not (not v) (TrueWhere Means (tree_formula e)) (takes_means e (not v) t))
   takes_means (Union op l r) v t =
       subst (λ b. IsTrue b ↔ TrueWhere Means (tree_formula (Union op l r))) t.4 (connected_decides Disjunction t.0 t.1 (TrueWhere Means (tree_formula l)) (TrueWhere Means (tree_formula r)) (takes_means l t.0 t.2) (takes_means r t.1 t.3))
   takes_means (Join (Both op) l r) v t =
@@ -112,7 +113,7 @@ picks_alike e packages test default lookup answer other is also =
 module _ {A : Type 0} (is_asked : A → Bool) (holds : A → Type 0) where
   not_can : (f : Formula A) (v : Bool) → CanBe is_asked holds f (not v) → CanBe is_asked holds (Negation f) v
   not_can f v can =
-      (can.0, can.1, subst (λ b. IsTrue b ↔ (¬ TrueUnder is_asked holds f can.0)) (not_twice v) (decides_not (not v) (TrueUnder is_asked holds f can.0) can.2))
+      (can.0, can.1, subst (λ b. IsTrue b ↔ (¬ TrueUnder is_asked holds f can.0)) (not-not v) (decides_not (not v) (TrueUnder is_asked holds f can.0) can.2))
 
   can_not : (f : Formula A) (v : Bool) → CanBe is_asked holds (Negation f) v → Later (CanBe is_asked holds f (not v))
   can_not f v can =
@@ -154,7 +155,7 @@ module _ {S : Type 0} (packages : List PackageMetadata) (binary : BinaryQuery) (
   takes_possible (Join (Both op) l r) v t =
       joined_possible Conjunction (tree_with_default default l) (tree_with_default default r) t.0 t.1 v (takes_possible l t.0 t.2) (takes_possible r t.1 t.3) t.4
   takes_possible (Join (Without op) l r) v t =
-      joined_possible Conjunction (tree_with_default default l) (Negation (tree_with_default default r)) t.0 (not t.1) v (takes_possible l t.0 t.2) (not_can is_either_of_test Holds (tree_with_default default r) (not t.1) (subst (λ b. Possible r b) (sym (not_twice t.1)) (takes_possible r t.1 t.3))) t.4
+      joined_possible Conjunction (tree_with_default default l) (Negation (tree_with_default default r)) t.0 (not t.1) v (takes_possible l t.0 t.2) (not_can is_either_of_test Holds (tree_with_default default r) (not t.1) (subst (λ b. Possible r b) (sym (not-not t.1)) (takes_possible r t.1 t.3))) t.4
   takes_possible (Join (ExactlyOne op) l r) v t =
       joined_possible ExclusiveDisjunction (tree_with_default default l) (tree_with_default default r) t.0 t.1 v (takes_possible l t.0 t.2) (takes_possible r t.1 t.3) t.4
   takes_possible (Parens e) v t = takes_possible e v t
@@ -171,7 +172,7 @@ module _ {S : Type 0} (packages : List PackageMetadata) (binary : BinaryQuery) (
       at_once (p.0, p.1, a, b, p.4))))
   possible_takes (Join (Without op) l r) v can =
       bind (can_compound is_either_of_test Holds Conjunction (tree_with_default default l) (Negation (tree_with_default default r)) v can) (λ p. bind (can_not is_either_of_test Holds (tree_with_default default r) p.1 p.3) (λ q. bind (possible_takes l p.0 p.2) (λ a. bind (possible_takes r (not p.1) q) (λ b.
-      at_once (p.0, not p.1, a, b, ap (λ z. connected Conjunction p.0 z) (not_twice p.1) ∙ p.4)))))
+      at_once (p.0, not p.1, a, b, ap (λ z. connected Conjunction p.0 z) (not-not p.1) ∙ p.4)))))
   possible_takes (Join (ExactlyOne op) l r) v can =
       bind (can_compound is_either_of_test Holds ExclusiveDisjunction (tree_with_default default l) (tree_with_default default r) v can) (λ p. bind (possible_takes l p.0 p.2) (λ a. bind (possible_takes r p.1 p.3) (λ b.
       at_once (p.0, p.1, a, b, p.4))))

@@ -6,7 +6,7 @@ use Rattle.filterset_grammar.specs.AddedParens.{HasWellFormedLeaves}
 use Rattle.filterset_grammar.specs.Printing.{IsWellFormedLeaf, WellFormed}
 use Rattle.filterset_grammar.specs.Tree.{Tree, Not, Union, Join, Parens, Set, tree_leaves}
 use Rattle.filterset_language.proofs.Formed.{spelled_is_well_formed}
-use Rattle.filterset_rewriting.specs.Calls.{AreJoined, AreOperands, IsFront, IsList, IsOperand, call, expression, last, list, more, operand, operands}
+use Rattle.filterset_rewriting.specs.Calls.{AreJoined, IsFront, IsList, IsOperand, call, expression, last, list, more, operand}
 use Rattle.filterset_rewriting.specs.Links.{linked}
 use Rattle.filterset_rewriting.specs.declared.links.Link.{Link}
 use Rattle.filterset_rewriting.specs.declared.links.Link.TheVariants.{Every, Any}
@@ -30,10 +30,7 @@ mutual
   front_leaves (call operator are) = list_leaves are
 
   pub list_leaves : {link : Link} {text behind : List ℕ} {e : Tree SourceSpan} → IsList link text e behind → HasWellFormedLeaves e
-  list_leaves (list opens are) = operands_leaves are
-
-  operands_leaves : {link : Link} {text behind : List ℕ} {e : Tree SourceSpan} → AreOperands link text e behind → HasWellFormedLeaves e
-  operands_leaves (operands first others) = joined_leaves others (operand_leaves first)
+  list_leaves (list opens first others) = joined_leaves others (operand_leaves first)
 
   operand_leaves : {text behind : List ℕ} {e : Tree SourceSpan} {b : ℕ} → IsOperand text e b behind → HasWellFormedLeaves e
   operand_leaves (operand front ends) = front_leaves front

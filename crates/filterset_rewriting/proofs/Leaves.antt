@@ -1,5 +1,5 @@
 -- Predicates that are alike say the same.
-use Rattle.std.proofs.Common.{◌≡◌, ◌↔◌, ℕ, true, List, refl, sym, ap, subst}
+use Rattle.std.proofs.Common.{◌≡◌, ◌↔◌, ℕ, true, List, refl, ap}
 use Rattle.std.specs.Prelude.{◌&&◌}
 use Rattle.std.specs.Bool.{beq}
 use Rattle.std.specs.Cmp.{booleans_Decides}
@@ -7,6 +7,7 @@ use Rattle.std.specs.Str.{bytes_eq}
 use Rattle.std.proofs.lemmas.Bool.{false≢true, and_parts}
 use Rattle.std.proofs.lemmas.Slice.Eq.{bytes_eq-Decides}
 use Rattle.filterset_glob.specs.Equality.{same_tokens, same_tokens_is}
+use Rattle.filterset_expression.proofs.Meanings.{alike_at}
 use Rattle.filterset_expression.specs.Expression.{Lookup}
 use Rattle.filterset_expression.specs.Meaning.{IsPackage, IsDependency, IsDependent, MeansOfBinary, MeansOfTest}
 use Rattle.filterset_expression.specs.declared.expression.CompiledExpr.{CompiledExpr}
@@ -25,21 +26,18 @@ use Rattle.filterset_rewriting.specs.Simplifying.Alike.{alike_matchers, identica
 same : (P : Type 0) → P ↔ P
 same P = (λ p. p, λ p. p)
 
-same_at : {A : Type 0} (P : A → Type 0) (x y : A) → x ≡ y → P x ↔ P y
-same_at P x y e = (λ p. subst P e p, λ p. subst P (sym e) p)
-
 same_texts : (a b : List ℕ) → bytes_eq a b ≡ true → a ≡ b
 same_texts a b e = (bytes_eq-Decides a b).0 e
 
 pub matches_alike : (m n : Matcher) → alike_matchers m n ≡ true → (text : List ℕ) → MatchesName m text ↔ MatchesName n text
 matches_alike (Equal value implicit) (Equal other also) e text =
-    same_at (λ v. MatchesName (Equal v implicit) text) value other (same_texts value other e)
+    alike_at (λ v. MatchesName (Equal v implicit) text) value other (same_texts value other e)
 matches_alike (Contains value implicit) (Contains other also) e text =
-    same_at (λ v. MatchesName (Contains v implicit) text) value other (same_texts value other e)
+    alike_at (λ v. MatchesName (Contains v implicit) text) value other (same_texts value other e)
 matches_alike (Glob own tokens implicit) (Glob other others also) e text =
-    same_at (λ ts. MatchesName (Glob own ts implicit) text) tokens others (same_tokens_is tokens others e)
+    alike_at (λ ts. MatchesName (Glob own ts implicit) text) tokens others (same_tokens_is tokens others e)
 matches_alike (Regex pattern) (Regex other) e text =
-    same_at (λ p. MatchesName (Regex p) text) pattern other (same_texts pattern other e)
+    alike_at (λ p. MatchesName (Regex p) text) pattern other (same_texts pattern other e)
 matches_alike _ _ e text = absurd (false≢true e)
 
 pub identical_is : (m n : Matcher) → identical_matchers m n ≡ true → m ≡ n
@@ -98,7 +96,7 @@ binary_alike packages binary (Matching Binary m s) (Matching Binary n t) e = mat
 binary_alike packages binary (Matching BinaryId m s) (Matching BinaryId n t) e = matches_alike m n e binary.binary_id.now
 binary_alike packages binary (Matching Test m s) (Matching Test n t) e = same ⊥
 binary_alike packages binary (Matching Group m s) (Matching Group n t) e = same ⊥
-binary_alike packages binary (Platform p s) (Platform q t) e = same_at (λ k. binary.platform ≡ k) p q (same_platforms p q e)
+binary_alike packages binary (Platform p s) (Platform q t) e = alike_at (λ k. binary.platform ≡ k) p q (same_platforms p q e)
 binary_alike packages binary (Default s) (Default t) e = same ⊥
 binary_alike packages binary tree.All tree.All e = same (Unit {0})
 binary_alike packages binary tree.None tree.None e = same ⊥
@@ -114,8 +112,8 @@ test_alike packages test default lookup (Matching Kind m s) (Matching Kind n t) 
 test_alike packages test default lookup (Matching Binary m s) (Matching Binary n t) e = matches_alike m n e test.binary_query.binary_name.now
 test_alike packages test default lookup (Matching BinaryId m s) (Matching BinaryId n t) e = matches_alike m n e test.binary_query.binary_id.now
 test_alike packages test default lookup (Matching Test m s) (Matching Test n t) e = matches_alike m n e test.test_name.now
-test_alike packages test default lookup (Matching Group m s) (Matching Group n t) e = same_at (λ k. lookup test k) m n (identical_is m n e)
-test_alike packages test default lookup (Platform p s) (Platform q t) e = same_at (λ k. test.binary_query.platform ≡ k) p q (same_platforms p q e)
+test_alike packages test default lookup (Matching Group m s) (Matching Group n t) e = alike_at (λ k. lookup test k) m n (identical_is m n e)
+test_alike packages test default lookup (Platform p s) (Platform q t) e = alike_at (λ k. test.binary_query.platform ≡ k) p q (same_platforms p q e)
 test_alike packages test default lookup (Default s) (Default t) e = same (MeansOfTest packages test default lookup (Default s))
 test_alike packages test default lookup tree.All tree.All e = same (Unit {0})
 test_alike packages test default lookup tree.None tree.None e = same ⊥

@@ -1,7 +1,7 @@
 -- What is left of a tree has its predicates and operators, in their order.
-use Rattle.std.proofs.Common.{Bool, true, false, List, [], ◌∷◌, ◌++◌}
-use Rattle.std.specs.Prelude.{All, Option, Some, None}
-use Rattle.std.proofs.lemmas.List.Elements.{All-nil, All-cons, All-head, All-tail, All-append}
+use Rattle.std.proofs.Common.{Bool, true, false}
+use Rattle.std.specs.Prelude.{Option, Some, None}
+use Rattle.std.proofs.lemmas.List.Elements.{All-append}
 use Rattle.filterset_grammar.specs.AddedParens as added
 use Rattle.filterset_grammar.specs.AddedParens.{IsEnclosedUnless, IsWithParens, HasWellFormedLeaves}
 use Rattle.filterset_grammar.specs.Printing.{IsWellFormedLeaf}
@@ -20,6 +20,7 @@ use Rattle.filterset_rewriting.specs.Simplifying.Implying.{implies, says_one_of,
 use Rattle.filterset_rewriting.specs.Simplifying.Pruned.{IsLeftOf, leaf, negation, union, join, of_negation, of_union_left, of_union_right, of_join_left, of_join_right, left_negated, right_negated, of_parens, enclosed}
 use Rattle.filterset_rewriting.specs.Simplifying.Reducing.{Rest, Constant, Reduced, both_kept, kept_unless, kept_disjuncts, kept_conjuncts, negated, left_kept, right_kept, united, intersected, none_if, subtracted, differing, reduced}
 use Rattle.filterset_rewriting.proofs.Parts.{IfKept}
+use Rattle.filterset_rewriting.proofs.Spelled.{both_all}
 
 -- what a tree negates, or itself
 abbrev stripped : {S : Type 0} → Tree S → Tree S
@@ -229,28 +230,19 @@ module _ {S : Type 0} where
   abbrev Formed : Leaf S → Type 0
   Formed l = IsWellFormedLeaf l
 
-  front_formed : (xs ys : List (Leaf S)) → All Formed (xs ++ ys) → All Formed xs
-  front_formed [] ys all = All-nil Formed
-  front_formed (x ∷ xs) ys all =
-      All-cons Formed x xs (All-head Formed x (xs ++ ys) all) (front_formed xs ys (All-tail Formed x (xs ++ ys) all))
-
-  back_formed : (xs ys : List (Leaf S)) → All Formed (xs ++ ys) → All Formed ys
-  back_formed [] ys all = all
-  back_formed (x ∷ xs) ys all = back_formed xs ys (All-tail Formed x (xs ++ ys) all)
-
   pub left_formed : {e d : Tree S} → IsLeftOf e d → HasWellFormedLeaves e → HasWellFormedLeaves d
   left_formed leaf all = all
   left_formed (negation h) all = left_formed h all
   left_formed (union {op} {l} {r} {a} {b} h k) all =
-      All-append Formed (tree_leaves a) (tree_leaves b) (left_formed h (front_formed (tree_leaves l) (tree_leaves r) all)) (left_formed k (back_formed (tree_leaves l) (tree_leaves r) all))
+      All-append Formed (tree_leaves a) (tree_leaves b) (left_formed h (both_all Formed (tree_leaves l) (tree_leaves r) all).0) (left_formed k (both_all Formed (tree_leaves l) (tree_leaves r) all).1)
   left_formed (join {op} {l} {r} {a} {b} h k) all =
-      All-append Formed (tree_leaves a) (tree_leaves b) (left_formed h (front_formed (tree_leaves l) (tree_leaves r) all)) (left_formed k (back_formed (tree_leaves l) (tree_leaves r) all))
+      All-append Formed (tree_leaves a) (tree_leaves b) (left_formed h (both_all Formed (tree_leaves l) (tree_leaves r) all).0) (left_formed k (both_all Formed (tree_leaves l) (tree_leaves r) all).1)
   left_formed (of_negation h) all = left_formed h all
-  left_formed (of_union_left {op} {l} {r} {d} h) all = left_formed h (front_formed (tree_leaves l) (tree_leaves r) all)
-  left_formed (of_union_right {op} {l} {r} {d} h) all = left_formed h (back_formed (tree_leaves l) (tree_leaves r) all)
-  left_formed (of_join_left {op} {l} {r} {d} h) all = left_formed h (front_formed (tree_leaves l) (tree_leaves r) all)
-  left_formed (of_join_right {op} {l} {r} {d} h) all = left_formed h (back_formed (tree_leaves l) (tree_leaves r) all)
-  left_formed (left_negated {op} {l} {r} {d} h) all = left_formed h (front_formed (tree_leaves l) (tree_leaves r) all)
-  left_formed (right_negated {op} {l} {r} {d} h) all = left_formed h (back_formed (tree_leaves l) (tree_leaves r) all)
+  left_formed (of_union_left {op} {l} {r} {d} h) all = left_formed h (both_all Formed (tree_leaves l) (tree_leaves r) all).0
+  left_formed (of_union_right {op} {l} {r} {d} h) all = left_formed h (both_all Formed (tree_leaves l) (tree_leaves r) all).1
+  left_formed (of_join_left {op} {l} {r} {d} h) all = left_formed h (both_all Formed (tree_leaves l) (tree_leaves r) all).0
+  left_formed (of_join_right {op} {l} {r} {d} h) all = left_formed h (both_all Formed (tree_leaves l) (tree_leaves r) all).1
+  left_formed (left_negated {op} {l} {r} {d} h) all = left_formed h (both_all Formed (tree_leaves l) (tree_leaves r) all).0
+  left_formed (right_negated {op} {l} {r} {d} h) all = left_formed h (both_all Formed (tree_leaves l) (tree_leaves r) all).1
   left_formed (of_parens h) all = left_formed h all
   left_formed (enclosed h) all = left_formed h all

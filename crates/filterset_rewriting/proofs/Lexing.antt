@@ -3,6 +3,7 @@ use Rattle.std.proofs.Common.{◌≡◌, ℕ, ◌+◌, ◌<◌, ◌∙◌, Bool,
 use Rattle.std.specs.Prelude.{IsTrue, ◌||◌}
 use Rattle.std.specs.List.{prefix_len, take_while}
 use Rattle.std.proofs.lemmas.Bool.{eq-eqb, ne_eqb}
+use Rattle.std.proofs.lemmas.Bool.Decides.{nat_tests}
 use Rattle.std.proofs.lemmas.List.{append-nil, drop_at, take_at}
 use Rattle.std.proofs.lemmas.List.Folds.{length-prefix_len, prefix_len-append}
 use Rattle.filterset_faults.specs.declared.span.SourceSpan.{SourceSpan}
@@ -35,10 +36,7 @@ word_stop [] is = refl
 word_stop (b ∷ t) is = by_tests (is_between b "0" "9" || is_between b "A" "Z") (eqb b 95) (is_between b "a" "z") (prefix_len is_letter t) is
   where
     by_tests : (p q r : Bool) (n : ℕ) → cond (p || (q || r)) false true ≡ true → cond (r || q) (1 + n) 0 ≡ 0
-    by_tests true q r n is = absurd cc
-    by_tests false true r n is = absurd cc
-    by_tests false false true n is = absurd cc
-    by_tests false false false n is = refl
+    by_tests p q r n is = grind (arith, nat_tests)
 
 blanks_stop : {blanks : List ℕ} → Blanks blanks → (t : List ℕ) → prefix_len is_letter (blanks ++ 40 ∷ t) ≡ 0
 blanks_stop no_blank t = refl

@@ -5,7 +5,7 @@ use Rattle.filterset_faults.specs.declared.span.SourceSpan.{SourceSpan}
 use Rattle.filterset_glob.specs.Signs.{sign}
 use Rattle.filterset_grammar.specs.Tree.{Tree}
 use Rattle.filterset_language.specs.Views.{tree_of}
-use Rattle.filterset_rewriting.specs.Calls.{AreJoined, AreOpen, AreOperands, Begins, IsFront, IsList, IsOperand, Lacks, NoFront, NoList, NoOperand, NoOperands, call, end_sign, expression, last, list, more, no_call, no_end, no_expression, no_operands, operand, operands, too_deep, unclosed}
+use Rattle.filterset_rewriting.specs.Calls.{AreJoined, AreOpen, Begins, IsFront, IsList, IsOperand, Lacks, NoFront, NoList, NoOperand, call, end_sign, expression, last, list, more, no_call, no_end, no_expression, operand, too_deep, unclosed}
 use Rattle.filterset_rewriting.specs.Fronts.{IsExpression, NoExpression}
 use Rattle.filterset_rewriting.specs.Links.{IsOperator, NoOperator, linked}
 use Rattle.filterset_rewriting.specs.declared.fronts.Front.{Front}
@@ -40,15 +40,11 @@ pub front_expressed : {E : Type 0} (n : ℕ) (text : List ℕ) → NoOperator te
 front_expressed n text none r h =
     turned (NoExpression text) (NoFront n text) (IsExpression text) (IsFront text) (λ fails. no_expression none fails) (λ e behind is. expression is) r h
 
-pub list_told : {E : Type 0} (n : ℕ) (text inside : List ℕ) (link : Link) → Begins (sign "(") text inside → (r : Result (Option Front) E)
-    → Gives (NoOperands n inside) (AreOperands link inside) r → Gives (NoList n text) (IsList link text) r
-list_told n text inside link opens r h =
-    turned (NoOperands n inside) (NoList n text) (AreOperands link inside) (IsList link text) (λ fails. no_operands opens fails) (λ e behind are. list opens are) r h
-
-pub operands_told : {E : Type 0} (n : ℕ) (text rest : List ℕ) (link : Link) (first : Tree SourceSpan) → IsOperand text first (sign ",") rest → (r : Result (Option Front) E)
-    → Gives (AreOpen n rest) (AreJoined link first rest) r → Gives (NoOperands n text) (AreOperands link text) r
-operands_told n text rest link first is r h =
-    turned (AreOpen n rest) (NoOperands n text) (AreJoined link first rest) (AreOperands link text) (λ fails. unclosed is fails) (λ e behind are. operands is are) r h
+pub list_told : {E : Type 0} (n : ℕ) (text inside rest : List ℕ) (link : Link) (first : Tree SourceSpan) → Begins (sign "(") text inside
+    → IsOperand inside first (sign ",") rest → (r : Result (Option Front) E)
+    → Gives (AreOpen n rest) (AreJoined link first rest) r → Gives (NoList n text) (IsList link text) r
+list_told n text inside rest link first opens is r h =
+    turned (AreOpen n rest) (NoList n text) (AreJoined link first rest) (IsList link text) (λ fails. unclosed opens is fails) (λ e behind are. list opens is are) r h
 
 pub operand_told : (n : ℕ) (text rest : List ℕ) (e : Tree SourceSpan) (o : Option Operand) → IsFront text e rest
     → MatchOption o (Lacks 44 rest × Lacks 41 rest) (λ x. (tree_of x.tree ≡ e) × Begins (end_sign x.is_last) rest x.behind.now)

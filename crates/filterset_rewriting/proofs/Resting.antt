@@ -1,6 +1,8 @@
 -- What is left of a tree takes no value that the tree does not take.
-use Rattle.std.proofs.Common.{◌≡◌, ◌↔◌, Bool, true, false, refl, sym, ◌∙◌, ap, subst}
+use Rattle.std.proofs.Common.{◌≡◌, ◌↔◌, Bool, true, false, refl, sym, ◌∙◌, ap, subst, arith}
 use Rattle.std.specs.Prelude.{◌&&◌, ◌||◌, not, Option, Some, None}
+use Rattle.std.proofs.Math.Bool.{and-false, and-true, and_comm, not-not, or-false, or-true, or_comm}
+use Rattle.std.proofs.lemmas.Bool.Decides.{nat_tests}
 use Rattle.filterset_expression.specs.Connectives.{exclusive_or}
 use Rattle.filterset_grammar.specs.Tree as tree
 use Rattle.filterset_grammar.specs.Tree.{Leaf, Matching, Platform, Default, Tree, Not, Union, Join, Parens, Set}
@@ -15,27 +17,15 @@ use Rattle.filterset_rewriting.specs.Simplifying.Alike.{alike, alike_leaves}
 use Rattle.filterset_rewriting.specs.Simplifying.Implying.{implies, says_one_of, admits_fact_of}
 use Rattle.filterset_rewriting.specs.Simplifying.Reducing.{Rest, Constant, Reduced, constant, tree_of_rest, both_kept, kept_unless, kept_disjuncts, kept_conjuncts, negated, left_kept, right_kept, united, intersected, none_if, subtracted, differing, reduced}
 use Rattle.filterset_rewriting.proofs.Later.{Later, at_once, bind}
-use Rattle.filterset_rewriting.proofs.Taking.{or_top, or_bottom, and_top, and_bottom, not_twice, Takes, takes_some, takes_alike, implies_true, one_of_false, fact_true}
+use Rattle.filterset_rewriting.proofs.Taking.{Takes, takes_some, takes_alike, implies_true, one_of_false, fact_true}
 
 -- ---- truth values
 
-or_turned : (x y : Bool) → (x || y) ≡ (y || x)
-or_turned true y = sym (or_top y)
-or_turned false y = sym (or_bottom y)
-
-and_turned : (x y : Bool) → (x && y) ≡ (y && x)
-and_turned true y = sym (and_top y)
-and_turned false y = sym (and_bottom y)
-
 or_merged : (a b x y w : Bool) → (a || w) ≡ (x || w) → (b || w) ≡ (y || w) → ((a || b) || w) ≡ ((x || y) || w)
-or_merged a b x y true e k = or_top (a || b) ∙ sym (or_top (x || y))
-or_merged a b x y false e k =
-    or_bottom (a || b) ∙ ap (λ v. v || b) (sym (or_bottom a) ∙ e ∙ or_bottom x) ∙ ap (λ v. x || v) (sym (or_bottom b) ∙ k ∙ or_bottom y) ∙ sym (or_bottom (x || y))
+or_merged a b x y w e k = grind (arith, nat_tests)
 
 and_merged : (a b x y w : Bool) → (a && w) ≡ (x && w) → (b && w) ≡ (y && w) → ((a && b) && w) ≡ ((x && y) && w)
-and_merged a b x y true e k =
-    and_top (a && b) ∙ ap (λ v. v && b) (sym (and_top a) ∙ e ∙ and_top x) ∙ ap (λ v. x && v) (sym (and_top b) ∙ k ∙ and_top y) ∙ sym (and_top (x && y))
-and_merged a b x y false e k = and_bottom (a && b) ∙ sym (and_bottom (x && y))
+and_merged a b x y w e k = grind (arith, nat_tests)
 
 either_with_top : (v : Bool) → exclusive_or true (not v) ≡ v
 either_with_top true = refl
@@ -132,49 +122,49 @@ module _ {S : Type 0} (can : Leaf S → Bool → Type 0)
     (alike_can : (l m : Leaf S) → alike_leaves l m ≡ true → (v : Bool) → can l v ↔ can m v)
     (all_can : (v : Bool) → can tree.All v ↔ (v ≡ true))
     (none_can : (v : Bool) → can tree.None v ↔ (v ≡ false)) where
-  is_union : (op : OrOperator) → IsNode can some ◌||◌ false or_turned (λ x. refl) or_merged (Union op)
+  is_union : (op : OrOperator) → IsNode can some ◌||◌ false or_comm (λ x. refl) or_merged (Union op)
   is_union op = (λ l r x y p q. (x, y, p, q, refl), λ l r v t. t)
 
-  is_intersection : (op : AndOperator) → IsNode can some ◌&&◌ true and_turned (λ x. refl) and_merged (Join (Both op))
+  is_intersection : (op : AndOperator) → IsNode can some ◌&&◌ true and_comm (λ x. refl) and_merged (Join (Both op))
   is_intersection op = (λ l r x y p q. (x, y, p, q, refl), λ l r v t. t)
 
   union_drops : (e beside : Tree S) → says_one_of e beside ≡ true → (w : Bool) → Takes can beside w
       → Later ((u : Bool) × Takes can e u × ((u || w) ≡ (false || w)))
-  union_drops e beside h true t = bind (takes_some can some alike_can e) (λ p. at_once (p.0, p.1, or_top p.0))
+  union_drops e beside h true t = bind (takes_some can some alike_can e) (λ p. at_once (p.0, p.1, or-true p.0))
   union_drops e beside h false t = bind (one_of_false can some alike_can e beside h t) (λ p. at_once (false, p, refl))
 
   intersection_drops : (e beside : Tree S) → admits_fact_of e beside ≡ true → (w : Bool) → Takes can beside w
       → Later ((u : Bool) × Takes can e u × ((u && w) ≡ (true && w)))
   intersection_drops e beside h true t = bind (fact_true can some alike_can e beside h t) (λ p. at_once (true, p, refl))
-  intersection_drops e beside h false t = bind (takes_some can some alike_can e) (λ p. at_once (p.0, p.1, and_bottom p.0))
+  intersection_drops e beside h false t = bind (takes_some can some alike_can e) (λ p. at_once (p.0, p.1, and-false p.0))
 
-  disjuncts_keep : (beside e : Tree S) → Keeps can some ◌||◌ false or_turned (λ x. refl) or_merged beside e (kept_disjuncts beside e)
+  disjuncts_keep : (beside e : Tree S) → Keeps can some ◌||◌ false or_comm (λ x. refl) or_merged beside e (kept_disjuncts beside e)
   disjuncts_keep beside (Union op l r) =
-      keeps_both can some ◌||◌ false or_turned (λ x. refl) or_merged (Union op) (is_union op) beside l r (kept_disjuncts beside l) (kept_disjuncts beside r) (disjuncts_keep beside l) (disjuncts_keep beside r)
+      keeps_both can some ◌||◌ false or_comm (λ x. refl) or_merged (Union op) (is_union op) beside l r (kept_disjuncts beside l) (kept_disjuncts beside r) (disjuncts_keep beside l) (disjuncts_keep beside r)
   disjuncts_keep beside (Not op a) =
-      keeps_part can some ◌||◌ false or_turned (λ x. refl) or_merged beside (Not op a) (says_one_of (Not op a) beside) (union_drops (Not op a) beside)
+      keeps_part can some ◌||◌ false or_comm (λ x. refl) or_merged beside (Not op a) (says_one_of (Not op a) beside) (union_drops (Not op a) beside)
   disjuncts_keep beside (Join op l r) =
-      keeps_part can some ◌||◌ false or_turned (λ x. refl) or_merged beside (Join op l r) (says_one_of (Join op l r) beside) (union_drops (Join op l r) beside)
+      keeps_part can some ◌||◌ false or_comm (λ x. refl) or_merged beside (Join op l r) (says_one_of (Join op l r) beside) (union_drops (Join op l r) beside)
   disjuncts_keep beside (Parens a) =
-      keeps_part can some ◌||◌ false or_turned (λ x. refl) or_merged beside (Parens a) (says_one_of (Parens a) beside) (union_drops (Parens a) beside)
+      keeps_part can some ◌||◌ false or_comm (λ x. refl) or_merged beside (Parens a) (says_one_of (Parens a) beside) (union_drops (Parens a) beside)
   disjuncts_keep beside (Set leaf) =
-      keeps_part can some ◌||◌ false or_turned (λ x. refl) or_merged beside (Set leaf) (says_one_of (Set leaf) beside) (union_drops (Set leaf) beside)
+      keeps_part can some ◌||◌ false or_comm (λ x. refl) or_merged beside (Set leaf) (says_one_of (Set leaf) beside) (union_drops (Set leaf) beside)
 
-  conjuncts_keep : (beside e : Tree S) → Keeps can some ◌&&◌ true and_turned (λ x. refl) and_merged beside e (kept_conjuncts beside e)
+  conjuncts_keep : (beside e : Tree S) → Keeps can some ◌&&◌ true and_comm (λ x. refl) and_merged beside e (kept_conjuncts beside e)
   conjuncts_keep beside (Join (Both op) l r) =
-      keeps_both can some ◌&&◌ true and_turned (λ x. refl) and_merged (Join (Both op)) (is_intersection op) beside l r (kept_conjuncts beside l) (kept_conjuncts beside r) (conjuncts_keep beside l) (conjuncts_keep beside r)
+      keeps_both can some ◌&&◌ true and_comm (λ x. refl) and_merged (Join (Both op)) (is_intersection op) beside l r (kept_conjuncts beside l) (kept_conjuncts beside r) (conjuncts_keep beside l) (conjuncts_keep beside r)
   conjuncts_keep beside (Join (Without op) l r) =
-      keeps_part can some ◌&&◌ true and_turned (λ x. refl) and_merged beside (Join (Without op) l r) (admits_fact_of (Join (Without op) l r) beside) (intersection_drops (Join (Without op) l r) beside)
+      keeps_part can some ◌&&◌ true and_comm (λ x. refl) and_merged beside (Join (Without op) l r) (admits_fact_of (Join (Without op) l r) beside) (intersection_drops (Join (Without op) l r) beside)
   conjuncts_keep beside (Join (ExactlyOne op) l r) =
-      keeps_part can some ◌&&◌ true and_turned (λ x. refl) and_merged beside (Join (ExactlyOne op) l r) (admits_fact_of (Join (ExactlyOne op) l r) beside) (intersection_drops (Join (ExactlyOne op) l r) beside)
+      keeps_part can some ◌&&◌ true and_comm (λ x. refl) and_merged beside (Join (ExactlyOne op) l r) (admits_fact_of (Join (ExactlyOne op) l r) beside) (intersection_drops (Join (ExactlyOne op) l r) beside)
   conjuncts_keep beside (Not op a) =
-      keeps_part can some ◌&&◌ true and_turned (λ x. refl) and_merged beside (Not op a) (admits_fact_of (Not op a) beside) (intersection_drops (Not op a) beside)
+      keeps_part can some ◌&&◌ true and_comm (λ x. refl) and_merged beside (Not op a) (admits_fact_of (Not op a) beside) (intersection_drops (Not op a) beside)
   conjuncts_keep beside (Union op l r) =
-      keeps_part can some ◌&&◌ true and_turned (λ x. refl) and_merged beside (Union op l r) (admits_fact_of (Union op l r) beside) (intersection_drops (Union op l r) beside)
+      keeps_part can some ◌&&◌ true and_comm (λ x. refl) and_merged beside (Union op l r) (admits_fact_of (Union op l r) beside) (intersection_drops (Union op l r) beside)
   conjuncts_keep beside (Parens a) =
-      keeps_part can some ◌&&◌ true and_turned (λ x. refl) and_merged beside (Parens a) (admits_fact_of (Parens a) beside) (intersection_drops (Parens a) beside)
+      keeps_part can some ◌&&◌ true and_comm (λ x. refl) and_merged beside (Parens a) (admits_fact_of (Parens a) beside) (intersection_drops (Parens a) beside)
   conjuncts_keep beside (Set leaf) =
-      keeps_part can some ◌&&◌ true and_turned (λ x. refl) and_merged beside (Set leaf) (admits_fact_of (Set leaf) beside) (intersection_drops (Set leaf) beside)
+      keeps_part can some ◌&&◌ true and_comm (λ x. refl) and_merged beside (Set leaf) (admits_fact_of (Set leaf) beside) (intersection_drops (Set leaf) beside)
 
   -- ---- constants
 
@@ -184,8 +174,8 @@ module _ {S : Type 0} (can : Leaf S → Bool → Type 0)
 
   negated_takes : (op : NotOperator) (e : Rest S) (v : Bool) → Takes can (tree_of_rest (negated op e)) v → Takes can (tree_of_rest e) (not v)
   negated_takes op (Constant b) v t =
-      (constant_takes b (not v)).1 (ap not ((constant_takes (not b) v).0 t) ∙ not_twice b)
-  negated_takes op (Reduced (Not other e)) v t = subst (λ z. Takes can e z) (sym (not_twice v)) t
+      (constant_takes b (not v)).1 (ap not ((constant_takes (not b) v).0 t) ∙ not-not b)
+  negated_takes op (Reduced (Not other e)) v t = subst (λ z. Takes can e z) (sym (not-not v)) t
   negated_takes op (Reduced (Union other l r)) v t = t
   negated_takes op (Reduced (Join other l r)) v t = t
   negated_takes op (Reduced (Parens e)) v t = t
@@ -197,21 +187,21 @@ module _ {S : Type 0} (can : Leaf S → Bool → Type 0)
       bind (takes_some can some alike_can (tree_of_rest r)) (λ b. at_once (true, b.0, (all_can true).1 refl, b.1, sym ((all_can v).0 t)))
   united_takes op (Constant false) r v t = at_once (false, v, (none_can false).1 refl, t, refl)
   united_takes op (Reduced l) (Constant true) v t =
-      bind (takes_some can some alike_can l) (λ a. at_once (a.0, true, a.1, (all_can true).1 refl, or_top a.0 ∙ sym ((all_can v).0 t)))
-  united_takes op (Reduced l) (Constant false) v t = at_once (v, false, t, (none_can false).1 refl, or_bottom v)
+      bind (takes_some can some alike_can l) (λ a. at_once (a.0, true, a.1, (all_can true).1 refl, or-true a.0 ∙ sym ((all_can v).0 t)))
+  united_takes op (Reduced l) (Constant false) v t = at_once (v, false, t, (none_can false).1 refl, or-false v)
   united_takes op (Reduced l) (Reduced r) v t =
-      node_takes can some ◌||◌ false or_turned (λ x. refl) or_merged (Union op) (is_union op) l r (kept_disjuncts l r) (λ beside. kept_disjuncts beside l) (disjuncts_keep l r) (λ beside. disjuncts_keep beside l) v t
+      node_takes can some ◌||◌ false or_comm (λ x. refl) or_merged (Union op) (is_union op) l r (kept_disjuncts l r) (λ beside. kept_disjuncts beside l) (disjuncts_keep l r) (λ beside. disjuncts_keep beside l) v t
 
   intersected_takes : (op : AndOperator) (l r : Rest S) (v : Bool) → Takes can (tree_of_rest (intersected op l r)) v
       → Later (Takes can (Join (Both op) (tree_of_rest l) (tree_of_rest r)) v)
   intersected_takes op (Constant true) r v t = at_once (true, v, (all_can true).1 refl, t, refl)
   intersected_takes op (Constant false) r v t =
       bind (takes_some can some alike_can (tree_of_rest r)) (λ b. at_once (false, b.0, (none_can false).1 refl, b.1, sym ((none_can v).0 t)))
-  intersected_takes op (Reduced l) (Constant true) v t = at_once (v, true, t, (all_can true).1 refl, and_top v)
+  intersected_takes op (Reduced l) (Constant true) v t = at_once (v, true, t, (all_can true).1 refl, and-true v)
   intersected_takes op (Reduced l) (Constant false) v t =
-      bind (takes_some can some alike_can l) (λ a. at_once (a.0, false, a.1, (none_can false).1 refl, and_bottom a.0 ∙ sym ((none_can v).0 t)))
+      bind (takes_some can some alike_can l) (λ a. at_once (a.0, false, a.1, (none_can false).1 refl, and-false a.0 ∙ sym ((none_can v).0 t)))
   intersected_takes op (Reduced l) (Reduced r) v t =
-      node_takes can some ◌&&◌ true and_turned (λ x. refl) and_merged (Join (Both op)) (is_intersection op) l r (kept_conjuncts l r) (λ beside. kept_conjuncts beside l) (conjuncts_keep l r) (λ beside. conjuncts_keep beside l) v t
+      node_takes can some ◌&&◌ true and_comm (λ x. refl) and_merged (Join (Both op)) (is_intersection op) l r (kept_conjuncts l r) (λ beside. kept_conjuncts beside l) (conjuncts_keep l r) (λ beside. conjuncts_keep beside l) v t
 
   never_both : (op : DifferenceOperator) (l r : Tree S) → implies l r ≡ true → (x : Bool) → Takes can l x
       → Later (Takes can (Join (Without op) l r) false)
@@ -228,12 +218,12 @@ module _ {S : Type 0} (can : Leaf S → Bool → Type 0)
   subtracted_takes : (op : DifferenceOperator) (l r : Rest S) (v : Bool) → Takes can (tree_of_rest (subtracted op l r)) v
       → Later (Takes can (Join (Without op) (tree_of_rest l) (tree_of_rest r)) v)
   subtracted_takes op (Constant true) r v t =
-      at_once (true, not v, (all_can true).1 refl, negated_takes LiteralNot r v t, not_twice v)
+      at_once (true, not v, (all_can true).1 refl, negated_takes LiteralNot r v t, not-not v)
   subtracted_takes op (Constant false) r v t =
       bind (takes_some can some alike_can (tree_of_rest r)) (λ b. at_once (false, b.0, (none_can false).1 refl, b.1, sym ((none_can v).0 t)))
   subtracted_takes op (Reduced l) (Constant true) v t =
-      bind (takes_some can some alike_can l) (λ a. at_once (a.0, true, a.1, (all_can true).1 refl, and_bottom a.0 ∙ sym ((none_can v).0 t)))
-  subtracted_takes op (Reduced l) (Constant false) v t = at_once (v, false, t, (none_can false).1 refl, and_top v)
+      bind (takes_some can some alike_can l) (λ a. at_once (a.0, true, a.1, (all_can true).1 refl, and-false a.0 ∙ sym ((none_can v).0 t)))
+  subtracted_takes op (Reduced l) (Constant false) v t = at_once (v, false, t, (none_can false).1 refl, and-true v)
   subtracted_takes op (Reduced l) (Reduced r) v t = difference_takes op l r (implies l r) refl v t
 
   symmetric_takes : (op : SymmetricDifferenceOperator) (l r : Tree S) (out : Bool) → alike l r ≡ out → (v : Bool)

@@ -68,7 +68,7 @@ same_truth holds (Set l) = (λ h. h, λ h. h)
 
 -- ---- the leaves are the same
 
-both_all : {X : Type 0} (P : X → Type 0) (xs ys : List X) → All P (xs ++ ys) → All P xs × All P ys
+pub both_all : {X : Type 0} (P : X → Type 0) (xs ys : List X) → All P (xs ++ ys) → All P xs × All P ys
 both_all P [] ys all = (All-nil P, all)
 both_all P (x ∷ xs) ys all =
     let rest = both_all P xs ys (All-tail P x (xs ++ ys) all) in

@@ -2,6 +2,7 @@
 use Rattle.std.proofs.Common.{◌≡◌, ◌↔◌, ◌⊎◌, Bool, true, false, refl, sym, subst, inl, inr, ⊎_elim}
 use Rattle.std.specs.Prelude.{◌&&◌, ◌||◌, not}
 use Rattle.std.proofs.lemmas.Bool.{false≢true, and_parts, or_parts}
+use Rattle.std.proofs.Math.Bool.{and-false, not-not, or-true}
 use Rattle.filterset_expression.specs.Connectives.{exclusive_or}
 use Rattle.filterset_grammar.specs.Tree.{Leaf, Tree, Not, Union, Join, Parens, Set}
 use Rattle.filterset_grammar.specs.declared.operators.Joiner.{Joiner}
@@ -15,26 +16,6 @@ use Rattle.filterset_rewriting.proofs.Later.{Later, at_once, bind}
 pub or_cases : (x y : Bool) → (x || y) ≡ true → (x ≡ true) ⊎ (y ≡ true)
 or_cases true y e = inl refl
 or_cases false y e = inr e
-
-pub or_top : (x : Bool) → (x || true) ≡ true
-or_top true = refl
-or_top false = refl
-
-pub or_bottom : (x : Bool) → (x || false) ≡ x
-or_bottom true = refl
-or_bottom false = refl
-
-pub and_top : (x : Bool) → (x && true) ≡ x
-and_top true = refl
-and_top false = refl
-
-pub and_bottom : (x : Bool) → (x && false) ≡ false
-and_bottom true = refl
-and_bottom false = refl
-
-pub not_twice : (x : Bool) → not (not x) ≡ x
-not_twice true = refl
-not_twice false = refl
 
 -- what an operator of the level of `and` makes of two values
 abbrev pub joined_values : Joiner → Bool → Bool → Bool
@@ -58,7 +39,7 @@ module _ {S : Type 0} (can : Leaf S → Bool → Type 0)
     (alike_can : (l m : Leaf S) → alike_leaves l m ≡ true → (v : Bool) → can l v ↔ can m v) where
   pub takes_some : (e : Tree S) → Later ((v : Bool) × Takes can e v)
   takes_some (Not op e) =
-      bind (takes_some e) (λ t. at_once (not t.0, subst (λ v. Takes can e v) (sym (not_twice t.0)) t.1))
+      bind (takes_some e) (λ t. at_once (not t.0, subst (λ v. Takes can e v) (sym (not-not t.0)) t.1))
   takes_some (Union op l r) =
       bind (takes_some l) (λ a. bind (takes_some r) (λ b. at_once (a.0 || b.0, (a.0, b.0, a.1, b.1, refl))))
   takes_some (Join op l r) =
@@ -120,7 +101,7 @@ module _ {S : Type 0} (can : Leaf S → Bool → Type 0)
   says_false (Join (Both op) l r) other e t =
       ⊎_elim
       (λ front. ⊎_elim (λ whole. at_once ((takes_alike (Join (Both op) l r) other whole false).1 t)) (λ left. bind (says_false l other left t) (λ a. bind (takes_some r) (λ b. at_once (false, b.0, a, b.1, refl)))) (or_cases (alike (Join (Both op) l r) other) (says l other) front))
-      (λ right. bind (says_false r other right t) (λ b. bind (takes_some l) (λ a. at_once (a.0, false, a.1, b, and_bottom a.0))))
+      (λ right. bind (says_false r other right t) (λ b. bind (takes_some l) (λ a. at_once (a.0, false, a.1, b, and-false a.0))))
       (or_cases (alike (Join (Both op) l r) other || says l other) (says r other) e)
   says_false (Join (Without op) l r) other e t =
       ⊎_elim
@@ -137,7 +118,7 @@ module _ {S : Type 0} (can : Leaf S → Bool → Type 0)
   admits_true (Union op l r) other e t =
       ⊎_elim
       (λ front. ⊎_elim (λ whole. at_once ((takes_alike other (Union op l r) whole true).0 t)) (λ left. bind (admits_true l other left t) (λ a. bind (takes_some r) (λ b. at_once (true, b.0, a, b.1, refl)))) (or_cases (alike other (Union op l r)) (admits l other) front))
-      (λ right. bind (admits_true r other right t) (λ b. bind (takes_some l) (λ a. at_once (a.0, true, a.1, b, or_top a.0))))
+      (λ right. bind (admits_true r other right t) (λ b. bind (takes_some l) (λ a. at_once (a.0, true, a.1, b, or-true a.0))))
       (or_cases (alike other (Union op l r) || admits l other) (admits r other) e)
   admits_true (Not op a) other e t = at_once ((takes_alike other (Not op a) e true).0 t)
   admits_true (Join op l r) other e t = at_once ((takes_alike other (Join op l r) e true).0 t)
@@ -148,7 +129,7 @@ module _ {S : Type 0} (can : Leaf S → Bool → Type 0)
   implies_true e (Union op l r) h t =
       ⊎_elim
       (λ front. ⊎_elim (λ whole. at_once (says_true e (Union op l r) whole t)) (λ left. bind (implies_true e l left t) (λ a. bind (takes_some r) (λ b. at_once (true, b.0, a, b.1, refl)))) (or_cases (says e (Union op l r)) (implies e l) front))
-      (λ right. bind (implies_true e r right t) (λ b. bind (takes_some l) (λ a. at_once (a.0, true, a.1, b, or_top a.0))))
+      (λ right. bind (implies_true e r right t) (λ b. bind (takes_some l) (λ a. at_once (a.0, true, a.1, b, or-true a.0))))
       (or_cases (says e (Union op l r) || implies e l) (implies e r) h)
   implies_true e (Not op a) h t = at_once (says_true e (Not op a) h t)
   implies_true e (Join op l r) h t = at_once (says_true e (Join op l r) h t)

@@ -1,5 +1,6 @@
 -- Steps over texts, by which tokens are added to others.
 use Rattle.std.proofs.Common.{◌≡◌, ℕ, ◌+◌, ◌<◌, ◌≤◌, ◌∙◌, ap, Bool, true, false, cond, List, [], ◌∷◌, ◌++◌, add_assoc, add-zero, append_assoc, arith, drop, get_or, length, map, refl, subst, sym, take}
+use Rattle.std.proofs.lemmas.Bool.Decides.{nat_tests}
 use Rattle.std.proofs.lemmas.List.{append-nil, drop-drop, drop-map, drop_all, drop_more}
 use Rattle.std.proofs.lemmas.List.Folds.{length-prefix_len}
 use Rattle.std.specs.Prelude.{MatchOption, None, Option, Some, filter}
@@ -22,8 +23,7 @@ over_word at text len old is some more are =
     (first ∷ more, word is some are, sym (append_assoc old (first ∷ []) more))
 
 is_false : (w : Bool) (n : ℕ) → cond w (1 + n) 0 ≡ 0 → w ≡ false
-is_false true n is = absurd (omega arith)
-is_false false n is = refl
+is_false w n is = grind (arith, nat_tests)
 
 no_word : (b : ℕ) (rest : Text) → length (take_while is_word_byte (b ∷ rest)) ≡ 0 → is_word_byte b ≡ false
 no_word b rest none =

@@ -31,10 +31,10 @@ mutual
     call : {text rest behind : List ℕ} {e : Tree SourceSpan} {link : Link}
         → IsOperator text link rest → IsList link rest e behind → IsFront text e behind
 
-  -- operands between parentheses
+  -- two operands or more between parentheses, joined from the left
   pub data IsList : Link → List ℕ → Tree SourceSpan → List ℕ → Type 0 where
-    list : {link : Link} {text inside behind : List ℕ} {e : Tree SourceSpan}
-        → Begins (sign "(") text inside → AreOperands link inside e behind → IsList link text e behind
+    list : {link : Link} {first e : Tree SourceSpan} {text inside rest behind : List ℕ} → Begins (sign "(") text inside
+        → IsOperand inside first (sign ",") rest → AreJoined link first rest e behind → IsList link text e behind
 
   -- an operand, and the sign behind it
   pub data IsOperand : List ℕ → Tree SourceSpan → ℕ → List ℕ → Type 0 where
@@ -48,11 +48,6 @@ mutual
     more : {link : Link} {before e made : Tree SourceSpan} {text rest behind : List ℕ}
         → IsOperand text e (sign ",") rest → AreJoined link (linked link before e) rest made behind
         → AreJoined link before text made behind
-
-  -- two operands or more, joined from the left
-  pub data AreOperands : Link → List ℕ → Tree SourceSpan → List ℕ → Type 0 where
-    operands : {link : Link} {first e : Tree SourceSpan} {text rest behind : List ℕ}
-        → IsOperand text first (sign ",") rest → AreJoined link first rest e behind → AreOperands link text e behind
 
 -- a call: the tree of its operands, with parentheses around those that need them
 pub record IsCall (text : List ℕ) (e : Tree SourceSpan) (behind : List ℕ) : Type 0 where
@@ -72,18 +67,14 @@ mutual
     no_call : {n : ℕ} {text rest : List ℕ} {link : Link}
         → IsOperator text link rest → 0 < n → NoList (n - 1) rest → NoFront n text
 
-  -- no parenthesis, or no operands behind it
+  -- no parenthesis, or behind it no operand, or one alone, or no parenthesis behind the last
   pub data NoList : ℕ → List ℕ → Type 0 where
     no_open : {n : ℕ} {text : List ℕ} → Lacks (sign "(") text → NoList n text
-    no_operands : {n : ℕ} {text inside : List ℕ} → Begins (sign "(") text inside → NoOperands n inside → NoList n text
-
-  -- no operand, or one alone, or no parenthesis behind the last
-  pub data NoOperands : ℕ → List ℕ → Type 0 where
-    no_first : {n : ℕ} {text : List ℕ} → NoOperand n text → NoOperands n text
-    one_alone : {n : ℕ} {text behind : List ℕ} {e : Tree SourceSpan}
-        → IsOperand text e (sign ")") behind → NoOperands n text
-    unclosed : {n : ℕ} {text rest : List ℕ} {e : Tree SourceSpan}
-        → IsOperand text e (sign ",") rest → AreOpen n rest → NoOperands n text
+    no_first : {n : ℕ} {text inside : List ℕ} → Begins (sign "(") text inside → NoOperand n inside → NoList n text
+    one_alone : {n : ℕ} {text inside behind : List ℕ} {e : Tree SourceSpan} → Begins (sign "(") text inside
+        → IsOperand inside e (sign ")") behind → NoList n text
+    unclosed : {n : ℕ} {text inside rest : List ℕ} {e : Tree SourceSpan} → Begins (sign "(") text inside
+        → IsOperand inside e (sign ",") rest → AreOpen n rest → NoList n text
 
   pub data AreOpen : ℕ → List ℕ → Type 0 where
     no_more : {n : ℕ} {text : List ℕ} → NoOperand n text → AreOpen n text

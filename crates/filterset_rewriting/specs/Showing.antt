@@ -1,5 +1,5 @@
 -- Trees whose parentheses show how they are read.
-use Rattle.std.specs.Prelude.{Bool, true, false, not, Option, None, Some}
+use Rattle.std.specs.Prelude.{Bool, true, false, not}
 use Rattle.filterset_grammar.specs.Tree.{Tree, Not, Union, Join, Parens, Set}
 use Rattle.filterset_grammar.specs.declared.operators.Joiner.{Joiner}
 use Rattle.filterset_grammar.specs.declared.operators.Joiner.TheVariants.{Both, Without, ExactlyOne}
@@ -11,20 +11,15 @@ are_one_sort (Without a) (Without b) = true
 are_one_sort (ExactlyOne a) (ExactlyOne b) = true
 are_one_sort _ _ = false
 
--- the operator of the level of `and` that joins the tree, if one does
-abbrev pub joiner_of : {S : Type 0} → Tree S → Option Joiner
-joiner_of (Join op l r) = Some op
-joiner_of _ = None
+-- an operator of the level of `and` joins the tree
+abbrev pub is_joined : {S : Type 0} → Tree S → Bool
+is_joined (Join op l r) = true
+is_joined _ = false
 
--- there is such an operator
-abbrev pub is_joiner : Option Joiner → Bool
-is_joiner None = false
-is_joiner (Some op) = true
-
--- there is one, of another sort than this
-abbrev pub is_other_joiner : Joiner → Option Joiner → Bool
-is_other_joiner op None = false
-is_other_joiner op (Some with) = not (are_one_sort op with)
+-- one does, of another sort than this
+abbrev pub is_joined_otherwise : {S : Type 0} → Joiner → Tree S → Bool
+is_joined_otherwise op (Join with l r) = not (are_one_sort op with)
+is_joined_otherwise op _ = false
 
 abbrev pub enclosed_if : {S : Type 0} → Bool → Tree S → Tree S
 enclosed_if true e = Parens e
@@ -34,8 +29,8 @@ enclosed_if false e = e
 -- operand of such an operator that one of another sort joins.
 abbrev pub shown : {S : Type 0} → Tree S → Tree S
 shown (Not op e) = Not op (shown e)
-shown (Union op l r) = Union op (enclosed_if (is_joiner (joiner_of l)) (shown l)) (enclosed_if (is_joiner (joiner_of r)) (shown r))
-shown (Join op l r) = Join op (enclosed_if (is_other_joiner op (joiner_of l)) (shown l)) (shown r)
+shown (Union op l r) = Union op (enclosed_if (is_joined l) (shown l)) (enclosed_if (is_joined r) (shown r))
+shown (Join op l r) = Join op (enclosed_if (is_joined_otherwise op l) (shown l)) (shown r)
 shown (Parens e) = Parens (shown e)
 shown (Set l) = Set l
 

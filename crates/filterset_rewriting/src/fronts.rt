@@ -17,24 +17,16 @@ pub struct Front<'t> {
     pub behind: &'t str,
 }
 
-/// Returns the span of a fault, if that is that a text goes on behind an expression.
-fn end_span(fault: &ParseSingleError) -> Option<SourceSpan>
-    ensures { MatchOption result ((s : SourceSpan) → fault.now ≢ ExpectedEndOfExpression s)
-        (λ s. fault.now ≡ ExpectedEndOfExpression s) }
-{
-    match fault {
-        ParseSingleError::ExpectedEndOfExpression(span) => Some(*span),
-        _ => None,
-    }
-}
-
 /// Returns the span of the only fault, if that is that a text goes on behind an expression.
 fn only_end(faults: &[ParseSingleError]) -> Option<SourceSpan>
     ensures { MatchOption result ((s : SourceSpan) → faults.now ≢ ExpectedEndOfExpression s ∷ [])
         (λ s. faults.now ≡ ExpectedEndOfExpression s ∷ []) }
 {
     match faults {
-        [fault] => end_span(fault),
+        [fault] => match fault {
+            ParseSingleError::ExpectedEndOfExpression(span) => Some(*span),
+            _ => None,
+        },
         _ => None,
     }
 }

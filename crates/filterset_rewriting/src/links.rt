@@ -1,5 +1,5 @@
 //! Operators that are written in front of their operands.
-ghost use Rattle.std.specs.Prelude.{◌≡◌, ◌≤◌, ◌++◌, IfOk, IfSome, MatchOption, codes, length};
+ghost use Rattle.std.specs.Prelude.{◌≡◌, ◌≤◌, ◌++◌, IfOk, IfSome, MatchOption, length};
 ghost use Rattle.std.specs.Str.{trim_start};
 ghost use Rattle.filterset_language.specs.Views.{tree_of};
 ghost use Rattle.filterset_rewriting.specs.Links.{IsOperator, LacksWord, NoOperator, linked};
@@ -25,11 +25,9 @@ fn after_word<'t>(text: &'t str, word: &str) -> Option<&'t str>
     }
 }
 
-/// Returns the operator that means `and` and that a text begins with, and what is behind it.
-fn read_every(text: &str) -> Option<(Link, &str)>
-    ensures found { MatchOption result
-        (LacksWord (codes "and") text.now × LacksWord (codes "AND") text.now × LacksWord (codes "&&") text.now)
-        (λ x. IsOperator text.now x.0 x.1.now) }
+/// Returns the operator that a text begins with, and what is behind it.
+pub fn read_operator(text: &str) -> Option<(Link, &str)>
+    ensures found { MatchOption result (NoOperator text.now) (λ x. IsOperator text.now x.0 x.1.now) }
     ensures within { IfSome result (λ x. length x.1.now ≤ length text.now) }
 {
     if let Some(rest) = after_word(text, "and") {
@@ -38,19 +36,9 @@ fn read_every(text: &str) -> Option<(Link, &str)>
     if let Some(rest) = after_word(text, "AND") {
         return Some((Link::Every(AndOperator::LiteralAnd), rest));
     }
-    match after_word(text, "&&") {
-        Some(rest) => Some((Link::Every(AndOperator::Ampersand), rest)),
-        None => None,
+    if let Some(rest) = after_word(text, "&&") {
+        return Some((Link::Every(AndOperator::Ampersand), rest));
     }
-}
-
-/// Returns the operator that means `or` and that a text begins with, and what is behind it.
-fn read_any(text: &str) -> Option<(Link, &str)>
-    ensures found { MatchOption result
-        (LacksWord (codes "or") text.now × LacksWord (codes "OR") text.now × LacksWord (codes "||") text.now)
-        (λ x. IsOperator text.now x.0 x.1.now) }
-    ensures within { IfSome result (λ x. length x.1.now ≤ length text.now) }
-{
     if let Some(rest) = after_word(text, "or") {
         return Some((Link::Any(OrOperator::LiteralOr), rest));
     }
@@ -60,17 +48,6 @@ fn read_any(text: &str) -> Option<(Link, &str)>
     match after_word(text, "||") {
         Some(rest) => Some((Link::Any(OrOperator::Pipe), rest)),
         None => None,
-    }
-}
-
-/// Returns the operator that a text begins with, and what is behind it.
-pub fn read_operator(text: &str) -> Option<(Link, &str)>
-    ensures found { MatchOption result (NoOperator text.now) (λ x. IsOperator text.now x.0 x.1.now) }
-    ensures within { IfSome result (λ x. length x.1.now ≤ length text.now) }
-{
-    match read_every(text) {
-        Some(found) => Some(found),
-        None => read_any(text),
     }
 }
 

@@ -5,13 +5,12 @@
 //! passed over. From a place on where the text is not spelled as a filterset, each `!` and `not` counts, and each `(` that
 //! begins no argument, so the parser is never nested more deeply than what is counted. The braces that are open in an
 //! argument are counted apart (`groups`).
-ghost use Rattle.std.specs.Prelude.{◌≡◌, ◌<◌, ◌≤◌, Bool, IfNone, IfOk, IfSome, List, MatchOption, length, ℕ};
+ghost use Rattle.std.specs.Prelude.{◌<◌, ◌≤◌, Bool, IfNone, IfOk, IfSome, List, MatchOption, length, ℕ};
 ghost use Rattle.filterset_faults.specs.declared.span.SourceSpan.{SourceSpan};
 ghost use Rattle.filterset_grammar.specs.Grammar.{Spells};
 ghost use Rattle.filterset_grammar.specs.Tree.{Tree};
 ghost use Rattle.filterset_rewriting.specs.Nesting.Depth.{IsTooDeep, depth};
 ghost use Rattle.filterset_rewriting.specs.Nesting.Levels.{After, Passes};
-ghost use Rattle.filterset_rewriting.specs.declared.nesting.tokens.Lexeme.TheVariants as kinds;
 
 use std::alloc::{AllocError, Global};
 
@@ -48,60 +47,6 @@ struct Levels {
 }
 
 impl Levels {
-    fn new(alloc: Global) -> Levels
-        ensures { (result.base ≡ 0) × (result.level ≡ 0) × (length result.outside.items ≡ 0) }
-    {
-        Levels {
-            base: 0,
-            level: 0,
-            outside: Vec::new(alloc),
-        }
-    }
-
-    /// Enters a negation.
-    fn negate(&mut self, limit: usize) -> Step
-        ensures { (t : List ℕ) (within : Bool)
-            → After limit kinds.Negation t self.old.outside.items self.old.base self.old.level within
-            → Passes limit t within self.new result }
-    {
-        if self.level >= limit {
-            return Step::TooDeep;
-        }
-        self.level += 1;
-        Step::Within
-    }
-
-    /// Enters a parenthesis.
-    fn enter(&mut self, limit: usize) -> Result<Step, AllocError>
-        ensures { IfOk result (λ step. (t : List ℕ) (within : Bool)
-            → After limit kinds.Open t self.old.outside.items self.old.base self.old.level within
-            → Passes limit t within self.new step) }
-    {
-        if self.level >= limit {
-            return Ok(Step::TooDeep);
-        }
-        self.outside.push(self.base)?;
-        self.level += 1;
-        self.base = self.level;
-        Ok(Step::Within)
-    }
-
-    /// Leaves a parenthesis, if one is open.
-    fn leave(&mut self) -> Step
-        ensures { (limit : ℕ) (t : List ℕ) (within : Bool)
-            → After limit kinds.Close t self.old.outside.items self.old.base self.old.level within
-            → Passes limit t within self.new result }
-    {
-        match self.outside.pop() {
-            Some(base) => {
-                self.base = base;
-                self.level = base;
-                Step::Within
-            }
-            None => Step::Misplaced,
-        }
-    }
-
     /// Moves past a token.
     fn pass(&mut self, token: Lexeme, limit: usize) -> Result<Step, AllocError>
         ensures { IfOk result (λ step. (t : List ℕ) (within : Bool)
@@ -110,9 +55,30 @@ impl Levels {
     {
         match token {
             Lexeme::Between => Ok(Step::Within),
-            Lexeme::Negation => Ok(self.negate(limit)),
-            Lexeme::Open => self.enter(limit),
-            Lexeme::Close => Ok(self.leave()),
+            Lexeme::Negation => {
+                if self.level >= limit {
+                    return Ok(Step::TooDeep);
+                }
+                self.level += 1;
+                Ok(Step::Within)
+            }
+            Lexeme::Open => {
+                if self.level >= limit {
+                    return Ok(Step::TooDeep);
+                }
+                self.outside.push(self.base)?;
+                self.level += 1;
+                self.base = self.level;
+                Ok(Step::Within)
+            }
+            Lexeme::Close => match self.outside.pop() {
+                Some(base) => {
+                    self.base = base;
+                    self.level = base;
+                    Ok(Step::Within)
+                }
+                None => Ok(Step::Misplaced),
+            },
             Lexeme::Predicate => {
                 self.level = self.base;
                 Ok(Step::Within)
@@ -129,7 +95,11 @@ pub fn find_too_deep(alloc: Global, text: &[u8], limit: usize) -> Result<Option<
     ensures deep { IfOk result (λ found. (e : Tree SourceSpan) → Spells text.now e
         → MatchOption found (depth e ≤ limit) (λ at. limit < depth e)) }
 {
-    let mut levels = Levels::new(alloc);
+    let mut levels = Levels {
+        base: 0,
+        level: 0,
+        outside: Vec::new(alloc),
+    };
     let mut at = 0;
     while at < text.len() {
         let (_, rest) = text.split_at(at);
@@ -157,7 +127,8 @@ pub fn find_deep_place(alloc: Global, text: &str, limit: usize) -> Result<Option
     }
 }
 
-/// Counts levels from a position on. Returns the offset of the first that passes the limit.
+/// Counts levels from a position on. Returns the offset of the first that passes the limit. A `)` counts that ends no
+/// argument, in a text without slashes and backslashes: those that do are the first behind their predicates.
 fn count_on(text: &[u8], start: usize, level: usize, limit: usize) -> Option<usize>
     requires { start ≤ length text.now }
     ensures { IfSome result (λ at. at < length text.now) }
@@ -171,30 +142,23 @@ fn count_on(text: &[u8], start: usize, level: usize, limit: usize) -> Option<usi
                 return Some(at);
             }
             reached += 1;
-        } else if is_plain && goes_up(front, rest) {
+        } else if is_plain && front.ends_with(b")") && rest.starts_with(b")") {
             reached = reached.saturating_sub(1);
         }
     }
     None
 }
 
-/// Returns whether what follows may be a parenthesis or a negation.
+/// Returns whether what follows may be a parenthesis or a negation. A `(` behind a word that is no operator begins an argument.
 fn may_go_down(front: &[u8], rest: &[u8]) -> bool {
     match rest {
         [b'!', ..] | [b'n', b'o', b't', ..] => true,
-        [b'(', ..] => !ends_with_name(front),
+        [b'(', ..] => {
+            !matches!(front, [.., b'a'..=b'z'])
+                || front.ends_with(b"not")
+                || front.ends_with(b"and")
+                || front.ends_with(b"or")
+        }
         _ => false,
     }
-}
-
-/// Returns whether a text ends with a word that is no operator. A `(` behind it begins an argument.
-fn ends_with_name(text: &[u8]) -> bool {
-    let is_operator = text.ends_with(b"not") || text.ends_with(b"and") || text.ends_with(b"or");
-    matches!(text, [.., b'a'..=b'z']) && !is_operator
-}
-
-/// Returns whether what follows is a `)` that ends no argument, in a text without slashes and backslashes: those that do are
-/// the first behind their predicates.
-fn goes_up(front: &[u8], rest: &[u8]) -> bool {
-    front.ends_with(b")") && rest.starts_with(b")")
 }

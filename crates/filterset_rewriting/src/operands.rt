@@ -1,7 +1,7 @@
 //! Operands of calls, which may be calls.
 ghost use Rattle.std.specs.Prelude.{◌≡◌, ◌<◌, ◌≤◌, IfOk, IfSome, MatchOption, length};
 ghost use Rattle.filterset_language.specs.Views.{tree_of};
-ghost use Rattle.filterset_rewriting.specs.Calls.{AreJoined, AreOpen, AreOperands, Begins, IsFront, IsList, IsOperand, Lacks, NoFront, NoList, NoOperand, NoOperands, end_sign};
+ghost use Rattle.filterset_rewriting.specs.Calls.{AreJoined, AreOpen, Begins, IsFront, IsList, IsOperand, Lacks, NoFront, NoList, NoOperand, end_sign};
 
 use crate::fronts::{Front, read_expression};
 use crate::links::{Link, link_trees, read_operator};
@@ -71,7 +71,7 @@ fn read_front<'t>(
     }
 }
 
-/// Reads the operands of an operator that a text begins with, which are between parentheses, and joins them.
+/// Reads the operands of an operator that a text begins with, two or more between parentheses, and joins them.
 #[cycle(calls)]
 pub fn read_list<'t>(
     alloc: Global,
@@ -83,25 +83,10 @@ pub fn read_list<'t>(
         (λ f. IsList link text.entry.now (tree_of f.tree) f.behind.now)) }
     ensures within { IfOk result (λ o. IfSome o (λ f. length f.behind.now ≤ length text.entry.now)) }
 {
-    match after(text, '(') {
-        Some(inside) => read_operands(alloc, levels, link, inside),
-        None => Ok(None),
-    }
-}
-
-/// Reads two operands or more at the front of a text, up to a parenthesis, and joins them.
-#[cycle(calls)]
-fn read_operands<'t>(
-    alloc: Global,
-    levels: usize,
-    link: Link,
-    text: &'t str,
-) -> Result<Option<Front<'t>>, AllocError>
-    ensures found { IfOk result (λ o. MatchOption o (NoOperands levels text.entry.now)
-        (λ f. AreOperands link text.entry.now (tree_of f.tree) f.behind.now)) }
-    ensures within { IfOk result (λ o. IfSome o (λ f. length f.behind.now ≤ length text.entry.now)) }
-{
-    let Some(operand) = read_operand(alloc, levels, text)? else {
+    let Some(inside) = after(text, '(') else {
+        return Ok(None);
+    };
+    let Some(operand) = read_operand(alloc, levels, inside)? else {
         return Ok(None);
     };
     let Operand {

@@ -1,10 +1,6 @@
 //! What texts read as.
-ghost use Rattle.std.specs.Prelude.{◌≤◌, IfErr, IfOk};
-ghost use Rattle.filterset_faults.specs.declared.span.SourceSpan.{SourceSpan};
-ghost use Rattle.filterset_grammar.specs.Grammar.{Spells};
-ghost use Rattle.filterset_grammar.specs.Tree.{Tree};
+ghost use Rattle.std.specs.Prelude.{IfErr, IfOk};
 ghost use Rattle.filterset_language.specs.Views.{tree_of};
-ghost use Rattle.filterset_rewriting.specs.Nesting.Depth.{depth, most_levels};
 ghost use Rattle.filterset_rewriting.specs.Reading.{IsRead, IsUnreadFor};
 
 use crate::nesting::{MOST_LEVELS, find_deep_place};
@@ -21,26 +17,17 @@ pub enum TextRefusal {
     TooDeep(usize),
 }
 
-/// Reads a text that nests no more deeply than a text may.
-fn read_shallow(alloc: Global, text: &str) -> Result<Result<ParsedExpr, TextRefusal>, AllocError>
-    requires { (e : Tree SourceSpan) → Spells text.now e → depth e ≤ most_levels }
-    ensures read { IfOk result (λ read. IfOk read (λ tree. IsRead text.now (tree_of tree))) }
-    ensures unread { IfOk result (λ read. IfErr read (IsUnreadFor text.now)) }
-{
-    let Parsed { tree, faults } = ParsedExpr::parse_with_faults(alloc, text)?;
-    match tree {
-        Some(tree) if faults.is_empty() => Ok(Ok(tree)),
-        _ => Ok(Err(TextRefusal::Found(faults))),
-    }
-}
-
 /// Reads a text. The outer error is out of memory.
 pub fn read_text(alloc: Global, text: &str) -> Result<Result<ParsedExpr, TextRefusal>, AllocError>
     ensures read { IfOk result (λ read. IfOk read (λ tree. IsRead text.now (tree_of tree))) }
     ensures unread { IfOk result (λ read. IfErr read (IsUnreadFor text.now)) }
 {
-    match find_deep_place(alloc, text, MOST_LEVELS)? {
-        Some(place) => Ok(Err(TextRefusal::TooDeep(place))),
-        None => read_shallow(alloc, text),
+    if let Some(place) = find_deep_place(alloc, text, MOST_LEVELS)? {
+        return Ok(Err(TextRefusal::TooDeep(place)));
+    }
+    let Parsed { tree, faults } = ParsedExpr::parse_with_faults(alloc, text)?;
+    match tree {
+        Some(tree) if faults.is_empty() => Ok(Ok(tree)),
+        _ => Ok(Err(TextRefusal::Found(faults))),
     }
 }

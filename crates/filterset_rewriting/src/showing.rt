@@ -7,7 +7,7 @@ ghost use Rattle.filterset_grammar.specs.Printing.{WellFormed, printed};
 ghost use Rattle.filterset_grammar.specs.Tree.{SameTree, Tree};
 ghost use Rattle.filterset_language.specs.Views.{tree_of};
 ghost use Rattle.filterset_rewriting.specs.Showing as spec;
-ghost use Rattle.filterset_rewriting.specs.Showing.{enclosed_if, is_joiner, is_other_joiner, shown, without_parens};
+ghost use Rattle.filterset_rewriting.specs.Showing.{enclosed_if, is_joined, is_joined_otherwise, shown, without_parens};
 
 use filterset_language::laws::printed_reads_back;
 use filterset_language::nodes::{copy_set, enclose, join, negate, unite};
@@ -25,34 +25,20 @@ fn are_one_sort(one: Joiner, other: Joiner) -> bool
     }
 }
 
-/// Returns the operator of the level of `and` that joins a tree, if one does.
-fn joiner_of<S>(expr: &ParsedExpr<S>) -> Option<Joiner>
-    ensures { result ≡ spec.joiner_of (tree_of expr.now) }
-{
-    match expr.node() {
-        ParsedNode::Join(operator, _, _) => Some(operator),
-        ParsedNode::Not(_, _) | ParsedNode::Union(_, _, _) => None,
-        ParsedNode::Parens(_) | ParsedNode::Set(_) => None,
-    }
-}
-
-/// Returns whether an operator of that level joins a tree.
+/// Returns whether an operator of the level of `and` joins a tree.
 fn is_joined<S>(expr: &ParsedExpr<S>) -> bool
-    ensures { result ≡ is_joiner (spec.joiner_of (tree_of expr.now)) }
+    ensures { result ≡ is_joined (tree_of expr.now) }
 {
-    match joiner_of(expr) {
-        Some(_) => true,
-        None => false,
-    }
+    matches!(expr.node(), ParsedNode::Join(_, _, _))
 }
 
 /// Returns whether an operator of that level joins a tree, of another sort than this one.
 fn is_joined_otherwise<S>(operator: Joiner, expr: &ParsedExpr<S>) -> bool
-    ensures { result ≡ is_other_joiner operator (spec.joiner_of (tree_of expr.now)) }
+    ensures { result ≡ is_joined_otherwise operator (tree_of expr.now) }
 {
-    match joiner_of(expr) {
-        Some(inner) => !are_one_sort(operator, inner),
-        None => false,
+    match expr.node() {
+        ParsedNode::Join(inner, _, _) => !are_one_sort(operator, inner),
+        _ => false,
     }
 }
 

@@ -50,36 +50,28 @@ fn make_token(offset: usize, len: usize, kind: TokenKind) -> Token
     }
 }
 
-fn is_word_byte(byte: u8) -> bool
-    ensures { result ≡ is_word_byte byte }
-{
-    matches!(byte, b'0'..=b'9' | b'A'..=b'Z' | b'_' | b'a'..=b'z')
-}
-
 fn is_sign(byte: u8) -> bool
     ensures { result ≡ spec.is_sign byte }
 {
     matches!(byte, b'!' | b'|' | b'+' | b'&' | b'-' | b'^')
 }
 
-fn is_blank(byte: u8) -> bool
-    ensures { result ≡ spec.is_blank byte }
-{
-    matches!(byte, b' ' | b'\n' | b'\r')
-}
-
 /// Returns how many bytes at the front of a text are of a word.
 fn word_len(text: &[u8]) -> usize
     ensures { result ≡ length (take_while is_word_byte text.now) }
 {
-    text.iter().take_while(|byte| is_word_byte(**byte)).count()
+    text.iter()
+        .take_while(|byte| matches!(**byte, b'0'..=b'9' | b'A'..=b'Z' | b'_' | b'a'..=b'z'))
+        .count()
 }
 
 /// Returns how many bytes at the front of a text are blanks.
 fn blanks_len(text: &[u8]) -> usize
     ensures { result ≡ length (take_while spec.is_blank text.now) }
 {
-    text.iter().take_while(|byte| is_blank(**byte)).count()
+    text.iter()
+        .take_while(|byte| matches!(**byte, b' ' | b'\n' | b'\r'))
+        .count()
 }
 
 /// Returns what a word is.
@@ -92,30 +84,6 @@ fn word_kind(word: &[u8]) -> TokenKind
     }
 }
 
-/// Adds the word at the front of a text without arguments, which has this length.
-fn push_word(tokens: &mut Vec<Token>, text: &[u8], at: usize, len: usize) -> Result<(), AllocError>
-    requires word { len ≡ length (take_while is_word_byte text.now) }
-    requires some { 0 < len }
-    requires within { len ≤ length text.now }
-    ensures { OnOk result (Advances at text.now len tokens.old.items tokens.new.items) }
-{
-    let (word, _) = text.split_at(len);
-    tokens.push(make_token(at, len, word_kind(word)))?;
-    Ok(())
-}
-
-/// Adds the operator at the front of a text without arguments that begins with no word, if there is one.
-fn push_sign(tokens: &mut Vec<Token>, text: &[u8], at: usize) -> Result<(), AllocError>
-    requires some { 0 < length text.now }
-    requires no_word { length (take_while is_word_byte text.now) ≡ 0 }
-    ensures { OnOk result (Advances at text.now 1 tokens.old.items tokens.new.items) }
-{
-    if is_sign(text[0]) {
-        tokens.push(make_token(at, 1, TokenKind::Operator))?;
-    }
-    Ok(())
-}
-
 /// Adds the token at the front of a text without arguments, if there is one, and returns how many bytes it has, or 1.
 fn push_front(tokens: &mut Vec<Token>, text: &[u8], at: usize) -> Result<usize, AllocError>
     requires { 0 < length text.now }
@@ -124,12 +92,14 @@ fn push_front(tokens: &mut Vec<Token>, text: &[u8], at: usize) -> Result<usize, 
 {
     let len = word_len(text);
     if len > 0 {
-        push_word(tokens, text, at, len)?;
-        Ok(len)
-    } else {
-        push_sign(tokens, text, at)?;
-        Ok(1)
+        let (word, _) = text.split_at(len);
+        tokens.push(make_token(at, len, word_kind(word)))?;
+        return Ok(len);
     }
+    if is_sign(text[0]) {
+        tokens.push(make_token(at, 1, TokenKind::Operator))?;
+    }
+    Ok(1)
 }
 
 /// Adds the tokens of a text without arguments that is at this offset.
@@ -174,28 +144,6 @@ fn push_form(
     Ok(())
 }
 
-/// Adds the tokens of an argument with this text, at this offset.
-fn push_argument(
-    tokens: &mut Vec<Token>,
-    form: ArgumentForm,
-    at: usize,
-    text: &[u8],
-) -> Result<(), AllocError>
-    requires { at + length text.now < 2 ^ 64 }
-    ensures { OnOk result (tokens.new.items ≡ tokens.old.items ++ argument_tokens form at text.now) }
-{
-    let blanks = blanks_len(text);
-    push_form(tokens, form, at + blanks, text.len() - blanks)
-}
-
-/// Returns how much is between an offset and an argument in the rest of a text.
-fn gap_len(at: usize, rest: &[u8], argument: Argument) -> usize
-    ensures value { result ≡ gap_len at rest.now argument }
-    ensures within { result ≤ length rest.now }
-{
-    argument.span.offset().saturating_sub(at).min(rest.len())
-}
-
 /// Adds the tokens of the rest of a text, at this offset, up to the end of an argument. Returns how many bytes that is.
 pub(crate) fn push_next(
     tokens: &mut Vec<Token>,
@@ -212,11 +160,17 @@ pub(crate) fn push_next(
         × (tokens.new.items ≡ tokens.old.items ++ (before ++ argument_tokens argument.form (at + gap)
         (take own (drop gap rest.now))))) }
 {
-    let gap = gap_len(at, rest, argument);
+    let gap = argument.span.offset().saturating_sub(at).min(rest.len());
     let (before, onward) = rest.split_at(gap);
     let own = argument.span.len().min(onward.len());
     push_plain(tokens, before, at)?;
     let (own_text, _) = onward.split_at(own);
-    push_argument(tokens, argument.form, at + gap, own_text)?;
+    let blanks = blanks_len(own_text);
+    push_form(
+        tokens,
+        argument.form,
+        at + gap + blanks,
+        own_text.len() - blanks,
+    )?;
     Ok(gap + own)
 }

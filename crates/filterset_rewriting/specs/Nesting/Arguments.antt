@@ -7,30 +7,21 @@ use Rattle.filterset_language.specs.Parsing.Front.{blank_len}
 use Rattle.filterset_rewriting.specs.declared.nesting.arguments.ArgumentKind.{ArgumentKind}
 use Rattle.filterset_rewriting.specs.declared.nesting.arguments.ArgumentKind.TheVariants.{Matcher, Nothing, Raw}
 
--- names of predicates, by what they take and ask about
+-- names of predicates, by what they take
 abbrev pub takes_nothing : List ℕ → Bool
 takes_nothing name = bytes_eq name (codes "all") || (bytes_eq name (codes "none") || bytes_eq name (codes "default"))
 
-abbrev pub takes_platform : List ℕ → Bool
-takes_platform name = bytes_eq name (codes "platform")
-
-abbrev pub asks_package : List ℕ → Bool
-asks_package name = bytes_eq name (codes "package") || (bytes_eq name (codes "deps") || bytes_eq name (codes "rdeps"))
-
-abbrev pub asks_binary : List ℕ → Bool
-asks_binary name = bytes_eq name (codes "kind") || (bytes_eq name (codes "binary") || bytes_eq name (codes "binary_id"))
-
-abbrev pub asks_test : List ℕ → Bool
-asks_test name = bytes_eq name (codes "test") || bytes_eq name (codes "group")
+abbrev pub takes_matcher : List ℕ → Bool
+takes_matcher name =
+    bytes_eq name (codes "package") || (bytes_eq name (codes "deps") || (bytes_eq name (codes "rdeps")
+    || (bytes_eq name (codes "kind") || (bytes_eq name (codes "binary") || (bytes_eq name (codes "binary_id")
+    || (bytes_eq name (codes "test") || bytes_eq name (codes "group")))))))
 
 -- what the predicate of this name takes
 abbrev pub argument_of : List ℕ → Option ArgumentKind
 argument_of name =
     if takes_nothing name then Some Nothing
-    else (if takes_platform name then Some Raw
-    else (if asks_package name then Some Matcher
-    else (if asks_binary name then Some Matcher
-    else (if asks_test name then Some Matcher else None))))
+    else (if bytes_eq name (codes "platform") then Some Raw else (if takes_matcher name then Some Matcher else None))
 
 -- a raw text ends at a `)` or a comma without a backslash in front
 abbrev pub ends_raw : Bool → ℕ → Bool

@@ -5,8 +5,7 @@ ghost use Rattle.filterset_grammar.specs.Text.{Blanks};
 ghost use Rattle.filterset_language.specs.Parsing.Front.{blank_len, close_len};
 ghost use Rattle.filterset_language.specs.Parsing.RawTexts.{body_len};
 ghost use Rattle.filterset_rewriting.specs.Nesting.Arguments as spec;
-ghost use Rattle.filterset_rewriting.specs.Nesting.Arguments.{IsArgument, IsBody, IsMatcher, IsRaw};
-ghost use Rattle.filterset_rewriting.specs.declared.nesting.arguments.ArgumentKind.TheVariants as kinds;
+ghost use Rattle.filterset_rewriting.specs.Nesting.Arguments.{IsArgument, IsMatcher, IsRaw};
 
 /// What a predicate takes as its argument.
 #[derive(Clone, Copy)]
@@ -31,28 +30,17 @@ fn takes_nothing(name: &[u8]) -> bool
     is_name(name, b"all") || is_name(name, b"none") || is_name(name, b"default")
 }
 
-fn takes_platform(name: &[u8]) -> bool
-    ensures { result ≡ spec.takes_platform name.now }
+fn takes_matcher(name: &[u8]) -> bool
+    ensures { result ≡ spec.takes_matcher name.now }
 {
-    is_name(name, b"platform")
-}
-
-fn asks_package(name: &[u8]) -> bool
-    ensures { result ≡ spec.asks_package name.now }
-{
-    is_name(name, b"package") || is_name(name, b"deps") || is_name(name, b"rdeps")
-}
-
-fn asks_binary(name: &[u8]) -> bool
-    ensures { result ≡ spec.asks_binary name.now }
-{
-    is_name(name, b"kind") || is_name(name, b"binary") || is_name(name, b"binary_id")
-}
-
-fn asks_test(name: &[u8]) -> bool
-    ensures { result ≡ spec.asks_test name.now }
-{
-    is_name(name, b"test") || is_name(name, b"group")
+    is_name(name, b"package")
+        || is_name(name, b"deps")
+        || is_name(name, b"rdeps")
+        || is_name(name, b"kind")
+        || is_name(name, b"binary")
+        || is_name(name, b"binary_id")
+        || is_name(name, b"test")
+        || is_name(name, b"group")
 }
 
 /// Returns what the predicate of this name takes.
@@ -61,9 +49,9 @@ pub fn argument_of(name: &[u8]) -> Option<ArgumentKind>
 {
     if takes_nothing(name) {
         Some(ArgumentKind::Nothing)
-    } else if takes_platform(name) {
+    } else if is_name(name, b"platform") {
         Some(ArgumentKind::Raw)
-    } else if asks_package(name) || asks_binary(name) || asks_test(name) {
+    } else if takes_matcher(name) {
         Some(ArgumentKind::Matcher)
     } else {
         None
@@ -78,20 +66,13 @@ pub fn argument_end(argument: ArgumentKind, text: &[u8]) -> Option<&[u8]>
 {
     let inside = after_byte(skip_blanks(text), b'(')?;
     match argument {
-        ArgumentKind::Nothing => bare_end(inside),
+        ArgumentKind::Nothing => {
+            let (_, rest) = inside.split_at(close_len(inside));
+            after_byte(rest, b')')
+        }
         ArgumentKind::Raw => raw_end(inside),
         ArgumentKind::Matcher => matcher_end(inside),
     }
-}
-
-/// Returns what is behind the next `)`.
-fn bare_end(text: &[u8]) -> Option<&[u8]>
-    ensures within { IfSome result (λ behind. length behind.now ≤ length text.now) }
-    ensures behind { (inside t : List ℕ) → IsArgument kinds.Nothing inside
-        → text.now ≡ inside ++ 41 ∷ t → MatchOption result ⊥ (λ behind. behind.now ≡ t) }
-{
-    let (_, rest) = text.split_at(close_len(text));
-    after_byte(rest, b')')
 }
 
 /// Returns what is behind the `)` that ends a raw text. There is none if a comma is before it.
@@ -111,19 +92,10 @@ fn matcher_end(text: &[u8]) -> Option<&[u8]>
         → text.now ≡ inside ++ 41 ∷ t → MatchOption result ⊥ (λ behind. behind.now ≡ t) }
 {
     let start = skip_blanks(text);
-    match after_byte(start, b'/') {
-        Some(body) => regex_end(body),
-        None => raw_end(start),
-    }
-}
-
-/// Returns what is behind the body of a regular expression and its `)`.
-fn regex_end(text: &[u8]) -> Option<&[u8]>
-    ensures within { IfSome result (λ behind. length behind.now ≤ length text.now) }
-    ensures behind { (body blanks t : List ℕ) → IsBody body → Blanks blanks
-        → text.now ≡ body ++ 47 ∷ (blanks ++ 41 ∷ t) → MatchOption result ⊥ (λ behind. behind.now ≡ t) }
-{
-    let (_, rest) = text.split_at(body_len(text));
+    let Some(body) = after_byte(start, b'/') else {
+        return raw_end(start);
+    };
+    let (_, rest) = body.split_at(body_len(body));
     let end = after_byte(rest, b'/')?;
     after_byte(skip_blanks(end), b')')
 }

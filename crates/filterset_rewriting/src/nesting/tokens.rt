@@ -1,13 +1,11 @@
 //! What a text begins with.
-ghost use Rattle.std.specs.Prelude.{◌≡◌, ◌≤◌, ◌+◌, ◌∷◌, ◌++◌, List, None, drop, length, slice_index, ℕ};
+ghost use Rattle.std.specs.Prelude.{◌≡◌, ◌≤◌, ◌+◌, ◌++◌, List, None, drop, length, slice_index, ℕ};
 ghost use Rattle.std.specs.List.{take_while};
-ghost use Rattle.filterset_grammar.specs.Text.{Blanks};
-ghost use Rattle.filterset_rewriting.specs.Nesting.Arguments.{IsArgument};
 ghost use Rattle.filterset_rewriting.specs.Nesting.Tokens as spec;
 ghost use Rattle.filterset_rewriting.specs.Nesting.Tokens.{Begins, IsPredicateAfter};
 ghost use Rattle.filterset_rewriting.specs.declared.nesting.tokens.Lexeme.TheVariants as kinds;
 
-use crate::nesting::arguments::{ArgumentKind, argument_end, argument_of};
+use crate::nesting::arguments::{argument_end, argument_of};
 
 /// What a text goes on with.
 #[derive(Clone, Copy)]
@@ -54,17 +52,13 @@ fn word_token(word: &[u8]) -> Option<Lexeme>
     }
 }
 
-fn is_letter(byte: u8) -> bool
-    ensures { result ≡ spec.is_letter byte }
-{
-    matches!(byte, b'a'..=b'z' | b'_')
-}
-
 /// Returns the number of letters and underscores at the beginning of a text.
 fn word_len(text: &[u8]) -> usize
     ensures { result ≡ length (take_while spec.is_letter text.now) }
 {
-    text.iter().take_while(|byte| is_letter(**byte)).count()
+    text.iter()
+        .take_while(|byte| matches!(**byte, b'a'..=b'z' | b'_'))
+        .count()
 }
 
 /// Returns what the text goes on with.
@@ -109,23 +103,12 @@ fn next_predicate(word: &[u8], rest: &[u8]) -> Next
     ensures token { (t : List ℕ) → IsPredicateAfter word.now rest.now t
         → (result.token ≡ kinds.Predicate) × (drop result.len (word.now ++ rest.now) ≡ t) }
 {
-    match argument_of(word) {
-        Some(argument) => next_call(word, argument, rest),
-        None => Next {
+    let Some(argument) = argument_of(word) else {
+        return Next {
             token: Lexeme::Other,
             len: word.len(),
-        },
-    }
-}
-
-/// Returns what a text goes on with that begins with the name of a predicate that takes this.
-fn next_call(word: &[u8], argument: ArgumentKind, rest: &[u8]) -> Next
-    requires { 1 ≤ length word.now }
-    ensures len { (1 ≤ result.len) × (result.len ≤ length word.now + length rest.now) }
-    ensures token { (blanks inside t : List ℕ) → Blanks blanks → IsArgument argument inside
-        → rest.now ≡ blanks ++ (40 ∷ (inside ++ 41 ∷ t))
-        → (result.token ≡ kinds.Predicate) × (drop result.len (word.now ++ rest.now) ≡ t) }
-{
+        };
+    };
     match argument_end(argument, rest) {
         Some(behind) => Next {
             token: Lexeme::Predicate,

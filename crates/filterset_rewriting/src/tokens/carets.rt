@@ -1,7 +1,6 @@
 //! The operators `^` of filtersets that are read.
-ghost use Rattle.std.specs.Prelude.{◌≡◌, IfOk};
+ghost use Rattle.std.specs.Prelude.{IfOk};
 ghost use Rattle.filterset_language.specs.Views.{tree_of};
-ghost use Rattle.filterset_rewriting.specs.Tokens as spec;
 ghost use Rattle.filterset_rewriting.specs.Tokens.{AreCarets, HasCarets};
 
 use crate::reading::read_text;
@@ -11,13 +10,6 @@ use filterset_faults::SourceSpan;
 use filterset_language::ParsedExpr;
 use std::alloc::{AllocError, Global};
 
-/// Returns whether a token of a text is an operator `^`.
-fn is_caret(text: &[u8], token: &Token) -> bool
-    ensures { result ≡ spec.is_caret text.now token.now }
-{
-    matches!(token.kind, TokenKind::Operator) && matches!(text.get(token.span.offset()), Some(b'^'))
-}
-
 /// Returns the spans of the operators `^` of a text that reads as this tree, in their order. A `^` in an argument is none.
 fn carets_of(alloc: Global, text: &str, tree: &ParsedExpr) -> Result<Vec<SourceSpan>, AllocError>
     ensures { IfOk result (λ spans. AreCarets text.now (tree_of tree.now) spans.items) }
@@ -26,7 +18,8 @@ fn carets_of(alloc: Global, text: &str, tree: &ParsedExpr) -> Result<Vec<SourceS
     let bytes = text.as_bytes();
     let mut spans = Vec::new(alloc);
     for token in &tokens {
-        if is_caret(bytes, token) {
+        let is_operator = matches!(token.kind, TokenKind::Operator);
+        if is_operator && matches!(bytes.get(token.span.offset()), Some(b'^')) {
             spans.push(token.span)?;
         }
     }

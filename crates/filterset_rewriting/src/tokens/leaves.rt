@@ -1,6 +1,5 @@
 //! The tokens of filtersets that are read.
-ghost use Rattle.std.specs.Prelude.{◌≡◌, IfOk, Some, map};
-ghost use Rattle.filterset_grammar.specs.Tree.{tree_leaves};
+ghost use Rattle.std.specs.Prelude.{◌≡◌, IfOk, map};
 ghost use Rattle.filterset_language.specs.Views.{leaf_of, tree_of};
 ghost use Rattle.filterset_matchers.specs.Matchers.{matcher_of};
 ghost use Rattle.filterset_rewriting.specs.Tokens as spec;
@@ -77,17 +76,10 @@ fn tokens_among(
     Ok(tokens)
 }
 
-/// Returns the predicates of a tree, from left to right.
-fn leaves_of<'e>(alloc: Global, tree: &'e ParsedExpr) -> Result<Vec<&'e ParsedLeaf>, AllocError>
-    ensures { IfOk result (λ found. map (λ leaf. leaf_of leaf.now) found.items ≡ tree_leaves (tree_of tree.entry.now)) }
-{
-    tree.leaves_where(alloc, |_| true)
-}
-
 /// Makes the tokens of a text that reads as this tree.
 pub fn tokens_of(alloc: Global, text: &str, tree: &ParsedExpr) -> Result<Vec<Token>, AllocError>
     ensures { IfOk result (λ tokens. AreTokens text.now (tree_of tree.now) tokens.items) }
 {
-    let leaves = leaves_of(alloc, tree)?;
+    let leaves = tree.leaves_where(alloc, |_| true)?;
     tokens_among(alloc, text.as_bytes(), leaves.as_slice())
 }

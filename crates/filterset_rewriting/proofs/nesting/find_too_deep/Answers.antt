@@ -9,7 +9,7 @@ use Rattle.filterset_rewriting.proofs.nesting.find_too_deep.Goals as goal
 pub loop-at-init : goal.loop-at-init
 loop-at-init c = record {
   within = omega arith;
-  rest = λ e spells. rw (c.new-levels.ensures.0, c.new-levels.ensures.1) (from_start c.args.limit c.args.text.now c.new-levels.result.outside.items e spells);
+  rest = λ e spells. from_start c.args.limit c.args.text.now _ e spells;
 }
 
 pub loop-at-preserved : goal.loop-at-preserved

@@ -1,7 +1,7 @@
 use Rattle.std.proofs.Common.{◌<◌, length, true, false, arith, rules}
 use Rattle.filterset_language.specs.Views.{tree_of}
 use Rattle.filterset_rewriting.specs.Calls.{IsFront, IsOperand, NoFront, NoOperand, end_sign, no_first, no_more, no_open, nothing, one_alone, one_more}
-use Rattle.filterset_rewriting.proofs.OperandLemmas.{deep, ended, front_called, front_expressed, last_joined, list_told, more_joined, operand_told, operands_told, within_more}
+use Rattle.filterset_rewriting.proofs.OperandLemmas.{deep, ended, front_called, front_expressed, last_joined, list_told, more_joined, operand_told, within_more}
 use Rattle.filterset_rewriting.proofs.operands.+calls.Goals as goal
 
 pub join_operands-returns-in_default-clause-found : goal.join_operands-returns-in_default-clause-found
@@ -46,13 +46,6 @@ pub read_front-returns-in-None-clause-found : goal.read_front-returns-in-None-cl
 read_front-returns-in-None-clause-found t c =
     front_expressed c.args.levels c.args.text.now c.in-None.ensures.found c.read_expression.result c.read_expression.ensures.found
 
-pub read_list-returns-in-Some-clause-found : goal.read_list-returns-in-Some-clause-found
-read_list-returns-in-Some-clause-found t c =
-    list_told c.args.levels c.args.text.now c.in-Some.inside.now c.args.link c.in-Some.ensures.found c.read_operands.result c.read_operands.ensures.found
-
-pub read_list-returns-in-None-clause-found : goal.read_list-returns-in-None-clause-found
-read_list-returns-in-None-clause-found t c = no_open c.in-None.ensures.found
-
 pub read_operand-returns-in-Some-clause-found : goal.read_operand-returns-in-Some-clause-found
 read_operand-returns-in-Some-clause-found t c =
     let f = c.in-Some.front in
@@ -64,20 +57,25 @@ read_operand-returns-in-None-clause-found t c =
     let none : NoFront c.args.levels c.args.text.now = rw c.in-None.is at c.in_ok-front.ensures.found in
     nothing none
 
-pub read_operands-returns-in_default-clause-found : goal.read_operands-returns-in_default-clause-found
-read_operands-returns-in_default-clause-found t c =
-    let none : NoOperand c.args.levels c.args.text.now = rw c.in_default.is at c.in_ok-operand.ensures.found in
-    no_first none
+pub read_list-returns-in_default-clause-found : goal.read_list-returns-in_default-clause-found
+read_list-returns-in_default-clause-found t c = no_open c.in_default.ensures.found
 
-pub read_operands-returns-then-is_last-clause-found : goal.read_operands-returns-then-is_last-clause-found
-read_operands-returns-then-is_last-clause-found t c =
-    let x = c.in-Some.operand in
-    let is : IsOperand c.args.text.now (tree_of x.tree) (end_sign x.is_last) x.behind.now = rw c.in-Some.is at c.in_ok-operand.ensures.found in
-    one_alone (ended x.is_last true c.args.text.now x.behind.now (tree_of x.tree) c.if-is_last.true is)
+pub read_list-returns-in_default-2-clause-found : goal.read_list-returns-in_default-2-clause-found
+read_list-returns-in_default-2-clause-found t c =
+    let none : NoOperand c.args.levels c.in-Some.inside.now = rw c.in_default-2.is at c.in_ok-operand.ensures.found in
+    no_first c.in-Some.ensures.found none
 
-pub read_operands-returns-clause-found : goal.read_operands-returns-clause-found
-read_operands-returns-clause-found t c =
-    let x = c.in-Some.operand in
-    let is : IsOperand c.args.text.now (tree_of x.tree) (end_sign x.is_last) x.behind.now = rw c.in-Some.is at c.in_ok-operand.ensures.found in
-    operands_told c.args.levels c.args.text.now x.behind.now c.args.link (tree_of x.tree)
-    (ended x.is_last false c.args.text.now x.behind.now (tree_of x.tree) c.if-is_last.false is) c.join_operands.result c.join_operands.ensures.found
+pub read_list-returns-then-is_last-clause-found : goal.read_list-returns-then-is_last-clause-found
+read_list-returns-then-is_last-clause-found t c =
+    let x = c.in-Some-2.operand in
+    let inside = c.in-Some.inside.now in
+    let is : IsOperand inside (tree_of x.tree) (end_sign x.is_last) x.behind.now = rw c.in-Some-2.is at c.in_ok-operand.ensures.found in
+    one_alone c.in-Some.ensures.found (ended x.is_last true inside x.behind.now (tree_of x.tree) c.if-is_last.true is)
+
+pub read_list-returns-clause-found : goal.read_list-returns-clause-found
+read_list-returns-clause-found t c =
+    let x = c.in-Some-2.operand in
+    let inside = c.in-Some.inside.now in
+    let is : IsOperand inside (tree_of x.tree) (end_sign x.is_last) x.behind.now = rw c.in-Some-2.is at c.in_ok-operand.ensures.found in
+    list_told c.args.levels c.args.text.now inside x.behind.now c.args.link (tree_of x.tree) c.in-Some.ensures.found
+    (ended x.is_last false inside x.behind.now (tree_of x.tree) c.if-is_last.false is) c.join_operands.result c.join_operands.ensures.found

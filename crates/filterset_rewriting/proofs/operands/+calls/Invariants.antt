@@ -16,11 +16,8 @@ decreases-read_operand l = 6 * l.levels + 1
 abbrev pub decreases-join_operands : goal.decreases-join_operands
 decreases-join_operands l = 6 * l.levels + 2
 
-abbrev pub decreases-read_operands : goal.decreases-read_operands
-decreases-read_operands l = 6 * l.levels + 3
-
 abbrev pub decreases-read_list : goal.decreases-read_list
-decreases-read_list l = 6 * l.levels + 4
+decreases-read_list l = 6 * l.levels + 3
 
 -- what the rest joins to the tree so far, the whole text joins to the first
 abbrev pub invariant-join_operands-loop-tree : goal.invariant-join_operands-loop-tree
