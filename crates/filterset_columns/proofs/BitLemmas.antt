@@ -1,37 +1,25 @@
 -- Bits of words.
-use Rattle.std.proofs.Common.{◌≡◌, ℕ, zero, suc, ◌+◌, ◌<◌, ◌/◌, ◌%◌, ◌^◌, ◌-◌, min, max, Bool, true, false, not, ◌||◌, ◌&&◌, ◌==◌, List, length, get_or, slice_index, slice_set, set, bit_and, bit_or, bit_xor, ◌⊎◌, refl, sym, ap, ◌∙◌, arith, inl, inr, get_or-set_other, get_or-set_same, ◌≤◌, w64, add-zero, zero-add}
+use Rattle.std.proofs.Common.{◌≡◌, ℕ, zero, suc, ◌+◌, ◌<◌, ◌/◌, ◌%◌, ◌^◌, ◌-◌, min, max, Bool, true, false, not, ◌||◌, ◌&&◌, ◌==◌, List, length, get_or, slice_index, slice_set, set, bit_and, bit_or, bit_xor, refl, sym, ap, ◌∙◌, arith, inl, inr, get_or-set_other, get_or-set_same, ◌≤◌, w64, add-zero, zero-add}
 use Rattle.std.specs.Int.{bit_at, trailing_ones, trailing_zeros}
 use Rattle.std.specs.Bool.{beq}
+use Rattle.std.proofs.Math.Bool.{or_comm}
 use Rattle.std.proofs.Math.Nat.{div-add-mod, div-div-eq-div-mul, div-one, pow-succ'}
 use Rattle.std.proofs.lemmas.Bool.{cases_eq, cases_lt, eq-eqb, ne_eqb}
+use Rattle.std.proofs.lemmas.Bool.Decides.{nat_tests}
 use Rattle.std.specs.Int.Bits.{xor_add_and}
 use Rattle.std.proofs.lemmas.Nat.{and_mask}
 use Rattle.std.proofs.Math.Nat.{mod-eq_of_lt}
 use Rattle.std.proofs.lemmas.Nat.Bits.{bit_at_and, bit_at_or, bit_at_xor, bit_at-pow_same, bit_at-pow_other, bit_at-lt, bit_at-suc, bit_at-trailing_ones, bit_at-trailing_zeros, bit_at-zero, bit_at_ones, shr_and_one}
 use Rattle.filterset_columns.specs.Bits.{bit_of}
 
-zero_or_one : (n : ℕ) → n < 2 → (n ≡ 0) ⊎ (n ≡ 1)
-zero_or_one zero h = inl refl
-zero_or_one (suc zero) h = inr refl
-zero_or_one (suc (suc n)) h = absurd (omega (arith, h))
-
 min_bits : (a b : ℕ) → a < 2 → b < 2 → (min a b == 1) ≡ (a == 1 && b == 1)
-min_bits a b h k = elim (zero_or_one a h) [
-  | inl x ↦ elim (zero_or_one b k) [ inl y ↦ rw (x, y) refl | inr y ↦ rw (x, y) refl ]
-  | inr x ↦ elim (zero_or_one b k) [ inl y ↦ rw (x, y) refl | inr y ↦ rw (x, y) refl ]
-]
+min_bits a b h k = grind (arith, nat_tests)
 
 max_bits : (a b : ℕ) → a < 2 → b < 2 → (max a b == 1) ≡ (a == 1 || b == 1)
-max_bits a b h k = elim (zero_or_one a h) [
-  | inl x ↦ elim (zero_or_one b k) [ inl y ↦ rw (x, y) refl | inr y ↦ rw (x, y) refl ]
-  | inr x ↦ elim (zero_or_one b k) [ inl y ↦ rw (x, y) refl | inr y ↦ rw (x, y) refl ]
-]
+max_bits a b h k = grind (arith, nat_tests)
 
 xor_bits : (a b : ℕ) → a < 2 → b < 2 → ((a + b) % 2 == 1) ≡ not (beq (a == 1) (b == 1))
-xor_bits a b h k = elim (zero_or_one a h) [
-  | inl x ↦ elim (zero_or_one b k) [ inl y ↦ rw (x, y) refl | inr y ↦ rw (x, y) refl ]
-  | inr x ↦ elim (zero_or_one b k) [ inl y ↦ rw (x, y) refl | inr y ↦ rw (x, y) refl ]
-]
+xor_bits a b h k = grind (arith, nat_tests)
 
 pub and_bit : (a b i : ℕ) → (bit_at (bit_and a b) i == 1) ≡ (bit_at a i == 1 && bit_at b i == 1)
 and_bit a b i = ap (λ n. n == 1) (bit_at_and a b i) ∙ min_bits (bit_at a i) (bit_at b i) (bit_at-lt a i) (bit_at-lt b i)
@@ -50,20 +38,9 @@ pow_bit k i = elim (cases_eq i k) [
   | inr other ↦ rw (bit_at-pow_other k i other, ne_eqb i k other) refl
 ]
 
-swapped : (x y : Bool) → (x || y) ≡ (y || x)
-swapped true true = refl
-swapped true false = refl
-swapped false true = refl
-swapped false false = refl
-
 -- two positions in one word are the same where they are at the same place of it
 one_word : (i p : ℕ) → i / 64 ≡ p / 64 → (i % 64 == p % 64) ≡ (i == p)
-one_word i p here = elim (cases_eq i p) [
-  | inl same ↦ rw (same, eq-eqb p p refl, eq-eqb (p % 64) (p % 64) refl) refl
-  | inr other ↦
-      let differ : i % 64 ≡ p % 64 → ⊥ = λ e. other (omega (arith, e, here, div-add-mod i 64, div-add-mod p 64)) in
-      rw (ne_eqb i p other, ne_eqb (i % 64) (p % 64) differ) refl
-]
+one_word i p here = grind (arith, nat_tests)
 
 pub set_bit : (words : List ℕ) (p i : ℕ) → p / 64 < length words
     → bit_of (slice_set words (p / 64) (bit_or (slice_index words (p / 64)) (2 ^ (p % 64)))) i ≡ ((i == p) || bit_of words i)
@@ -78,7 +55,7 @@ set_bit words p i within =
           ap (λ w. bit_at w (i % 64) == 1) written
           ∙ or_bit old (2 ^ (p % 64)) (i % 64)
           ∙ ap (λ b. (bit_at old (i % 64) == 1) || b) (pow_bit (p % 64) (i % 64) ∙ one_word i p here)
-          ∙ swapped (bit_at old (i % 64) == 1) (i == p)
+          ∙ or_comm (bit_at old (i % 64) == 1) (i == p)
           ∙ ap (λ w. (i == p) || (bit_at w (i % 64) == 1)) (sym was)
       | inr there ↦
           let differ : i ≡ p → ⊥ = λ e. there (ap (λ n. n / 64) e) in
@@ -106,7 +83,8 @@ lowest_bit n = sym (shr_and_one n 0) ∙ ap (λ m. bit_and m 1) (div-one n)
 
 -- the lowest bit is not set
 pub lowest_unset : (n : ℕ) → (bit_and n 1 ≡ 1 → ⊥) → bit_at n 0 ≡ 0
-lowest_unset n unset = elim (zero_or_one (bit_at n 0) (bit_at-lt n 0)) [ inl none ↦ none | inr one ↦ absurd (unset (sym (lowest_bit n) ∙ one)) ]
+lowest_unset n unset =
+    let not_one : bit_at n 0 ≡ 1 → ⊥ = λ one. unset (sym (lowest_bit n) ∙ one) in omega (arith, bit_at-lt n 0)
 
 -- the bits of a word that is shifted
 pub shifted_bit : (n a i : ℕ) → bit_at (n / 2 ^ a) i ≡ bit_at n (a + i)

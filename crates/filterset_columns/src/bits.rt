@@ -56,15 +56,6 @@ impl Bits {
         position + run.min(64 - place).min(len - position)
     }
 
-    /// Makes the answer at a position `true`.
-    pub(crate) fn set(&mut self, position: usize)
-        requires { position < 64 * vec_len self.old.words }
-        ensures room { vec_len self.new.words ≡ vec_len self.old.words }
-        ensures set { (i : ℕ) → bit_of self.new.words.items i ≡ ((i == position) || bit_of self.old.words.items i) }
-    {
-        self.words[position / 64] |= 1u64 << (position % 64);
-    }
-
     /// Makes the answer at a position `true` if `answer` is.
     pub(crate) fn put(&mut self, position: usize, answer: bool)
         requires { position < 64 * vec_len self.old.words }
@@ -73,7 +64,7 @@ impl Bits {
             ≡ ((i == position) && answer || bit_of self.old.words.items i) }
     {
         if answer {
-            self.set(position);
+            self.words[position / 64] |= 1u64 << (position % 64);
         }
     }
 

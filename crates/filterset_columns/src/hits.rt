@@ -1,9 +1,6 @@
 //! One search over the text of all names, whose matches are put to names.
-ghost use Rattle.std.specs.Prelude.{◌≡◌, ◌↔◌, ◌<◌, ◌≤◌, ◌+◌, ℕ, IsTrue, MatchOption, length, string_bytes};
-ghost use Rattle.std.specs.Borrow.{Bor};
-ghost use Rattle.std.specs.Str.Iter.{HasSubslice};
-ghost use Rattle.filterset_graph.specs.declared.binary.TestCaseName.{TestCaseName};
-ghost use Rattle.filterset_columns.specs.Columns.{names_of, IsAt};
+ghost use Rattle.std.specs.Prelude.{◌≡◌, ◌<◌, ◌≤◌, ◌+◌, MatchOption, length, string_bytes};
+ghost use Rattle.filterset_columns.specs.Columns.{names_of};
 ghost use Rattle.filterset_columns.specs.Hits.{IsNextHit, IsPlace, NoneHas};
 ghost use Rattle.filterset_columns.specs.Joined.{offset};
 
@@ -26,19 +23,6 @@ pub(crate) struct Hit {
     pub(crate) end: usize,
     /// Whether the text ends within the name too.
     pub(crate) is_within: bool,
-}
-
-impl Hit {
-    /// Returns the place of the name after this one.
-    pub(crate) fn after(self) -> Place
-        requires { self.position < 18446744073709551615 }
-        ensures { (result.position ≡ self.position + 1) × (result.start ≡ self.end) }
-    {
-        Place {
-            position: self.position + 1,
-            start: self.end,
-        }
-    }
 }
 
 /// Finds the name that has the byte at `at`, from a place on: its position, and where it ends.

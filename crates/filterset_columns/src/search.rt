@@ -259,7 +259,10 @@ fn find_some_text(alloc: Global, value: &str, names: &Names<'_>) -> Result<Bits,
     };
     while let Some(hit) = next_hit(names, &finder, place) {
         bits.put(hit.position, hit.is_within);
-        place = hit.after();
+        place = Place {
+            position: hit.position + 1,
+            start: hit.end,
+        };
     }
     Ok(bits)
 }

@@ -1,8 +1,7 @@
-use Rattle.std.proofs.Common.{◌∙◌, ℕ, List, length, subst, sym}
+use Rattle.std.proofs.Common.{◌∙◌, ℕ, List, length, refl, subst}
 use Rattle.std.specs.Str.Iter.{HasSubslice}
 use Rattle.filterset_columns.specs.Columns.{names_of}
 use Rattle.filterset_columns.specs.Hits.{IsNextHit, NoneHas}
-use Rattle.filterset_columns.specs.Searching.{AnsweredSoFar}
 use Rattle.filterset_columns.proofs.ColumnLemmas.{passed_over}
 use Rattle.filterset_columns.proofs.HitLemmas.{hit_answered, hit_place}
 use Rattle.filterset_columns.proofs.search.find_some_text.Goals as goal
@@ -15,12 +14,10 @@ loop-hit-preserved c =
     let from = c.loop-hit.place.position in
     let hit = c.in-Some.hit in
     let is = subst (λ (text : List ℕ). IsNextHit text names from hit) (c.new-finder.ensures ∙ c.as_bytes.ensures.value) c.in-Some.ensures in
-    let next = c.after-place.ensures in
     record {
       room = c.put.ensures.room ∙ before.room;
-      place = hit_place needle c.args.names.now from hit c.after-place.result is next.0 next.1;
-      answered = subst (λ (n : ℕ). AnsweredSoFar c.put.new.self.words.items names (λ position name. HasSubslice name.now needle) n) (sym next.0)
-          (hit_answered needle c.loop-hit.bits.words.items c.put.new.self.words.items names from hit before.answered is c.put.ensures.put);
+      place = hit_place needle c.args.names.now from hit _ is refl refl;
+      answered = hit_answered needle c.loop-hit.bits.words.items c.put.new.self.words.items names from hit before.answered is c.put.ensures.put;
     }
 
 pub returns-clause-found : goal.returns-clause-found

@@ -1,12 +1,13 @@
-use Rattle.std.proofs.Common.{◌≡◌, ◌<◌, ◌/◌, ◌%◌, ◌*◌, ◌^◌, length, slice_index, slice_set, bit_or, arith, ◌∙◌, ap}
+use Rattle.std.proofs.Common.{◌≡◌, ◌<◌, ◌/◌, ◌%◌, ◌*◌, ◌^◌, length, slice_index, slice_set, bit_or, arith, ◌∙◌, ◌==◌, ◌||◌, ap, sym}
+use Rattle.std.proofs.Math.Bool.{and-true}
 use Rattle.std.proofs.lemmas.List.{get_or_read}
 use Rattle.std.proofs.lemmas.Nat.{one_shl}
 use Rattle.filterset_columns.specs.Bits.{bit_of}
 use Rattle.filterset_columns.proofs.BitLemmas.{set_bit}
-use Rattle.filterset_columns.proofs.bits.Bits.set.Goals as goal
+use Rattle.filterset_columns.proofs.bits.Bits.put.Goals as goal
 
-pub returns-clause-set : goal.returns-clause-set
-returns-clause-set c = λ i.
+pub returns-then-answer-clause-put : goal.returns-then-answer-clause-put
+returns-then-answer-clause-put c = λ i.
     let words = c.args.self.now.words.items in
     let p = c.args.position in
     let within : p / 64 < length words = omega (arith, c.requires, c.args.self.now.words.ok.0) in
@@ -15,3 +16,4 @@ returns-clause-set c = λ i.
     ap (λ n. bit_of (slice_set words (p / 64) (bit_or n ((1 * 2 ^ (p % 64)) % 18446744073709551616))) i) read
     ∙ ap (λ n. bit_of (slice_set words (p / 64) (bit_or (slice_index words (p / 64)) n)) i) shifted
     ∙ set_bit words p i within
+    ∙ ap (λ b. b || bit_of words i) (sym (rw c.if-answer.true (and-true (i == p))))
