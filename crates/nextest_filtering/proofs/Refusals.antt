@@ -9,7 +9,6 @@ use Rattle.filterset_graph.specs.declared.package.PackageMetadata.{PackageMetada
 use Rattle.filterset_language.specs.Faults.{FaultStands}
 use Rattle.filterset_grammar.specs.Grammar.{Spells}
 use Rattle.filterset_language.specs.Parsed.{Reads, LiesOnBody, LiesOnLargeBody, Comes, HasRefusedBodies, IsUnreadWith}
-use Rattle.filterset_language.specs.Parsed.{IsRefusalOf as IsUnread}
 use Rattle.filterset_grammar.specs.Tree.{Tree, tree_leaves}
 use Rattle.filterset_language.specs.declared.parsing.parse.ParseStop.{ParseStop}
 use Rattle.filterset_language.specs.declared.parsing.parse.ParseStop.TheVariants as stop
@@ -37,12 +36,7 @@ where_it_returns (Ok x) p = p
 where_it_returns (Err e) p = tt
 
 module _ (text : List ℕ) (kind : FiltersetKind) (packages : List PackageMetadata) (groups : KnownGroups) where
-  -- a stopped parser stops the reading
-  pub unread : (s : ParseStop) → IsUnread text s → IsStopOf text kind packages groups s
-  unread (stop.Faults faults) is = found is
-  unread (stop.OutOfMemory error) is = tt
-
-  -- so does a stopped compiler
+  -- a stopped compiler stops the reading
   pub stopped : (e : Tree SourceSpan) (s : ParseStop) → Reads text e → IsRejectionOf kind packages groups e s → IsStopOf text kind packages groups s
   stopped e (stop.Faults faults) reads is = rejected e reads is
   stopped e (stop.OutOfMemory error) reads is = tt

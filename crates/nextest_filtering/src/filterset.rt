@@ -16,8 +16,6 @@ ghost use Rattle.nextest_filtering.specs.Refusals.{IsTrueOf};
 ghost use Rattle.filterset_expression.specs.Meaning.{has_tree_leaf, is_default_predicate, is_group_predicate};
 ghost use Rattle.filterset_expression.specs.Meaning.{IsCompiled, Meaning, SaysTheSame};
 ghost use Rattle.filterset_expression.specs.BinaryMeaning.{IsDefiniteTree, IsUndecidedTree, TellsTheSame};
-ghost use Rattle.filterset_language.specs.Parsed.{Reads};
-ghost use Rattle.filterset_language.specs.Parsed.{IsRefusalOf as IsUnread};
 ghost use Rattle.filterset_grammar.specs.Tree.{Tree};
 ghost use Rattle.filterset_language.specs.Views.{tree_of};
 
@@ -63,18 +61,6 @@ impl ParseRefusal {
     }
 }
 
-/// Parses `text`.
-fn read_tree(alloc: Global, text: &str) -> Result<ParsedExpr, ParseStop>
-    ensures spelled { IfOk result (λ parsed. Reads text.now (tree_of parsed)) }
-    ensures refused { IfErr result (IsUnread text.now) }
-{
-    let Parsed { tree, faults } = ParsedExpr::parse_with_faults(alloc, text)?;
-    match tree {
-        Some(parsed) if faults.is_empty() => Ok(parsed),
-        _ => Err(ParseStop::Faults(faults)),
-    }
-}
-
 /// Parses and compiles `text`.
 fn read(
     alloc: Global,
@@ -88,7 +74,11 @@ fn read(
     ensures compiled { IfOk result (λ made. IsCompiled (packages_of cx.now) (tree_of made.0) made.1) }
     ensures refused { IfErr result (IsStopOf text.now kind (packages_of cx.now) known_groups.now) }
 {
-    let parsed = read_tree(alloc, text)?;
+    let Parsed { tree, faults } = ParsedExpr::parse_with_faults(alloc, text)?;
+    let parsed = match tree {
+        Some(parsed) if faults.is_empty() => parsed,
+        _ => return Err(ParseStop::Faults(faults)),
+    };
     let compiled = compile(alloc, cx, kind, known_groups, &parsed)?;
     Ok((parsed, compiled))
 }

@@ -1,12 +1,10 @@
 //! The packages, test binaries and groups that filtersets are parsed against.
 ghost use Rattle.std.specs.Prelude.{◌≡◌, ◌++◌, IfOk, OnOk, map, string_bytes};
 ghost use Rattle.std.specs.List.{flat_map};
-ghost use Rattle.nextest_filtering.specs.Binaries.{binaries_of, name_and_id, binary_with, members_of, test_binaries};
+ghost use Rattle.nextest_filtering.specs.Binaries.{binaries_of, name_and_id, members_of, test_binaries};
 
 use crate::compile::members::Members;
-use filterset_graph::{
-    BuildTarget, PackageGraph, PackageMetadata, RustBinaryId, RustTestBinaryKind,
-};
+use filterset_graph::{PackageGraph, PackageMetadata, RustBinaryId};
 use std::alloc::{AllocError, Global};
 use std::collections::HashSet;
 
@@ -122,24 +120,12 @@ fn push_binaries<'g>(
 {
     for target in &owner.build_targets {
         if let Some(kind) = target.id.binary_kind() {
-            binaries.push(make_binary(alloc, owner, target, kind)?)?;
+            let name = target.name.as_str();
+            let id = RustBinaryId::from_parts(alloc, owner.name(), &kind, name)?;
+            binaries.push(TestBinary { name, id })?;
         }
     }
     Ok(())
-}
-
-/// Returns the test binary of this kind that a target of a package builds.
-fn make_binary<'g>(
-    alloc: Global,
-    owner: &PackageMetadata,
-    target: &'g BuildTarget,
-    kind: RustTestBinaryKind,
-) -> Result<TestBinary<'g>, AllocError>
-    ensures { IfOk result (λ binary. name_and_id binary ≡ binary_with owner.now target.now kind) }
-{
-    let name = target.name.as_str();
-    let id = RustBinaryId::from_parts(alloc, owner.name(), &kind, name)?;
-    Ok(TestBinary { name, id })
 }
 
 /// The groups that a filterset may name.

@@ -1,4 +1,4 @@
-use Rattle.std.proofs.Common.{◌≡◌, ℕ, ◌+◌, List, [], ◌∷◌, ◌++◌, length, map, take, sym, ◌∙◌, ap, append_assoc, arith}
+use Rattle.std.proofs.Common.{◌≡◌, ℕ, ◌+◌, List, [], ◌∷◌, ◌++◌, length, map, take, sym, ◌∙◌, ap, append_assoc, arith, rules}
 use Rattle.std.specs.Prelude.{Option, Some, None, option_map}
 use Rattle.std.specs.List.{filter_map, cons_option}
 use Rattle.std.proofs.Math.Seq.{take-length}
@@ -8,7 +8,7 @@ use Rattle.nextest_filtering.specs.Binaries.{NameAndId, name_and_id, binary_with
 use Rattle.nextest_filtering.specs.declared.compile.context.TestBinary.{TestBinary}
 use Rattle.nextest_filtering.proofs.Filtered.{next_chosen}
 use Rattle.nextest_filtering.proofs.compile.context.push_binaries.Goals as goal
-use Rattle.nextest_filtering.proofs.compile.context.push_binaries.Goals.{in-Some+in_ok-make_binary+in_ok-push, in_default}
+use Rattle.nextest_filtering.proofs.compile.context.push_binaries.Goals.{in-Some+in_ok-id+in_ok-push, in_default}
 
 -- one more was added
 added : (old before : List NameAndId) (kept : List TestBinary) (binary : TestBinary) (o : Option NameAndId) → map name_and_id kept ≡ old ++ before → o ≡ Some (name_and_id binary)
@@ -31,9 +31,11 @@ loop-target-preserved c =
     let then : (rows : List NameAndId) → rows ≡ old ++ (filter_map (binary_of owner) (take i targets) ++ cons_option (binary_of owner target) []) → rows ≡ old ++ filter_map (binary_of owner) (take (i + 1) targets) =
     λ rows e. e ∙ ap (λ (t : List NameAndId). old ++ t) (sym more) in
     elim c.match-binary_kind.branch [
-      | in-Some+in_ok-make_binary+in_ok-push w ↦
-          let row : binary_of owner target ≡ Some (name_and_id w.in_ok-make_binary.field-0) =
-          ap (option_map (binary_with owner target)) (sym c.binary_kind.ensures ∙ w.in-Some.is) ∙ ap (λ (r : NameAndId). Some r) (sym w.in_ok-make_binary.ensures) in
+      | in-Some+in_ok-id+in_ok-push w ↦
+          let binary : TestBinary = record { name = w.as_str-name.result; id = w.in_ok-id.id } in
+          let made : name_and_id binary ≡ binary_with owner target w.in-Some.kind = search rules in
+          let row : binary_of owner target ≡ Some (name_and_id binary) =
+          ap (option_map (binary_with owner target)) (sym c.binary_kind.ensures ∙ w.in-Some.is) ∙ ap (λ (r : NameAndId). Some r) (sym made) in
           rw (w.binaries-is, w.in_ok-push.ensures.items) (then _ (added old (filter_map (binary_of owner) (take i targets)) c.loop-target.binaries.items _ (binary_of owner target) c.loop-target.invariant row))
       | in_default w ↦
           let none : binary_of owner target ≡ None = ap (option_map (binary_with owner target)) (sym c.binary_kind.ensures ∙ w.in_default.is) in

@@ -1,11 +1,14 @@
-use Rattle.std.proofs.Common.{◌≢◌, [], refl}
+use Rattle.std.proofs.Common.{◌≢◌, [], IsTrue, refl}
 use Rattle.std.proofs.lemmas.Result.{on_ok_weaker}
 use Rattle.filterset_faults.specs.declared.error.ParseSingleError.TheVariants.{NoPackageMatch, NoBinaryNameMatch, NoBinaryIdMatch, NoGroupMatch}
+use Rattle.filterset_graph.specs.Binaries.{IsBinaryId, IsBinaryName}
 use Rattle.filterset_graph.specs.declared.package.PackageMetadata.{PackageMetadata}
 use Rattle.filterset_grammar.specs.Tree.{Matching}
 use Rattle.filterset_grammar.specs.declared.predicate.Predicate.TheVariants.{Package, Deps, Rdeps, Binary, BinaryId, Group}
 use Rattle.filterset_matchers.specs.Matchers.{matcher_of}
+use Rattle.nextest_filtering.specs.Checks.{MatchesSomeName}
 use Rattle.nextest_filtering.specs.Compiling.{packages_of}
+use Rattle.nextest_filtering.specs.Groups.{IsGroupName}
 use Rattle.filterset_expression.specs.Meaning.{IsNamed}
 use Rattle.nextest_filtering.proofs.PackageSets.{some_named, some_dependency, some_dependent}
 use Rattle.nextest_filtering.proofs.Unmatched.{adds_one, kept_away}
@@ -50,17 +53,32 @@ returns-in_ok-select_dependents-in-Rdeps-clause-unmatched c =
     (λ added. adds_one packages c.args.known_groups.now (Matching Rdeps matcher c.in-Rdeps.span) fault old new refl
     (kept_away (keys ≢ []) ((p : PackageMetadata) × IsNamed packages matcher p) some.0 some.1 fault old new added)) c.compile_packages-in-Rdeps.ensures.unmatched)
 
-pub returns-in-Binary-clause-unmatched : goal.returns-in-Binary-clause-unmatched
-returns-in-Binary-clause-unmatched c =
-    rw c.in-Binary.is (on_ok_weaker c.compile_binary.result
-    (adds_one (packages_of c.args.cx.now) c.args.known_groups.now (Matching Binary (matcher_of c.in-Binary.matcher) c.in-Binary.span) (NoBinaryNameMatch c.in-Binary.span) c.args.faults.now.items c.compile_binary.new.faults.items refl) c.compile_binary.ensures.unmatched)
+pub returns-in_ok-try_clone-in-Binary-clause-unmatched : goal.returns-in_ok-try_clone-in-Binary-clause-unmatched
+returns-in_ok-try_clone-in-Binary-clause-unmatched c =
+    let matcher = matcher_of c.in-Binary.matcher in
+    let fault = NoBinaryNameMatch c.in-Binary.span in
+    let old = c.args.faults.now.items in
+    let new = c.push_unless.new.faults.items in
+    let matched = c.in_ok-is_matched-in-Binary in
+    rw c.in-Binary.is (adds_one (packages_of c.args.cx.now) c.args.known_groups.now (Matching Binary matcher c.in-Binary.span) fault old new refl
+    (kept_away (IsTrue matched.is_matched) (MatchesSomeName matcher (IsBinaryName (packages_of c.args.cx.now))) matched.ensures.0 matched.ensures.1 fault old new c.in_ok-push_unless-in-Binary.ensures))
 
-pub returns-in-BinaryId-clause-unmatched : goal.returns-in-BinaryId-clause-unmatched
-returns-in-BinaryId-clause-unmatched c =
-    rw c.in-BinaryId.is (on_ok_weaker c.compile_binary_id.result
-    (adds_one (packages_of c.args.cx.now) c.args.known_groups.now (Matching BinaryId (matcher_of c.in-BinaryId.matcher) c.in-BinaryId.span) (NoBinaryIdMatch c.in-BinaryId.span) c.args.faults.now.items c.compile_binary_id.new.faults.items refl) c.compile_binary_id.ensures.unmatched)
+pub returns-in_ok-try_clone-in-BinaryId-clause-unmatched : goal.returns-in_ok-try_clone-in-BinaryId-clause-unmatched
+returns-in_ok-try_clone-in-BinaryId-clause-unmatched c =
+    let matcher = matcher_of c.in-BinaryId.matcher in
+    let fault = NoBinaryIdMatch c.in-BinaryId.span in
+    let old = c.args.faults.now.items in
+    let new = c.push_unless-in-BinaryId.new.faults.items in
+    let matched = c.in_ok-is_matched-in-BinaryId in
+    rw c.in-BinaryId.is (adds_one (packages_of c.args.cx.now) c.args.known_groups.now (Matching BinaryId matcher c.in-BinaryId.span) fault old new refl
+    (kept_away (IsTrue matched.is_matched) (MatchesSomeName matcher (IsBinaryId (packages_of c.args.cx.now))) matched.ensures.0 matched.ensures.1 fault old new c.in_ok-push_unless-in-BinaryId.ensures))
 
-pub returns-in-Group-clause-unmatched : goal.returns-in-Group-clause-unmatched
-returns-in-Group-clause-unmatched c =
-    rw c.in-Group.is (on_ok_weaker c.compile_group.result
-    (adds_one (packages_of c.args.cx.now) c.args.known_groups.now (Matching Group (matcher_of c.in-Group.matcher) c.in-Group.span) (NoGroupMatch c.in-Group.span) c.args.faults.now.items c.compile_group.new.faults.items refl) c.compile_group.ensures.unmatched)
+pub returns-in_ok-try_clone-in-Group-clause-unmatched : goal.returns-in_ok-try_clone-in-Group-clause-unmatched
+returns-in_ok-try_clone-in-Group-clause-unmatched c =
+    let matcher = matcher_of c.in-Group.matcher in
+    let fault = NoGroupMatch c.in-Group.span in
+    let old = c.args.faults.now.items in
+    let new = c.push_unless-in-Group.new.faults.items in
+    let matched = c.in_ok-is_matched-in-Group in
+    rw c.in-Group.is (adds_one (packages_of c.args.cx.now) c.args.known_groups.now (Matching Group matcher c.in-Group.span) fault old new refl
+    (kept_away (IsTrue matched.is_matched) (MatchesSomeName matcher (IsGroupName c.args.known_groups.now)) matched.ensures.0 matched.ensures.1 fault old new c.in_ok-push_unless-in-Group.ensures))
