@@ -1,5 +1,5 @@
 //! Objects: which keys they may have, and the entries under their keys.
-ghost use Rattle.std.specs.Prelude.{◌≡◌, ◌↔◌, IfErr, IfOk, IsTrue, OnOk, Option, [], codes, map, option_map, string_bytes};
+ghost use Rattle.std.specs.Prelude.{◌≡◌, IfErr, IfOk, OnOk, Option, [], codes, map, option_map, string_bytes};
 ghost use Rattle.std.specs.BTreeMap.{keys};
 ghost use Rattle.std.specs.List.{list_all};
 ghost use Rattle.serde_json.specs.View.{view};
@@ -20,16 +20,6 @@ fn has_keys_among(members: &Map<String, Value>, names: &[&str]) -> bool
     members.keys().all(|key| names.contains(&key.as_str()))
 }
 
-/// Returns whether `value` is an object that has no other keys than `names`.
-fn is_object_with(value: &Value, names: &[&str]) -> bool
-    ensures { IsTrue result ↔ IsObjectWith (map (λ name. name.now) names.now) (view value.now) }
-{
-    match value.as_object() {
-        Some(members) => has_keys_among(members, names),
-        None => false,
-    }
-}
-
 /// Refuses `value` unless it is an object that has no other keys than `names`.
 pub fn check_keys(alloc: Global, value: &Value, names: &[&str]) -> Result<(), EntryRefusal>
     ensures ok { OnOk result (IsObjectWith (map (λ name. name.now) names.now) (view value.now)) }
@@ -37,10 +27,9 @@ pub fn check_keys(alloc: Global, value: &Value, names: &[&str]) -> Result<(), En
         (Refuses (IsObjectWith (map (λ name. name.now) names.now) (view value.now))) }
     ensures place { IfErr result (Names (λ place. place ≡ ([], codes "an object that has no other keys"))) }
 {
-    if is_object_with(value, names) {
-        Ok(())
-    } else {
-        Err(EntryRefusal::wrong(alloc, "an object that has no other keys"))
+    match value.as_object() {
+        Some(members) if has_keys_among(members, names) => Ok(()),
+        _ => Err(EntryRefusal::wrong(alloc, "an object that has no other keys")),
     }
 }
 

@@ -1,7 +1,7 @@
 //! Paths to the values of a file, as `packages[3].targets[0].kind`.
 ghost use Rattle.std.specs.Prelude.{◌≡◌, ◌++◌, IfOk, string_bytes};
 ghost use Rattle.std.specs.List.{list_all};
-ghost use Rattle.filterset_json.specs.Paths.{is_bare, is_bare_byte, joined, joint, step_text};
+ghost use Rattle.filterset_json.specs.Paths.{is_bare, is_bare_byte, joined, step_text};
 
 use std::alloc::{AllocError, Global};
 
@@ -39,22 +39,14 @@ pub fn step_text(alloc: Global, step: Step<'_>) -> Result<String, AllocError>
     }
 }
 
-/// Returns what separates a step from the rest of a path.
-fn joint(rest: &str) -> &'static str
-    ensures { result.now ≡ joint rest.now }
-{
-    match rest.as_bytes() {
-        [] | [b'[', ..] => "",
-        _ => ".",
-    }
-}
-
 /// Returns the path that begins with `step` and goes on with `rest`.
 pub(crate) fn join(alloc: Global, step: Step<'_>, rest: &str) -> Result<String, AllocError>
     ensures { IfOk result (λ path. string_bytes path ≡ joined (step_text step.entry) rest.now) }
 {
     let mut path = step_text(alloc, step)?;
-    path.push_str(joint(rest))?;
+    if !matches!(rest.as_bytes(), [] | [b'[', ..]) {
+        path.push('.')?;
+    }
     path.push_str(rest)?;
     Ok(path)
 }
