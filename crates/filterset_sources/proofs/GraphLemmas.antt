@@ -1,11 +1,11 @@
 -- Positions of ids, and packages that are linked.
-use Rattle.std.proofs.Common.{◌≡◌, ℕ, zero, suc, ◌+◌, ◌<◌, ◌≤◌, inl, inr, Bool, true, false, cond, List, [], ◌∷◌, ◌++◌, length, get_or, map, take, Option, Some, None, is_some, refl, sym, ◌∙◌, ap, subst, arith, append-nil}
+use Rattle.std.proofs.Common.{◌≡◌, ℕ, ◌+◌, ◌<◌, ◌≤◌, inl, inr, Bool, true, false, cond, List, [], ◌∷◌, ◌++◌, length, get_or, map, take, Option, Some, None, is_some, refl, sym, ◌∙◌, ap, subst, arith, append-nil}
 use Rattle.std.specs.Prelude.{All, Contains, MatchOption, codes, not, slice_get}
 use Rattle.std.specs.BTreeMap.{BTreeMap}
 use Rattle.std.specs.Cmp.Lexicographic.{slice_cmp}
 use Rattle.std.specs.Ordering.{is_eq, nat_cmp}
 use Rattle.std.proofs.lemmas.List.{map-append, take-map, take_more, take_all, length-take-le}
-use Rattle.std.proofs.lemmas.List.Elements.{All-more, All-push}
+use Rattle.std.proofs.lemmas.List.Elements.{All-contains, All-map, All-more, All-push, All-weaker}
 use Rattle.std.proofs.lemmas.Option.{none-some, slice_get-get_or, slice_get_within, get_or_from_slice_get}
 use Rattle.filterset_graph.specs.Index.{PositionsAre, index_of}
 use Rattle.filterset_graph.specs.Packages.{Text, AllDiffer, IsFirstRepeat, IsUnknownLink, LinksKnown, ids}
@@ -53,34 +53,22 @@ Contains-IsKnown positions names id placed found =
     let k = position_from_Contains names id found in
     ap is_some ((placed id k.0).1 k.1)
 
--- what holds of each element, seen through a function
-pub All-mapped : {X Y : Type 0} (P : Y → Type 0) (f : X → Y) (xs : List X) → All (λ x. P (f x)) xs → All P (map f xs)
-All-mapped P f [] h k d lt = absurd (omega arith)
-All-mapped P f (x ∷ xs) h zero d lt = h zero x (omega arith)
-All-mapped P f (x ∷ xs) h (suc k) d lt = All-mapped P f xs (λ j e less. h (suc j) e (omega arith)) k d (omega arith)
-
-All-if : {X : Type 0} (P Q : X → Type 0) (xs : List X) → ((x : X) → P x → Q x) → All P xs → All Q xs
-All-if P Q xs f h k d lt = f _ (h k d lt)
-
-All-at : {X : Type 0} (P : X → Type 0) (xs : List X) (x : X) → All P xs → Contains xs x → P x
-All-at P xs x h (k, lt, is) = subst P is (h k x lt)
-
 -- the first element of which P does not hold
 pub first_not : {X : Type 0} (P : X → Type 0) (xs : List X) (i : ℕ) (x : X) → i < length xs → x ≡ get_or xs i x → All P (take i xs) → (P x → ⊥) → IsFirstNot P xs i x
 first_not P xs i x lt is all refuted = (slice_get-get_or xs i x lt ∙ ap Some (sym is), all, refuted)
 
 first_not-if : {X : Type 0} (P Q : X → Type 0) (xs : List X) (i : ℕ) (x : X) → ((y : X) → P y → Q y) → ((y : X) → Q y → P y) → IsFirstNot P xs i x → IsFirstNot Q xs i x
-first_not-if P Q xs i x to back (at, all, refuted) = (at, All-if P Q (take i xs) to all, λ q. refuted (back x q))
+first_not-if P Q xs i x to back (at, all, refuted) = (at, All-weaker P Q to (take i xs) all, λ q. refuted (back x q))
 
 pub first_not-mapped : {X Y : Type 0} (P : Y → Type 0) (f : X → Y) (xs : List X) (i : ℕ) (x : X) → IsFirstNot (λ y. P (f y)) xs i x → IsFirstNot P (map f xs) i (f x)
-first_not-mapped P f xs i x (at, all, refuted) = (mapped_at f xs i x at, subst (All P) (sym (take-map f i xs)) (All-mapped P f (take i xs) all), refuted)
+first_not-mapped P f xs i x (at, all, refuted) = (mapped_at f xs i x at, subst (All P) (sym (take-map f i xs)) (All-map P f (take i xs) all), refuted)
 
 -- the same ids are unknown by another test
 pub Unknown-if : (P Q : Text → Type 0) (path : ℕ → Text) (names : List Text) (place : Place) → ((y : Text) → P y → Q y) → ((y : Text) → Q y → P y) → Unknown P path names place → Unknown Q path names place
 Unknown-if P Q path names place to back (at, id, first, is) = (at, id, first_not-if P Q names at id to back first, is)
 
 NamesOnly-if : (P Q : Text → Type 0) → ((y : Text) → P y → Q y) → (node : Node) → NamesOnly P node → NamesOnly Q node
-NamesOnly-if P Q to node h = (to node.id h.0, All-if P Q (links_of node) to h.1)
+NamesOnly-if P Q to node h = (to node.id h.0, All-weaker P Q to (links_of node) h.1)
 
 UnknownIn-if : (P Q : Text → Type 0) (at : ℕ) (node : Node) (place : Place) → ((y : Text) → P y → Q y) → ((y : Text) → Q y → P y) → UnknownIn P at node place → UnknownIn Q at node place
 UnknownIn-if P Q at node place to back (inl wrong) = inl (wrong.0, λ q. wrong.1 (back node.id q))
@@ -93,7 +81,7 @@ UnknownNode-if P Q nodes place to back (at, node, first, wrong) =
 -- a node that names what is unknown does not only name what is known
 pub UnknownIn-not : (P : Text → Type 0) (at : ℕ) (node : Node) (place : Place) → UnknownIn P at node place → NamesOnly P node → ⊥
 UnknownIn-not P at node place (inl wrong) names = wrong.1 names.0
-UnknownIn-not P at node place (inr (known, (k, id, first, is))) names = first.2 (All-at P (links_of node) id names.1 (Contains-from_position (links_of node) id k first.0))
+UnknownIn-not P at node place (inr (known, (k, id, first, is))) names = first.2 (All-contains P (links_of node) id names.1 (Contains-from_position (links_of node) id k first.0))
 
 -- paths to items of a list that are the items themselves
 pub Repeats-items : (list : Text) (names : List Text) (place : Place) → Repeats (λ at. item_path list at ++ []) names place → Repeats (item_path list) names place
@@ -103,10 +91,6 @@ Repeats-items list names place (at, first, is) = (at, first, is ∙ ap (λ (path
 pub All-next : {X : Type 0} (P : X → Type 0) (xs : List X) (i : ℕ) (x : X) → i < length xs → x ≡ get_or xs i x → All P (take i xs) → P x → All P (take (i + 1) xs)
 All-next P xs i x lt is all p = All-more P xs i x lt all (subst P is p)
 
--- what holds of all elements holds of the one at a position
-pub All-here : {X : Type 0} (P : X → Type 0) (xs : List X) (i : ℕ) (x : X) → i < length xs → x ≡ get_or xs i x → All P xs → P x
-All-here P xs i x lt is all = subst P (sym is) (all i x lt)
-
 -- what holds of as many elements as there are
 pub All-done : {X : Type 0} (P : X → Type 0) (xs : List X) (i : ℕ) → length xs ≤ i → All P (take i xs) → All P xs
 All-done P xs i le all = subst (All P) (take_all i xs le) all
@@ -114,15 +98,15 @@ All-done P xs i le all = subst (All P) (take_all i xs le) all
 -- a link that names no package is not among links that do
 pub unknown-link : (ps : List PackageMetadata) (owner link : ℕ) → IsUnknownLink ps owner link → LinksKnown ps → ⊥
 unknown-link ps owner link (p, id, at, here, unknown) known =
-    unknown (All-at (Contains (ids ps)) p.links.items id (All-at (λ (q : PackageMetadata). All (Contains (ids ps)) q.links.items) ps p known (Contains-from_position ps p owner at)) (Contains-from_position p.links.items id link here))
+    unknown (All-contains (Contains (ids ps)) p.links.items id (All-contains (λ (q : PackageMetadata). All (Contains (ids ps)) q.links.items) ps p known (Contains-from_position ps p owner at)) (Contains-from_position p.links.items id link here))
 
 -- members and nodes that are known stand in the list
 pub members-Contained : (positions : BTreeMap Text ℕ) (names members : List Text) → PositionsAre positions names → All (IsKnown positions) members → All (Contains names) members
-members-Contained positions names members placed h = All-if (IsKnown positions) (Contains names) members (λ id. IsKnown-Contains positions names id placed) h
+members-Contained positions names members placed h = All-weaker (IsKnown positions) (Contains names) (λ id. IsKnown-Contains positions names id placed) members h
 
 pub nodes-Contained : (positions : BTreeMap Text ℕ) (names : List Text) (nodes : List Node) → PositionsAre positions names → All (NamesOnly (IsKnown positions)) nodes → All (NamesOnly (Contains names)) nodes
 nodes-Contained positions names nodes placed h =
-    All-if (NamesOnly (IsKnown positions)) (NamesOnly (Contains names)) nodes (NamesOnly-if (IsKnown positions) (Contains names) (λ id. IsKnown-Contains positions names id placed)) h
+    All-weaker (NamesOnly (IsKnown positions)) (NamesOnly (Contains names)) (NamesOnly-if (IsKnown positions) (Contains names) (λ id. IsKnown-Contains positions names id placed)) nodes h
 
 -- the links of an id with a position are those of the node there
 pub links-found : (positions : BTreeMap Text ℕ) (nodes : List Node) (id : Text) (at : ℕ) → PositionsAre positions (node_ids nodes) → index_of positions id ≡ Some at → at < length nodes
@@ -156,7 +140,7 @@ linked-placed members names nodes placed p h = (
 
 pub linked-graph : (members : BTreeMap Text ℕ) (parts : Parts) (all : List PackageMetadata) → PositionsAre members parts.members.items → AreLinked members parts.resolve.nodes.items parts.packages.items all → IsGraphOf parts all
 linked-graph members parts all placed h =
-    (h.0, All-if (IsLinkedAs members parts.resolve.nodes.items) (IsPlaced parts.members.items parts.resolve.nodes.items) all (linked-placed members parts.members.items parts.resolve.nodes.items placed) h.1)
+    (h.0, All-weaker (IsLinkedAs members parts.resolve.nodes.items) (IsPlaced parts.members.items parts.resolve.nodes.items) (linked-placed members parts.members.items parts.resolve.nodes.items placed) all h.1)
 
 -- the same packages have the same ids
 ids-itself : (ps : List PackageMetadata) → ids ps ≡ map (λ p. p.0) (map itself ps)
@@ -168,14 +152,14 @@ same_ids ps qs h = ids-itself ps ∙ ap (map (λ p. p.0)) h ∙ sym (ids-itself 
 
 -- all links of a graph of whole parts name packages
 links-known : (known : List Text) (nodes : List Node) (id : Text) (links : List Text) → All (NamesOnly (Contains known)) nodes → HasLinksOf nodes id links → All (Contains known) links
-links-known known nodes id links named (inl (node, found, same, are)) = rw are (All-at (NamesOnly (Contains known)) nodes node named found).1
+links-known known nodes id links named (inl (node, found, same, are)) = rw are (All-contains (NamesOnly (Contains known)) nodes node named found).1
 links-known known nodes id links named (inr (none, are)) = rw are (λ k d lt. absurd (omega arith))
 
 pub whole-graph : (parts : Parts) (all : List PackageMetadata) → IsWhole parts → IsGraphOf parts all → AllDiffer (ids all) × LinksKnown all
 whole-graph parts all whole graph =
     let same : ids all ≡ ids parts.packages.items = same_ids all parts.packages.items graph.0 in (
       rw same whole.0,
-      All-if (IsPlaced parts.members.items parts.resolve.nodes.items) (λ p. All (Contains (ids all)) p.links.items) all (λ p placed. rw same (links-known (ids parts.packages.items) parts.resolve.nodes.items p.id p.links.items whole.4 placed.1)) graph.1,
+      All-weaker (IsPlaced parts.members.items parts.resolve.nodes.items) (λ p. All (Contains (ids all)) p.links.items) (λ p placed. rw same (links-known (ids parts.packages.items) parts.resolve.nodes.items p.id p.links.items whole.4 placed.1)) all graph.1,
     )
 
 -- an id that was looked up and not found has no position

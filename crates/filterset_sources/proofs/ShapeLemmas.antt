@@ -1,6 +1,6 @@
 -- Objects of entries, and refusals.
-use Rattle.std.proofs.Common.{◌≡◌, List, [], ◌∷◌, ◌++◌, map, refl, string_bytes, Result, Ok, Err, ap, inl, inr, subst, sym}
-use Rattle.std.specs.Prelude.{IfErr, IsErrAnd, OnOk}
+use Rattle.std.proofs.Common.{◌≡◌, List, [], ◌∷◌, ◌++◌, map, refl, string_bytes, Result, Ok, Err, inl, inr, subst, sym}
+use Rattle.std.specs.Prelude.{IfErr, IsErrAnd}
 use Rattle.std.specs.List.{AllZip}
 use Rattle.serde_json.specs.Data.{Data, Members, no_members, member}
 use Rattle.serde_json.specs.View.{view, members_view}
@@ -81,10 +81,6 @@ entry_handed_on P Q (Ok v) e same f h = absurd same
 entry_handed_on P Q (Err y) e same f h = subst (Refuses Q) (sym same) (Refuses-source P Q e f h)
 
 -- the same of what a call returned
-pub OnOk-if : {T E : Type 0} {A B : Type 0} (r : Result T E) → (A → B) → OnOk r A → OnOk r B
-OnOk-if (Ok v) f h = f h
-OnOk-if (Err e) f h = tt
-
 pub Refused-if : {T : Type 0} (P Q : Place → Type 0) (r : Result T SourceRefusal) → ((place : Place) → P place → Q place) → IfErr r (Refuses P) → IfErr r (Refuses Q)
 Refused-if P Q (Ok v) f h = tt
 Refused-if P Q (Err e) f h = Refuses-if P Q e f h

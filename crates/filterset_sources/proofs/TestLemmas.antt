@@ -1,7 +1,8 @@
 -- Suites with their tests.
-use Rattle.std.proofs.Common.{◌∙◌, Bool, List, [], ◌∷◌, ◌++◌, None, Option, Some, codes, map}
+use Rattle.std.proofs.Common.{◌∙◌, Bool, List, None, Option, Some, codes, map}
 use Rattle.std.specs.List.{AllZip}
 use Rattle.std.specs.Prelude.{IsSomeAnd}
+pub use Rattle.std.proofs.lemmas.Slice.Zip.{all_zipped_more as AllZip-push}
 use Rattle.serde_json.specs.Data.{Data}
 use Rattle.serde_json.specs.Find.{get}
 use Rattle.filterset_json.specs.Shape.{Required, Text}
@@ -15,13 +16,6 @@ use Rattle.filterset_sources.proofs.ShapeLemmas.{EachMember-zip}
 
 abbrev pub test_row : ListedTest → Text × Bool
 test_row test = (test.name, test.is_ignored)
-
--- one more pair
-pub AllZip-push : {A B : Type 0} (R : A → B → Type 0) (xs : List A) (ys : List B) (x : A) (y : B) → AllZip R xs ys → R x y → AllZip R (xs ++ x ∷ []) (ys ++ y ∷ [])
-AllZip-push R [] [] x y all one = (one, tt)
-AllZip-push R [] (b ∷ ys) x y all one = absurd all
-AllZip-push R (a ∷ xs) [] x y all one = absurd all
-AllZip-push R (a ∷ xs) (b ∷ ys) x y all one = (all.0, AllZip-push R xs ys x y all.1 one)
 
 -- what holds of what is there
 some_weaker : {T : Type 0} (o : Option T) (P Q : T → Type 0) → ((x : T) → P x → Q x) → IsSomeAnd o P → IsSomeAnd o Q

@@ -1,11 +1,10 @@
 //! Reads the filtersets and test groups of nextest's configuration.
-ghost use Rattle.std.specs.Prelude.{◌≡◌, ◌==◌, ◌≤◌, Err, IfErr, IfOk, Ok, OnOk, Some, codes, count_by, length, map, string_bytes, take};
+ghost use Rattle.std.specs.Prelude.{◌≡◌, Err, IfErr, IfOk, Ok, OnOk, Some, codes, map, string_bytes};
 ghost use Rattle.toml.specs.Parse.{parse_document};
 ghost use Rattle.toml.specs.View.{table_view, view};
-ghost use Rattle.filterset_sources.specs.Configurations.{IsConfiguration, RefusesConfiguration, RefusesToml, all_filters, configured_rows, filter_under, followed_by, keys_of, line_at, own_filters, section_filters};
+ghost use Rattle.filterset_sources.specs.Configurations.{IsConfiguration, RefusesConfiguration, RefusesToml, all_filters, configured_rows, filter_under, followed_by, keys_of, line_at, section_filters};
 ghost use Rattle.filterset_sources.specs.Refusals.{Refuses};
 ghost use Rattle.filterset_sources.specs.Sections.{members_under, section_row, section_rows};
-ghost use Rattle.filterset_sources.specs.declared.sections.SectionKind.TheVariants as kinds;
 
 use crate::refusal::SourceRefusal;
 use crate::sections::{Section, SectionKind, sections_of, table_under};
@@ -57,23 +56,6 @@ fn push_filter(
     Ok(())
 }
 
-/// Adds the filtersets of an override.
-fn push_override(
-    output: &mut Vec<ConfiguredFilterset>,
-    alloc: Global,
-    path: &str,
-    value: &Value,
-) -> Result<(), SourceRefusal>
-    ensures read { OnOk result (followed_by (Ok (configured_rows output.old.items)) (own_filters kinds.Override path.now (view value.now))
-        ≡ Ok (configured_rows output.new.items)) }
-    ensures refused { IfErr result (Refuses (λ place. own_filters kinds.Override path.now (view value.now) ≡ Err place)) }
-{
-    let kind = FiltersetKind::DefaultFilter;
-    push_filter(output, alloc, path, value, "default-filter", kind)?;
-    let kind = FiltersetKind::OverrideFilter;
-    push_filter(output, alloc, path, value, "filter", kind)
-}
-
 /// Adds the filtersets of a section.
 fn push_section(
     output: &mut Vec<ConfiguredFilterset>,
@@ -94,7 +76,12 @@ fn push_section(
             let kind = FiltersetKind::DefaultFilter;
             push_filter(output, alloc, path, value, "default-filter", kind)
         }
-        SectionKind::Override => push_override(output, alloc, path, value),
+        SectionKind::Override => {
+            let kind = FiltersetKind::DefaultFilter;
+            push_filter(output, alloc, path, value, "default-filter", kind)?;
+            let kind = FiltersetKind::OverrideFilter;
+            push_filter(output, alloc, path, value, "filter", kind)
+        }
         SectionKind::Script => {
             let kind = FiltersetKind::OverrideFilter;
             push_filter(output, alloc, path, value, "filter", kind)
@@ -140,21 +127,13 @@ fn groups_of(alloc: Global, file: &Value) -> Result<Vec<String>, AllocError>
     }
 }
 
-/// Returns how many line feeds are before the byte offset `at`.
-fn feed_count(text: &str, at: usize) -> usize
-    ensures value { result ≡ count_by (λ b. b == 10) (take at text.now) }
-    ensures bound { result ≤ length text.now }
-{
-    let bytes = text.as_bytes();
-    let (before, _) = bytes.split_at(at.min(bytes.len()));
-    before.iter().filter(|b| **b == b'\n').count()
-}
-
 /// Returns the line of `text` that has the byte offset `at`, counted from 1.
 fn line_of(text: &str, at: usize) -> usize
     ensures { result ≡ line_at text.now at }
 {
-    feed_count(text, at) + 1
+    let bytes = text.as_bytes();
+    let (before, _) = bytes.split_at(at.min(bytes.len()));
+    before.iter().filter(|b| **b == b'\n').count() + 1
 }
 
 /// Parses a text as TOML.

@@ -3,7 +3,7 @@ ghost use Rattle.std.specs.Prelude.{◌≡◌, ◌++◌, All, IfErr, IfOk, OnOk,
 ghost use Rattle.serde_json.specs.View.{view};
 ghost use Rattle.filterset_graph.specs.Index.{PositionsAre, index_of};
 ghost use Rattle.filterset_graph.specs.Packages.{AllDiffer, LinksKnown, ids};
-ghost use Rattle.filterset_sources.specs.Metadata.{AreLinked, HasLinksOf, IsGraphOf, IsKnown, IsMetadata, IsWhole, NamesOnly, RefusesMetadata, Repeats, Unknown, UnknownIn, UnknownNode, WrongWhole, link_path, links_of, node_ids};
+ghost use Rattle.filterset_sources.specs.Metadata.{AreLinked, HasLinksOf, IsGraphOf, IsKnown, IsMetadata, IsWhole, NamesOnly, RefusesMetadata, Repeats, Unknown, UnknownNode, WrongWhole, link_path, links_of, node_ids};
 ghost use Rattle.filterset_sources.specs.Refusals.{Refuses};
 ghost use Rattle.filterset_sources.specs.Shape.{item_path};
 
@@ -117,18 +117,11 @@ fn node_ids(alloc: Global, nodes: &[Node]) -> Result<Vec<PackageId>, AllocError>
     Ok(all)
 }
 
-/// Looks up the position of an id.
-fn position_of(positions: &BTreeMap<PackageId, usize>, id: &PackageId) -> Option<usize>
-    ensures { result ≡ index_of positions.now id.now }
-{
-    positions.get(id).copied()
-}
-
 /// Returns whether an id has a position.
 fn is_known(known: &BTreeMap<PackageId, usize>, id: &PackageId) -> bool
     ensures { result ≡ is_some (index_of known.now id.now) }
 {
-    position_of(known, id).is_some()
+    known.contains_key(id)
 }
 
 /// Refuses a member of the workspace that is not a package.
@@ -168,22 +161,6 @@ fn check_dependencies(
     Ok(())
 }
 
-/// Refuses the node at `at` if it is not a package, or depends on one that is not there.
-fn check_node(
-    alloc: Global,
-    known: &BTreeMap<PackageId, usize>,
-    at: usize,
-    node: &Node,
-) -> Result<(), SourceRefusal>
-    ensures ok { OnOk result (NamesOnly (IsKnown known.now) node.now) }
-    ensures refused { IfErr result (Refuses (UnknownIn (IsKnown known.now) at node.now)) }
-{
-    if !is_known(known, &node.id) {
-        return Err(unknown_id(alloc, "resolve.nodes", at, ".id"));
-    }
-    check_dependencies(alloc, known, at, node.dependencies.as_slice())
-}
-
 /// Refuses the first node that is not a package, or depends on one that is not there.
 fn check_nodes(
     alloc: Global,
@@ -194,28 +171,15 @@ fn check_nodes(
     ensures refused { IfErr result (Refuses (UnknownNode (IsKnown known.now) nodes.now)) }
 {
     for (at, node) in nodes.iter().enumerate() {
-        check_node(alloc, known, at, node)?;
+        if !is_known(known, &node.id) {
+            return Err(unknown_id(alloc, "resolve.nodes", at, ".id"));
+        }
+        check_dependencies(alloc, known, at, node.dependencies.as_slice())?;
     }
     Ok(())
 }
 
-/// Copies the links of a package from its node. A package without a node has none.
-fn links_from(
-    alloc: Global,
-    positions: &BTreeMap<PackageId, usize>,
-    nodes: &[Node],
-    id: &PackageId,
-) -> Result<Vec<PackageId>, AllocError>
-    requires { PositionsAre positions.now (node_ids nodes.now) }
-    ensures { IfOk result (λ links. HasLinksOf nodes.now id.now links.items) }
-{
-    match position_of(positions, id) {
-        Some(at) => node_links(alloc, &nodes[at]),
-        None => Ok(Vec::new(alloc)),
-    }
-}
-
-/// Gives each package its links, and says whether it is in the workspace.
+/// Gives each package the links of its node, if it has one, and says whether it is in the workspace.
 fn link(
     alloc: Global,
     packages: Vec<PackageMetadata>,
@@ -228,9 +192,13 @@ fn link(
 {
     let mut all = Vec::with_capacity(alloc, packages.len())?;
     for package in packages {
+        let links = match positions.get(&package.id) {
+            Some(at) => node_links(alloc, &nodes[*at])?,
+            None => Vec::new(alloc),
+        };
         all.push(PackageMetadata {
             in_workspace: is_known(members, &package.id),
-            links: links_from(alloc, positions, nodes, &package.id)?,
+            links,
             ..package
         })?;
     }

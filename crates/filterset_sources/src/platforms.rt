@@ -3,7 +3,7 @@ ghost use Rattle.std.specs.Prelude.{◌≡◌, Option, IfErr, IfOk, map, option_
 ghost use Rattle.serde_json.specs.View.{view};
 ghost use Rattle.filterset_json.specs.Places.{Names};
 ghost use Rattle.filterset_json.specs.Refusals.{Refuses as RefusesEntry};
-ghost use Rattle.filterset_sources.specs.Platforms.{ArePlatforms, AreListed, GivenAt, WrongAt, WrongPlatforms, only};
+ghost use Rattle.filterset_sources.specs.Platforms.{ArePlatforms, AreListed, GivenAt, WrongAt, WrongPlatforms};
 ghost use Rattle.filterset_sources.specs.Refusals.{Refuses};
 
 use crate::refusal::SourceRefusal;
@@ -122,9 +122,13 @@ impl ListedPlatforms {
     fn target(&self) -> Option<&str>
         ensures { option_map (λ t. t.now) result ≡ target_row self.now }
     {
-        match &self.targets {
-            Some(targets) => only_target(self.host(), targets),
-            None => self.older_target(),
+        let Some(targets) = &self.targets else {
+            return self.older_target();
+        };
+        match targets.as_slice() {
+            [] => self.host(),
+            [PlatformTriple(triple)] => Some(triple.as_str()),
+            [..] => None,
         }
     }
 
@@ -136,34 +140,14 @@ impl ListedPlatforms {
             Some(triple) => Some(triple.as_str()),
             None => None,
         };
-        match &self.older {
-            Some(targets) => only(oldest, targets),
-            None => oldest,
+        let Some(targets) = &self.older else {
+            return oldest;
+        };
+        match targets.as_slice() {
+            [] => oldest,
+            [Triple(triple)] => Some(triple.as_str()),
+            [..] => None,
         }
-    }
-}
-
-/// Returns the only triple, or `other` if there is none.
-fn only<'t>(other: Option<&'t str>, triples: &'t [Triple]) -> Option<&'t str>
-    ensures { option_map (λ t. t.now) result
-        ≡ only (option_map (λ t. t.now) other.entry) (map (λ t. string_bytes t.0) triples.now) }
-{
-    match triples {
-        [] => other,
-        [Triple(triple)] => Some(triple.as_str()),
-        [..] => None,
-    }
-}
-
-/// Returns the triple of the only target, or `host` if there is none.
-fn only_target<'t>(host: Option<&'t str>, targets: &'t [PlatformTriple]) -> Option<&'t str>
-    ensures { option_map (λ t. t.now) result
-        ≡ only (option_map (λ t. t.now) host.entry) (map (λ t. string_bytes t.0) targets.now) }
-{
-    match targets {
-        [] => host,
-        [PlatformTriple(triple)] => Some(triple.as_str()),
-        [..] => None,
     }
 }
 

@@ -1,9 +1,10 @@
 use Rattle.std.proofs.Common.{◌≡◌, arith, map, sym, ◌∙◌}
 use Rattle.std.specs.Prelude.{codes}
+use Rattle.std.proofs.lemmas.List.Elements.{All-map}
 use Rattle.filterset_json.specs.Places.{Place}
 use Rattle.filterset_sources.specs.Metadata.{IsKnown, Unknown, link_path}
 use Rattle.filterset_sources.specs.declared.metadata.parts.Dependency.{Dependency}
-use Rattle.filterset_sources.proofs.GraphLemmas.{All-done, All-mapped, All-next, first_not, first_not-mapped, not_known}
+use Rattle.filterset_sources.proofs.GraphLemmas.{All-done, All-next, first_not, first_not-mapped, not_known}
 use Rattle.filterset_sources.proofs.ShapeLemmas.{Refuses-if}
 use Rattle.filterset_sources.proofs.metadata.check_dependencies.Goals as goal
 
@@ -22,5 +23,5 @@ loop-link-preserved c = All-next (λ (d : Dependency). IsKnown c.args.known.now 
 
 pub returns-clause-ok : goal.returns-clause-ok
 returns-clause-ok c =
-    All-mapped (IsKnown c.args.known.now) (λ (d : Dependency). d.package) c.args.dependencies.now
+    All-map (IsKnown c.args.known.now) (λ (d : Dependency). d.package) c.args.dependencies.now
     (All-done (λ (d : Dependency). IsKnown c.args.known.now d.package) c.args.dependencies.now c.loop-link.link (omega (arith, c.loop-link-test.false)) c.loop-link.invariant)
