@@ -15,6 +15,7 @@ use Rattle.std.specs.declared.cmp.Ordering.TheVariants.{Equal, Greater, Less}
 use Rattle.std.proofs.lemmas.List.{length-map}
 use Rattle.std.proofs.lemmas.Map.Text.{is_eq-slice_cmp}
 use Rattle.std.proofs.lemmas.Option.{same_Some, slice_get-map}
+use Rattle.std.proofs.lemmas.Simd.{map-map}
 use Rattle.std.proofs.lemmas.Slice.Eq.{bytes_eq-Decides}
 use Rattle.toml.specs.Data.{Data, Members, member, no_members, get_member}
 use Rattle.toml.specs.View.{members_view}
@@ -125,23 +126,19 @@ link_fallback (member l d ms) distinct (suc at) name to here h =
 
 -- ---- what is made of links is made of profiles
 
-map_twice : {A B C : Type 0} (f : B → C) (g : A → B) (xs : List A) → map f (map g xs) ≡ map (λ x. f (g x)) xs
-map_twice f g [] = refl
-map_twice f g (x ∷ xs) = ap (λ ys. f (g x) ∷ ys) (map_twice f g xs)
-
 names_linked : (ms : Members) → map (λ (l : Text × Option Text). l.0) (links_of ms) ≡ keys_of ms
 names_linked no_members = refl
 names_linked (member l d ms) = ap (λ names. l ∷ names) (names_linked ms)
 
 pub names_from_links : (links : List Link) (ms : Members) → map link_row links ≡ links_of ms → map (λ l. l.name.now) links ≡ keys_of ms
 names_from_links links ms rows =
-    sym (map_twice (λ (l : Text × Option Text). l.0) link_row links)
+    sym (map-map (λ (l : Text × Option Text). l.0) link_row links)
     ∙ ap (map (λ (l : Text × Option Text). l.0)) rows ∙ names_linked ms
 
 pub parents_from_links : (links : List Link) (ms : Members) (f : Option Text → Option ℕ) → map link_row links ≡ links_of ms
     → map (λ l. f (option_copied l.fallback)) links ≡ map (λ (l : Text × Option Text). f l.1) (links_of ms)
 parents_from_links links ms f rows =
-    sym (map_twice (λ (l : Text × Option Text). f l.1) link_row links)
+    sym (map-map (λ (l : Text × Option Text). f l.1) link_row links)
     ∙ ap (map (λ (l : Text × Option Text). f l.1)) rows
 
 -- ---- steps of positions are steps of names

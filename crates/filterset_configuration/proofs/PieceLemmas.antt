@@ -12,7 +12,7 @@ use Rattle.filterset_json.specs.Shape.{Text}
 use Rattle.filterset_configuration.specs.declared.content.Delimiter.{Delimiter}
 use Rattle.filterset_configuration.specs.declared.content.PieceEnd.{PieceEnd}
 use Rattle.filterset_configuration.specs.declared.stretch.Stretch.{Stretch}
-use Rattle.filterset_configuration.specs.Pieces.{ArePieces, EndsPiece, IsContent, Piece, ReadsEscape, ReadsPiece, is_end, origins_of, read_piece, text_of}
+use Rattle.filterset_configuration.specs.Pieces.{EndsPiece, IsReadFrom, ReadsEscape, ReadsPiece, is_end, next_piece, no_piece, read_piece}
 
 -- ---- the grammar's `body`, a piece at a time
 
@@ -274,29 +274,30 @@ drop_past : (text bytes more : Text) (n m : ℕ) → drop n text ≡ bytes ++ mo
 drop_past text bytes more n m h e =
     ap (λ k. drop k text) e ∙ sym (drop-drop (length bytes) n text) ∙ ap (drop (length bytes)) h ∙ drop_at bytes more (length bytes) refl
 
--- The content of a string was read up to `at`, with these origins: what is left reads as the rest of the text, and its pieces
+-- The content of a string was read up to `at`, with these origins: what is left reads as the rest of the text, and its origins
 -- complete those so far.
 pub record HasCome (d : Delimiter) (file : Text) (start : ℕ) (text after : Text) (at : ℕ) (found : List Stretch) : Type 0 where
   pub left : (n : ℕ) × (body d.byte d.is_multi n (drop at file) ≡ Some (drop (length found) text, after))
-  pub joins : (pieces : List Piece) (end : ℕ) → ArePieces d file at pieces end after → drop (length found) text ≡ text_of pieces
-      → IsContent d file start after text (found ++ origins_of pieces) end
+  pub joins : (others : Text) (origins : List Stretch) (end : ℕ) → IsReadFrom d file after end at others origins
+      → drop (length found) text ≡ others → IsReadFrom d file after end start text (found ++ origins)
 
 pub come_start : (d : Delimiter) (file : Text) (start : ℕ) (text after : Text) (n : ℕ)
     → body d.byte d.is_multi n (drop start file) ≡ Some (text, after) → HasCome d file start text after start []
 come_start d file start text after n read = record {
   left = (n, read);
-  joins = λ pieces end are same. (pieces, are, same, refl);
+  joins = λ others origins end are same.
+      let P : Text → Type 0 = λ t. IsReadFrom d file after end start t origins in subst P (sym same) are;
 }
 
 pub come_done : (d : Delimiter) (file : Text) (start : ℕ) (text after : Text) (at : ℕ) (found : List Stretch)
-    → HasCome d file start text after at found → is_end d (drop at file) ≡ true → IsContent d file start after text found at
+    → HasCome d file start text after at found → is_end d (drop at file) ≡ true → IsReadFrom d file after at start text found
 come_done d file start text after at found come last =
     let (n, read) = come.left in
     let (none, end) = end_reads d (drop at file) last in
     elim (body_step d n (drop at file) _ after read) [
       | inl done ↦
-          let P : List Stretch → Type 0 = λ origins. IsContent d file start after text origins at in
-          subst P (append-nil found) (come.joins [] at (refl, done.0) done.1)
+          let P : List Stretch → Type 0 = λ origins. IsReadFrom d file after at start text origins in
+          subst P (append-nil found) (come.joins [] [] at (no_piece done.0) done.1)
       | inr goes ↦ absurd (not_end goes.bytes goes.next none _ goes.reads end)
     ]
 
@@ -316,12 +317,12 @@ come_more d file start text after at found piece come more ends =
           let rest : drop (length (found ++ replicate piece.count stretch)) text ≡ goes.more = drop_past text goes.bytes goes.more (length found) _ goes.is size in
           record {
             left = (goes.fuel, ap (body d.byte d.is_multi goes.fuel) (sym behind) ∙ goes.left ∙ ap (λ m. Some (m, after)) (sym rest));
-            joins = λ pieces end are same.
-                let P : List Stretch → Type 0 = λ origins. IsContent d file start after text origins end in
-                let whole = come.joins (record { stretch = stretch; bytes = goes.bytes } ∷ pieces) end
-                (refl, ends.on, ends.within, goes.reads ∙ ap (λ x. Some (Some goes.bytes, x)) behind, are)
+            joins = λ others origins end are same.
+                let P : List Stretch → Type 0 = λ os. IsReadFrom d file after end start text os in
+                let reads : read_piece d (drop at file) ≡ Some (Some goes.bytes, drop piece.to file) = goes.reads ∙ ap (λ x. Some (Some goes.bytes, x)) behind in
+                let whole = come.joins (goes.bytes ++ others) (replicate (length goes.bytes) stretch ++ origins) end (next_piece reads are)
                 (goes.is ∙ ap (λ m. goes.bytes ++ m) (sym rest ∙ same)) in
-                subst P (ap (λ k. found ++ (replicate k stretch ++ origins_of pieces)) counted ∙ sym (append_assoc found _ _)) whole;
+                subst P (ap (λ k. found ++ (replicate k stretch ++ origins)) counted ∙ sym (append_assoc found _ _)) whole;
           }
     ]
 

@@ -1,5 +1,5 @@
 -- A string of a file, by the content between its delimiters.
-use Rattle.std.proofs.Common.{◌≡◌, ℕ, ◌+◌, Bool, true, false, cond, ◌&&◌, ◌||◌, ◌==◌, ◌++◌, List, [], ◌∷◌, None, Some, length, drop, get_or, get_or-drop, replicate, refl, sym, ap, ◌∙◌, subst, inl, inr, Vec}
+use Rattle.std.proofs.Common.{◌≡◌, ℕ, ◌+◌, Bool, true, false, cond, ◌&&◌, ◌||◌, ◌==◌, Some, length, drop, get_or, get_or-drop, refl, sym, ap, ◌∙◌, subst, inl, inr, Vec}
 use Rattle.std.specs.declared.alloc.Global.{Global}
 use Rattle.std.proofs.lemmas.Bool.{cases_Bool}
 use Rattle.std.proofs.lemmas.List.{drop-drop}
@@ -7,8 +7,7 @@ use Rattle.toml_parser.specs.Lexical.{first}
 use Rattle.toml_parser.specs.Strings.{body, one_line, quoted, trim_newline}
 use Rattle.filterset_json.specs.Shape.{Text}
 use Rattle.filterset_configuration.specs.declared.stretch.Stretch.{Stretch}
-use Rattle.filterset_configuration.specs.declared.content.Delimiter.{Delimiter}
-use Rattle.filterset_configuration.specs.Pieces.{ArePieces, IsContent, IsReadFrom, Piece, next_piece, no_piece, origins_of, read_piece, text_of}
+use Rattle.filterset_configuration.specs.Pieces.{IsReadFrom}
 use Rattle.filterset_configuration.specs.Strings.{IsPlaceOf, delimiter_of, is_multi_line, opening_length}
 
 trim_by_tests : (lf crlf : Bool) (string : Text)
@@ -30,31 +29,12 @@ quoted-body string = elim (cases_Bool (is_multi_line string)) [
   | inr one ↦ rw one refl
 ]
 
--- pieces are read one after the other
-pieces-read : (d : Delimiter) (file : Text) (at : ℕ) (pieces : List Piece) (end : ℕ) (after : Text)
-    → ArePieces d file at pieces end after → IsReadFrom d file after end at (text_of pieces) (origins_of pieces)
-pieces-read d file at [] end after (ends, read) =
-    let P : ℕ → Type 0 = λ n. IsReadFrom d file after end n [] [] in
-    let Q : ℕ → Type 0 = λ n. read_piece d (drop n file) ≡ Some (None, after) in
-    subst P (sym ends) (no_piece (subst Q ends read))
-pieces-read d file at (one ∷ pieces) end after (begins, on, within, read, are) =
-    let P : ℕ → Type 0 = λ n. IsReadFrom d file after end at (one.bytes ++ text_of pieces)
-    (replicate (length one.bytes) (record { from = n; to = one.stretch.to }) ++ origins_of pieces) in
-    subst P (sym begins) (next_piece read (pieces-read d file one.stretch.to pieces end after are))
-
-content-read : (d : Delimiter) (file : Text) (start : ℕ) (after text : Text) (origins : List Stretch) (end : ℕ)
-    → IsContent d file start after text origins end → IsReadFrom d file after end start text origins
-content-read d file start after text origins end (pieces, are, is_text, are_origins) =
-    let P : Text → Type 0 = λ t. IsReadFrom d file after end start t origins in
-    let Q : List Stretch → Type 0 = λ os. IsReadFrom d file after end start (text_of pieces) os in
-    subst P (sym is_text) (subst Q (sym are_origins) (pieces-read d file start pieces end after are))
-
 -- what is read between the delimiters makes a place
 pub place-from : (file text string : Text) (literal : Stretch) (origins : Vec Stretch Global) (end behind : ℕ)
     → string ≡ drop literal.from file → behind + literal.to ≡ length file
     → ((after : Text) × (quoted string ≡ Some (text, after)) × (length after ≡ behind))
     → ((n : ℕ) (after : Text) → body (first string) (is_multi_line string) n (drop (literal.from + opening_length string) file) ≡ Some (text, after)
-    → IsContent (delimiter_of string) file (literal.from + opening_length string) after text origins.items end)
+    → IsReadFrom (delimiter_of string) file after end (literal.from + opening_length string) text origins.items)
     → IsPlaceOf file text (record { literal = literal; origins = origins; end = end })
 place-from file text string literal origins end behind is all reads content =
     let (after, read, count) = reads in
@@ -68,5 +48,5 @@ place-from file text string literal origins end behind is all reads content =
       after,
       subst P is read,
       ap (λ n. n + literal.to) count ∙ all,
-      content-read (delimiter_of string) file (literal.from + opening_length string) after text origins.items end inside,
+      inside,
     )

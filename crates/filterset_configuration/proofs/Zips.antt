@@ -6,15 +6,9 @@ use Rattle.toml.specs.Data.{Data, Items, Members, array, member, table}
 use Rattle.toml.specs.View.{items_of, members_of, members_view, view}
 use Rattle.toml.proofs.Views.{Entry}
 use Rattle.filterset_configuration.specs.declared.profiles.Profile.{Profile}
+pub use Rattle.std.proofs.lemmas.Slice.Zip.{all_zipped_more as zip_push}
 
 module _ {A B : Type 0} (R : A → B → Type 0) where
-  -- one more of each, and one of them
-  pub zip_push : (xs : List A) (ys : List B) (x : A) (y : B) → AllZip R xs ys → R x y → AllZip R (xs ++ x ∷ []) (ys ++ y ∷ [])
-  zip_push [] [] x y h k = (k, tt)
-  zip_push [] (z ∷ ys) x y h k = absurd h
-  zip_push (w ∷ xs) [] x y h k = absurd h
-  zip_push (w ∷ xs) (z ∷ ys) x y h k = (h.0, zip_push xs ys x y h.1 k)
-
   pub zip_append : (us : List A) (vs : List B) (xs : List A) (ys : List B) → AllZip R us vs → AllZip R xs ys → AllZip R (us ++ xs) (vs ++ ys)
   zip_append [] [] xs ys h k = k
   zip_append [] (v ∷ vs) xs ys h k = absurd h

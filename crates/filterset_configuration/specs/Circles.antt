@@ -1,11 +1,11 @@
 -- Profiles that fall back on themselves.
-use Rattle.std.specs.Prelude.{◌≡◌, ◌↔◌, ℕ, zero, suc, Bool, true, List, [], ◌∷◌, None, Option, Some, IsSome, bytes_eq, codes, if◌then◌else◌, option_and_then, option_copied, slice_get, unwrap_or}
+use Rattle.std.specs.Prelude.{◌≡◌, ◌↔◌, ℕ, zero, suc, Bool, true, List, [], ◌∷◌, None, Option, Some, IsSome, bytes_eq, codes, if◌then◌else◌, option_and_then, option_copied, slice_get}
 use Rattle.std.specs.Borrow.{Bor}
 use Rattle.std.specs.BTreeMap.{BTreeMap, get_by}
 use Rattle.std.specs.Cmp.Lexicographic.{slice_cmp}
 use Rattle.std.specs.Option.{option_map_or}
 use Rattle.std.specs.Ordering.{nat_cmp}
-use Rattle.toml.specs.Data.{Data, Members, no_members, member, as_str, as_table, get, get_member}
+use Rattle.toml.specs.Data.{Data, Members, no_members, member, as_str, get, get_member}
 use Rattle.filterset_json.specs.Shape.{Text}
 use Rattle.filterset_sources.specs.Configurations.{keys_of}
 use Rattle.filterset_sources.specs.Sections.{members_under}

@@ -24,38 +24,6 @@ pub data IsReadFrom (delimiter : Delimiter) (file after : Text) (end : ℕ) : �
       → IsReadFrom delimiter file after end at (bytes ++ text)
       (replicate (length bytes) (record { from = at; to = to }) ++ origins)
 
--- ---- the same by a list of pieces, as the code finds them
-
--- a piece of a string: where it is in the file, and the bytes of the text that it stands for
-pub record Piece : Type 0 where
-  pub stretch : Stretch
-  pub bytes : Text
-
--- From this offset of the file on, a string has these pieces, then its closing delimiter at the offset `end`, and then `after`.
-abbrev pub ArePieces : Delimiter → Text → ℕ → List Piece → ℕ → Text → Type 0
-ArePieces delimiter file at [] end after = (at ≡ end) × (read_piece delimiter (drop at file) ≡ Some (None, after))
-ArePieces delimiter file at (piece ∷ pieces) end after =
-    (piece.stretch.from ≡ at) × (at < piece.stretch.to) × (piece.stretch.to ≤ length file)
-    × (read_piece delimiter (drop at file) ≡ Some (Some piece.bytes, drop piece.stretch.to file))
-    × ArePieces delimiter file piece.stretch.to pieces end after
-
--- the text that pieces stand for
-abbrev pub text_of : List Piece → Text
-text_of [] = []
-text_of (piece ∷ pieces) = piece.bytes ++ text_of pieces
-
--- for each byte of that text, where the piece is that stands for it
-abbrev pub origins_of : List Piece → List Stretch
-origins_of [] = []
-origins_of (piece ∷ pieces) = replicate (length piece.bytes) piece.stretch ++ origins_of pieces
-
--- From the offset `start` of the file to the closing delimiter at `end`, which `after` follows, the grammar reads this text, and
--- each of its bytes from the piece at its origin.
-abbrev pub IsContent : Delimiter → Text → ℕ → Text → Text → List Stretch → ℕ → Type 0
-IsContent delimiter file start after text origins end =
-    (pieces : List Piece) × ArePieces delimiter file start pieces end after
-    × (text ≡ text_of pieces) × (origins ≡ origins_of pieces)
-
 -- ---- what the code looks at
 
 -- the string ends here

@@ -1,5 +1,5 @@
 -- Platforms of a configuration, and what is known of a platform, as plain values.
-use Rattle.std.specs.Prelude.{ℕ, Bool, List, [], ◌∷◌, Option, map, string_bytes}
+use Rattle.std.specs.Prelude.{Bool, List, [], ◌∷◌, Option, map, string_bytes}
 use Rattle.std.specs.Option.{option_map}
 use Rattle.filterset_json.specs.Shape.{Text}
 use Rattle.filterset_configuration.specs.declared.platforms.settings.Cfg.{Cfg}

@@ -1,5 +1,5 @@
 -- Which values of a configuration's profiles are wrong, other than its filtersets.
-use Rattle.std.specs.Prelude.{◌≡◌, ◌++◌, ◌||◌, ◌⊎◌, ℕ, Bool, false, List, [], ◌∷◌, None, Option, Some, IfSome, IsTrue, MatchOption, codes, flat_map, if◌then◌else◌, is_none, is_some, map, option_and_then, option_map, option_to_list, slice_get, string_bytes}
+use Rattle.std.specs.Prelude.{◌≡◌, ◌++◌, ◌||◌, ◌⊎◌, ℕ, List, [], ◌∷◌, Some, IfSome, IsTrue, MatchOption, codes, flat_map, if◌then◌else◌, is_none, is_some, map, option_and_then, option_map, option_to_list, slice_get, string_bytes}
 use Rattle.std.specs.Option.{option_map_or}
 use Rattle.toml.specs.Data.{Data, table, Members, no_members, member, as_str, as_table, get}
 use Rattle.toml.specs.Parse.{parse_document}
@@ -133,13 +133,10 @@ abbrev pub AreWrongValues : Text → List WrongValue → Type 0
 AreWrongValues text found = MatchOption (parse_document text) (found ≡ [])
     (λ ms. Finds (Judged text (table ms)) 0 (values_of (table ms)) found)
 
--- the text is TOML with these values
-abbrev pub ReadsAs : Text → List ProfileValue → Type 0
-ReadsAs text values = (ms : Members) × (parse_document text ≡ Some ms) × (value_rows values ≡ values_of (table ms))
-
 -- these are the values of the file with some of its literals replaced by their numbers
 abbrev pub AreNumbered : Text → NumberedValues → Type 0
-AreNumbered file n = AreApart 0 n.numbering.literals.items × ReadsAs (numbered file n.numbering.literals.items) n.values.items
+AreNumbered file n = AreApart 0 n.numbering.literals.items × (ms : Members)
+    × (parse_document (numbered file n.numbering.literals.items) ≡ Some ms) × (value_rows n.values.items ≡ values_of (table ms))
 
 -- a file is known: its values with numbers, and which of its profiles fall back on themselves
 abbrev pub IsKnown : CheckedFile → Type 0

@@ -3,7 +3,6 @@ ghost use Rattle.std.specs.Prelude.{◌≡◌, ◌++◌, List, IfOk, OnOk};
 ghost use Rattle.std.specs.Bool.{OnFalse, OnTrue};
 ghost use Rattle.toml.specs.View.{view};
 ghost use Rattle.filterset_configuration.specs.Keys.{Finds};
-ghost use Rattle.filterset_configuration.specs.Circles.{IsInCircle};
 ghost use Rattle.filterset_configuration.specs.Wrong.{AreWrongValues, IsKnown, IsRight, Judged, value_row, values_of};
 ghost use Rattle.filterset_configuration.specs.declared.wrong.WrongValue.{WrongValue};
 
@@ -29,18 +28,6 @@ struct CheckedFile<'f> {
     numbered: Option<NumberedValues>,
 }
 
-/// Returns whether the profile at a position does not fall back on itself.
-fn is_in_no_circle(file: &CheckedFile<'_>, at: usize) -> bool
-    requires { IsKnown file.now }
-    ensures right { OnTrue result (¬ IsInCircle (view file.now.file.now) at) }
-    ensures wrong { OnFalse result (IsInCircle (view file.now.file.now) at) }
-{
-    match file.circles.get(at) {
-        Some(is_in_circle) => !*is_in_circle,
-        None => true,
-    }
-}
-
 /// Returns whether a value of a file is right.
 fn is_right(
     alloc: Global,
@@ -54,7 +41,10 @@ fn is_right(
 {
     match role {
         ValueRole::Parent => Ok(is_built_in(text) || has_member(file.file, "profile", text)),
-        ValueRole::NoCircle(at) => Ok(is_in_no_circle(file, at)),
+        ValueRole::NoCircle(at) => match file.circles.get(at) {
+            Some(is_in_circle) => Ok(!*is_in_circle),
+            None => Ok(true),
+        },
         ValueRole::Group => Ok(is_group(file.file, text)),
         ValueRole::Platform => match PlatformSpec::parse(alloc, text) {
             Ok(_) => Ok(true),

@@ -3,7 +3,7 @@ ghost use Rattle.std.specs.Prelude.{◌≡◌, ◌==◌, ◌+◌, ◌++◌, ◌<
 ghost use Rattle.std.specs.List.{prefix_len};
 ghost use Rattle.toml_parser.specs.Strings.{body, hex_len};
 ghost use Rattle.filterset_json.specs.Shape.{Text};
-ghost use Rattle.filterset_configuration.specs.Pieces.{EndsPiece, IsContent, ReadsEscape, ReadsPiece, is_end};
+ghost use Rattle.filterset_configuration.specs.Pieces.{EndsPiece, IsReadFrom, ReadsEscape, ReadsPiece, is_end};
 
 use crate::stretch::Stretch;
 use std::alloc::{AllocError, Global};
@@ -149,7 +149,7 @@ pub(crate) fn read_content(
     ensures { (n : ℕ) (after : Text)
         → body delimiter.byte delimiter.is_multi n (drop start file.now) ≡ Some (text.now, after)
         → IfOk result (λ o. IfSome o (λ content.
-        IsContent delimiter file.now start after text.now content.origins.items content.end)) }
+        IsReadFrom delimiter file.now after content.end start text.now content.origins.items)) }
 {
     let mut origins = Vec::with_capacity(alloc, text.len())?;
     let mut at = start;

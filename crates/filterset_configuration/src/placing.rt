@@ -1,6 +1,6 @@
 //! Finds the places of values in the file that they were read from.
-ghost use Rattle.std.specs.Prelude.{◌≡◌, IfOk, IfSome, string_bytes};
-ghost use Rattle.filterset_configuration.specs.Wrong.{AreNumbered, IsValuePlace, ReadsAs, value_row};
+ghost use Rattle.std.specs.Prelude.{IfOk, IfSome};
+ghost use Rattle.filterset_configuration.specs.Wrong.{AreNumbered, IsValuePlace, value_row};
 
 use crate::numbering::Numbering;
 use crate::place::Place;
@@ -17,20 +17,6 @@ pub(crate) struct NumberedValues {
     pub values: Vec<ProfileValue>,
 }
 
-/// Reads the values of a file with numbers, or returns `None` if it is no TOML.
-fn read_numbered(alloc: Global, numbering: Numbering) -> Result<Option<NumberedValues>, AllocError>
-    ensures { IfOk result (λ o. IfSome o (λ n. (n.numbering ≡ numbering) × ReadsAs (string_bytes numbering.text) n.values.items)) }
-{
-    match file_of(alloc, numbering.text.as_str()) {
-        Ok(file) => {
-            let values = values_of(alloc, &Value::Table(file))?;
-            Ok(Some(NumberedValues { numbering, values }))
-        }
-        Err(SourceRefusal::OutOfMemory(refused)) => Err(refused),
-        Err(_) => Ok(None),
-    }
-}
-
 /// Puts numbers in place of the strings of a file that are read as the texts of its values, and reads its values again.
 pub(crate) fn numbered_values(
     alloc: Global,
@@ -43,9 +29,16 @@ pub(crate) fn numbered_values(
         .iter()
         .map(|value| value.text.as_str())
         .collect(alloc)?;
-    match Numbering::of(alloc, file, texts)? {
-        Some(numbering) => read_numbered(alloc, numbering),
-        None => Ok(None),
+    let Some(numbering) = Numbering::of(alloc, file, texts)? else {
+        return Ok(None);
+    };
+    match file_of(alloc, numbering.text.as_str()) {
+        Ok(table) => {
+            let values = values_of(alloc, &Value::Table(table))?;
+            Ok(Some(NumberedValues { numbering, values }))
+        }
+        Err(SourceRefusal::OutOfMemory(refused)) => Err(refused),
+        Err(_) => Ok(None),
     }
 }
 

@@ -6,10 +6,11 @@ use std::alloc::{AllocError, Global};
 use toml_parser::text::{first, skip_ws};
 use toml_parser::{ParseError, quoted, starts_string};
 
-/// A string of a document: what it is read as, and the offset behind it.
+/// A string of a document: what it is read as, whether it is a key or a part of one, and the offset behind it.
 #[derive(Debug, Drop)]
 struct Scanned {
     text: String,
+    is_key: bool,
     to: usize,
 }
 
@@ -27,18 +28,11 @@ fn scan_string(alloc: Global, file: &str, from: usize) -> Result<Option<Scanned>
     match quoted(alloc, string) {
         Ok((text, after)) => Ok(Some(Scanned {
             text,
+            is_key: matches!(first(skip_ws(after)), b'=' | b'.'),
             to: file.len() - after.len(),
         })),
         Err(ParseError::OutOfMemory) => Err(AllocError),
         Err(ParseError::At(..)) => Ok(None),
-    }
-}
-
-/// Returns whether the string that ends at `to` is a key or a part of one.
-fn is_key(file: &str, to: usize) -> bool {
-    match file.split_at_checked(to) {
-        Some((_, after)) => matches!(first(skip_ws(after)), b'=' | b'.'),
-        None => false,
     }
 }
 
@@ -101,7 +95,7 @@ pub(crate) fn find_literals(
             return Ok(found);
         };
         let to = string.to;
-        let is_value = context.in_value && !is_key(file, to);
+        let is_value = context.in_value && !string.is_key;
         if is_value && texts.binary_search(&string.text.as_str()).is_ok() {
             found.push(Stretch { from: at, to })?;
         }

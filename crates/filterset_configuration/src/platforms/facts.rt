@@ -25,13 +25,6 @@ pub struct PlatformFacts {
 }
 
 impl PlatformFacts {
-    /// Returns whether the platform has this triple, if that is known.
-    pub(crate) fn has_triple(&self, triple: &str) -> Option<bool>
-        ensures { result ≡ option_map (λ known. bytes_eq known triple.now) (facts_of self.now).triple }
-    {
-        self.triple.as_ref().map(|known| known.as_str() == triple)
-    }
-
     /// Returns whether `rustc` sets this for the platform, if that is known.
     pub(crate) fn is_set(&self, setting: &Cfg) -> Option<bool>
         ensures { result ≡ option_map (λ ts. is_set ts (setting_of setting.now)) (facts_of self.now).settings }

@@ -3,7 +3,7 @@ ghost use Rattle.std.specs.Prelude.{◌≡◌, ◌<◌, ◌≤◌, length, codes
 ghost use Rattle.std.specs.Str.{trim_start};
 ghost use Rattle.filterset_configuration.specs.PlatformGrammar.{Expression, GoesOn, Inside, IsKey, IsNamed, Sign};
 ghost use Rattle.filterset_configuration.specs.PlatformReading.{Gives, IsPlaced, IsTrueOf, Lacks};
-ghost use Rattle.filterset_configuration.specs.PlatformTrees.{Expr, Exprs, expr_of, exprs_of, key_value, negated, set};
+ghost use Rattle.filterset_configuration.specs.PlatformTrees.{Expr, Exprs, expr_of, exprs_of, negated};
 ghost use Rattle.filterset_json.specs.Shape.{Text};
 
 pub(crate) mod words;
@@ -177,7 +177,9 @@ fn read_setting<'a>(
     let Some((value, rest)) = read_quoted(behind) else {
         return Err(expect(behind, Expected::Value));
     };
-    Ok((pair_of(alloc, word, value)?, rest))
+    let key = String::from_str(alloc, word)?;
+    let value = String::from_str(alloc, value)?;
+    Ok((CfgExpr::Value(Cfg::KeyValue(key, value)), rest))
 }
 
 /// Makes an expression of a name.
@@ -190,13 +192,4 @@ fn name_of(alloc: Global, word: &str) -> Result<CfgExpr, AllocError>
         "false" => Ok(CfgExpr::Literal(false)),
         _ => Ok(CfgExpr::Value(Cfg::Name(String::from_str(alloc, word)?))),
     }
-}
-
-/// Makes an expression of a key and a value.
-fn pair_of(alloc: Global, key: &str, value: &str) -> Result<CfgExpr, AllocError>
-    ensures { IfOk result (λ e. expr_of e ≡ set (key_value key.now value.now)) }
-{
-    let key = String::from_str(alloc, key)?;
-    let value = String::from_str(alloc, value)?;
-    Ok(CfgExpr::Value(Cfg::KeyValue(key, value)))
 }

@@ -63,7 +63,10 @@ impl PlatformSpec {
         ensures known { IsKnown (facts_of facts.now) → IsSome result }
     {
         match self {
-            PlatformSpec::Triple(triple) => facts.has_triple(triple.as_str()),
+            PlatformSpec::Triple(triple) => {
+                let known = facts.triple.as_ref();
+                known.map(|known| known.as_str() == triple.as_str())
+            }
             PlatformSpec::Cfg(expression) => value_of(expression, facts),
         }
     }

@@ -1,4 +1,4 @@
-use Rattle.std.proofs.Common.{rules, ◌≡◌, [], ◌∷◌, inr, refl, string_bytes}
+use Rattle.std.proofs.Common.{rules, [], ◌∷◌, inr, refl}
 use Rattle.toml.specs.View.{view}
 use Rattle.filterset_configuration.specs.Wrong.{IsRight, IsWrongValue, value_row}
 use Rattle.filterset_configuration.specs.declared.wrong.WrongValue.{WrongValue}

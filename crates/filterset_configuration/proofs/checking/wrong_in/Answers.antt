@@ -1,4 +1,4 @@
-use Rattle.std.proofs.Common.{arith, ℕ, ◌≡◌, ◌<◌, ◌+◌, [], ◌∷◌, ◌++◌, List, length, get_or, take, ap, subst, sym, ◌∙◌}
+use Rattle.std.proofs.Common.{arith, ◌≡◌, ◌<◌, ◌+◌, [], ◌∷◌, ◌++◌, length, take, ap, subst, sym, ◌∙◌}
 use Rattle.std.proofs.lemmas.List.{length-map, length-take-le, map-append, take_all, take_more}
 use Rattle.toml.specs.View.{view}
 use Rattle.filterset_configuration.specs.Keys.{Finds}

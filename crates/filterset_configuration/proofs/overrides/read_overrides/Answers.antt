@@ -5,7 +5,6 @@ use Rattle.std.proofs.lemmas.List.{get_or-map, length-map, map-append, take_all,
 use Rattle.toml.specs.Data.{Data, array, get, no_items}
 use Rattle.toml.specs.View.{items_of, view}
 use Rattle.filterset_configuration.specs.Profiles.{IsOverride}
-use Rattle.filterset_configuration.specs.declared.overrides.Override.{Override}
 use Rattle.filterset_configuration.proofs.Reading.{as_array-Some, handed_on}
 use Rattle.filterset_configuration.proofs.Zips.{array_same, items_same, zip_at, zip_push}
 use Rattle.filterset_configuration.proofs.overrides.read_overrides.Goals as goal

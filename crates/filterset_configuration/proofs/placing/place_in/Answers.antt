@@ -21,5 +21,5 @@ returns c =
     let same : bytes_eq c.as_str.result.now c.as_str-2.result.now ≡ true = search (rules, c.ne.ensures, c.if-ne.false) in
     let path : other.path ≡ row.path =
     sym c.as_str.ensures.value ∙ (bytes_eq-Decides c.as_str.result.now c.as_str-2.result.now).0 same ∙ c.as_str-2.ensures.value in
-    value-place c.args.file.now c.args.at row other n.numbering.literals.items known.1.0 (value_rows n.values.items) c.as_str-text.result.now c.as_str-number.result.now
-    c.place_of.result known.0 known.1.1 known.1.2 there path c.as_str-text.ensures.value c.as_str-number.ensures.value c.place_of.ensures
+    value-place c.args.file.now c.args.at row other n.numbering.literals.items known.1 (value_rows n.values.items) c.as_str-text.result.now c.as_str-number.result.now
+    c.place_of.result known.0 known.2 known.3 there path c.as_str-text.ensures.value c.as_str-number.ensures.value c.place_of.ensures

@@ -1,8 +1,10 @@
-use Rattle.std.proofs.Common.{◌∙◌}
+use Rattle.std.proofs.Common.{rules, ◌≡◌, ◌∙◌}
 use Rattle.filterset_configuration.proofs.PlatformFaults.{true_along}
 use Rattle.filterset_configuration.proofs.PlatformPhrases.{no_value, one_name, one_value}
 use Rattle.filterset_configuration.proofs.PlatformWords.{rest_along}
-use Rattle.filterset_configuration.specs.PlatformTrees.{expr_of}
+use Rattle.filterset_configuration.specs.PlatformTrees.{expr_of, key_value, set}
+use Rattle.filterset_configuration.specs.declared.platforms.expressions.CfgExpr.{Value}
+use Rattle.filterset_configuration.specs.declared.platforms.settings.Cfg.TheVariants.{KeyValue}
 use Rattle.filterset_configuration.proofs.platforms.parsing.read_setting.Goals as goal
 
 pub returns-in_default-clause-only : goal.returns-in_default-clause-only
@@ -20,7 +22,8 @@ returns-in_default-read_quoted-clause-place c =
 pub returns-clause-only : goal.returns-clause-only
 returns-clause-only c = λ e r g.
     let one = one_value c.args.word.now c.args.text.now c.in-Some.behind.now _ _ e r c.requires c.in-Some.ensures.found c.in-Some-read_quoted.ensures.found g in
-    (c.in_ok-pair_of.ensures ∙ one.0, one.1)
+    let made : expr_of (Value (KeyValue c.in_ok-key.key c.in_ok-value.value)) ≡ set (key_value c.args.word.now c.in-Some-read_quoted.value.now) = search (rules, c.in_ok-key.ensures, c.in_ok-value.ensures) in
+    (made ∙ one.0, one.1)
 
 pub returns-clause-place : goal.returns-clause-place
 returns-clause-place c = rest_along c.args.text.now c.in-Some.behind.now _ c.in-Some.ensures.place c.in-Some-read_quoted.ensures.place

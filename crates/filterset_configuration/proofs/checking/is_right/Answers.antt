@@ -1,0 +1,18 @@
+use Rattle.std.proofs.Common.{◌≡◌, ◌<◌, Some, true, ap, arith, length, subst, sym}
+use Rattle.std.specs.Prelude.{slice_get}
+use Rattle.std.proofs.lemmas.Option.{slice_get_within}
+use Rattle.toml.specs.View.{view}
+use Rattle.filterset_configuration.specs.Wrong.{IsRight}
+use Rattle.filterset_configuration.specs.declared.wrong.ValueRole.{ValueRole}
+use Rattle.filterset_configuration.proofs.checking.is_right.Goals as goal
+
+pub returns-in-None-clause-right : goal.returns-in-None-clause-right
+returns-in-None-clause-right c =
+    let at = c.in-NoCircle.at in
+    let marks = c.args.file.now.circles.items in
+    let P : ValueRole → Type 0 = λ role. IsRight (view c.args.file.now.file.now) role c.args.text.now in
+    subst P (sym c.in-NoCircle.is)
+    (λ circle.
+    let marked : slice_get marks at ≡ Some true = (c.requires.0 at).1 circle in
+    let within : at < length marks = slice_get_within marks at true marked in
+    omega (arith, within, c.in-None.ensures.lookup.3, ap length c.deref.ensures.value))
