@@ -61,10 +61,6 @@ pub length-le-extent : (texts : List Text) → length texts ≤ extent texts
 length-le-extent [] = omega arith
 length-le-extent (t ∷ texts) = omega (arith, extent-cons t texts, length-le-extent texts)
 
-pub map-same : {A : Type 0} (xs : List A) → map (λ x. x) xs ≡ xs
-map-same [] = refl
-map-same (x ∷ xs) = ap (λ ys. x ∷ ys) (map-same xs)
-
 -- one more line is cut
 pub lines-push : (lines : List Line) (line : Line) (texts : List Text) → map line_row lines ≡ numbered 1 0 texts → line.number ≡ 1 + length texts → line.start ≡ extent texts → map line_row (lines ++ line ∷ []) ≡ numbered 1 0 (texts ++ line.text.now ∷ [])
 lines-push lines line texts cut n s =

@@ -5,7 +5,7 @@ use Rattle.std.proofs.lemmas.Iterator.{YieldsList-from_chars}
 use Rattle.std.proofs.lemmas.Iterator.Consumers.{YieldsList-end}
 use Rattle.filterset_drawing.specs.Columns.{columns_of}
 use Rattle.filterset_drawing.proofs.ColumnLemmas.{encodes-push, named-within, within, within-push_after, within-push_before, within-push_in}
-use Rattle.filterset_drawing.proofs.LineLemmas.{map-same}
+use Rattle.std.proofs.lemmas.List.{map-id}
 use Rattle.filterset_drawing.proofs.column.columns_between.Goals as goal
 use Rattle.filterset_drawing.proofs.column.columns_between.Goals.{then-from-at+then-at-to, else-from-at, else-from-at-via-then-from-at+else-at-to, else-from-at-via-else-from-at}
 
@@ -41,5 +41,5 @@ pub returns-clause-value : goal.returns-clause-value
 returns-clause-value c =
     let t = YieldsList-end (YieldsList-from_chars c.args.text.now c.utf8.text cc) c.loop-c.yielded _ c.loop-c.yielded_by _ _ c.in-None.is c.next.ensures.steps in
     let whole = chars c.args.text.now in
-    c.loop-c.invariant.counted ∙ ap (within c.args.from c.args.to 0) (sym (map-same c.loop-c.yielded) ∙ t.0)
+    c.loop-c.invariant.counted ∙ ap (within c.args.from c.args.to 0) (sym (map-id c.loop-c.yielded) ∙ t.0)
     ∙ sym (named-within c.args.from c.args.to whole [] whole refl)

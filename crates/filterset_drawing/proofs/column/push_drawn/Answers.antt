@@ -3,10 +3,10 @@ use Rattle.std.specs.List.{flat_map}
 use Rattle.std.proofs.lemmas.Iterator.{YieldsList-from_chars}
 use Rattle.std.proofs.lemmas.Iterator.Consumers.{YieldsList-end}
 use Rattle.filterset_drawing.specs.Columns.{drawn_char}
-use Rattle.filterset_drawing.proofs.LineLemmas.{map-same}
+use Rattle.std.proofs.lemmas.List.{map-id}
 use Rattle.filterset_drawing.proofs.column.push_drawn.Goals as goal
 
 pub returns : goal.returns
 returns c =
     let t = YieldsList-end (YieldsList-from_chars c.args.text.now c.utf8.text cc) c.loop-c.yielded _ c.loop-c.yielded_by _ _ c.in-None.is c.next.ensures.steps in
-    c.loop-c.invariant ∙ ap (λ cs. string_bytes c.args.drawing.now ++ flat_map drawn_char cs) (sym (map-same c.loop-c.yielded) ∙ t.0)
+    c.loop-c.invariant ∙ ap (λ cs. string_bytes c.args.drawing.now ++ flat_map drawn_char cs) (sym (map-id c.loop-c.yielded) ∙ t.0)
