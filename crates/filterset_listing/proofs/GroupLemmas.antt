@@ -1,5 +1,5 @@
 -- Which groups tests may be in, and answers about tests that are alike.
-use Rattle.std.proofs.Common.{◌≡◌, ◌∙◌, ℕ, ◌+◌, ◌<◌, length, get_or, take, option_to_list, unwrap_or, Bool, true, false, List, [], ◌∷◌, ◌++◌, Option, Some, None, append_assoc, cond, is_some, refl, sym, ap, subst, inl, inr}
+use Rattle.std.proofs.Common.{◌≡◌, ◌∙◌, ℕ, ◌+◌, ◌<◌, length, get_or, take, unwrap_or, Bool, true, false, List, [], ◌∷◌, ◌++◌, Option, Some, None, append_assoc, cond, is_some, refl, sym, ap, subst, inl, inr}
 use Rattle.std.specs.Prelude.{◌↔◌, ◌⊎◌, All, MatchOption, codes, map}
 use Rattle.std.specs.Borrow.{Bor}
 use Rattle.std.proofs.lemmas.Bool.{false≢true}
@@ -242,23 +242,24 @@ one_laid default overrides i given laids new laid lt at is same own kept = (
   rw is (All-push (IsLaid default) laids laid kept.1 own),
 )
 
--- one more override is told, or left out
-pub one_told : (default : CompiledExpr) (binary : BinaryQuery) (all : List FlatOverride) (i : ℕ) (laid : FlatOverride) (rows new : List ToldOverride) (row : Option ToldOverride) → i < length all → get_or all i laid ≡ laid
-    → new ≡ rows ++ option_to_list row → MatchOption row (NeverApplies default laid.given binary) (λ r. (given_of r ≡ laid.given) × MayApply default binary r)
+-- one more override is told
+pub one_told : (default : CompiledExpr) (binary : BinaryQuery) (all : List FlatOverride) (i : ℕ) (laid : FlatOverride) (rows new : List ToldOverride) (row : ToldOverride) → i < length all → get_or all i laid ≡ laid
+    → new ≡ rows ++ row ∷ [] → given_of row ≡ laid.given → MayApply default binary row
     → All (MayApply default binary) rows × StandFor default binary (map (λ (f : FlatOverride). f.given) (take i all)) (map given_of rows)
     → All (MayApply default binary) new × StandFor default binary (map (λ (f : FlatOverride). f.given) (take (i + 1) all)) (map given_of new)
-one_told default binary all i laid rows new None lt at is never kept = (
-  rw (is, append-nil rows) kept.0,
-  rw (is, append-nil rows, one_more all i laid lt at, map-append (λ (f : FlatOverride). f.given) (take i all) (laid ∷ []))
-      (one_left_out default binary (map (λ (f : FlatOverride). f.given) (take i all)) (map given_of rows) laid.given never kept.1),
-)
-one_told default binary all i laid rows new (Some row) lt at is (same, may) kept = (
+one_told default binary all i laid rows new row lt at is same may kept = (
   rw is (All-push (MayApply default binary) rows row kept.0 may),
   rw (is, one_more all i laid lt at, map-append (λ (f : FlatOverride). f.given) (take i all) (laid ∷ []), map-append given_of rows (row ∷ []), same)
       (one_stands default binary (map (λ (f : FlatOverride). f.given) (take i all)) (map given_of rows) laid.given kept.1),
 )
 
--- what holds of an option that has no value
-pub none_is : {A : Type 0} (P : Type 0) (Q : A → Type 0) (x : Option A) → ((y : A) → ¬ (x ≡ Some y)) → MatchOption x P Q → P
-none_is P Q None never p = p
-none_is P Q (Some y) never q = absurd (never y refl)
+-- one more override, which never applies
+pub one_left : (default : CompiledExpr) (binary : BinaryQuery) (all : List FlatOverride) (i : ℕ) (laid : FlatOverride) (rows : List ToldOverride) → i < length all → get_or all i laid ≡ laid
+    → NeverApplies default laid.given binary
+    → All (MayApply default binary) rows × StandFor default binary (map (λ (f : FlatOverride). f.given) (take i all)) (map given_of rows)
+    → All (MayApply default binary) rows × StandFor default binary (map (λ (f : FlatOverride). f.given) (take (i + 1) all)) (map given_of rows)
+one_left default binary all i laid rows lt at never kept = (
+  kept.0,
+  rw (one_more all i laid lt at, map-append (λ (f : FlatOverride). f.given) (take i all) (laid ∷ []))
+      (one_left_out default binary (map (λ (f : FlatOverride). f.given) (take i all)) (map given_of rows) laid.given never kept.1),
+)

@@ -1,6 +1,6 @@
 -- Packages that are named one after the other.
-use Rattle.std.proofs.Common.{◌≡◌, ◌+◌, ◌≤◌, List, [], ◌∷◌, ◌++◌, Bool, true, false, cond, ◌||◌, length, map, take, arith, refl, sym, ap, ◌∙◌, string_bytes, length-append, length-take}
-use Rattle.std.proofs.lemmas.List.{append-nil, length-map, take-append-le}
+use Rattle.std.proofs.Common.{◌≡◌, ◌+◌, ◌<◌, ◌≤◌, Bor, List, [], ◌∷◌, ◌++◌, Bool, true, false, cond, ◌||◌, length, map, take, arith, refl, sym, ap, ◌∙◌, string_bytes, length-append, length-take}
+use Rattle.std.proofs.lemmas.List.{append-nil, length-map, map-append, take-append-le, take_all}
 use Rattle.std.proofs.lemmas.List.Elements.{filter-append}
 use Rattle.std.proofs.lemmas.Map.Text.{is_eq-slice_cmp}
 use Rattle.std.specs.Cmp.Lexicographic.{slice_cmp}
@@ -29,6 +29,20 @@ one_other packages p old new names many same more =
     let longer = length-append packages (p ∷ []) in (
       ap (map (λ n. n.now)) same ∙ names.0 ∙ ap (map name_of) (sym (take-append-le 10 packages (p ∷ []) above)),
       omega (arith, more, names.1, above, longer),
+    )
+
+-- one more of fewer than ten
+pub one_named : (packages : List PackageMetadata) (p : PackageMetadata) (old new : NamedPackages) (name : Bor Text) → Names packages old → length old.names.items < 10
+    → name.now ≡ name_of p → new.names.items ≡ old.names.items ++ name ∷ [] → new.others ≡ old.others → Names (packages ++ p ∷ []) new
+one_named packages p old new name names few is more same =
+    let long = named_long packages old names in
+    let below : length packages < 10 = omega (arith, few, long, length-take 10 packages) in
+    let longer = length-append packages (p ∷ []) in
+    let whole : take 10 (packages ++ p ∷ []) ≡ packages ++ p ∷ [] = take_all 10 (packages ++ p ∷ []) (omega (arith, below, longer)) in
+    let before : take 10 packages ≡ packages = take_all 10 packages (omega (arith, below)) in (
+      ap (map (λ n. n.now)) more ∙ map-append (λ (n : Bor Text). n.now) old.names.items (name ∷ []) ∙ ap (λ ns. ns ++ name.now ∷ []) (names.0 ∙ ap (map name_of) before) ∙ ap (λ n. map name_of packages ++ n ∷ []) is
+          ∙ sym (map-append name_of packages (p ∷ [])) ∙ ap (map name_of) (sym whole),
+      omega (arith, same, names.1, below, longer),
     )
 
 -- a set is looked through for an id by its bytes

@@ -2,7 +2,6 @@
 ghost use Rattle.std.specs.Prelude.{◌≡◌, IfOk, List, map, zip};
 ghost use Rattle.filterset_expression.specs.Connectives.{kleene, kleene_not};
 ghost use Rattle.filterset_expression.specs.Contexts.{default_of};
-ghost use Rattle.filterset_expression.specs.Expression.{with_default};
 ghost use Rattle.filterset_expression.specs.Meaning.{IsCompiled};
 ghost use Rattle.filterset_faults.specs.declared.span.SourceSpan.{SourceSpan};
 ghost use Rattle.filterset_grammar.specs.Tree.{Tree};
@@ -65,21 +64,6 @@ impl<'e> Columns<'e> {
     }
 }
 
-/// Returns the context, or the plain one, which is cheaper, if the expression has the same value in it.
-fn context_for<'c, 'x>(
-    expr: &CompiledExpr,
-    context: &'c EvalContext<'x>,
-    plain: &'c EvalContext<'x>,
-) -> &'c EvalContext<'x>
-    ensures { with_default (default_of result.now) expr.now ≡ with_default (default_of context.now) expr.now }
-{
-    if expr.has_default_leaf() {
-        context
-    } else {
-        plain
-    }
-}
-
 /// Returns the values of a predicate.
 fn evaluate(
     alloc: Global,
@@ -91,12 +75,13 @@ fn evaluate(
         → HasColumn (record { packages = packages; default = default_of asked.now.context }) asked.now.subjects.now e values.items) }
 {
     let all = CompiledExpr::ALL;
-    let plain = EvalContext::new(&all);
-    let flat = FlatExpr::new(
-        alloc,
-        compiled,
-        context_for(compiled, &asked.context, &plain),
-    )?;
+    let context = if compiled.has_default_leaf() {
+        asked.context
+    } else {
+        // This is cheaper, and the values are the same.
+        EvalContext::new(&all)
+    };
+    let flat = FlatExpr::new(alloc, compiled, &context)?;
     let mut values = Vec::with_capacity(alloc, asked.subjects.len())?;
     for subject in asked.subjects {
         values.push(subject.ask(alloc, &flat)?)?;

@@ -1,11 +1,11 @@
 //! Why a filterset picks a test or not: the value of each node of its tree.
-ghost use Rattle.std.specs.Prelude.{◌≡◌, [], IfOk, OnOk, is_some, not};
+ghost use Rattle.std.specs.Prelude.{◌≡◌, IfOk, OnOk, is_some, not};
 ghost use Rattle.std.specs.List.{list_all};
 ghost use Rattle.filterset_expression.specs.Contexts.{default_of};
 ghost use Rattle.filterset_expression.specs.Meaning.{IsCompiled};
 ghost use Rattle.filterset_language.specs.Views.{tree_of};
 ghost use Rattle.filterset_listing.specs.Columns.{values_of};
-ghost use Rattle.filterset_listing.specs.Explaining.{AddsNode, Explains, ExplainsBy, IsExplanation, has_unknown, shared_value};
+ghost use Rattle.filterset_listing.specs.Explaining.{AddsNode, Explains, IsExplanation, has_unknown, shared_value};
 ghost use Rattle.filterset_listing.specs.SubjectValues.{may_be};
 
 pub mod candidate;
@@ -18,7 +18,7 @@ use crate::explaining::candidate::Candidate;
 use crate::explaining::packages::NamedPackages;
 use crate::groups::GroupOverride;
 use crate::needless::may_be;
-use crate::subjects::{Subject, subjects_for};
+use crate::subjects::subjects_for;
 use filterset_expression::{CompiledExpr, EvalContext};
 use filterset_graph::PackageGraph;
 use filterset_language::{ParsedExpr, ParsedNode};
@@ -133,29 +133,6 @@ fn has_unknown(nodes: &[ExplainedNode<'_>]) -> bool
     nodes.iter().any(|explained| explained.value.is_none())
 }
 
-/// Returns the nodes of a tree, each before its operands, with the values that they have for all of the subjects.
-fn explained_nodes<'t>(
-    alloc: Global,
-    graph: &'t PackageGraph,
-    tree: &'t ParsedExpr,
-    compiled: &CompiledExpr,
-    context: &EvalContext<'_>,
-    subjects: &[Subject<'_>],
-) -> Result<Vec<ExplainedNode<'t>>, AllocError>
-    ensures { IfOk result (λ nodes. IsCompiled graph.now (tree_of tree.now) compiled.now
-        → ExplainsBy (record { packages = graph.now; default = default_of context.now }) subjects.now 0
-        (tree_of tree.now) [] nodes.items) }
-{
-    let asked = Asked {
-        context: *context,
-        subjects,
-    };
-    let columns = columns_of(alloc, &asked, tree, compiled)?;
-    let mut nodes = Vec::new(alloc);
-    push_nodes(alloc, graph, 0, tree, &columns, &mut nodes)?;
-    Ok(nodes)
-}
-
 /// Explains a filterset for a binary or a test: returns the nodes of its tree, each before its operands, with its value.
 ///
 /// `compiled` is what the tree is compiled to. For a test a value is unknown if it depends on the group of the test, and
@@ -173,15 +150,16 @@ pub fn explain<'t, 'g>(
         → IsExplanation candidate.entry overrides.now graph.now (default_of context.now) (tree_of tree.now) explanation) }
 {
     let (subjects, path) = subjects_for(alloc, overrides, context, candidate)?;
-    let nodes = explained_nodes(alloc, graph, tree, compiled, context, &subjects)?;
-    if has_unknown(&nodes) {
-        return Ok(Explanation {
-            nodes,
-            unknown_platform: path,
-        });
-    }
+    let asked = Asked {
+        context: *context,
+        subjects: &subjects,
+    };
+    let columns = columns_of(alloc, &asked, tree, compiled)?;
+    let mut nodes = Vec::new(alloc);
+    push_nodes(alloc, graph, 0, tree, &columns, &mut nodes)?;
+    let unknown_platform = if has_unknown(&nodes) { path } else { None };
     Ok(Explanation {
         nodes,
-        unknown_platform: None,
+        unknown_platform,
     })
 }

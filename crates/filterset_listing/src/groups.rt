@@ -1,12 +1,12 @@
 //! Groups of tests, by overrides: what a filterset answers about a test that may be in several groups.
-ghost use Rattle.std.specs.Prelude.{◌≡◌, ◌↔◌, IfOk, IsTrue, List, MatchOption};
+ghost use Rattle.std.specs.Prelude.{◌≡◌, ◌↔◌, IfOk, IsTrue, List};
 ghost use Rattle.filterset_expression.specs.Contexts.{default_of};
 ghost use Rattle.filterset_expression.specs.Expression.{Holds};
 ghost use Rattle.filterset_expression.specs.FlatExpressions.{IsFlat, IsTold};
 ghost use Rattle.filterset_expression.specs.declared.expression.CompiledExpr as compiled;
 ghost use Rattle.filterset_listing.specs.Asking.{ExprPicks, in_group, is_no};
 ghost use Rattle.filterset_listing.specs.Groups.{Covers, IsAnswer, applies, known_of};
-ghost use Rattle.filterset_listing.specs.Overrides.{AreFor, AreLaid, AreTold, IsLaid, Joins, MayApply, NeverApplies, StepsOn, all_tests, given_of};
+ghost use Rattle.filterset_listing.specs.Overrides.{AreFor, AreLaid, AreTold, Joins, MayApply, StepsOn, all_tests, given_of};
 ghost use Rattle.filterset_listing.specs.declared.groups.GroupOverride as declared;
 
 use crate::lookup::OneGroup;
@@ -148,31 +148,6 @@ impl ToldOverride<'_, '_, '_> {
     }
 }
 
-/// Asks an override's filter about a binary. Returns `None` if the override applies to no test of the binary.
-fn tell<'o, 'g, 'f>(
-    alloc: Global,
-    laid: &'o FlatOverride<'g, 'f>,
-    query: &BinaryQuery<'_>,
-) -> Result<Option<ToldOverride<'o, 'g, 'f>>, AllocError>
-    ensures { IfOk result (λ row. (default : compiled.CompiledExpr) → IsLaid default laid.now
-        → MatchOption row (NeverApplies default laid.now.given query.now)
-        (λ r. (given_of r ≡ laid.now.given) × MayApply default query.now r)) }
-{
-    let applies = laid.given.applies(query.platform);
-    if is_no(applies) {
-        return Ok(None);
-    }
-    let told = laid.filter.matches_binary(alloc, query)?;
-    if is_no(told) {
-        return Ok(None);
-    }
-    Ok(Some(ToldOverride {
-        laid,
-        is_sure: applies.is_some(),
-        told,
-    }))
-}
-
 /// Returns those of the overrides that may apply to tests of a binary, each with the answer of its filter.
 pub fn told_overrides<'o, 'g, 'f>(
     alloc: Global,
@@ -184,9 +159,19 @@ pub fn told_overrides<'o, 'g, 'f>(
 {
     let mut rows = Vec::new(alloc);
     for laid in all {
-        if let Some(row) = tell(alloc, laid, query)? {
-            rows.push(row)?;
+        let applies = laid.given.applies(query.platform);
+        if is_no(applies) {
+            continue;
         }
+        let told = laid.filter.matches_binary(alloc, query)?;
+        if is_no(told) {
+            continue;
+        }
+        rows.push(ToldOverride {
+            laid,
+            is_sure: applies.is_some(),
+            told,
+        })?;
     }
     Ok(rows)
 }

@@ -1,12 +1,12 @@
 //! What a list of tests says of a filterset.
-ghost use Rattle.std.specs.Prelude.{◌≡◌, false, IfOk, List, [], map, true};
+ghost use Rattle.std.specs.Prelude.{◌≡◌, IfOk, List, map, true};
 ghost use Rattle.filterset_expression.specs.Contexts.{default_of};
 ghost use Rattle.filterset_expression.specs.Meaning.{IsCompiled};
 ghost use Rattle.filterset_graph.specs.declared.package.PackageMetadata.{PackageMetadata};
 ghost use Rattle.filterset_language.specs.Views.{tree_of};
-ghost use Rattle.filterset_listing.specs.Columns.{Fits, values_of};
+ghost use Rattle.filterset_listing.specs.Columns.{Fits};
 ghost use Rattle.filterset_listing.specs.Finding.{found_of, unmatched_of};
-ghost use Rattle.filterset_listing.specs.Needless.{AreNeedless, picks_by_all};
+ghost use Rattle.filterset_listing.specs.Needless.{AreNeedless};
 ghost use Rattle.filterset_listing.specs.SubjectValues.{Basis};
 ghost use Rattle.filterset_listing.specs.Unmatched.{AreUnmatched};
 
@@ -35,13 +35,6 @@ fn all_deciding(alloc: Global, subjects: &[Subject<'_>]) -> Result<Vec<bool>, Al
     subjects.iter().map(|_subject| true).collect(alloc)
 }
 
-/// Returns whether each predicate of a filterset matches a test, and so does the filterset.
-fn picks_by_all(unmatched: &[UnmatchedPredicate<'_>], columns: &Columns<'_>) -> bool
-    ensures { result ≡ picks_by_all (unmatched_of unmatched.now) (values_of columns.now) }
-{
-    unmatched.is_empty() && any_yes(columns.values())
-}
-
 /// Returns the needless operands of a filterset, of whose predicates these match no test.
 fn needless_of<'t>(
     alloc: Global,
@@ -54,11 +47,14 @@ fn needless_of<'t>(
         → AreNeedless basis subjects.now (tree_of tree.now) (unmatched_of unmatched.now) (found_of found.items)) }
 {
     let mut found = Vec::new(alloc);
-    if picks_by_all(unmatched, columns) {
-        let deciding = all_deciding(alloc, subjects)?;
-        find_needless(alloc, tree, columns, &deciding, false, &mut found)?;
+    if !unmatched.is_empty() {
         return Ok(found);
     }
+    if !any_yes(columns.values()) {
+        return Ok(found);
+    }
+    let deciding = all_deciding(alloc, subjects)?;
+    find_needless(alloc, tree, columns, &deciding, false, &mut found)?;
     Ok(found)
 }
 

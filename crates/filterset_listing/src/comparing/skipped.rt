@@ -1,7 +1,6 @@
 //! Binaries that nextest skipped, by the answers of two filtersets about them.
 ghost use Rattle.std.specs.Prelude.{◌≡◌, ◌++◌, OnOk, string_bytes};
-ghost use Rattle.std.specs.List.{count_by, flat_map};
-ghost use Rattle.filterset_listing.specs.ComparisonText.{id_line, is_skipped_in, skipped_text};
+ghost use Rattle.filterset_listing.specs.ComparisonText.{is_skipped_in, skipped_text};
 
 use crate::comparing::{BinaryDifference, Part};
 use std::alloc::AllocError;
@@ -16,29 +15,6 @@ impl BinaryDifference<'_> {
     }
 }
 
-/// Counts the skipped binaries of a part.
-fn skipped_count(all: &[BinaryDifference<'_>], part: Part) -> usize
-    ensures { result ≡ count_by (is_skipped_in part) all.now }
-{
-    all.iter()
-        .filter(|difference| difference.is_skipped_in(part))
-        .count()
-}
-
-/// Writes the ids of the skipped binaries of a part, a line each.
-fn push_ids(output: &mut String, all: &[BinaryDifference<'_>], part: Part) -> Result<(), AllocError>
-    ensures { OnOk result (string_bytes output.new
-        ≡ string_bytes output.old ++ flat_map (id_line part) all.now) }
-{
-    for difference in all {
-        if difference.is_skipped_in(part) {
-            let id = difference.binary.query.binary_id.as_str();
-            writeln!(output, "    {id}")?;
-        }
-    }
-    Ok(())
-}
-
 /// Writes the number of the skipped binaries of a part, and with `has_names` their ids, unless there are none.
 pub fn push_skipped(
     output: &mut String,
@@ -50,13 +26,21 @@ pub fn push_skipped(
     ensures { OnOk result (string_bytes output.new
         ≡ string_bytes output.old ++ skipped_text has_names heading.now part all.now) }
 {
-    let count = skipped_count(all, part);
+    let count = all
+        .iter()
+        .filter(|difference| difference.is_skipped_in(part))
+        .count();
     if count == 0 {
         return Ok(());
     }
     writeln!(output, "{heading}: {count}")?;
     if has_names {
-        push_ids(output, all, part)?;
+        for difference in all {
+            if difference.is_skipped_in(part) {
+                let id = difference.binary.query.binary_id.as_str();
+                writeln!(output, "    {id}")?;
+            }
+        }
     }
     Ok(())
 }

@@ -6,7 +6,7 @@ ghost use Rattle.filterset_faults.specs.declared.span.SourceSpan.{SourceSpan};
 ghost use Rattle.filterset_graph.specs.declared.package.PackageMetadata.{PackageMetadata};
 ghost use Rattle.filterset_grammar.specs.Tree.{Tree};
 ghost use Rattle.filterset_listing.specs.Comparing.{IsBinaryDifference, TellsDifference, TellsUnknown, tests_in};
-ghost use Rattle.filterset_listing.specs.ComparisonText.{comparison_text, differs, has_unknown, named_line, named_lines, part_text};
+ghost use Rattle.filterset_listing.specs.ComparisonText.{comparison_text, differs, has_unknown, part_text};
 ghost use Rattle.filterset_listing.specs.Pickers.{expr_picker, tree_picker};
 ghost use Rattle.filterset_listing.specs.declared.binary.AskedBinary.{AskedBinary};
 ghost use Rattle.filterset_listing.specs.declared.groups.GroupOverride.{GroupOverride};
@@ -14,7 +14,7 @@ ghost use Rattle.filterset_listing.specs.declared.groups.GroupOverride.{GroupOve
 use crate::comparing::skipped::push_skipped;
 use crate::comparing::{BinaryDifference, Part};
 use crate::counting::{add_count, push_some};
-use filterset_graph::{RustBinaryId, TestCaseName};
+use filterset_graph::TestCaseName;
 use std::alloc::{AllocError, Global};
 use std::fmt::Write;
 
@@ -50,53 +50,6 @@ impl<'s> BinaryDifference<'s> {
     }
 }
 
-/// Counts the tests of one part.
-fn part_count(all: &[BinaryDifference<'_>], part: Part) -> Result<usize, AllocError>
-    ensures { IfOk result (λ count. count ≡ sum_by (λ d. length (tests_in part d)) all.now) }
-{
-    let mut count = 0;
-    for difference in all {
-        count = add_count(count, difference.part(part).len())?;
-    }
-    Ok(count)
-}
-
-/// Writes tests, a line each, after the id of their binary.
-fn push_named(
-    output: &mut String,
-    id: &RustBinaryId,
-    tests: &[&TestCaseName],
-) -> Result<(), AllocError>
-    ensures { OnOk result (string_bytes output.new
-        ≡ string_bytes output.old ++ flat_map (named_line id.now) (map (λ t. t.now) tests.now)) }
-{
-    let id = id.as_str();
-    for test in tests {
-        let test = test.as_str();
-        writeln!(output, "    {id} {test}")?;
-    }
-    Ok(())
-}
-
-/// Writes the tests of one part of all binaries.
-fn push_all_named(
-    output: &mut String,
-    all: &[BinaryDifference<'_>],
-    part: Part,
-) -> Result<(), AllocError>
-    ensures { OnOk result (string_bytes output.new
-        ≡ string_bytes output.old ++ flat_map (named_lines part) all.now) }
-{
-    for difference in all {
-        push_named(
-            output,
-            difference.binary.query.binary_id,
-            difference.part(part),
-        )?;
-    }
-    Ok(())
-}
-
 /// Writes the number of the tests of one part, and with `has_names` the tests.
 fn push_part(
     output: &mut String,
@@ -108,10 +61,19 @@ fn push_part(
     ensures { OnOk result (string_bytes output.new
         ≡ string_bytes output.old ++ part_text has_names heading.now part all.now) }
 {
-    let count = part_count(all, part)?;
+    let mut count = 0;
+    for counted in all {
+        count = add_count(count, counted.part(part).len())?;
+    }
     writeln!(output, "{heading}: {count}")?;
     if has_names {
-        push_all_named(output, all, part)?;
+        for difference in all {
+            let id = difference.binary.query.binary_id.as_str();
+            for test in difference.part(part) {
+                let test = test.as_str();
+                writeln!(output, "    {id} {test}")?;
+            }
+        }
     }
     Ok(())
 }
@@ -177,13 +139,6 @@ pub fn comparison_text(
     Ok(text)
 }
 
-/// Returns whether the filtersets differ on one of the binaries.
-fn any_differs(all: &[BinaryDifference<'_>]) -> bool
-    ensures { result ≡ list_any differs all.now }
-{
-    all.iter().any(|difference| difference.differs())
-}
-
 /// Returns whether one of the two filtersets picks a test that the other does not, or may pick one that nextest did not
 /// list: they do not decide a skipped binary alike. Tests that are unknown to one of them do not count.
 pub fn differ(all: &[BinaryDifference<'_>]) -> bool
@@ -199,7 +154,7 @@ pub fn differ(all: &[BinaryDifference<'_>]) -> bool
         → TellsDifference (tree_picker packages default overrides one) (tree_picker packages default overrides other)
         binaries result }
 {
-    any_differs(all)
+    all.iter().any(|difference| difference.differs())
 }
 
 /// Returns whether a test of the binaries is unknown.

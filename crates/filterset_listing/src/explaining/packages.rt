@@ -1,15 +1,14 @@
 //! The packages that a predicate matches, by name.
-ghost use Rattle.std.specs.Prelude.{◌≡◌, ◌++◌, ◌∷◌, [], IfOk, List, OnOk, string_bytes};
+ghost use Rattle.std.specs.Prelude.{IfOk};
 ghost use Rattle.filterset_faults.specs.declared.span.SourceSpan.{SourceSpan};
 ghost use Rattle.filterset_grammar.specs.Tree.{Leaf, Set};
-ghost use Rattle.filterset_graph.specs.declared.package.PackageMetadata as declared;
 ghost use Rattle.filterset_listing.specs.Columns.{Keeps};
 ghost use Rattle.filterset_listing.specs.NamedPackages.{Names, NamesPackages, members};
 
 use crate::columns::Columns;
 use crate::counting::add_count;
 use filterset_expression::{CompiledExpr, FiltersetLeaf};
-use filterset_graph::{PackageGraph, PackageId, PackageMetadata};
+use filterset_graph::{PackageGraph, PackageId};
 use std::alloc::{AllocError, Global};
 use std::collections::BTreeSet;
 
@@ -25,37 +24,6 @@ pub struct NamedPackages<'g> {
     pub others: usize,
 }
 
-impl<'g> NamedPackages<'g> {
-    /// Adds a package: by name if fewer than ten are named, and otherwise to the number of the others.
-    fn push(&mut self, name: &'g str) -> Result<(), AllocError>
-        ensures { OnOk result ((packages : List declared.PackageMetadata) (p : declared.PackageMetadata)
-            → Names packages self.old → string_bytes p.name ≡ name.entry.now → Names (packages ++ p ∷ []) self.new) }
-    {
-        if self.names.len() < NAMED {
-            self.names.push(name)?;
-            return Ok(());
-        }
-        self.others = add_count(self.others, 1)?;
-        Ok(())
-    }
-
-    /// Adds a package if its id is in the set.
-    fn push_member(
-        &mut self,
-        ids: &BTreeSet<PackageId>,
-        metadata: &'g PackageMetadata,
-    ) -> Result<(), AllocError>
-        ensures { OnOk result ((packages : List declared.PackageMetadata)
-            → Names (members ids.now.keys packages) self.old
-            → Names (members ids.now.keys (packages ++ metadata.entry.now ∷ [])) self.new) }
-    {
-        if ids.contains(&metadata.id) {
-            return self.push(metadata.name());
-        }
-        Ok(())
-    }
-}
-
 /// Names the packages of the graph whose ids are in the set, in the order of the graph.
 fn name_members<'g>(
     alloc: Global,
@@ -69,7 +37,14 @@ fn name_members<'g>(
         others: 0,
     };
     for package in graph.packages() {
-        named.push_member(ids, package)?;
+        if !ids.contains(&package.id) {
+            continue;
+        }
+        if named.names.len() < NAMED {
+            named.names.push(package.name())?;
+            continue;
+        }
+        named.others = add_count(named.others, 1)?;
     }
     Ok(named)
 }

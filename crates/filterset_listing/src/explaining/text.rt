@@ -2,7 +2,7 @@
 ghost use Rattle.std.specs.Prelude.{◌≡◌, ◌++◌, ◌-◌, IfOk, OnOk, string_bytes};
 ghost use Rattle.std.specs.List.{flat_map};
 ghost use Rattle.filterset_language.specs.Views.{tree_of};
-ghost use Rattle.filterset_listing.specs.ExplanationText.{explained_line, explanation_text, head, indented_by, packages_part, value_text};
+ghost use Rattle.filterset_listing.specs.ExplanationText.{explained_line, explanation_text, head, indented_by, packages_part};
 
 use crate::counting::push_some;
 use crate::explaining::packages::NamedPackages;
@@ -10,17 +10,6 @@ use crate::explaining::{ExplainedNode, Explanation};
 use filterset_language::ParsedExpr;
 use std::alloc::{AllocError, Global};
 use std::fmt::Write;
-
-/// Returns the word for a value.
-fn value_text(value: Option<bool>) -> &'static str
-    ensures { result.now ≡ value_text value }
-{
-    match value {
-        Some(true) => "yes",
-        Some(false) => "no",
-        None => "unknown",
-    }
-}
 
 /// Prints a node without its operands: an operator as the text spells it, or a predicate.
 fn head(alloc: Global, node: &ParsedExpr) -> Result<String, AllocError>
@@ -77,7 +66,11 @@ fn push_explained(
 {
     let indentation = indentation(alloc, explained.depth)?;
     let head = head(alloc, explained.node)?;
-    let value = value_text(explained.value);
+    let value = match explained.value {
+        Some(true) => "yes",
+        Some(false) => "no",
+        None => "unknown",
+    };
     write!(output, "{indentation}{head}: {value}")?;
     push_packages(output, alloc, &explained.packages)?;
     output.push('\n')

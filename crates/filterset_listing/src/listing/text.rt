@@ -1,7 +1,7 @@
 //! The tests of a list that a filterset picks, as text.
-ghost use Rattle.std.specs.Prelude.{◌≡◌, ◌++◌, IfOk, OnOk, codes, if◌then◌else◌, length, string_bytes, []};
-ghost use Rattle.std.specs.List.{count_by, flat_map, sum_by};
-ghost use Rattle.filterset_listing.specs.ListText.{counts_line, has_tests, has_unknown, is_open, list_text, picks_text, shown_text};
+ghost use Rattle.std.specs.Prelude.{◌≡◌, ◌++◌, IfOk, OnOk, length, string_bytes};
+ghost use Rattle.std.specs.List.{count_by, sum_by};
+ghost use Rattle.filterset_listing.specs.ListText.{counts_line, has_tests, has_unknown, is_open, list_text, shown_text};
 ghost use Rattle.filterset_listing.specs.Listing.{uncounted_of};
 
 use crate::counting::{add_count, push_some};
@@ -33,19 +33,16 @@ impl BinaryPicks<'_, '_> {
     }
 }
 
-/// Returns what the text writes in place of tests that the list does not have.
-fn skipped_line(is_open: bool) -> &'static str
-    ensures { result.now ≡ (if is_open then codes "    (skipped)\n" else []) }
-{
-    if is_open { "    (skipped)\n" } else { "" }
-}
-
 /// Writes the id of a binary, and under it the tests that the filterset picks, and those that are unknown.
 fn push_shown(output: &mut String, picks: &BinaryPicks<'_, '_>) -> Result<(), AllocError>
     ensures { OnOk result (string_bytes output.new ≡ string_bytes output.old ++ shown_text picks.now) }
 {
     let id = picks.binary.query.binary_id.as_str();
-    let skipped = skipped_line(picks.is_open());
+    let skipped = if picks.is_open() {
+        "    (skipped)\n"
+    } else {
+        ""
+    };
     write!(output, "{id}:\n{skipped}")?;
     for test in &picks.tests {
         let test = test.as_str();
@@ -57,38 +54,6 @@ fn push_shown(output: &mut String, picks: &BinaryPicks<'_, '_>) -> Result<(), Al
         writeln!(output, "    {test} (unknown: platform of {path})")?;
     }
     Ok(())
-}
-
-/// Writes what is picked of a binary, if tests are picked or unknown or nextest skipped the binary.
-fn push_picks(output: &mut String, picks: &BinaryPicks<'_, '_>) -> Result<(), AllocError>
-    ensures { OnOk result (string_bytes output.new ≡ string_bytes output.old ++ picks_text picks.now) }
-{
-    if picks.is_open() || picks.has_tests() || picks.has_unknown() {
-        push_shown(output, picks)?;
-    }
-    Ok(())
-}
-
-/// Writes the tests of all binaries that the filterset picks.
-fn push_all_picks(output: &mut String, all: &[BinaryPicks<'_, '_>]) -> Result<(), AllocError>
-    ensures { OnOk result (string_bytes output.new
-        ≡ string_bytes output.old ++ flat_map picks_text all.now) }
-{
-    for picks in all {
-        push_picks(output, picks)?;
-    }
-    Ok(())
-}
-
-/// Counts the tests that the filterset picks.
-fn test_count(all: &[BinaryPicks<'_, '_>]) -> Result<usize, AllocError>
-    ensures { IfOk result (λ count. count ≡ sum_by (λ s. length s.tests.items) all.now) }
-{
-    let mut count = 0;
-    for picks in all {
-        count = add_count(count, picks.tests.len())?;
-    }
-    Ok(count)
 }
 
 /// Counts the unknown tests.
@@ -132,7 +97,10 @@ fn left_out_count(all: &[BinaryPicks<'_, '_>]) -> usize
 fn push_counts(output: &mut String, all: &[BinaryPicks<'_, '_>]) -> Result<(), AllocError>
     ensures { OnOk result (string_bytes output.new ≡ string_bytes output.old ++ counts_line all.now) }
 {
-    let tests = test_count(all)?;
+    let mut tests = 0;
+    for picks in all {
+        tests = add_count(tests, picks.tests.len())?;
+    }
     let (binaries, left_out) = (binary_count(all), left_out_count(all));
     write!(
         output,
@@ -154,7 +122,11 @@ pub fn list_text(alloc: Global, all: &[BinaryPicks<'_, '_>]) -> Result<String, A
     ensures { IfOk result (λ text. string_bytes text ≡ list_text all.now) }
 {
     let mut text = String::new(alloc);
-    push_all_picks(&mut text, all)?;
+    for picks in all {
+        if picks.is_open() || picks.has_tests() || picks.has_unknown() {
+            push_shown(&mut text, picks)?;
+        }
+    }
     push_counts(&mut text, all)?;
     Ok(text)
 }

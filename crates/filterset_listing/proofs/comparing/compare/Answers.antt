@@ -1,4 +1,4 @@
-use Rattle.std.proofs.Common.{rules, arith, ◌≡◌, ◌<◌, ◌∷◌, [], length, get_or, subst, sym, take}
+use Rattle.std.proofs.Common.{◌∷◌, [], subst, sym, take}
 use Rattle.std.proofs.lemmas.List.{take_all}
 use Rattle.filterset_expression.specs.Contexts.{default_of}
 use Rattle.filterset_listing.specs.Comparing.{IsBinaryDifference}
@@ -20,14 +20,12 @@ loop-binary-preserved c =
     let binaries = c.args.binaries.now in
     let i = c.loop-binary.binary-index in
     let binary = c.binary-item.result in
-    let lt : i < length binaries = omega (arith, c.loop-binary-test.true) in
-    let at : get_or binaries i binary ≡ binary = search (rules, c.binary-item.is) in
     let laid = subst (AreLaid default used) (sym c.deref.ensures.value) c.in_ok-laid.ensures in
     let is = c.in_ok-difference_of.ensures first second default used is_first is_second laid in
     let own = all_differences_alike (expr_picker default used first) (expr_picker default overrides first) (expr_picker default used second) (expr_picker default overrides second)
     (used_alike c.in_ok-first.first default overrides used first is_first c.overrides_for_both.ensures.first)
     (used_alike c.in_ok-second.second default overrides used second is_second c.overrides_for_both.ensures.second) (binary ∷ []) (c.in_ok-difference_of.field-0 ∷ []) (is, tt) in
-    rw (c.in_ok-push.ensures.items, one_more binaries i binary lt at)
+    rw (c.in_ok-push.ensures.items, one_more binaries i binary c.loop-binary-test.true (sym c.binary-item.is))
     (AllZip-push (IsBinaryDifference (expr_picker default overrides first) (expr_picker default overrides second)) (take i binaries) _ binary _ c.loop-binary.invariant own.0)
 
 pub returns-clause-picks : goal.returns-clause-picks

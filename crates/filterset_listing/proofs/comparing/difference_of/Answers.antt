@@ -1,4 +1,4 @@
-use Rattle.std.proofs.Common.{rules, arith, ◌≡◌, ◌<◌, ◌++◌, ◌∙◌, ap, length, get_or, refl, subst, sym, take}
+use Rattle.std.proofs.Common.{rules, ◌≡◌, ◌++◌, ◌∙◌, ap, get_or, refl, subst, sym, take}
 use Rattle.std.proofs.lemmas.List.{take_all}
 use Rattle.filterset_listing.specs.Comparing.{is_of, tests_in}
 use Rattle.filterset_listing.specs.Groups.{known_of}
@@ -34,7 +34,6 @@ loop-test-preserved c =
     let binary = c.args.binary.now.query in
     let kept = c.loop-test.invariant in
     let push = c.in_ok-push.ensures in
-    let lt : i < length tests = omega (arith, c.loop-test-test.true) in
     let at : get_or tests i test ≡ test = search (rules, c.test-item.is) in (
       push.binary ∙ kept.0,
       push.first_answer ∙ kept.1,
@@ -42,7 +41,7 @@ loop-test-preserved c =
       λ one other default given is_one is_other laid.
           let told = subst (AreTold default given binary) (sym c.deref.ensures.value) (c.in_ok-rows.ensures default given laid) in
           let told-2 = subst (AreTold default given binary) (sym c.deref-in-loop-test.ensures.value) (c.in_ok-rows.ensures default given laid) in
-          rw (one_more tests i test lt at)
+          rw (one_more tests i test c.loop-test-test.true at)
           (Divides-push _ _ (take i tests) test _ _ c.in_ok-by_first.by_first c.in_ok-by_second.by_second (kept.3 one other default given is_one is_other laid)
           (says_of default one given _ binary test _ refl refl (c.in_ok-by_first.ensures one default given is_one told))
           (says_of default other given _ binary test _ refl refl (c.in_ok-by_second.ensures other default given is_other told-2))

@@ -1,4 +1,4 @@
-use Rattle.std.proofs.Common.{arith, ◌≡◌, ◌<◌, ◌+◌, length, get_or, drop, map, ap, refl, subst, sym}
+use Rattle.std.proofs.Common.{◌+◌, drop, map, ap, refl, subst, sym}
 use Rattle.std.proofs.lemmas.List.{drop_all}
 use Rattle.filterset_expression.specs.FlatExpressions.{IsTold}
 use Rattle.filterset_listing.specs.Asking.{ExprPicks}
@@ -19,13 +19,11 @@ returns-in-Decided c expr default overrides is told =
     let rows = c.args.rows.now in
     let i = c.loop-row.row-index in
     let row = c.row-item.result in
-    let lt : i < length rows = omega (arith, c.loop-row-test.true) in
-    let at : get_or rows i row ≡ row = sym c.row-item.is in
-    let steps = c.in_ok-answer.ensures expr default is (row_at default query.binary_query rows i row lt at told.0) in
+    let steps = c.in_ok-answer.ensures expr default is (row_at default query.binary_query rows i row c.loop-row-test.true (sym c.row-item.is) told.0) in
     let ends = rw c.in-Decided.is at steps in
     answer_same default query.binary_query overrides (map given_of rows) query Is c.in-Decided.answer told.1 refl
     (c.loop-row.invariant expr default is told.0 c.in-Decided.answer
-    (from_row default query Is c.loop-row.seen rows i row c.in-Decided.answer lt at (ends (map given_of (drop (i + 1) rows)))))
+    (from_row default query Is c.loop-row.seen rows i row c.in-Decided.answer c.loop-row-test.true (sym c.row-item.is) (ends (map given_of (drop (i + 1) rows)))))
 
 pub loop-row-preserved : goal.loop-row-preserved
 loop-row-preserved c expr default is may answer finishes =
@@ -34,12 +32,10 @@ loop-row-preserved c expr default is may answer finishes =
     let rows = c.args.rows.now in
     let i = c.loop-row.row-index in
     let row = c.row-item.result in
-    let lt : i < length rows = omega (arith, c.loop-row-test.true) in
-    let at : get_or rows i row ≡ row = sym c.row-item.is in
-    let steps = c.in_ok-answer.ensures expr default is (row_at default query.binary_query rows i row lt at may) in
+    let steps = c.in_ok-answer.ensures expr default is (row_at default query.binary_query rows i row c.loop-row-test.true (sym c.row-item.is) may) in
     let goes_on = rw c.in-Open.is at steps in
     c.loop-row.invariant expr default is may answer
-    (from_row default query Is c.loop-row.seen rows i row answer lt at (goes_on (map given_of (drop (i + 1) rows)) answer finishes))
+    (from_row default query Is c.loop-row.seen rows i row answer c.loop-row-test.true (sym c.row-item.is) (goes_on (map given_of (drop (i + 1) rows)) answer finishes))
 
 pub returns : goal.returns
 returns c expr default overrides is told =

@@ -1,4 +1,4 @@
-use Rattle.std.proofs.Common.{arith, ◌≡◌, ◌<◌, ◌∙◌, length, get_or, ap, refl, subst, sym}
+use Rattle.std.proofs.Common.{◌∙◌, ap, refl, subst, sym}
 use Rattle.filterset_expression.specs.Contexts.{default_of}
 use Rattle.filterset_expression.specs.FlatExpressions.{IsFlat}
 use Rattle.filterset_expression.specs.declared.expression.CompiledExpr.{CompiledExpr}
@@ -11,8 +11,6 @@ loop-given-preserved c =
     let i = c.loop-given.given-index in
     let given = c.given-item.result in
     let default = default_of c.args.context.now in
-    let lt : i < length overrides = omega (arith, c.loop-given-test.true) in
-    let at : get_or overrides i given ≡ given = sym c.given-item.is in
     let filter = ap (λ f. f.now) c.unwrap_or.ensures ∙ or_all given.filter c.args.all c.requires in
-    one_laid default overrides i given c.loop-given.laid.items c.push.new.self.items (record { given = given; filter = c.in_ok-filter.filter }) lt at c.in_ok-push.ensures.items refl
+    one_laid default overrides i given c.loop-given.laid.items c.push.new.self.items (record { given = given; filter = c.in_ok-filter.filter }) c.loop-given-test.true (sym c.given-item.is) c.in_ok-push.ensures.items refl
     (subst (λ (e : CompiledExpr). IsFlat c.in_ok-filter.filter e default) filter c.in_ok-filter.ensures.flat) c.loop-given.invariant

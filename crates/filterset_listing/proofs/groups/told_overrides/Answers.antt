@@ -1,36 +1,38 @@
-use Rattle.std.proofs.Common.{arith, ◌≡◌, ◌<◌, ◌∙◌, Some, None, length, get_or, map, ap, subst, sym}
-use Rattle.std.specs.Prelude.{All, MatchOption}
-use Rattle.std.proofs.lemmas.List.{append-nil, take_all}
-use Rattle.filterset_expression.specs.declared.expression.CompiledExpr.{CompiledExpr}
-use Rattle.filterset_listing.specs.Overrides.{IsLaid, MayApply, NeverApplies, SameGroups, given_of}
+use Rattle.std.proofs.Common.{arith, ◌∙◌, Some, None, true, cond, map, ap, refl, subst, sym}
+use Rattle.std.proofs.lemmas.List.{take_all}
+use Rattle.filterset_listing.specs.Overrides.{IsLaid, SameGroups, given_of}
 use Rattle.filterset_listing.specs.declared.groups.FlatOverride.{FlatOverride}
-use Rattle.filterset_listing.specs.declared.groups.ToldOverride.{ToldOverride}
-use Rattle.filterset_listing.proofs.GroupLemmas.{all_stand, none_is, one_told}
+use Rattle.filterset_listing.proofs.GroupLemmas.{all_stand, never_applied, never_told, one_left, one_told, sure_of, told_of}
+use Rattle.filterset_listing.proofs.ListingLemmas.{is_no_alone}
 use Rattle.filterset_listing.proofs.groups.told_overrides.Goals as goal
-use Rattle.filterset_listing.proofs.groups.told_overrides.Goals.{in-Some+in_ok-push, in_default}
+
+pub loop-laid-preserved-then-is_no : goal.loop-laid-preserved-then-is_no
+loop-laid-preserved-then-is_no c = λ default are.
+    let all = c.args.all.now in
+    let laid = c.laid-item.result in
+    let none = (is_no_alone c.applies-applies.result).0 (sym c.is_no.ensures ∙ c.if-is_no.true) in
+    one_left default c.args.query.now all c.loop-laid.laid-index laid c.loop-laid.rows.items (omega (arith, c.loop-laid-test.true)) (sym c.laid-item.is)
+    (never_applied default laid.given c.args.query.now (sym c.applies-applies.ensures ∙ none)) (c.loop-laid.invariant default are)
+
+pub loop-laid-preserved-then-is_no-2 : goal.loop-laid-preserved-then-is_no-2
+loop-laid-preserved-then-is_no-2 c = λ default are.
+    let all = c.args.all.now in
+    let i = c.loop-laid.laid-index in
+    let laid = c.laid-item.result in
+    let told = told_of default laid c.args.query.now c.in_ok-told.told (subst (IsLaid default) (sym c.laid-item.is) (are i laid c.loop-laid-test.true)) c.in_ok-told.ensures.told in
+    one_left default c.args.query.now all i laid c.loop-laid.rows.items c.loop-laid-test.true (sym c.laid-item.is)
+    (never_told default laid.given c.args.query.now c.in_ok-told.told told ((is_no_alone c.in_ok-told.told).0 (sym c.is_no-in-loop-laid.ensures ∙ c.if-is_no-2.true))) (c.loop-laid.invariant default are)
 
 pub loop-laid-preserved : goal.loop-laid-preserved
-loop-laid-preserved c =
+loop-laid-preserved c = λ default are.
     let all = c.args.all.now in
     let query = c.args.query.now in
     let i = c.loop-laid.laid-index in
     let laid = c.laid-item.result in
-    let lt : i < length all = omega (arith, c.loop-laid-test.true) in
-    let at : get_or all i laid ≡ laid = sym c.laid-item.is in
-    let row = c.in_ok-row.field-0 in
-    let never = λ (default : CompiledExpr). NeverApplies default laid.given query in
-    let may = λ (default : CompiledExpr) (r : ToldOverride). (given_of r ≡ laid.given) × MayApply default query r in
-    let told = λ (default : CompiledExpr) (are : All (IsLaid default) all). c.in_ok-row.ensures default (subst (IsLaid default) at (are i laid lt)) in
-    elim c.match-branch-2.branch [
-      | in-Some+in_ok-push w ↦ (λ default are.
-          one_told default query all i laid c.loop-laid.rows.items c.match-branch-2.rows.items (Some w.in-Some.row) lt at
-          (ap (λ r. r.items) w.rows-is ∙ w.in_ok-push.ensures.items)
-          (subst (λ r. MatchOption r (never default) (may default)) w.in-Some.is (told default are)) (c.loop-laid.invariant default are))
-      | in_default w ↦ (λ default are.
-          one_told default query all i laid c.loop-laid.rows.items c.match-branch-2.rows.items None lt at
-          (ap (λ r. r.items) w.rows-is ∙ sym (append-nil c.loop-laid.rows.items))
-          (none_is (never default) (may default) row w.in_default.not-Some (told default are)) (c.loop-laid.invariant default are))
-    ]
+    let is = subst (IsLaid default) (sym c.laid-item.is) (are i laid c.loop-laid-test.true) in
+    let told = told_of default laid query c.in_ok-told.told is c.in_ok-told.ensures.told in
+    let sure = sym c.applies-applies.ensures ∙ sure_of c.applies-applies.result (sym c.is_no.ensures ∙ c.if-is_no.false) ∙ ap (λ b. cond b (Some true) None) (sym c.is_some.ensures) in
+    one_told default query all i laid c.loop-laid.rows.items _ _ c.loop-laid-test.true (sym c.laid-item.is) c.in_ok-push.ensures.items refl (is, told, sure) (c.loop-laid.invariant default are)
 
 pub returns : goal.returns
 returns c default overrides are =

@@ -1,4 +1,4 @@
-use Rattle.std.proofs.Common.{arith, ◌≡◌, ◌<◌, ◌∷◌, [], length, get_or, subst, sym, take}
+use Rattle.std.proofs.Common.{◌∷◌, [], subst, sym, take}
 use Rattle.std.proofs.lemmas.List.{take_all}
 use Rattle.filterset_expression.specs.Contexts.{default_of}
 use Rattle.filterset_expression.proofs.Meanings.{alike, compiled_means}
@@ -22,12 +22,10 @@ loop-binary-preserved c =
     let binaries = c.args.binaries.now in
     let i = c.loop-binary.binary-index in
     let binary = c.binary-item.result in
-    let lt : i < length binaries = omega (arith, c.loop-binary-test.true) in
-    let at : get_or binaries i binary ≡ binary = sym c.binary-item.is in
     let is = c.in_ok-picks_of.ensures expr default used flat.ensures.flat (subst (AreLaid default used) (sym c.deref.ensures.value) c.in_ok-laid.ensures) in
     let own = all_answers_alike (Says default used (ExprPicks default expr)) (Says default overrides (ExprPicks default expr)) (ExprCanPick default expr) (ExprCanPick default expr)
     (says_for flat.flat expr default overrides used flat.ensures.flat c.overrides_for.ensures) (λ b. alike (ExprCanPick default expr b)) (binary ∷ []) (c.in_ok-picks_of.field-0 ∷ []) (is, tt) in
-    rw (c.in_ok-push.ensures.items, one_more binaries i binary lt at)
+    rw (c.in_ok-push.ensures.items, one_more binaries i binary c.loop-binary-test.true (sym c.binary-item.is))
     (AllZip-push (IsBinaryPicks (Says default overrides (ExprPicks default expr)) (ExprCanPick default expr)) (take i binaries) _ binary _ c.loop-binary.invariant own.0)
 
 pub returns-clause-picks : goal.returns-clause-picks

@@ -1,4 +1,4 @@
-use Rattle.std.proofs.Common.{arith, ◌≡◌, ◌<◌, ◌∙◌, false, length, get_or, refl, subst, sym, take}
+use Rattle.std.proofs.Common.{◌≡◌, ◌∙◌, false, get_or, refl, subst, sym, take}
 use Rattle.std.proofs.lemmas.List.{take_all}
 use Rattle.filterset_listing.specs.Asking.{ExprPicks}
 use Rattle.filterset_listing.specs.Groups.{Says}
@@ -27,14 +27,13 @@ loop-test-preserved c =
     let binary = c.args.binary.now.query in
     let kept = c.loop-test.invariant in
     let push = c.in_ok-push.ensures in
-    let lt : i < length tests = omega (arith, c.loop-test-test.true) in
     let at : get_or tests i test ≡ test = sym c.test-item.is in (
       push.binary ∙ kept.0,
       push.is_left_out ∙ kept.1,
       λ expr default given flat laid.
           let told = subst (AreTold default given binary) (sym c.deref.ensures.value) (c.in_ok-rows.ensures default given laid) in
           let says = says_of default expr given _ binary test c.in_ok-answer.answer refl refl (c.in_ok-answer.ensures expr default given flat told) in
-          rw (push.tests, push.unknown, one_more tests i test lt at)
+          rw (push.tests, push.unknown, one_more tests i test c.loop-test-test.true at)
           (Picked-push (Says default given (ExprPicks default expr) binary) (take i tests) test _ _ c.in_ok-answer.answer (kept.2 expr default given flat laid) says),
     )
 

@@ -1,4 +1,4 @@
-use Rattle.std.proofs.Common.{arith, ◌≡◌, ◌<◌, ◌∷◌, [], ◌++◌, length, get_or, refl, subst, sym, take}
+use Rattle.std.proofs.Common.{◌∷◌, [], ◌++◌, refl, subst, sym, take}
 use Rattle.std.proofs.lemmas.List.{append-nil, take_all}
 use Rattle.filterset_listing.proofs.ListingLemmas.{one_more}
 use Rattle.filterset_listing.specs.Subjects.{AreOfName, Parts, no_parts, of_listed, of_skipped}
@@ -13,13 +13,11 @@ loop-name-preserved c default overrides are =
     let names = c.args.binary.now.tests.now in
     let i = c.loop-name.name-index in
     let name = c.name-item.result in
-    let lt : i < length names = omega (arith, c.loop-name-test.true) in
-    let at : get_or names i name ≡ name = sym c.name-item.is in
     let before = c.loop-name.invariant default overrides are in
     let one = c.in_ok-push_test.ensures default overrides (rw c.deref.ensures.value (c.in_ok-rows.ensures default overrides are)) in (
       before.0 ++ one.0,
       more_added _ _ _ _ _ before.1 one.1,
-      rw (one_more names i name lt at)
+      rw (one_more names i name c.loop-name-test.true (sym c.name-item.is))
           (Parts-push (AreOfName default overrides c.args.binary.now.query) (take i names) name before.0 one.0 before.2 (of_name default overrides one.0 one.2 refl refl)),
     )
 

@@ -1,4 +1,4 @@
-use Rattle.std.proofs.Common.{arith, ◌≡◌, ◌∙◌, ◌<◌, ◌+◌, ◌∷◌, [], ◌++◌, Some, None, ap, cond, drop, get_or, length, map, refl, subst, sym, true}
+use Rattle.std.proofs.Common.{◌∙◌, ◌+◌, ◌∷◌, [], ◌++◌, Some, None, ap, cond, drop, map, refl, subst, sym, true}
 use Rattle.std.proofs.lemmas.Bool.{false≢true}
 use Rattle.std.proofs.lemmas.List.{append-nil, drop_all}
 use Rattle.filterset_listing.specs.Overrides.{MayApply, given_of}
@@ -27,10 +27,8 @@ loop-row-preserved c default overrides told =
     let i = c.loop-row.row-index in
     let row = c.row-item.result in
     let before = c.loop-row.invariant default overrides told in
-    let lt : i < length rows = omega (arith, c.loop-row-test.true) in
-    let at : get_or rows i row ≡ row = sym c.row-item.is in
-    let may : MayApply default test.binary_query row = subst (MayApply default test.binary_query) at (told.0 i row lt) in
-    let walked = subst (Walked default overrides test before.0 c.loop-row.path) (left_from rows i row lt at) before.2 in
+    let may : MayApply default test.binary_query row = subst (MayApply default test.binary_query) (sym c.row-item.is) (told.0 i row c.loop-row-test.true) in
+    let walked = subst (Walked default overrides test before.0 c.loop-row.path) (left_from rows i row c.loop-row-test.true (sym c.row-item.is)) before.2 in
     let left = map given_of (drop (i + 1) rows) in
     let covers = c.in_ok-covers.ensures default may in
     elim c.if-branch.branch [
@@ -49,10 +47,8 @@ returns-then-row c default overrides told =
     let i = c.loop-row.row-index in
     let row = c.row-item.result in
     let before = c.loop-row.invariant default overrides told in
-    let lt : i < length rows = omega (arith, c.loop-row-test.true) in
-    let at : get_or rows i row ≡ row = sym c.row-item.is in
-    let may : MayApply default test.binary_query row = subst (MayApply default test.binary_query) at (told.0 i row lt) in
-    let walked = subst (Walked default overrides test before.0 c.loop-row.path) (left_from rows i row lt at) before.2 in
+    let may : MayApply default test.binary_query row = subst (MayApply default test.binary_query) (sym c.row-item.is) (told.0 i row c.loop-row-test.true) in
+    let walked = subst (Walked default overrides test before.0 c.loop-row.path) (left_from rows i row c.loop-row-test.true (sym c.row-item.is)) before.2 in
     let covers = (c.in_ok-covers.ensures default may).0 c.if-branch.true in
     let done = surely default overrides test before.0 _ (given_of row) (map given_of (drop (i + 1) rows)) covers refl refl c.loop-row.path walked (may.2 ∙ ap (λ b. cond b (Some true) None) c.if-row.true) in
     (before.0 ++ _ ∷ [], more_added _ _ _ _ _ before.1 c.in_ok-push.ensures.items, done.0, done.1)

@@ -1,4 +1,4 @@
-use Rattle.std.proofs.Common.{arith, ◌≡◌, ◌<◌, length, get_or, subst, sym, take}
+use Rattle.std.proofs.Common.{subst, sym, take}
 use Rattle.std.proofs.lemmas.List.{take_all}
 use Rattle.filterset_expression.specs.Contexts.{default_of}
 use Rattle.filterset_listing.specs.Overrides.{AreLaid}
@@ -15,10 +15,8 @@ loop-binary-preserved c default overrides are =
     let binaries = c.args.binaries.now in
     let i = c.loop-binary.binary-index in
     let binary = c.binary-item.result in
-    let lt : i < length binaries = omega (arith, c.loop-binary-test.true) in
-    let at : get_or binaries i binary ≡ binary = sym c.binary-item.is in
     let one = c.in_ok-push_binary.ensures default overrides (subst (AreLaid default overrides) (sym c.deref.ensures.value) are) in
-    rw (one.1, one_more binaries i binary lt at)
+    rw (one.1, one_more binaries i binary c.loop-binary-test.true (sym c.binary-item.is))
     (Parts-push (AreOfBinary default overrides) (take i binaries) binary _ one.0 (c.loop-binary.invariant default overrides are) one.2)
 
 pub returns : goal.returns

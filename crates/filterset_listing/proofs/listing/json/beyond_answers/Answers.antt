@@ -1,4 +1,4 @@
-use Rattle.std.proofs.Common.{arith, ◌≡◌, ◌<◌, length, get_or, refl, sym}
+use Rattle.std.proofs.Common.{refl, sym}
 use Rattle.std.proofs.lemmas.List.{append-nil, take_all}
 use Rattle.std.proofs.lemmas.Map.Text.{btree_map_updates_str}
 use Rattle.filterset_listing.specs.Listing.{tests_of}
@@ -14,10 +14,8 @@ loop-test-preserved c =
     let tests = c.deref-test-items.result.now in
     let i = c.loop-test.test-index in
     let test = c.test-item.result in
-    let lt : i < length tests = omega (arith, c.loop-test-test.true) in
-    let at : get_or tests i test ≡ test = sym c.test-item.is in
     let updates = btree_map_updates_str c.as_str.result.now c.loop-test.answers c.insert.new.self _ c.in_ok-insert.ensures.updates in
-    beyond_one i c.as_str.result.now Beyond c.loop-test.answers c.insert.new.self updates tests test lt at c.as_str.ensures refl c.loop-test.invariant
+    beyond_one i c.as_str.result.now Beyond c.loop-test.answers c.insert.new.self updates tests test c.loop-test-test.true (sym c.test-item.is) c.as_str.ensures refl c.loop-test.invariant
 
 pub returns-in_default : goal.returns-in_default
 returns-in_default c = rw (first_none c.args.beyond.now c.in_default.len_below) (no_answers c.new-answers.result c.new-answers.ensures.empty)

@@ -1,12 +1,14 @@
-use Rattle.std.proofs.Common.{arith, ◌≡◌, ◌<◌, ◌∙◌, ℕ, ◌+◌, ◌++◌, [], ◌∷◌, List, append_assoc, length, get_or, ap, sym, take}
+use Rattle.std.proofs.Common.{◌≡◌, ◌<◌, ◌∙◌, ℕ, ◌+◌, ◌++◌, [], ◌∷◌, List, append_assoc, codes, length, get_or, ap, refl, sym, take}
+use Rattle.std.specs.Prelude.{if◌then◌else◌}
 use Rattle.std.proofs.lemmas.Grind.{flat_map-append}
 use Rattle.std.proofs.lemmas.List.{append-nil, take_all}
 use Rattle.std.specs.List.{flat_map}
 use Rattle.filterset_listing.specs.Asking.{Text}
-use Rattle.filterset_listing.specs.ListText.{unknown_line}
+use Rattle.filterset_listing.specs.ListText.{is_open, unknown_line}
 use Rattle.filterset_listing.specs.declared.listing.UnknownTest.{UnknownTest}
 use Rattle.filterset_listing.proofs.ListingLemmas.{one_more}
 use Rattle.filterset_listing.proofs.listing.text.push_shown.Goals as goal
+use Rattle.filterset_listing.proofs.listing.text.push_shown.Goals.{then-is_open, else-is_open}
 
 -- one more line
 one_line : (front : Text) (tests : List UnknownTest) (i : ℕ) (unknown : UnknownTest) → i < length tests → get_or tests i unknown ≡ unknown
@@ -19,10 +21,8 @@ loop-unknown-preserved c =
     let tests = c.deref-unknown-items.result.now in
     let i = c.loop-unknown.unknown-index in
     let unknown = c.unknown-item.result in
-    let lt : i < length tests = omega (arith, c.loop-unknown-test.true) in
-    let at : get_or tests i unknown ≡ unknown = sym c.unknown-item.is in
     let line = rw c.as_str-test-in-loop-unknown.ensures at c.in_ok-writeln-2.ensures.bytes in
-    line ∙ ap (λ (out : Text). out ++ unknown_line unknown) c.loop-unknown.invariant ∙ one_line _ tests i unknown lt at
+    line ∙ ap (λ (out : Text). out ++ unknown_line unknown) c.loop-unknown.invariant ∙ one_line _ tests i unknown c.loop-unknown-test.true (sym c.unknown-item.is)
 
 -- three parts are written one after the other
 written : (start a b c one two all : Text) → one ≡ start ++ a → two ≡ one ++ b → all ≡ two ++ c → all ≡ start ++ (a ++ (b ++ c))
@@ -30,7 +30,12 @@ written start a b c one two all e f g = g ∙ ap (λ t. t ++ c) (f ∙ ap (λ t.
 
 pub returns : goal.returns
 returns c =
-    let head = rw (c.as_str-id.ensures, c.skipped_line-skipped.ensures, c.is_open.ensures) at c.in_ok-write.ensures.bytes in
+    let opens = c.is_open.ensures in
+    let skipped : c.if-is_open.skipped.now ≡ (if is_open c.args.picks.now then codes "    (skipped)\n" else []) = elim c.if-is_open.branch [
+      | then-is_open w ↦ rw (w.skipped-is, sym opens ∙ w.if-is_open.true) refl
+      | else-is_open w ↦ rw (w.skipped-is, sym opens ∙ w.if-is_open.false) refl
+    ] in
+    let head = rw (c.as_str-id.ensures, skipped) at c.in_ok-write.ensures.bytes in
     let picked = rw (take_all c.loop-test.test-index c.deref-test-items.result.now c.loop-test-test.false, c.deref-test-items.ensures.value) at c.loop-test.invariant in
     let unknown = rw (take_all c.loop-unknown.unknown-index c.deref-unknown-items.result.now c.loop-unknown-test.false, c.deref-unknown-items.ensures.value) at c.loop-unknown.invariant in
     written _ _ _ _ _ _ _ head picked unknown

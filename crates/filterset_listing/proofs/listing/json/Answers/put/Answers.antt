@@ -1,4 +1,4 @@
-use Rattle.std.proofs.Common.{arith, ◌≡◌, ◌<◌, length, get_or, refl, sym, true}
+use Rattle.std.proofs.Common.{refl, sym, true}
 use Rattle.std.proofs.lemmas.List.{take_all}
 use Rattle.std.proofs.lemmas.Map.Text.{btree_map_updates_str}
 use Rattle.filterset_listing.specs.Listing.{tests_of, unknown_of}
@@ -12,10 +12,8 @@ loop-picked-preserved c beyond before =
     let tests = c.deref-picked-items.result.now in
     let i = c.loop-picked.picked-index in
     let test = c.picked-item.result in
-    let lt : i < length tests = omega (arith, c.loop-picked-test.true) in
-    let at : get_or tests i test ≡ test = sym c.picked-item.is in
     let updates = btree_map_updates_str c.as_str.result.now c.loop-picked.self.0 c.insert.new.self _ c.in_ok-insert.ensures.updates in
-    picked_one i c.as_str.result.now (Asked (Known true)) c.loop-picked.self.0 c.insert.new.self updates beyond tests test lt at c.as_str.ensures refl (c.loop-picked.invariant beyond before)
+    picked_one i c.as_str.result.now (Asked (Known true)) c.loop-picked.self.0 c.insert.new.self updates beyond tests test c.loop-picked-test.true (sym c.picked-item.is) c.as_str.ensures refl (c.loop-picked.invariant beyond before)
 
 pub loop-unknown-init : goal.loop-unknown-init
 loop-unknown-init c beyond before =
@@ -28,10 +26,8 @@ loop-unknown-preserved c beyond before =
     let i = c.loop-unknown.unknown-index in
     let test = c.unknown-item.result in
     let key = c.as_str-in-loop-unknown in
-    let lt : i < length tests = omega (arith, c.loop-unknown-test.true) in
-    let at : get_or tests i test ≡ test = sym c.unknown-item.is in
     let updates = btree_map_updates_str key.result.now c.loop-unknown.self.0 c.insert-in-loop-unknown.new.self _ c.in_ok-insert-2.ensures.updates in
-    unknown_one i key.result.now (Asked (Unknown test.path)) c.loop-unknown.self.0 c.insert-in-loop-unknown.new.self updates beyond (tests_of c.args.picks.now) tests test lt at key.ensures refl
+    unknown_one i key.result.now (Asked (Unknown test.path)) c.loop-unknown.self.0 c.insert-in-loop-unknown.new.self updates beyond (tests_of c.args.picks.now) tests test c.loop-unknown-test.true (sym c.unknown-item.is) key.ensures refl
     (c.loop-unknown.invariant beyond before)
 
 pub loop-uncounted-init : goal.loop-uncounted-init
@@ -46,10 +42,8 @@ loop-uncounted-preserved c beyond before =
     let i = c.loop-uncounted.uncounted-index in
     let test = c.uncounted-item.result in
     let key = c.as_str-in-loop-uncounted in
-    let lt : i < length tests = omega (arith, c.loop-uncounted-test.true) in
-    let at : get_or tests i test ≡ test = sym c.uncounted-item.is in
     let updates = btree_map_updates_str key.result.now c.loop-uncounted.self.0 c.insert-in-loop-uncounted.new.self _ c.in_ok-insert-3.ensures.updates in
-    uncounted_one i key.result.now Uncounted c.loop-uncounted.self.0 c.insert-in-loop-uncounted.new.self updates beyond (tests_of picks) (unknown_of picks) tests test lt at key.ensures refl
+    uncounted_one i key.result.now Uncounted c.loop-uncounted.self.0 c.insert-in-loop-uncounted.new.self updates beyond (tests_of picks) (unknown_of picks) tests test c.loop-uncounted-test.true (sym c.uncounted-item.is) key.ensures refl
     (c.loop-uncounted.invariant beyond before)
 
 pub returns : goal.returns

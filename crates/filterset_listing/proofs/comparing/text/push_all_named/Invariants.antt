@@ -1,9 +1,0 @@
-use Rattle.std.proofs.Common.{◌≡◌, ◌++◌, string_bytes, take}
-use Rattle.std.specs.List.{flat_map}
-use Rattle.filterset_listing.specs.ComparisonText.{named_lines}
-use Rattle.filterset_listing.proofs.comparing.text.push_all_named.Given as goal
-
--- the binaries so far were written
-abbrev pub invariant-loop-difference : goal.invariant-loop-difference
-invariant-loop-difference l =
-    string_bytes l.output ≡ string_bytes l.initial.output ++ flat_map (named_lines l.part) (take l.difference-index l.all)
