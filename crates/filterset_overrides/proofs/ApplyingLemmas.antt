@@ -1,5 +1,5 @@
 -- Filters of overrides, as expressions and as trees.
-use Rattle.std.proofs.Common.{◌≡◌, ◌↔◌, Bool, IsTrue, List, Option, Some, None, refl, sym, subst}
+use Rattle.std.proofs.Common.{◌≡◌, ◌↔◌, Bool, Bor, IsTrue, List, Option, Some, None, refl, sym, subst, unwrap_or}
 use Rattle.std.specs.Prelude.{MatchOption}
 use Rattle.filterset_faults.specs.declared.span.SourceSpan.{SourceSpan}
 use Rattle.filterset_graph.specs.declared.package.PackageMetadata.{PackageMetadata}
@@ -16,6 +16,12 @@ use Rattle.filterset_overrides.specs.Asking.{IsLaidOut, is_all}
 use Rattle.filterset_overrides.specs.declared.applying.Application.{Application}
 use Rattle.filterset_overrides.specs.declared.applying.Application.TheVariants.{Applies, NotPicked, OtherPlatform, UnknownPlatform}
 use Rattle.filterset_overrides.specs.declared.asked.AskedOverride.{AskedOverride}
+
+-- a filter, or all tests
+pub filter_is : (filter : Option (Bor CompiledExpr)) (all chosen : Bor CompiledExpr) → is_all all.now → chosen ≡ unwrap_or filter all
+    → MatchOption filter (is_all chosen.now) (λ f. f.now ≡ chosen.now)
+filter_is None all chosen is same = rw same is
+filter_is (Some f) all chosen is same = rw same refl
 
 -- the answer says of the test what the expression does
 abbrev pub AnswersFor : FlatExpr → TestQuery → Bool → Type 0

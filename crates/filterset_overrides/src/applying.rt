@@ -8,7 +8,7 @@ ghost use Rattle.filterset_expression.specs.FlatExpressions.{IsTold};
 ghost use Rattle.filterset_expression.specs.declared.expression.CompiledExpr.{CompiledExpr};
 ghost use Rattle.filterset_overrides.specs.Applying.{AppliesAs, HasApplication, IsCompiledOf, Test, tests_of, tests_of_one, verdict};
 ghost use Rattle.filterset_overrides.specs.Counting.{is_picked};
-ghost use Rattle.filterset_overrides.specs.Asking.{IsFilterOf, IsLaidOut};
+ghost use Rattle.filterset_overrides.specs.Asking.{IsLaidOut};
 
 use crate::asked::{AskedOverride, ListedBinary};
 use filterset_expression::{CompiledExpr, EvalContext, FlatExpr, GroupLookup, TestQuery};
@@ -128,27 +128,6 @@ fn push_applications(
     Ok(())
 }
 
-/// Returns how the override, whose filter is `filter`, applies to each test.
-fn apply_filter(
-    alloc: Global,
-    asked: &AskedOverride<'_>,
-    filter: &CompiledExpr,
-    context: &EvalContext<'_>,
-    binaries: &[ListedBinary<'_>],
-) -> Result<Vec<Application>, AllocError>
-    ensures { IsFilterOf asked.now filter.now → IfOk result (λ applications. (packages : List PackageMetadata)
-        → IsCompiledOf packages asked.now
-        → AllZip (λ test. AppliesAs packages (default_of context.now) test asked.now) (tests_of binaries.now)
-        applications.items) }
-{
-    let flat = FlatExpr::new(alloc, filter, context)?;
-    let mut applications = Vec::new(alloc);
-    for binary in binaries {
-        push_applications(alloc, asked, &flat, binary, &mut applications)?;
-    }
-    Ok(applications)
-}
-
 /// Returns how the override applies to each test. Its filter is asked about a binary first.
 pub fn apply_to_tests(
     alloc: Global,
@@ -162,25 +141,12 @@ pub fn apply_to_tests(
 {
     let all = CompiledExpr::ALL;
     let filter = asked.filter.unwrap_or(&all);
-    apply_filter(alloc, asked, filter, context, binaries)
-}
-
-/// Returns how the override, whose filter is `filter`, applies to the test.
-fn apply_filter_to_test(
-    alloc: Global,
-    asked: &AskedOverride<'_>,
-    filter: &CompiledExpr,
-    context: &EvalContext<'_>,
-    query: &TestQuery<'_>,
-) -> Result<Application, AllocError>
-    ensures { IsFilterOf asked.now filter.now → IfOk result (λ application. (packages : List PackageMetadata)
-        → IsCompiledOf packages asked.now
-        → AppliesAs packages (default_of context.now) (query.now.binary_query, query.now.test_name.now) asked.now
-        application) }
-{
     let flat = FlatExpr::new(alloc, filter, context)?;
-    let told = flat.matches_binary(alloc, &query.binary_query)?;
-    apply_flat(alloc, asked, &flat, &NoGroups, told, query)
+    let mut applications = Vec::new(alloc);
+    for binary in binaries {
+        push_applications(alloc, asked, &flat, binary, &mut applications)?;
+    }
+    Ok(applications)
 }
 
 /// Returns how the override applies to the test.
@@ -196,5 +162,7 @@ pub fn apply_to_test(
 {
     let all = CompiledExpr::ALL;
     let filter = asked.filter.unwrap_or(&all);
-    apply_filter_to_test(alloc, asked, filter, context, query)
+    let flat = FlatExpr::new(alloc, filter, context)?;
+    let told = flat.matches_binary(alloc, &query.binary_query)?;
+    apply_flat(alloc, asked, &flat, &NoGroups, told, query)
 }

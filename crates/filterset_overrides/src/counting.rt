@@ -1,5 +1,5 @@
 //! How many tests each override applies to, and how many get each of its settings from it.
-ghost use Rattle.std.specs.Prelude.{◌≡◌, ◌==◌, All, IfOk, List, [], length, not};
+ghost use Rattle.std.specs.Prelude.{◌≡◌, ◌==◌, All, IfOk, List, [], not};
 ghost use Rattle.std.specs.List.{list_any};
 ghost use Rattle.filterset_graph.specs.declared.package.PackageMetadata.{PackageMetadata};
 ghost use Rattle.filterset_expression.specs.Contexts.{default_of};
@@ -56,17 +56,6 @@ pub struct OverrideTable<'o> {
     pub columns: Vec<SettingColumn<'o>>,
 }
 
-/// Counts the tests of the binaries. A sum that a `usize` cannot hold counts as out of memory: memory cannot hold so many.
-fn count_tests(binaries: &[ListedBinary<'_>]) -> Result<usize, AllocError>
-    ensures { IfOk result (λ count. count ≡ length (tests_of binaries.now)) }
-{
-    let mut count = 0usize;
-    for binary in binaries {
-        count = count.checked_add(binary.tests.len()).ok_or(AllocError)?;
-    }
-    Ok(count)
-}
-
 /// Returns the row of each override.
 fn rows_of<'o>(
     alloc: Global,
@@ -102,7 +91,13 @@ pub fn count_overrides<'o>(
     ensures { IfOk result (λ table. (packages : List PackageMetadata) → All (IsCompiledOf packages) overrides.now
         → IsTable packages (default_of context.now) (tests_of binaries.now) overrides.now table) }
 {
-    let test_count = count_tests(binaries)?;
+    // A sum that a `usize` cannot hold counts as out of memory: memory cannot hold so many tests.
+    let mut test_count = 0usize;
+    for binary in binaries {
+        test_count = test_count
+            .checked_add(binary.tests.len())
+            .ok_or(AllocError)?;
+    }
     let applied = apply_all(alloc, overrides, context, binaries)?;
     let rows = rows_of(alloc, &applied)?;
     let keys = keys_of(alloc, overrides, &[])?;

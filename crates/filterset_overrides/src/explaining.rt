@@ -111,23 +111,6 @@ fn giver_of<'o>(
     first_profile(key, profiles)
 }
 
-/// Returns the key with what gives it.
-fn explain_setting<'o>(
-    key: &'o str,
-    explained: &[ExplainedOverride<'o>],
-    profiles: &[AskedProfile<'o>],
-) -> ExplainedSetting<'o>
-    ensures key { result.key.now ≡ key.entry.now }
-    ensures giver { (packages : List PackageMetadata) (default : CompiledExpr) (test : Test)
-        → AreExplained packages default test explained.now
-        → IsGiver (DoesApply packages default test) result.key.now (asked_of explained.now) profiles.now result.giver }
-{
-    ExplainedSetting {
-        key,
-        giver: giver_of(key, explained, profiles),
-    }
-}
-
 /// Returns each of the keys with what gives it.
 fn explain_settings<'o>(
     alloc: Global,
@@ -143,7 +126,10 @@ fn explain_settings<'o>(
 {
     let mut settings = Vec::with_capacity(alloc, keys.len())?;
     for key in keys {
-        settings.push(explain_setting(key, explained, profiles))?;
+        settings.push(ExplainedSetting {
+            key: *key,
+            giver: giver_of(key, explained, profiles),
+        })?;
     }
     Ok(settings)
 }

@@ -1,30 +1,10 @@
 //! The keys that overrides and profiles set.
-ghost use Rattle.std.specs.Prelude.{◌≡◌, ◌++◌, ◌∷◌, [], IfOk, List, OnOk, map, string_bytes};
-ghost use Rattle.std.specs.List.{list_any};
-ghost use Rattle.std.specs.Str.{bytes_eq};
+ghost use Rattle.std.specs.Prelude.{◌++◌, IfOk, List, OnOk, map, string_bytes};
 ghost use Rattle.filterset_overrides.specs.Applying.{Text};
 ghost use Rattle.filterset_overrides.specs.Giving.{AreDistinctOf, all_settings};
 
 use crate::asked::{AskedOverride, AskedProfile};
 use std::alloc::{AllocError, Global};
-
-/// Adds the key if it is not there.
-fn push_key<'o>(keys: &mut Vec<&'o str>, key: &'o str) -> Result<(), AllocError>
-    ensures { OnOk result ((all : List Text) → AreDistinctOf all (map (λ k. k.now) keys.old.items)
-        → AreDistinctOf (all ++ key.entry.now ∷ []) (map (λ k. k.now) keys.new.items)) }
-{
-    if !has_key(keys.as_slice(), key) {
-        keys.push(key)?;
-    }
-    Ok(())
-}
-
-/// Returns whether the key is there.
-fn has_key(keys: &[&str], key: &str) -> bool
-    ensures { result ≡ list_any (λ k. bytes_eq k.now key.now) keys.now }
-{
-    keys.iter().any(|there| *there == key)
-}
 
 /// Adds the keys that are not there.
 fn push_keys<'o>(keys: &mut Vec<&'o str>, settings: &'o [String]) -> Result<(), AllocError>
@@ -32,7 +12,11 @@ fn push_keys<'o>(keys: &mut Vec<&'o str>, settings: &'o [String]) -> Result<(), 
         → AreDistinctOf (all ++ map string_bytes settings.entry.now) (map (λ k. k.now) keys.new.items)) }
 {
     for setting in settings {
-        push_key(keys, setting.as_str())?;
+        let key = setting.as_str();
+        if keys.iter().any(|there| *there == key) {
+            continue;
+        }
+        keys.push(key)?;
     }
     Ok(())
 }

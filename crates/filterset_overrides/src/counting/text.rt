@@ -1,7 +1,7 @@
 //! The table of overrides, as text.
 ghost use Rattle.std.specs.Prelude.{◌≡◌, ◌++◌, IfOk, OnOk, is_some, string_bytes};
-ghost use Rattle.std.specs.List.{flat_map, list_all, list_any};
-ghost use Rattle.filterset_overrides.specs.TableText.{count_text, given_at, given_text, gives_none, is_overtaken, is_zero, override_table_text, row_line, warning_line, warning_lines};
+ghost use Rattle.std.specs.List.{list_all, list_any};
+ghost use Rattle.filterset_overrides.specs.TableText.{count_text, given_at, gives_none, is_overtaken, is_zero, override_table_text, row_line, warning_line, warning_lines};
 
 use crate::counting::{OverrideRow, OverrideTable, SettingColumn, TestCount};
 use std::alloc::{AllocError, Global};
@@ -49,32 +49,6 @@ fn push_count(output: &mut String, count: TestCount) -> Result<(), AllocError>
     write!(output, "{sure} (unknown: {unknown})")
 }
 
-/// Writes a setting, and how many tests get it, if there is such a number.
-fn push_given(output: &mut String, key: &str, given: Option<TestCount>) -> Result<(), AllocError>
-    ensures { OnOk result (string_bytes output.new ≡ string_bytes output.old ++ given_text key.now given) }
-{
-    if let Some(count) = given {
-        write!(output, ", {key}: ")?;
-        push_count(output, count)?;
-    }
-    Ok(())
-}
-
-/// Writes the settings of the override at this place.
-fn push_all_given(
-    output: &mut String,
-    columns: &[SettingColumn<'_>],
-    at: usize,
-) -> Result<(), AllocError>
-    ensures { OnOk result (string_bytes output.new
-        ≡ string_bytes output.old ++ flat_map (λ c. given_text c.key.now (given_at at c)) columns.now) }
-{
-    for column in columns {
-        push_given(output, column.key, column.given_at(at))?;
-    }
-    Ok(())
-}
-
 /// Writes the line of an override.
 fn push_row(
     output: &mut String,
@@ -86,7 +60,13 @@ fn push_row(
     let path = row.path;
     write!(output, "{path}: tests: ")?;
     push_count(output, row.tests)?;
-    push_all_given(output, columns, row.at)?;
+    for column in columns {
+        if let Some(count) = column.given_at(row.at) {
+            let key = column.key;
+            write!(output, ", {key}: ")?;
+            push_count(output, count)?;
+        }
+    }
     output.push_str("\n")
 }
 

@@ -1,7 +1,6 @@
 //! How overrides apply to a test, as text.
 ghost use Rattle.std.specs.Prelude.{◌≡◌, ◌++◌, IfOk, OnOk, map, string_bytes};
-ghost use Rattle.std.specs.List.{flat_map};
-ghost use Rattle.filterset_overrides.specs.ExplainedText.{application_text, giver_text, indented, override_line, override_lines, reason_at, setting_line, test_overrides_text};
+ghost use Rattle.filterset_overrides.specs.ExplainedText.{application_text, giver_text, indented, override_lines, reason_at, test_overrides_text};
 
 use crate::applying::{Application, ExplainedOverride};
 use crate::explaining::{ExplainedSetting, Giver, TestOverrides};
@@ -18,15 +17,6 @@ fn application_text(application: Application) -> &'static str
         Application::OtherPlatform => "does not apply: platform",
         Application::UnknownPlatform => "unknown: platform",
     }
-}
-
-/// Writes how an override applies.
-fn push_override(output: &mut String, explained: &ExplainedOverride<'_>) -> Result<(), AllocError>
-    ensures { OnOk result (string_bytes output.new ≡ string_bytes output.old ++ override_line explained.now) }
-{
-    let path = explained.asked.path;
-    let application = application_text(explained.application);
-    writeln!(output, "{path}: {application}")
 }
 
 /// Writes each line of a text, moved right by two blanks.
@@ -59,7 +49,9 @@ fn push_overrides(
         ≡ string_bytes output.old ++ override_lines all.now (map (λ s. string_bytes s) reasons.now)) }
 {
     for (at, explained) in all.iter().enumerate() {
-        push_override(output, explained)?;
+        let path = explained.asked.path;
+        let application = application_text(explained.application);
+        writeln!(output, "{path}: {application}")?;
         push_indented(output, reason_at(reasons, at))?;
     }
     Ok(())
@@ -77,18 +69,6 @@ fn giver_words<'o>(giver: Giver<'o>) -> (&'static str, &'o str)
     }
 }
 
-/// Writes what gives each setting, a line each.
-fn push_settings(output: &mut String, all: &[ExplainedSetting<'_>]) -> Result<(), AllocError>
-    ensures { OnOk result (string_bytes output.new ≡ string_bytes output.old ++ flat_map setting_line all.now) }
-{
-    for setting in all {
-        let key = setting.key;
-        let (before, name) = giver_words(setting.giver);
-        writeln!(output, "{key}: {before}{name}")?;
-    }
-    Ok(())
-}
-
 /// Writes how each override applies to a test, and below that what gives the test each setting, a line each.
 ///
 /// The lines of the override's reason, each moved right by two blanks, follow its own. `reasons` has a text for each
@@ -104,6 +84,10 @@ pub fn test_overrides_text(
 {
     let mut text = String::new(alloc);
     push_overrides(&mut text, explained.overrides.as_slice(), reasons)?;
-    push_settings(&mut text, explained.settings.as_slice())?;
+    for setting in &explained.settings {
+        let key = setting.key;
+        let (before, name) = giver_words(setting.giver);
+        writeln!(text, "{key}: {before}{name}")?;
+    }
     Ok(text)
 }

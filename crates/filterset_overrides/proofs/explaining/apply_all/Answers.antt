@@ -1,4 +1,4 @@
-use Rattle.std.proofs.Common.{rules, arith, ◌≡◌, ◌<◌, length, get_or, refl, subst, ap, ◌∙◌}
+use Rattle.std.proofs.Common.{refl, subst, ap, ◌∙◌, sym}
 use Rattle.std.proofs.lemmas.List.Elements.{All-push}
 use Rattle.filterset_expression.specs.Contexts.{default_of}
 use Rattle.filterset_overrides.specs.Applying.{AppliesAs, IsCompiledOf, Test}
@@ -12,12 +12,10 @@ loop-asked-preserved c =
     let all = c.args.overrides.now in
     let i = c.loop-asked.asked-index in
     let one = c.asked-item.result in
-    let lt : i < length all = omega (arith, c.loop-asked-test.true) in
-    let at : get_or all i one ≡ one = search (rules, c.asked-item.is) in
     let made : ExplainedOverride = record { asked = one; application = c.in_ok-application.application } in
     let test : Test = (c.args.query.now.binary_query, c.args.query.now.test_name.now) in
     record {
-      asked = ap asked_of c.in_ok-push.ensures.items ∙ pushed_map (λ (e : ExplainedOverride). e.asked) c.loop-asked.explained.items made all i one lt at c.loop-asked.invariant.asked refl;
+      asked = ap asked_of c.in_ok-push.ensures.items ∙ pushed_map (λ (e : ExplainedOverride). e.asked) c.loop-asked.explained.items made all i one c.loop-asked-test.true (sym c.asked-item.is) c.loop-asked.invariant.asked refl;
       applied = λ packages compiled. rw c.in_ok-push.ensures.items (All-push (λ (e : ExplainedOverride). AppliesAs packages (default_of c.args.context.now) test e.asked e.application) c.loop-asked.explained.items made
-          (c.loop-asked.invariant.applied packages compiled) (c.in_ok-application.ensures packages (subst (IsCompiledOf packages) at (compiled i one lt))));
+          (c.loop-asked.invariant.applied packages compiled) (c.in_ok-application.ensures packages (subst (IsCompiledOf packages) (sym c.asked-item.is) (compiled i one c.loop-asked-test.true))));
     }

@@ -1,4 +1,4 @@
-use Rattle.std.proofs.Common.{arith, ◌<◌, ◌∙◌, [], Bor, List, ℕ, ap, length, map}
+use Rattle.std.proofs.Common.{◌∙◌, [], Bor, List, ℕ, ap, get_or, map, refl}
 use Rattle.std.proofs.lemmas.List.Elements.{All-push}
 use Rattle.filterset_overrides.specs.Applying.{DoesApply}
 use Rattle.filterset_overrides.specs.Giving.{IsGiver, asked_of}
@@ -10,14 +10,13 @@ pub loop-key-preserved : goal.loop-key-preserved
 loop-key-preserved c =
     let keys = c.args.keys.now in
     let i = c.loop-key.key-index in
-    let lt : i < length keys = omega (arith, c.loop-key-test.true) in
     let none : Bor (List ℕ) = record { ref_ptr = (0, 0); now = [] } in
-    let made = c.explain_setting.result in
+    let made : ExplainedSetting = record { key = get_or keys i none; giver = c.giver_of.result } in
     let settings = c.loop-key.settings.items in
     let key_of = λ (s : ExplainedSetting). s.key.now in
     record {
-      keys = ap (map key_of) c.in_ok-push.ensures.items ∙ both_mapped key_of (λ (k : Bor (List ℕ)). k.now) settings made keys i none lt c.loop-key.invariant.keys c.explain_setting.ensures.key;
+      keys = ap (map key_of) c.in_ok-push.ensures.items ∙ both_mapped key_of (λ (k : Bor (List ℕ)). k.now) settings made keys i none c.loop-key-test.true c.loop-key.invariant.keys refl;
       givers = λ packages default test are. rw c.in_ok-push.ensures.items (All-push
           (λ (s : ExplainedSetting). IsGiver (DoesApply packages default test) s.key.now (asked_of c.args.explained.now) c.args.profiles.now s.giver) settings made
-          (c.loop-key.invariant.givers packages default test are) (c.explain_setting.ensures.giver packages default test are));
+          (c.loop-key.invariant.givers packages default test are) (c.giver_of.ensures packages default test are));
     }

@@ -1,4 +1,4 @@
-use Rattle.std.proofs.Common.{rules, arith, ◌≡◌, ◌<◌, All, List, false, length, get_or, take, drop, suc, refl, subst, sym}
+use Rattle.std.proofs.Common.{◌≡◌, All, List, false, take, drop, suc, refl, subst, sym}
 use Rattle.std.proofs.lemmas.List.{take_all}
 use Rattle.std.proofs.lemmas.List.Elements.{All-push}
 use Rattle.filterset_overrides.specs.Applying.{sets}
@@ -11,19 +11,15 @@ returns-then-sets c =
     let all = c.args.profiles.now in
     let i = c.loop-profile.profile-index in
     let one = c.profile-item.result in
-    let lt : i < length all = omega (arith, c.loop-profile-test.true) in
-    let at : get_or all i one ≡ one = search (rules, c.profile-item.is) in
-    (take i all, drop (suc i) all, one, split_at all i one lt at, sym c.if-sets.ensures, refl, c.loop-profile.invariant)
+    (take i all, drop (suc i) all, one, split_at all i one c.loop-profile-test.true (sym c.profile-item.is), sym c.if-sets.ensures, refl, c.loop-profile.invariant)
 
 pub loop-profile-preserved : goal.loop-profile-preserved
 loop-profile-preserved c =
     let all = c.args.profiles.now in
     let i = c.loop-profile.profile-index in
     let one = c.profile-item.result in
-    let lt : i < length all = omega (arith, c.loop-profile-test.true) in
-    let at : get_or all i one ≡ one = search (rules, c.profile-item.is) in
     let P = λ (p : AskedProfile). sets p.settings.now c.args.key.now ≡ false in
-    subst (λ (ps : List AskedProfile). All P ps) (sym (one_more all i one lt at)) (All-push P (take i all) one c.loop-profile.invariant (sym c.if-sets.ensures))
+    subst (λ (ps : List AskedProfile). All P ps) (sym (one_more all i one c.loop-profile-test.true (sym c.profile-item.is))) (All-push P (take i all) one c.loop-profile.invariant (sym c.if-sets.ensures))
 
 pub returns : goal.returns
 returns c =

@@ -1,4 +1,4 @@
-use Rattle.std.proofs.Common.{rules, arith, ◌≡◌, ◌<◌, List, Some, false, length, get_or, subst}
+use Rattle.std.proofs.Common.{List, Some, false, subst, sym}
 use Rattle.std.proofs.lemmas.List.{take_all}
 use Rattle.filterset_overrides.specs.Applying.{DoesApply}
 use Rattle.filterset_overrides.specs.Giving.{Takes, asked_of}
@@ -11,18 +11,14 @@ returns-in-Some c packages default test are =
     let all = c.args.explained.now in
     let i = c.loop-one.one-index in
     let one = c.one-item.result in
-    let lt : i < length all = omega (arith, c.loop-one-test.true) in
-    let at : get_or all i one ≡ one = search (rules, c.one-item.is) in
-    first_is packages default test c.args.key.now all i one lt at are (c.loop-one.invariant packages default test are) c.in-Some.giver c.in-Some.ensures.0 c.in-Some.ensures.1 c.args.profiles.now
+    first_is packages default test c.args.key.now all i one c.loop-one-test.true (sym c.one-item.is) are (c.loop-one.invariant packages default test are) c.in-Some.giver c.in-Some.ensures.0 c.in-Some.ensures.1 c.args.profiles.now
 
 pub loop-one-preserved : goal.loop-one-preserved
 loop-one-preserved c packages default test are =
     let all = c.args.explained.now in
     let i = c.loop-one.one-index in
     let one = c.one-item.result in
-    let lt : i < length all = omega (arith, c.loop-one-test.true) in
-    let at : get_or all i one ≡ one = search (rules, c.one-item.is) in
-    passed packages default test c.args.key.now all i one lt at are (c.loop-one.invariant packages default test are) c.in_default.ensures
+    passed packages default test c.args.key.now all i one c.loop-one-test.true (sym c.one-item.is) are (c.loop-one.invariant packages default test are) c.in_default.ensures
 
 pub returns : goal.returns
 returns c packages default test are =

@@ -1,4 +1,4 @@
-use Rattle.std.proofs.Common.{rules, arith, ◌≡◌, ◌<◌, ◌+◌, ◌++◌, List, length, get_or, map, string_bytes, subst, sym, take}
+use Rattle.std.proofs.Common.{◌+◌, ◌++◌, List, map, string_bytes, subst, sym, take}
 use Rattle.std.proofs.lemmas.List.{append-nil, take_all}
 use Rattle.filterset_overrides.specs.Applying.{Text}
 use Rattle.filterset_overrides.specs.Giving.{AreDistinctOf, override_settings, profile_settings}
@@ -16,10 +16,8 @@ loop-asked-preserved c =
     let items = c.args.overrides.now in
     let i = c.loop-asked.asked-index in
     let one = c.asked-item.result in
-    let lt : i < length items = omega (arith, c.loop-asked-test.true) in
-    let at : get_or items i one ≡ one = search (rules, c.asked-item.is) in
     subst (λ (texts : List Text). AreDistinctOf texts (map (λ k. k.now) c.push_keys.new.keys.items))
-    (sym (flat_more (λ (o : AskedOverride). map string_bytes o.settings.now) items i one lt at)) (c.in_ok-push_keys.ensures (override_settings (take i items)) c.loop-asked.invariant)
+    (sym (flat_more (λ (o : AskedOverride). map string_bytes o.settings.now) items i one c.loop-asked-test.true (sym c.asked-item.is))) (c.in_ok-push_keys.ensures (override_settings (take i items)) c.loop-asked.invariant)
 
 pub loop-profile-init : goal.loop-profile-init
 loop-profile-init c =
@@ -31,12 +29,10 @@ loop-profile-preserved c =
     let items = c.args.profiles.now in
     let i = c.loop-profile.profile-index in
     let one = c.profile-item.result in
-    let lt : i < length items = omega (arith, c.loop-profile-test.true) in
-    let at : get_or items i one ≡ one = search (rules, c.profile-item.is) in
     let all = override_settings c.args.overrides.now in
     let so_far = profile_settings (take i items) in
     subst (λ (texts : List Text). AreDistinctOf texts (map (λ k. k.now) c.push_keys-in-loop-profile.new.keys.items))
-    (behind all so_far (map string_bytes one.settings.now) (profile_settings (take (i + 1) items)) (flat_more (λ (p : AskedProfile). map string_bytes p.settings.now) items i one lt at))
+    (behind all so_far (map string_bytes one.settings.now) (profile_settings (take (i + 1) items)) (flat_more (λ (p : AskedProfile). map string_bytes p.settings.now) items i one c.loop-profile-test.true (sym c.profile-item.is)))
     (c.in_ok-push_keys-2.ensures (all ++ so_far) c.loop-profile.invariant)
 
 pub returns : goal.returns

@@ -1,4 +1,4 @@
-use Rattle.std.proofs.Common.{rules, arith, ◌≡◌, ◌<◌, Bool, List, Option, ℕ, length, get_or, not, refl, subst, sym, ap, ◌∙◌}
+use Rattle.std.proofs.Common.{◌≡◌, Bool, List, Option, ℕ, length, not, refl, subst, sym, ap, ◌∙◌}
 use Rattle.std.specs.Prelude.{◌==◌, ◌&&◌, is_some}
 use Rattle.std.specs.List.{AllZip, list_all}
 use Rattle.std.proofs.lemmas.List.Elements.{All-push}
@@ -15,8 +15,6 @@ loop-asked-preserved c =
     let all = c.args.overrides.now in
     let i = c.loop-asked.asked-index in
     let o = c.asked-item.result in
-    let lt : i < length all = omega (arith, c.loop-asked-test.true) in
-    let at : get_or all i o ≡ o = search (rules, c.asked-item.is) in
     let default = default_of c.args.context.now in
     let tests = tests_of c.args.binaries.now in
     let applications = c.in_ok-applications.applications.items in
@@ -26,9 +24,9 @@ loop-asked-preserved c =
     let answers_are = rw c.deref.ensures.value at c.in_ok-verdicts_of.ensures in
     let picks : picks_all ≡ (is_some o.filter && (not (length applications == 0) && list_all is_picked applications)) = rw c.deref-in-loop-asked.ensures.value at c.picks_all.ensures in
     record {
-      asked = ap overrides_of c.in_ok-push.ensures.items ∙ pushed_map (λ (a : AppliedOverride). a.asked) c.loop-asked.all.items made all i o lt at c.loop-asked.invariant.asked refl;
+      asked = ap overrides_of c.in_ok-push.ensures.items ∙ pushed_map (λ (a : AppliedOverride). a.asked) c.loop-asked.all.items made all i o c.loop-asked-test.true (sym c.asked-item.is) c.loop-asked.invariant.asked refl;
       applied = λ packages compiled.
-          let are = c.in_ok-applications.ensures packages (subst (IsCompiledOf packages) at (compiled i o lt)) in
+          let are = c.in_ok-applications.ensures packages (subst (IsCompiledOf packages) (sym c.asked-item.is) (compiled i o c.loop-asked-test.true)) in
           let mapped = AllZip-mapped (λ test. AppliesAs packages default test o) (λ test. DoesApply packages default test o) verdict (λ test a is. (a, is, refl)) tests applications are in
           rw c.in_ok-push.ensures.items (All-push (IsApplied packages default tests) c.loop-asked.all.items made (c.loop-asked.invariant.applied packages compiled) (
             subst (λ (vs : List (Option Bool)). AllZip (λ test. DoesApply packages default test o) tests vs) (sym answers_are) mapped,

@@ -1,4 +1,4 @@
-use Rattle.std.proofs.Common.{rules, arith, ◌≡◌, ◌<◌, ◌++◌, ◌∷◌, [], Bool, List, Option, Some, false, length, get_or, replicate, take, subst, sym, ap, ◌∙◌}
+use Rattle.std.proofs.Common.{rules, ◌≡◌, ◌++◌, ◌∷◌, [], Bool, List, Option, Some, false, length, replicate, take, subst, sym, ap, ◌∙◌}
 use Rattle.filterset_overrides.specs.Applied.{AreTaken, IsApplied, overrides_of}
 use Rattle.filterset_overrides.specs.Counting.{EachAfter, IsGiven}
 use Rattle.filterset_overrides.specs.declared.asked.AskedOverride.{AskedOverride}
@@ -19,13 +19,11 @@ loop-one-preserved c packages default tests long applied =
     let key = c.args.key.now in
     let i = c.loop-one.one-index in
     let one = c.one-item.result in
-    let lt : i < length all = omega (arith, c.loop-one-test.true) in
-    let at : get_or all i one ≡ one = search (rules, c.one-item.is) in
     let so_far = overrides_of (take i all) in
-    let is = subst (IsApplied packages default tests) at (applied i one lt) in
+    let is = subst (IsApplied packages default tests) (sym c.one-item.is) (applied i one c.loop-one-test.true) in
     let before = c.loop-one.invariant packages default tests long applied in
     let here = c.in_ok-count_given.ensures packages default tests so_far is before.1 in
-    let more = sym (map_more (λ (a : AppliedOverride). a.asked) all i one lt at) in
+    let more = sym (map_more (λ (a : AppliedOverride). a.asked) all i one c.loop-one-test.true (sym c.one-item.is)) in
     let each = EachAfter-push (IsGiven packages default tests key) [] so_far c.loop-one.given.items one.asked c.in_ok-count_given.field-0 before.0 here.0 in (
       rw c.in_ok-push.ensures.items (subst (λ (os : List AskedOverride). EachAfter (IsGiven packages default tests key) [] os (c.loop-one.given.items ++ c.in_ok-count_given.field-0 ∷ [])) more each),
       subst (λ (os : List AskedOverride). AreTaken packages default tests key os c.count_given.new.taken.items) more here.1,

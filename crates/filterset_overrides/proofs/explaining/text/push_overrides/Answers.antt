@@ -1,4 +1,4 @@
-use Rattle.std.proofs.Common.{rules, arith, ◌≡◌, ◌<◌, ◌∙◌, ◌++◌, ap, length, get_or, string_bytes}
+use Rattle.std.proofs.Common.{arith, sym}
 use Rattle.std.proofs.lemmas.List.{take_all}
 use Rattle.filterset_overrides.specs.ExplainedText.{indented, reason_at}
 use Rattle.filterset_overrides.proofs.ListLemmas.{three_more}
@@ -10,13 +10,10 @@ loop-at-preserved c =
     let all = c.args.all.now in
     let i = c.loop-at.at in
     let one = c.index-all-at.result in
-    let lt : i < length all = omega (arith, c.loop-at-test.true) in
-    let at : get_or all i one ≡ one = search (rules, c.index-all-at.is) in
-    let output = string_bytes c.push_override.new.output in
-    let reason : string_bytes c.push_indented.new.output ≡ output ++ indented (reason_at c.args.reasons.now i) =
-    c.in_ok-push_indented.ensures ∙ ap (λ t. output ++ indented t) c.reason_at.ensures in
-    rw (lines_more all c.args.reasons.now i one lt at)
-    (three_more _ _ _ _ _ _ _ c.loop-at.invariant c.in_ok-push_override.ensures reason)
+    let line = rw c.application_text-application.ensures at c.in_ok-writeln.ensures.bytes in
+    let reason = rw c.reason_at.ensures at c.in_ok-push_indented.ensures in
+    rw (lines_more all c.args.reasons.now i one c.loop-at-test.true (sym c.index-all-at.is))
+    (three_more _ _ _ _ _ _ _ c.loop-at.invariant line reason)
 
 pub returns : goal.returns
 returns c =
