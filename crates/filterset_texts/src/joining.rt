@@ -29,16 +29,6 @@ fn append_copies(alloc: Global, sequence: &mut Vec<Part>, parts: &[Part]) -> Res
     Ok(())
 }
 
-/// Copies two sequences into one.
-fn join(alloc: Global, front: &[Part], back: &[Part]) -> Result<Vec<Part>, AllocError>
-    ensures { IfOk result (λ joined. HoldTogether (Fits joined.items) (HoldInTurn (Fits front.now) (Fits back.now))) }
-{
-    let mut joined = Vec::new(alloc);
-    append_copies(alloc, &mut joined, front)?;
-    append_copies(alloc, &mut joined, back)?;
-    Ok(joined)
-}
-
 /// Pushes the front followed by each of the backs.
 fn push_joined(
     alloc: Global,
@@ -54,7 +44,10 @@ fn push_joined(
         return Ok(());
     };
     for back in others {
-        joined.push(join(alloc, &front, back)?)?;
+        let mut sequence = Vec::new(alloc);
+        append_copies(alloc, &mut sequence, &front)?;
+        append_copies(alloc, &mut sequence, back)?;
+        joined.push(sequence)?;
     }
     append_copies(alloc, &mut front, last)?; // the last needs no copy of the front
     joined.push(front)?;

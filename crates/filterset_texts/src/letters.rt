@@ -1,9 +1,9 @@
 //! Letters: of the characters that the same parts admit, a search needs only one.
 
-ghost use Rattle.std.specs.Prelude.{◌≡◌, ◌+◌, ◌++◌, ◌≤◌, ◌↔◌, IfOk, IsTrue, OnOk};
+ghost use Rattle.std.specs.Prelude.{◌≡◌, ◌++◌, ◌↔◌, IfOk, IsTrue, OnOk};
 ghost use Rattle.std.specs.Char.{InScalarRange};
 ghost use Rattle.std.specs.List.{All, Any};
-ghost use Rattle.filterset_glob.specs.Matching.{InClass, InRanges};
+ghost use Rattle.filterset_glob.specs.Matching.{InRanges};
 ghost use Rattle.filterset_texts.specs.Letters.{AreLetters, HasLetterLike, KeepsLetters, cuts_of, cuts_of_ranges};
 ghost use Rattle.filterset_texts.specs.Places.{Admits, IsAdmittedAt, place_of, row_of};
 
@@ -128,25 +128,18 @@ fn is_admitted(place: &Place<'_>, character: char) -> bool
     ensures { IsTrue result ↔ Admits (place_of place.now) character }
 {
     match place {
-        Some(Part::One { negated, ranges }) => is_in_class(*negated, ranges, character),
+        Some(Part::One { negated, ranges }) => *negated != is_in_ranges(ranges, character),
         _ => false,
     }
-}
-
-fn is_in_class(negated: bool, ranges: &[(char, char)], character: char) -> bool
-    ensures { IsTrue result ↔ InClass negated ranges.now character }
-{
-    negated != is_in_ranges(ranges, character)
 }
 
 fn is_in_ranges(ranges: &[(char, char)], character: char) -> bool
     ensures { IsTrue result ↔ InRanges ranges.now character }
 {
-    ranges.iter().any(|range| is_between(*range, character))
-}
-
-fn is_between(range: (char, char), character: char) -> bool
-    ensures { IsTrue result ↔ (range.0 ≤ character) × (character ≤ range.1) }
-{
-    range.0 <= character && character <= range.1
+    for (low, high) in ranges {
+        if *low <= character && character <= *high {
+            return true;
+        }
+    }
+    false
 }

@@ -58,10 +58,3 @@ pub(crate) fn are_same(marks: &[bool], others: &[bool]) -> bool
 {
     marks == others
 }
-
-/// Copies the marks.
-pub(crate) fn copy(alloc: Global, marks: &[bool]) -> Result<Vec<bool>, AllocError>
-    ensures { IfOk result (λ copied. copied.items ≡ marks.now) }
-{
-    marks.iter().copied().collect(alloc)
-}

@@ -1,16 +1,14 @@
 //! The search for a text that meets conditions.
 
-ghost use Rattle.std.specs.Prelude.{◌≡◌, ◌≤◌, ◌<◌, ◌^◌, ℕ, List, IfNone, IfOk, IfSome, length, slice_index_or, string_bytes};
-ghost use Rattle.std.specs.Str.{chars};
-ghost use Rattle.filterset_texts.specs.Parts.{Meets, all_place_count};
-ghost use Rattle.filterset_texts.specs.Places.{LeadsTo, places_of};
-ghost use Rattle.filterset_texts.specs.Searching.{AreStates, HasSets, IsRight};
+ghost use Rattle.std.specs.Prelude.{◌≡◌, ◌≤◌, ◌<◌, ◌^◌, IfOk};
+ghost use Rattle.filterset_texts.specs.Parts.{all_place_count};
+ghost use Rattle.filterset_texts.specs.Searching.{HasSets, IsRight};
 
 use crate::letters::list_letters;
 use crate::meeting::are_met;
 use crate::part::Condition;
 use crate::places::list_places;
-use crate::states::{State, add_following, list_start};
+use crate::states::{add_following, list_start};
 use std::alloc::{AllocError, Global};
 
 /// What a search found.
@@ -53,8 +51,9 @@ pub fn find_text(alloc: Global, conditions: &[Condition], limit: u64) -> Result<
                 states: count,
             });
         }
-        let meeting = find_meeting(conditions, &states.list, index)?;
-        if let Some(text) = meeting {
+        let state = &states.list[index];
+        if are_met(conditions, &state.marks) {
+            let text = state.text.clone()?;
             return Ok(Search {
                 found: Found::Text(text),
                 states: count + 1,
@@ -71,25 +70,4 @@ pub fn find_text(alloc: Global, conditions: &[Condition], limit: u64) -> Result<
         found,
         states: limit,
     })
-}
-
-/// Returns the text of the state at this index if it meets all conditions, else `None`.
-fn find_meeting(
-    conditions: &[Condition],
-    states: &[State],
-    index: usize,
-) -> Result<Option<String>, AllocError>
-    requires states { AreStates (places_of conditions.now) states.now }
-    requires index { index < length states.now }
-    ensures found { IfOk result (λ found. IfSome found (λ text. Meets (chars (string_bytes text)) conditions.now)) }
-    ensures unmet { IfOk result (λ found. IfNone found ((state : State) (text : List ℕ)
-        → LeadsTo (places_of conditions.now) text (slice_index_or states.now index state).marks.items
-        → ¬ Meets text conditions.now)) }
-{
-    let state = &states[index];
-    if are_met(conditions, &state.marks) {
-        Ok(Some(state.text.clone()?))
-    } else {
-        Ok(None)
-    }
 }

@@ -1,13 +1,13 @@
 //! The states of a search: sets of places, each with a text that leads to them.
 
-ghost use Rattle.std.specs.Prelude.{◌≡◌, ◌+◌, ◌++◌, ◌<◌, ◌↔◌, ◌∷◌, List, [], IfNone, IfOk, IfSome, IsTrue, OnOk, length, slice_index_or, string_bytes};
-ghost use Rattle.std.specs.List.{All, Any};
+ghost use Rattle.std.specs.Prelude.{◌≡◌, ◌+◌, ◌++◌, ◌<◌, ◌∷◌, List, [], IfNone, IfOk, IfSome, OnOk, length, slice_index_or, string_bytes};
+ghost use Rattle.std.specs.List.{All};
 ghost use Rattle.std.specs.Str.{chars};
 ghost use Rattle.filterset_texts.specs.Places.{BeginsAnew, IsAdmittedAt, row_of};
 ghost use Rattle.filterset_texts.specs.Searching.{AreSeen, AreStates, HasNext, LeadsOn};
 
 use crate::letters::Letter;
-use crate::marks::{copy, mark_next, mark_start};
+use crate::marks::{mark_next, mark_start};
 use crate::places::Place;
 use std::alloc::{AllocError, Global};
 use std::collections::HashSet;
@@ -49,7 +49,7 @@ fn add_state(alloc: Global, states: &mut States, state: State) -> Result<(), All
     ensures list { OnOk result (states.new.list.items ≡ states.old.list.items ++ state ∷ []) }
     ensures seen { OnOk result (AreSeen states.new.list.items states.new.seen) }
 {
-    states.seen.insert(copy(alloc, &state.marks)?)?;
+    states.seen.insert(state.marks.to_vec(alloc)?)?;
     states.list.push(state)?;
     Ok(())
 }

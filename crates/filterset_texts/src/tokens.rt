@@ -1,7 +1,10 @@
 //! The sequences of a glob's tokens.
-ghost use Rattle.std.specs.Prelude.{◌≡◌, ◌≤◌, [], ◌∷◌, length, IfOk};
+ghost use Rattle.std.specs.Prelude.{◌≡◌, ◌≢◌, ◌≤◌, [], ◌∷◌, length, IfOk};
+ghost use Rattle.std.specs.declared.vec.Vec.{Vec};
+ghost use Rattle.std.specs.declared.alloc.Global.{Global};
 ghost use Rattle.filterset_glob.specs.Matching.{Matches, MatchesSome, MatchesToken};
-ghost use Rattle.filterset_glob.specs.Tokens.{any_char, branches_of, class, deep_first, deep_last, deep_mid, literal, star, token_of, tokens_of};
+ghost use Rattle.filterset_glob.specs.Tokens.{branches_of, token_of, tokens_of};
+ghost use Rattle.filterset_glob.specs.declared.token.GlobBranch.{GlobBranch};
 ghost use Rattle.filterset_texts.specs.Cuts.{HoldTogether};
 ghost use Rattle.filterset_texts.specs.Expanding.{branches_sequence_count, sequence_count, token_sequence_count};
 ghost use Rattle.filterset_texts.specs.Parts.{Fits, FitsSome};
@@ -30,92 +33,52 @@ fn make_one(alloc: Global, part: Part) -> Result<Vec<Vec<Part>>, AllocError>
     Ok(vec![in alloc; sequence]?)
 }
 
-/// Makes the sequence of a literal.
+/// Makes the sequences of a token that is no group.
 #[inline(never)]
-fn expand_literal(alloc: Global, c: char) -> Result<Vec<Vec<Part>>, AllocError>
-    ensures matched { IfOk result (λ sequences. HoldTogether (FitsSome sequences.items) (MatchesToken (literal c))) }
-    ensures count { IfOk result (λ sequences. length sequences.items ≡ 1) }
+fn expand_plain(alloc: Global, token: &GlobToken) -> Result<Vec<Vec<Part>>, AllocError>
+    requires { (branches : Vec GlobBranch Global) → token.now ≢ GlobToken.Alternates branches }
+    ensures matched { IfOk result (λ sequences. HoldTogether (FitsSome sequences.items) (MatchesToken (token_of token.now))) }
+    ensures count { IfOk result (λ sequences. length sequences.items ≤ token_sequence_count (token_of token.now)) }
 {
-    make_one(alloc, make_literal(alloc, c)?)
-}
-
-/// Makes the sequence of `AnyChar`.
-#[inline(never)]
-fn expand_any_char(alloc: Global) -> Result<Vec<Vec<Part>>, AllocError>
-    ensures matched { IfOk result (λ sequences. HoldTogether (FitsSome sequences.items) (MatchesToken any_char)) }
-    ensures count { IfOk result (λ sequences. length sequences.items ≡ 1) }
-{
-    make_one(
-        alloc,
-        Part::One {
-            negated: true,
-            ranges: Vec::new(alloc),
-        },
-    )
-}
-
-/// Makes the sequence of a class.
-#[inline(never)]
-fn expand_class(
-    alloc: Global,
-    negated: bool,
-    ranges: &[(char, char)],
-) -> Result<Vec<Vec<Part>>, AllocError>
-    ensures matched { IfOk result (λ sequences. HoldTogether (FitsSome sequences.items)
-        (MatchesToken (class negated ranges.now))) }
-    ensures count { IfOk result (λ sequences. length sequences.items ≡ 1) }
-{
-    make_one(
-        alloc,
-        Part::One {
-            negated,
-            ranges: ranges.to_vec(alloc)?,
-        },
-    )
-}
-
-/// Makes the sequence of a star.
-#[inline(never)]
-fn expand_star(alloc: Global) -> Result<Vec<Vec<Part>>, AllocError>
-    ensures matched { IfOk result (λ sequences. HoldTogether (FitsSome sequences.items) (MatchesToken star)) }
-    ensures count { IfOk result (λ sequences. length sequences.items ≡ 1) }
-{
-    make_one(alloc, Part::Any)
-}
-
-/// Makes the sequences of `DeepFirst`: nothing, or any text that ends in a slash.
-#[inline(never)]
-fn expand_first_run(alloc: Global) -> Result<Vec<Vec<Part>>, AllocError>
-    ensures matched { IfOk result (λ sequences. HoldTogether (FitsSome sequences.items) (MatchesToken deep_first)) }
-    ensures count { IfOk result (λ sequences. length sequences.items ≡ 2) }
-{
-    let slash = make_literal(alloc, '/')?;
-    let behind = vec![in alloc; Part::Any, slash]?;
-    Ok(vec![in alloc; Vec::new(alloc), behind]?)
-}
-
-/// Makes the sequences of `DeepMid`: a slash, or any text between two slashes.
-#[inline(never)]
-fn expand_middle_run(alloc: Global) -> Result<Vec<Vec<Part>>, AllocError>
-    ensures matched { IfOk result (λ sequences. HoldTogether (FitsSome sequences.items) (MatchesToken deep_mid)) }
-    ensures count { IfOk result (λ sequences. length sequences.items ≡ 2) }
-{
-    let alone = vec![in alloc; make_literal(alloc, '/')?]?;
-    let first = make_literal(alloc, '/')?;
-    let last = make_literal(alloc, '/')?;
-    let between = vec![in alloc; first, Part::Any, last]?;
-    Ok(vec![in alloc; alone, between]?)
-}
-
-/// Makes the sequence of `DeepLast`: a slash and any text.
-#[inline(never)]
-fn expand_last_run(alloc: Global) -> Result<Vec<Vec<Part>>, AllocError>
-    ensures matched { IfOk result (λ sequences. HoldTogether (FitsSome sequences.items) (MatchesToken deep_last)) }
-    ensures count { IfOk result (λ sequences. length sequences.items ≡ 1) }
-{
-    let slash = make_literal(alloc, '/')?;
-    let sequence = vec![in alloc; slash, Part::Any]?;
-    Ok(vec![in alloc; sequence]?)
+    match token {
+        GlobToken::Literal(c) => make_one(alloc, make_literal(alloc, *c)?),
+        GlobToken::AnyChar => make_one(
+            alloc,
+            Part::One {
+                negated: true,
+                ranges: Vec::new(alloc),
+            },
+        ),
+        GlobToken::Class { negated, ranges } => make_one(
+            alloc,
+            Part::One {
+                negated: *negated,
+                ranges: ranges.to_vec(alloc)?,
+            },
+        ),
+        // nothing, or any text that ends in a slash
+        GlobToken::DeepFirst => {
+            let slash = make_literal(alloc, '/')?;
+            let behind = vec![in alloc; Part::Any, slash]?;
+            Ok(vec![in alloc; Vec::new(alloc), behind]?)
+        }
+        // a slash, or any text between two slashes
+        GlobToken::DeepMid => {
+            let only = make_literal(alloc, '/')?;
+            let first = make_literal(alloc, '/')?;
+            let last = make_literal(alloc, '/')?;
+            let alone = vec![in alloc; only]?;
+            let between = vec![in alloc; first, Part::Any, last]?;
+            Ok(vec![in alloc; alone, between]?)
+        }
+        // a slash and any text
+        GlobToken::DeepLast => {
+            let before = make_literal(alloc, '/')?;
+            let sequence = vec![in alloc; before, Part::Any]?;
+            Ok(vec![in alloc; sequence]?)
+        }
+        GlobToken::Star | GlobToken::Alternates(_) => make_one(alloc, Part::Any),
+    }
 }
 
 /// Makes the sequences of the tokens in a row.
@@ -142,14 +105,8 @@ fn expand_token(alloc: Global, token: &GlobToken) -> Result<Vec<Vec<Part>>, Allo
     ensures count { IfOk result (λ sequences. length sequences.items ≤ token_sequence_count (token_of token.now)) }
 {
     match token {
-        GlobToken::Literal(c) => expand_literal(alloc, *c),
-        GlobToken::AnyChar => expand_any_char(alloc),
-        GlobToken::Star => expand_star(alloc),
-        GlobToken::Class { negated, ranges } => expand_class(alloc, *negated, ranges),
         GlobToken::Alternates(branches) => expand_branches(alloc, branches),
-        GlobToken::DeepFirst => expand_first_run(alloc),
-        GlobToken::DeepMid => expand_middle_run(alloc),
-        GlobToken::DeepLast => expand_last_run(alloc),
+        _ => expand_plain(alloc, token),
     }
 }
 

@@ -1,12 +1,10 @@
-use Rattle.std.proofs.Common.{◌≡◌, ℕ, ◌^◌, ◌<◌, ◌≤◌, ◌≢◌, sym, ◌∙◌, ap, subst, List, length, get_or, take, arith, Option}
+use Rattle.std.proofs.Common.{◌≡◌, ℕ, ◌^◌, ◌<◌, ◌≤◌, ◌≢◌, refl, string_bytes, sym, ◌∙◌, ap, subst, List, length, get_or, take, arith, Option}
 use Rattle.std.specs.Borrow.{Bor}
 use Rattle.std.specs.List.{All, Any}
-use Rattle.std.specs.Prelude.{IfNone}
 use Rattle.std.specs.Str.{chars}
 use Rattle.filterset_texts.specs.declared.searching.Found.TheVariants.{Nothing, Stopped}
-use Rattle.std.proofs.lemmas.List.{take_all}
-use Rattle.std.specs.declared.alloc.Global.{Global}
-use Rattle.std.specs.declared.string.String.{String}
+use Rattle.std.proofs.lemmas.Bool.{false≢true}
+use Rattle.std.proofs.lemmas.List.{get_or_default, take_all}
 use Rattle.filterset_texts.specs.declared.letters.Letter.{Letter}
 use Rattle.filterset_texts.specs.declared.part.Part.{Part}
 use Rattle.filterset_texts.specs.declared.states.State.{State}
@@ -40,8 +38,8 @@ returns-then-index-len-clause-within_sets c =
     let most : length c.loop-count.states.list.items ≤ 2 ^ all_place_count c.args.conditions.now = subst (λ n. length c.loop-count.states.list.items ≤ 2 ^ n) size bound in
     omega (arith, most, c.loop-count.invariant.searched.within)
 
-pub returns-in-Some-clause-within_sets : goal.returns-in-Some-clause-within_sets
-returns-in-Some-clause-within_sets c =
+pub returns-then-are_met-clause-within_sets : goal.returns-then-are_met-clause-within_sets
+returns-then-are_met-clause-within_sets c =
     let row = row_of c.in_ok-places.places.items in
     let bound = few_states row c.loop-count.states.list.items c.loop-count.invariant.searched.are in
     let size : length row ≡ all_place_count c.args.conditions.now = ap length c.in_ok-places.ensures ∙ length-places_of c.args.conditions.now in
@@ -49,6 +47,35 @@ returns-in-Some-clause-within_sets c =
     let len : c.len.result ≡ length c.loop-count.states.list.items = c.len.ensures ∙ c.loop-count.states.list.ok.0 in
     let other : c.loop-count.count ≢ length c.loop-count.states.list.items = λ same. c.if-index-len.false (same ∙ sym len) in
     omega (arith, most, c.loop-count.invariant.searched.within, other)
+
+pub are_met-requires : goal.are_met-requires
+are_met-requires c =
+    let row = row_of c.in_ok-places.places.items in
+    let states = c.loop-count.states.list.items in
+    let count = c.loop-count.count in
+    let here = c.index-state.result.now in
+    let searched = c.loop-count.invariant.searched in
+    let len : c.len.result ≡ length states = c.len.ensures ∙ c.loop-count.states.list.ok.0 in
+    let other : count ≢ length states = λ same. c.if-index-len.false (same ∙ sym len) in
+    let short : count < length states = omega (arith, other, searched.within) in
+    let leads = subst (λ (s : State). LeadsTo row (chars (string_bytes s.text)) s.marks.items) (sym c.index-state.ensures) (searched.are.each count here short) in
+    ap length c.deref-in-loop-count.ensures.value ∙ leads.same_length ∙ ap length c.in_ok-places.ensures ∙ length-places_of c.args.conditions.now
+
+pub returns-then-are_met-clause-found : goal.returns-then-are_met-clause-found
+returns-then-are_met-clause-found c =
+    let conditions = c.args.conditions.now in
+    let states = c.loop-count.states.list.items in
+    let count = c.loop-count.count in
+    let here = c.index-state.result.now in
+    let text = chars (string_bytes here.text) in
+    let searched = c.loop-count.invariant.searched in
+    let len : c.len.result ≡ length states = c.len.ensures ∙ c.loop-count.states.list.ok.0 in
+    let other : count ≢ length states = λ same. c.if-index-len.false (same ∙ sym len) in
+    let short : count < length states = omega (arith, other, searched.within) in
+    let led = subst (λ (s : State). LeadsTo (row_of c.in_ok-places.places.items) (chars (string_bytes s.text)) s.marks.items) (sym c.index-state.ensures) (searched.are.each count here short) in
+    let leads = subst (λ (r : List (Option Part)). LeadsTo r text here.marks.items) c.in_ok-places.ensures led in
+    let met : Meets text conditions = (c.if-are_met.ensures text (subst (LeadsTo (places_of conditions) text) (sym c.deref-in-loop-count.ensures.value) leads)).0 refl in
+    subst (λ (bytes : List ℕ). Meets (chars bytes) conditions) (sym c.in_ok-text.ensures.cases) met
 
 pub add_following-requires-clause-begins : goal.add_following-requires-clause-begins
 add_following-requires-clause-begins c =
@@ -69,15 +96,16 @@ loop-count-preserved c =
     let rows : row_of c.deref-in-loop-count-2.result.now ≡ row = ap row_of c.deref-in-loop-count-2.ensures.value in
     let are : AreStates row new = subst (λ (r : List (Option Part)). AreStates r new) rows c.in_ok-add_following.ensures.states in
     let (more, grown) = c.in_ok-add_following.ensures.kept in
-    let unmet : (state : State) (text : List ℕ) → LeadsTo (places_of conditions) text (get_or c.deref-in-loop-count.result.now count state).marks.items → Meets text conditions → ⊥ =
-    subst (λ (o : Option (String Global)). IfNone o ((state : State) (text : List ℕ)
-    → LeadsTo (places_of conditions) text (get_or c.deref-in-loop-count.result.now count state).marks.items → Meets text conditions → ⊥)) c.in_default.is c.in_ok-meeting.ensures.unmet in
+    let unmet : (state : State) (text : List ℕ) → LeadsTo (places_of conditions) text (get_or states count state).marks.items → Meets text conditions → ⊥ =
+    λ state text leads meets.
+    let here = c.index-state.result.now in
+    let same : get_or states count state ≡ here = get_or_default states count state here short ∙ sym c.index-state.ensures in
+    let own : LeadsTo (places_of conditions) text here.marks.items = subst (λ (s : State). LeadsTo (places_of conditions) text s.marks.items) same leads in
+    false≢true ((c.if-are_met.ensures text (subst (LeadsTo (places_of conditions) text) (sym c.deref-in-loop-count.ensures.value) own)).1 meets) in
     let next : (state : State) → All (HasNext (row_of c.deref-in-loop-count-2.result.now) new (get_or states count state).marks.items) c.deref-in-loop-count-3.result.now = c.in_ok-add_following.ensures.next in
     record {
       searched = explored_more row conditions letters states new more count short grown are
-          (λ state text leads.
-          let there = subst (λ (r : List (Option Part)). LeadsTo r text (get_or states count state).marks.items) c.in_ok-places.ensures leads in
-          unmet state text (subst (λ (l : List State). LeadsTo (places_of conditions) text (get_or l count state).marks.items) (sym c.deref-in-loop-count.ensures.value) there))
+          (λ state text leads. unmet state text (subst (λ (r : List (Option Part)). LeadsTo r text (get_or states count state).marks.items) c.in_ok-places.ensures leads))
           (λ state. subst (λ (r : List (Option Part)). All (HasNext r new (get_or states count state).marks.items) letters) rows
           (subst (All (HasNext (row_of c.deref-in-loop-count-2.result.now) new (get_or states count state).marks.items)) c.deref-in-loop-count-3.ensures.value (next state)))
           searched;

@@ -30,25 +30,13 @@ expand_branches-loop-branch-preserved t c =
       count = omega (arith, length-append old more, rw items at c.in_ok-more.ensures.count, so_far.count);
     }
 
-pub expand_token-returns-in-Literal-clause-matched : goal.expand_token-returns-in-Literal-clause-matched
-expand_token-returns-in-Literal-clause-matched t c = rw c.in-Literal.is c.expand_literal.ensures.matched
-
-pub expand_token-returns-in-AnyChar-clause-matched : goal.expand_token-returns-in-AnyChar-clause-matched
-expand_token-returns-in-AnyChar-clause-matched t c = rw c.in-AnyChar.is c.expand_any_char.ensures.matched
-
-pub expand_token-returns-in-Star-clause-matched : goal.expand_token-returns-in-Star-clause-matched
-expand_token-returns-in-Star-clause-matched t c = rw c.in-Star.is c.expand_star.ensures.matched
-
-pub expand_token-returns-in-Class-clause-matched : goal.expand_token-returns-in-Class-clause-matched
-expand_token-returns-in-Class-clause-matched t c = rw (c.in-Class.is, ← c.deref.ensures.value) c.expand_class.ensures.matched
-
 pub expand_token-returns-in-Alternates-clause-matched :
     goal.expand_token-returns-in-Alternates-clause-matched
 expand_token-returns-in-Alternates-clause-matched t c =
     let made = c.expand_branches.result in
     let is = token_of_group c.args.token.now c.in-Alternates.branches c.in-Alternates.is in
     subst (λ (x : Token). IfOk made (λ (sequences : Vec (Vec Part Global) Global). HoldTogether (FitsSome sequences.items) (MatchesToken x))) (sym is)
-    (rw c.deref-in-Alternates.ensures.value at c.expand_branches.ensures.matched)
+    (rw c.deref.ensures.value at c.expand_branches.ensures.matched)
 
 pub expand_token-returns-in-Alternates-clause-count :
     goal.expand_token-returns-in-Alternates-clause-count
@@ -57,19 +45,7 @@ expand_token-returns-in-Alternates-clause-count t c =
     let is = token_of_group c.args.token.now c.in-Alternates.branches c.in-Alternates.is in
     let count = branches_sequence_count (branches_of c.in-Alternates.branches.items) in
     subst (λ (x : Token). IfOk made (λ (sequences : Vec (Vec Part Global) Global). length sequences.items ≤ token_sequence_count x)) (sym is)
-    (IfOk-weaker made (λ (sequences : Vec (Vec Part Global) Global). length sequences.items ≤ count) _ (λ sequences few. omega (arith, few, le-max_left count 1)) (rw c.deref-in-Alternates.ensures.value at c.expand_branches.ensures.count))
-
-pub expand_token-returns-in-DeepFirst-clause-matched :
-    goal.expand_token-returns-in-DeepFirst-clause-matched
-expand_token-returns-in-DeepFirst-clause-matched t c = rw c.in-DeepFirst.is c.expand_first_run.ensures.matched
-
-pub expand_token-returns-in-DeepMid-clause-matched :
-    goal.expand_token-returns-in-DeepMid-clause-matched
-expand_token-returns-in-DeepMid-clause-matched t c = rw c.in-DeepMid.is c.expand_middle_run.ensures.matched
-
-pub expand_token-returns-in-DeepLast-clause-matched :
-    goal.expand_token-returns-in-DeepLast-clause-matched
-expand_token-returns-in-DeepLast-clause-matched t c = rw c.in-DeepLast.is c.expand_last_run.ensures.matched
+    (IfOk-weaker made (λ (sequences : Vec (Vec Part Global) Global). length sequences.items ≤ count) _ (λ sequences few. omega (arith, few, le-max_left count 1)) (rw c.deref.ensures.value at c.expand_branches.ensures.count))
 
 pub expand_tokens-loop-token-init : goal.expand_tokens-loop-token-init
 expand_tokens-loop-token-init t c =
