@@ -102,19 +102,6 @@ says_matches test field leaf.Default m on e = absurd (none_some field on)
 says_matches test field leaf.All m on e = absurd (none_some field on)
 says_matches test field leaf.None m on e = absurd (none_some field on)
 
--- a leaf of a text has a matcher
-pub has_matcher : (field : TestField) (l : CompiledLeaf) → IsOfField field l → leaf_matcher l ≡ None → ⊥
-has_matcher field (leaf.Packages ids) on e = none_some field on
-has_matcher field (leaf.Kind n s) on e = let clash : Some n ≡ None = e in cc
-has_matcher field (leaf.Platform q s) on e = none_some field on
-has_matcher field (leaf.Binary n s) on e = let clash : Some n ≡ None = e in cc
-has_matcher field (leaf.BinaryId n s) on e = let clash : Some n ≡ None = e in cc
-has_matcher field (leaf.Test n s) on e = let clash : Some n ≡ None = e in cc
-has_matcher field (leaf.Group n s) on e = let clash : Some n ≡ None = e in cc
-has_matcher field leaf.Default on e = none_some field on
-has_matcher field leaf.All on e = none_some field on
-has_matcher field leaf.None on e = none_some field on
-
 -- ---- loops over a branch
 
 pub each_pushed_iff : {A B : Type 0} (P : A → Type 0) (Q : B → Type 0) (xs : List A) (x : A) (ys : List B) (y : B)
@@ -153,11 +140,6 @@ demand_known test field p d by =
     let plain : On (Push by.leaf) (Some d.is_matched) = (λ met on. subst Value (sym own) met, λ known. subst Value own (known by.of_leaf.field)) in
     subst (λ s. On s p.value) (sym by.step) (subst (λ v. On (Push by.leaf) v) (sym by.value) plain)
 
-pub unvalued_known : (On : CompiledLeaf → Type 0) (test : AnyTest) (s : Step CompiledLeaf) → IsKnownOn On test s None
-unvalued_known On test (Push l) = λ on. tt
-unvalued_known On test Negate = tt
-unvalued_known On test (Combine connective) = tt
-
 pub text_is_utf8 : (field : TestField) (test : AnyTest) → IsUtf8 (text_of field test)
 text_is_utf8 fields.Kind test = test.kind_is_text
 text_is_utf8 fields.BinaryName test = test.binary_name_is_text
@@ -185,9 +167,6 @@ no_package test (Combine connective) v none = tt
 -- a step without a known set of packages
 pub no_package_known : (test : AnyTest) (p : ValuedStep) → IsOfNoPackage p → IsKnownOn (λ l. is_of_package l ≡ true) test (step_of p.step) p.value
 no_package_known test p none = no_package test (step_of p.step) p.value none
-
-pub unvalued_in_none : (p : ValuedStep) → IsOfNoPackage p → IsInNone p
-unvalued_in_none p none ids e f = let clash : Some true ≡ None = sym f ∙ none ids e in absurd (let never : ⊥ = cc in never)
 
 -- a test, and whether it is as known
 pub alike_on : (hit value : Bool) (P : Type 0) → (IsTrue hit ↔ P) → IsTrue (beq hit value) ↔ (true ≡ true → (IsTrue value ↔ P))

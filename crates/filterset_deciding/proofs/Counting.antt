@@ -1,8 +1,8 @@
 -- Answers that fit values of three, and how many of them are yes.
-use Rattle.std.proofs.Common.{◌≡◌, ◌↔◌, ◌+◌, ◌≤◌, ℕ, Bool, true, false, Option, Some, None, refl, sym, ◌∙◌, ap, cond, List, [], ◌∷◌, ◌++◌, map, length, arith, IsTrue}
+use Rattle.std.proofs.Common.{◌≡◌, ◌↔◌, ◌+◌, ◌≤◌, Bool, true, false, Option, Some, None, refl, sym, cond, List, [], ◌∷◌, map, length, arith, IsTrue}
 use Rattle.std.specs.List.{AllZip, count_by}
 use Rattle.std.proofs.lemmas.Bool.{false≢true}
-use Rattle.std.proofs.lemmas.List.Sums.{sum_by-cons, sum_by_push}
+use Rattle.std.proofs.lemmas.List.Sums.{sum_by-cons}
 use Rattle.filterset_expression.specs.Expression.{CompiledLeaf}
 use Rattle.filterset_expression.specs.Formula.{Formula, TrueWhere}
 use Rattle.filterset_deciding.specs.AnyTest.{AnyTest, Says}
@@ -74,10 +74,3 @@ same_length [] [] h = refl
 same_length [] (s ∷ seen) h = absurd h
 same_length (x ∷ answers) [] h = absurd h
 same_length (x ∷ answers) (s ∷ seen) h = let others = same_length answers seen h.1 in cc
-
--- one answer more
-pub counted_more : (answers : List Bool) (x : Bool) (count new : ℕ) → count ≡ count_by (λ x. x) answers → new ≡ count + cond x 1 0
-    → new ≡ count_by (λ x. x) (answers ++ x ∷ [])
-counted_more answers x count new e n =
-    let more = sum_by_push (λ (x : Bool). cond x 1 0) answers x in
-    n ∙ ap (λ k. k + cond x 1 0) e ∙ sym more

@@ -4,7 +4,6 @@ use Rattle.std.specs.Prelude.{Contains, ◌⊎◌}
 use Rattle.std.specs.List.{AllByRecursion, flat_map}
 use Rattle.std.specs.Str.Iter.{HasSubslice}
 use Rattle.std.proofs.lemmas.Bool.{false≢true}
-use Rattle.std.specs.Bool.{beq}
 use Rattle.std.proofs.lemmas.List.{append-nil, take-append-drop}
 use Rattle.std.proofs.lemmas.List.Concat.{flat_map-cons}
 use Rattle.std.proofs.lemmas.List.Elements.{Contains-append_left, Contains-append_right}
@@ -167,13 +166,6 @@ pub flat_map_more : {A : Type 0} (f : A → List ℕ) (xs : List A) (i : ℕ) (x
     → flat_map f (take (i + 1) xs) ≡ flat_map f (take i xs) ++ f x
 flat_map_more f xs i x lt at =
     ap (flat_map f) (take_one xs i x lt at) ∙ flat_map-append f (take i xs) (x ∷ []) ∙ ap (λ z. flat_map f (take i xs) ++ z) (flat_map-cons f x [] ∙ append-nil (f x))
-
--- a test, and whether it is as demanded
-pub alike : (hit value : Bool) (P : Type 0) → (IsTrue hit ↔ P) → IsTrue (beq hit value) ↔ (IsTrue value ↔ P)
-alike true true P h = (λ e. h, λ f. refl)
-alike true false P h = (λ e. absurd (false≢true e), λ f. absurd (false≢true (f.1 (h.0 refl))))
-alike false true P h = (λ e. absurd (false≢true e), λ f. absurd (false≢true (h.1 (f.0 refl))))
-alike false false P h = (λ e. h, λ f. refl)
 
 -- ---- demands that say the same
 

@@ -1,6 +1,6 @@
 -- Branches by whose values the answer is no.
 use Rattle.std.proofs.Common.{◌≡◌, Bool, true, Option, Some, refl, subst, List, [], ◌∷◌, map}
-use Rattle.std.specs.Prelude.{Result, Ok, Err, IfOk, OnOk}
+use Rattle.std.specs.Prelude.{Result, Ok, Err, OnOk}
 use Rattle.std.specs.Borrow.{Bor}
 use Rattle.filterset_expression.specs.Expression.{CompiledLeaf}
 use Rattle.filterset_expression.specs.Formula.{Formula, TrueWhere}
@@ -51,7 +51,3 @@ refused_at question given default exprs branch possible answers refuses made agr
 pub any_ok : {T E P : Type 0} (r : Result T E) → P → OnOk r P
 any_ok (Ok x) p = p
 any_ok (Err e) p = tt
-
-pub all_ok : {T E : Type 0} (P : T → Type 0) (r : Result T E) → ((x : T) → P x) → IfOk r P
-all_ok P (Ok x) p = p x
-all_ok P (Err e) p = tt

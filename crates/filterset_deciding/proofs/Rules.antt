@@ -9,14 +9,14 @@ use Rattle.std.proofs.lemmas.Bool.{and_parts}
 use Rattle.std.proofs.lemmas.Str.{encodes-chars}
 use Rattle.std.specs.Prelude.{IfSome, IsUtf8, encode_utf8_all, not}
 use Rattle.filterset_glob.specs.Matching.{Matches, MatchesToken}
-use Rattle.filterset_glob.specs.Tokens.{Token, literal, Tokens, next_token, token_of, tokens_of}
+use Rattle.filterset_glob.specs.Tokens.{Token, literal, token_of, tokens_of}
 use Rattle.filterset_glob.specs.declared.token.GlobToken.{GlobToken}
 use Rattle.filterset_deciding.specs.Globs.{is_literal, are_literals}
 use Rattle.filterset_matchers.specs.Equality.{Compared, Equal, Contains as Contains', Glob, Regex, compared, same_compared, same_compared_Decides}
 use Rattle.filterset_matchers.specs.Matcher as matcher
 use Rattle.filterset_matchers.specs.Matcher.{Matcher, MatchesName}
 use Rattle.filterset_matchers.specs.Pattern.{HasMatch}
-use Rattle.filterset_deciding.specs.Known.{IsKnown, IsKnownOfText, IsLiteralOf}
+use Rattle.filterset_deciding.specs.Known.{IsKnown, IsLiteralOf}
 
 first_or_later : {A : Type 0} (x y : A) (rest : List A) (k : ℕ) → k < length (y ∷ rest) → get_or (y ∷ rest) k x ≡ x → (y ≡ x) ⊎ Contains rest x
 first_or_later x y rest zero lt e = inl e
@@ -32,9 +32,6 @@ contains_none x h = absurd (let lt : h.0 < 0 = h.1 in omega arith)
 -- each element that was passed is so, and the others are left
 abbrev pub PassedOrLeft : {A : Type 0} → (A → Type 0) → List A → List A → Type 0
 PassedOrLeft {A} P all left = (x : A) → Contains all x → P x ⊎ Contains left x
-
-pub passed_first : {A : Type 0} (P : A → Type 0) (all left : List A) → left ≡ all → PassedOrLeft P all left
-passed_first P all left e x h = inr (subst (λ xs. Contains xs x) (sym e) h)
 
 pub passed_one : {A : Type 0} (P : A → Type 0) (all left rest : List A) (y : A) → left ≡ y ∷ rest → P y → PassedOrLeft P all left → PassedOrLeft P all rest
 passed_one P all left rest y e p so_far x h =
@@ -66,13 +63,6 @@ pub part_misses_whole : (text part whole : List ℕ) (hit : Bool) → (IsTrue fa
     → hit ≡ true → (IsTrue false ↔ HasSubslice text whole)
 part_misses_whole text part whole hit says hits h =
     (λ e. absurd (false≢true e), λ has. says.1 (part_of_part text whole part has (hits.0 h)))
-
--- a literal tells what another matcher says of the text
-pub literal_tells : (m n : Matcher) (only : List ℕ) (value hit : Bool) → IsLiteralOf m only → value ≡ true → (IsTrue hit ↔ MatchesName n only)
-    → IsKnownOfText m value n (Some hit)
-literal_tells m n only value hit alone is_true hits text utf8 says =
-    let same : text ≡ only = (alone text utf8).0 (says.0 is_true) in
-    (λ e. subst (MatchesName n) (sym same) (hits.0 e), λ h. hits.1 (subst (MatchesName n) same h))
 
 unequal : (hit value : Bool) → IsTrue (not (beq hit value)) → (P : Type 0) → (IsTrue hit ↔ P) → (IsTrue value ↔ P) → ⊥
 unequal true true e P h k = false≢true e
@@ -110,16 +100,6 @@ literal_glob tokens own only implicit is_text e m text utf8 = (
       sym (encodes-chars text utf8) ∙ ap encode_utf8_all same ∙ encodes-chars only is_text,
   λ same. subst (λ t. Matches (tokens_of tokens) (chars t)) (sym same) m,
 )
-
--- what two lists of tokens both match begins with a literal of both
-pub both_begin : (c d : ℕ) (tokens others : Tokens) (text : List ℕ) → Matches (next_token (literal c) tokens) text → Matches (next_token (literal d) others) text
-    → (c ≡ d) × ((rest : List ℕ) × Matches tokens rest × Matches others rest)
-both_begin c d tokens others text (p, rest, is, (x, px, xc), own) (q, left, also, (y, qy, yd), other) =
-    let one : text ≡ c ∷ rest = is ∙ ap (λ z. z ++ rest) (px ∙ ap (λ z. z ∷ []) xc) in
-    let two : text ≡ d ∷ left = also ∙ ap (λ z. z ++ left) (qy ∙ ap (λ z. z ∷ []) yd) in
-    let same : c ∷ rest ≡ d ∷ left = sym one ∙ two in
-    let same_rest : rest ≡ left = cc in
-    (cc, (rest, own, subst (Matches others) (sym same_rest) other))
 
 -- what is compared of a matcher tells what it hits
 abbrev MatchesCompared : Compared → List ℕ → Type 0

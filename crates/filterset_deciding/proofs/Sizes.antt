@@ -35,12 +35,6 @@ open_some (Push leaf) b = refl
 open_some Negate b = refl
 open_some (Combine connective) b = refl
 
-pub open_pushed : (s : Step CompiledLeaf) (v : Option Bool) → open_of s v ≤ length (pushed (s ∷ []))
-open_pushed (Push leaf) None = omega arith
-open_pushed (Push leaf) (Some b) = omega arith
-open_pushed Negate v = omega arith
-open_pushed (Combine connective) v = omega arith
-
 -- no more leaves are without a value than there are leaves
 pub opens_pushed_leaves : (branch : List ValuedStep) → opens branch ≤ length (pushed (steps_in branch))
 opens_pushed_leaves [] = omega arith

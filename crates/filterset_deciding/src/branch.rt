@@ -41,32 +41,6 @@ pub(crate) fn start_branch<'a>(
     Ok(made)
 }
 
-/// Returns a step of a branch with what follows about its leaf if another leaf has this value.
-fn narrow_step<'a>(
-    alloc: Global,
-    placed: ValuedStep<'a>,
-    leaf: &FiltersetLeaf,
-    value: bool,
-) -> Result<ValuedStep<'a>, AllocError>
-    ensures step { IfOk result (λ made. step_of made.step ≡ step_of placed.entry.step) }
-    ensures known { IfOk result (λ made. (test : AnyTest) → (IsTrue value ↔ Says test (compiled_leaf leaf.now))
-        → IsKnownStep test (step_of placed.entry.step) placed.entry.value
-        → IsKnownStep test (step_of made.step) made.value) }
-    ensures fewer { IfOk result (λ made. open_of (step_of made.step) made.value
-        ≤ open_of (step_of placed.entry.step) placed.entry.value) }
-{
-    match (placed.step, placed.value) {
-        (FlatStep::Leaf(other), None) => {
-            let inferred = infer(alloc, leaf, value, other)?;
-            Ok(ValuedStep {
-                step: placed.step,
-                value: inferred,
-            })
-        }
-        _ => Ok(placed),
-    }
-}
-
 /// Returns a step of a branch with what follows about its leaf if another leaf has this value, or with the value if the leaf
 /// is this one.
 fn settle_step<'a>(
@@ -91,7 +65,16 @@ fn settle_step<'a>(
             value: Some(value),
         });
     }
-    narrow_step(alloc, placed, leaf, value)
+    match (placed.step, placed.value) {
+        (FlatStep::Leaf(other), None) => {
+            let inferred = infer(alloc, leaf, value, other)?;
+            Ok(ValuedStep {
+                step: placed.step,
+                value: inferred,
+            })
+        }
+        _ => Ok(placed),
+    }
 }
 
 /// Copies a branch, gives the leaf at this position this value, and adds what follows about its leaves. The only error is out

@@ -1,5 +1,5 @@
 //! Decides questions about filtersets.
-ghost use Rattle.std.specs.Prelude.{◌≡◌, ◌⊎◌, ◌<◌, ◌+◌, ◌*◌, ◌^◌, ◌++◌, ℕ, IfOk, OnOk, length};
+ghost use Rattle.std.specs.Prelude.{◌≡◌, ◌⊎◌, ◌<◌, ◌+◌, ◌*◌, ◌^◌, ◌++◌, IfOk, OnOk, length};
 ghost use Rattle.filterset_expression.specs.Contexts.{default_of};
 ghost use Rattle.filterset_expression.specs.Expression.{with_default};
 ghost use Rattle.filterset_expression.specs.FlatSteps.{steps_of, postfix};
@@ -44,14 +44,6 @@ fn push_steps<'a>(
     Ok(())
 }
 
-/// Returns how many branches with this many steps a budget of steps allows.
-fn branches_of(budget: u64, steps: usize) -> u64
-    requires { 0 < steps }
-    ensures { (bound : ℕ) → result < bound → budget < bound * steps }
-{
-    budget / steps as u64
-}
-
 /// Decides whether the answer to the question is yes for every test that the given filterset picks, whatever the test's
 /// name, binary and group are.
 ///
@@ -90,7 +82,7 @@ pub fn decide<'x>(
         cx: *cx,
         question,
     };
-    let branches = branches_of(budget, steps.len());
+    let branches = budget / steps.len() as u64;
     match search(alloc, &asked, &steps, branches, Effort { left: budget })? {
         Searched::Nothing => Ok(Verdict::Always),
         Searched::Unknown(doubt) => Ok(Verdict::Unknown(doubt.without_repeats(alloc)?)),

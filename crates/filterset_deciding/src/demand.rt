@@ -6,7 +6,7 @@ ghost use Rattle.filterset_expression.specs.FlatSteps.{step_of};
 ghost use Rattle.filterset_deciding.specs.AnyTest.{AnyTest};
 ghost use Rattle.filterset_deciding.specs.Aspects.{AgreesOn, IsKnownOn, IsOfField, text_of};
 ghost use Rattle.filterset_deciding.specs.Demands.{IsDemandedBy, IsDoubtIn, field_of};
-ghost use Rattle.filterset_deciding.specs.Texts.{AreComparisons, HasUnsearched, IsAmong, Meets, matcher_in};
+ghost use Rattle.filterset_deciding.specs.Texts.{AreComparisons, HasUnsearched, IsAmong, Meets};
 ghost use Rattle.filterset_matchers.specs.Equality.{compared};
 ghost use Rattle.filterset_deciding.specs.declared.demand.Demand.{Demand};
 ghost use Rattle.filterset_deciding.specs.Known.{steps_in};
@@ -64,20 +64,12 @@ fn first_demands<'d, 'x>(demands: &'d [Demand<'x>]) -> &'d [Demand<'x>]
     &demands[..COMPARED]
 }
 
-/// Returns whether the two demand the same.
-fn is_same(demand: Demand<'_>, other: Demand<'_>) -> bool
-    ensures value { IsTrue result → other.entry.is_matched ≡ demand.entry.is_matched }
-    ensures matcher { IsTrue result → compared (matcher_in other.entry) ≡ compared (matcher_in demand.entry) }
-{
-    demand.matcher == other.matcher && demand.is_matched == other.is_matched
-}
-
 /// Returns whether one of these demands is the same.
 fn is_repeated(demand: Demand<'_>, kept: &[Demand<'_>]) -> bool
     ensures { IsTrue result → IsAmong kept.now demand.entry }
 {
     for other in kept {
-        if is_same(demand, *other) {
+        if demand.matcher == other.matcher && demand.is_matched == other.is_matched {
             return true;
         }
     }

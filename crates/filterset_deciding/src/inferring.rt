@@ -1,7 +1,6 @@
 //! What follows about one leaf from the value of another.
 ghost use Rattle.std.specs.Prelude.{◌≡◌, ◌↔◌, ℕ, List, Some, None, Contains, IfOk, IsTrue, if◌then◌else◌};
 ghost use Rattle.filterset_expression.specs.Expression.{compiled_leaf};
-ghost use Rattle.filterset_matchers.specs.Matcher.{MatchesName};
 ghost use Rattle.filterset_matchers.specs.Matchers.{matcher_of};
 ghost use Rattle.filterset_deciding.specs.AnyTest.{AnyTest, Says};
 ghost use Rattle.filterset_deciding.specs.Known.{IsKnown, IsKnownOfText};
@@ -90,28 +89,6 @@ fn infer_part(
     }
 }
 
-/// Infers what the second matcher says of a text from what the first says of it. If one of them matches only one text, it is
-/// enough to look at that.
-fn infer_by_text(
-    alloc: Global,
-    matcher: &NameMatcher,
-    value: bool,
-    other: &NameMatcher,
-) -> Result<Option<bool>, AllocError>
-    ensures { IfOk result (IsKnownOfText (matcher_of matcher.now) value (matcher_of other.now)) }
-{
-    if value {
-        if let Some(text) = literal_of(alloc, matcher)? {
-            return Ok(Some(other.is_match(alloc, text)?));
-        }
-    }
-    if let Some(text) = literal_of(alloc, other)? {
-        let hit = matcher.is_match(alloc, text)?;
-        return Ok(only_if(hit != value, false));
-    }
-    infer_part(alloc, matcher, value, other)
-}
-
 /// Returns the value if the condition is true.
 fn only_if(is_so: bool, value: bool) -> Option<bool>
     ensures { result ≡ (if is_so then Some value else None) }
@@ -119,7 +96,8 @@ fn only_if(is_so: bool, value: bool) -> Option<bool>
     if is_so { Some(value) } else { None }
 }
 
-/// Infers what the second matcher says of a text from what the first says of it.
+/// Infers what the second matcher says of a text from what the first says of it. If one of them matches only one text, it is
+/// enough to look at that.
 fn infer_matcher(
     alloc: Global,
     matcher: &NameMatcher,
@@ -131,7 +109,16 @@ fn infer_matcher(
     if matcher == other {
         return Ok(Some(value));
     }
-    infer_by_text(alloc, matcher, value, other)
+    if value {
+        if let Some(text) = literal_of(alloc, matcher)? {
+            return Ok(Some(other.is_match(alloc, text)?));
+        }
+    }
+    if let Some(text) = literal_of(alloc, other)? {
+        let hit = matcher.is_match(alloc, text)?;
+        return Ok(only_if(hit != value, false));
+    }
+    infer_part(alloc, matcher, value, other)
 }
 
 /// Infers the value of a leaf from the value of another. The only error is out of memory.

@@ -1,10 +1,10 @@
 //! Matchers that match one text alone, and globs that begin with different literals.
 ghost use Rattle.std.specs.Prelude.{◌≡◌, ℕ, Bool, List, IfNone, IfOk, IfSome, IsTrue};
 ghost use Rattle.filterset_glob.specs.Matching.{Matches};
-ghost use Rattle.filterset_glob.specs.Tokens.{token_of, tokens_of};
+ghost use Rattle.filterset_glob.specs.Tokens.{tokens_of};
 ghost use Rattle.filterset_matchers.specs.Matchers.{matcher_of};
 ghost use Rattle.filterset_matchers.specs.Matcher as matcher;
-ghost use Rattle.filterset_deciding.specs.Globs.{are_literals, is_literal};
+ghost use Rattle.filterset_deciding.specs.Globs.{are_literals};
 ghost use Rattle.filterset_deciding.specs.Known.{IsLiteralOf};
 ghost use Rattle.filterset_deciding.specs.Texts.{IsEqual};
 
@@ -12,19 +12,12 @@ use filterset_glob::{GenericGlob, GlobToken};
 use filterset_matchers::NameMatcher;
 use std::alloc::{AllocError, Global};
 
-/// Returns whether the token is a literal.
-fn is_literal(token: &GlobToken) -> bool
-    ensures { result ≡ is_literal (token_of token.now) }
-{
-    matches!(token, GlobToken::Literal(_))
-}
-
 /// Returns whether each token is a literal.
 fn are_literals(tokens: &[GlobToken]) -> bool
     ensures { result ≡ are_literals tokens.now }
 {
     for token in tokens {
-        if !is_literal(token) {
+        if !matches!(token, GlobToken::Literal(_)) {
             return false;
         }
     }

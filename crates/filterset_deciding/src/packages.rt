@@ -116,21 +116,13 @@ fn find_package<'a>(branch: &[ValuedStep<'a>]) -> Package<'a>
     Package::Any
 }
 
-/// Returns the larger of the two.
-fn larger(one: usize, other: usize) -> usize
-    ensures one { one ≤ result }
-    ensures other { other ≤ result }
-{
-    if one < other { other } else { one }
-}
-
 /// Returns the length in bytes of the longest of these ids.
 fn longest_of(ids: &BTreeSet<PackageId>) -> usize
     ensures { (id : List ℕ) → Contains ids.now.keys id → length id ≤ result }
 {
     let mut longest = 0;
     for id in ids {
-        longest = larger(longest, id.repr().len());
+        longest = longest.max(id.repr().len());
     }
     longest
 }
@@ -151,7 +143,7 @@ fn longest_in(branch: &[ValuedStep<'_>]) -> usize
 {
     let mut longest = 0;
     for placed in branch {
-        longest = larger(longest, longest_at(*placed));
+        longest = longest.max(longest_at(*placed));
     }
     longest
 }

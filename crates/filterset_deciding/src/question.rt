@@ -1,5 +1,5 @@
 //! Questions about filtersets and each possible test.
-ghost use Rattle.std.specs.Prelude.{◌≡◌, ◌≢◌, ◌≤◌, ◌+◌, ◌<◌, ℕ, IfNone, IfSome};
+ghost use Rattle.std.specs.Prelude.{◌≡◌, ◌≢◌, ◌≤◌, ◌<◌, ℕ, IfNone, IfSome};
 ghost use Rattle.filterset_deciding.specs.Question.{is_met};
 
 /// A question about several filtersets and a test.
@@ -36,71 +36,42 @@ impl Question {
         ensures opened { IfNone result (low ≢ high) }
     {
         match self {
-            Question::AllAlike => settle_all_alike(low, high, total),
-            Question::AtLeastOne => settle_at_least_one(low, high),
-            Question::AtMostOne => settle_at_most_one(low, high),
-            Question::ExactlyOne => settle_exactly_one(low, high),
+            Question::AllAlike => {
+                if high == 0 || low == total {
+                    Some(true)
+                } else if low >= 1 && high < total {
+                    Some(false)
+                } else {
+                    None
+                }
+            }
+            Question::AtLeastOne => {
+                if low >= 1 {
+                    Some(true)
+                } else if high == 0 {
+                    Some(false)
+                } else {
+                    None
+                }
+            }
+            Question::AtMostOne => {
+                if high <= 1 {
+                    Some(true)
+                } else if low >= 2 {
+                    Some(false)
+                } else {
+                    None
+                }
+            }
+            Question::ExactlyOne => {
+                if low == 1 && high == 1 {
+                    Some(true)
+                } else if low >= 2 || high == 0 {
+                    Some(false)
+                } else {
+                    None
+                }
+            }
         }
-    }
-}
-
-/// Returns the answer to `AllAlike` if it is the same for each count from `low` to `high`.
-fn settle_all_alike(low: usize, high: usize, total: usize) -> Option<bool>
-    requires within { high ≤ total }
-    ensures settled { IfSome result (λ answer.
-        (count : ℕ) → low ≤ count → count ≤ high → is_met Question.AllAlike count total ≡ answer) }
-    ensures opened { IfNone result (low ≢ high) }
-{
-    if high == 0 || low == total {
-        Some(true)
-    } else if low >= 1 && high < total {
-        Some(false)
-    } else {
-        None
-    }
-}
-
-/// Returns the answer to `AtLeastOne` if it is the same for each count from `low` to `high`.
-fn settle_at_least_one(low: usize, high: usize) -> Option<bool>
-    ensures settled { IfSome result (λ answer.
-        (count total : ℕ) → low ≤ count → count ≤ high → is_met Question.AtLeastOne count total ≡ answer) }
-    ensures opened { IfNone result (low ≢ high) }
-{
-    if low >= 1 {
-        Some(true)
-    } else if high == 0 {
-        Some(false)
-    } else {
-        None
-    }
-}
-
-/// Returns the answer to `AtMostOne` if it is the same for each count from `low` to `high`.
-fn settle_at_most_one(low: usize, high: usize) -> Option<bool>
-    ensures settled { IfSome result (λ answer.
-        (count total : ℕ) → low ≤ count → count ≤ high → is_met Question.AtMostOne count total ≡ answer) }
-    ensures opened { IfNone result (low ≢ high) }
-{
-    if high <= 1 {
-        Some(true)
-    } else if low >= 2 {
-        Some(false)
-    } else {
-        None
-    }
-}
-
-/// Returns the answer to `ExactlyOne` if it is the same for each count from `low` to `high`.
-fn settle_exactly_one(low: usize, high: usize) -> Option<bool>
-    ensures settled { IfSome result (λ answer.
-        (count total : ℕ) → low ≤ count → count ≤ high → is_met Question.ExactlyOne count total ≡ answer) }
-    ensures opened { IfNone result (low ≢ high) }
-{
-    if low == 1 && high == 1 {
-        Some(true)
-    } else if low >= 2 || high == 0 {
-        Some(false)
-    } else {
-        None
     }
 }

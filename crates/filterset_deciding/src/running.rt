@@ -1,6 +1,6 @@
 //! Runs of steps on a stack, where the values of some leaves are known.
 ghost use Rattle.std.specs.Prelude.{◌≡◌, ◌<◌, [], List, Some, None, IfOk, IfSome, MatchOption, get_or, length, true, if◌then◌else◌};
-ghost use Rattle.filterset_expression.specs.Connectives.{kleene, kleene_not};
+ghost use Rattle.filterset_expression.specs.Connectives.{kleene};
 ghost use Rattle.filterset_expression.specs.FlatSteps.{step_of, Negate, Combine};
 ghost use Rattle.std.specs.List.{AllByRecursion};
 ghost use Rattle.filterset_deciding.specs.Running.{kleene_step, kleene_run, tops};
@@ -22,17 +22,6 @@ pub(crate) struct ValuedStep<'a> {
 pub(crate) struct StackValue {
     pub value: Option<bool>,
     pub waits_for: usize,
-}
-
-/// Negates a value.
-fn negate_value(operand: StackValue) -> StackValue
-    ensures value { result.value ≡ kleene_not operand.value }
-    ensures waits { (branch : List ValuedStep) → WaitsIn branch operand → WaitsIn branch result }
-{
-    StackValue {
-        value: operand.value.logic_not(),
-        waits_for: operand.waits_for,
-    }
 }
 
 /// Applies the connective to two values of three.
@@ -91,7 +80,10 @@ fn negate(stack: &mut Vec<StackValue>) -> Result<bool, AllocError>
     let Some(operand) = stack.pop() else {
         return Ok(false);
     };
-    stack.push(negate_value(operand))?;
+    stack.push(StackValue {
+        value: operand.value.logic_not(),
+        waits_for: operand.waits_for,
+    })?;
     Ok(true)
 }
 

@@ -24,18 +24,6 @@ enum Place {
     Skipped(char),
 }
 
-/// Appends a character of a class: the first of its ranges, or an underscore if the class is negated.
-fn push_from_class(
-    text: &mut String,
-    negated: bool,
-    ranges: &[(char, char)],
-) -> Result<(), AllocError> {
-    match ranges.first() {
-        Some((low, _)) if !negated => text.push(*low),
-        _ => text.push('_'),
-    }
-}
-
 /// Appends a sample of a glob.
 fn push_from_glob(text: &mut String, tokens: &[GlobToken], style: Style) -> Result<(), AllocError> {
     for token in tokens {
@@ -44,7 +32,11 @@ fn push_from_glob(text: &mut String, tokens: &[GlobToken], style: Style) -> Resu
             GlobToken::AnyChar => text.push('_')?,
             GlobToken::Star => text.push_str(style.filler)?,
             GlobToken::DeepFirst => {}
-            GlobToken::Class { negated, ranges } => push_from_class(text, *negated, ranges)?,
+            // the first of its ranges, or an underscore if the class is negated
+            GlobToken::Class { negated, ranges } => match ranges.first() {
+                Some((low, _)) if !*negated => text.push(*low)?,
+                _ => text.push('_')?,
+            },
             GlobToken::Alternates(branches) => {
                 if let Some(branch) = branches.first() {
                     push_from_glob(text, &branch.tokens, style)?;

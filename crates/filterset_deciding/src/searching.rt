@@ -1,5 +1,5 @@
 //! The search for a test for which the answer to a question is no.
-ghost use Rattle.std.specs.Prelude.{◌≡◌, ◌⊎◌, ◌<◌, ◌≤◌, ◌+◌, ◌^◌, ℕ, List, MatchOption, IfNone, IfOk, IfSome, OnOk, get_or, length};
+ghost use Rattle.std.specs.Prelude.{◌≡◌, ◌⊎◌, ◌<◌, ◌≤◌, ◌+◌, ◌^◌, ℕ, List, IfNone, IfOk, IfSome, OnOk, get_or, length};
 ghost use Rattle.filterset_expression.specs.Contexts.{default_of};
 ghost use Rattle.filterset_expression.specs.FlatSteps.{Push, Step, step_of, steps_of};
 ghost use Rattle.filterset_expression.specs.Expression.{CompiledLeaf, compiled_leaf};
@@ -172,16 +172,6 @@ fn explore<'a>(
     }
 }
 
-/// Returns what a search found that came to its end without a test.
-fn end_search(left: Option<Doubt<'_>>) -> Searched<'_>
-    ensures { MatchOption left.entry (result ≡ Searched.Nothing) (λ doubt. result ≡ Searched.Unknown doubt) }
-{
-    match left {
-        Some(doubt) => Searched::Unknown(doubt),
-        None => Searched::Nothing,
-    }
-}
-
 /// Searches at most this many branches, and texts with at most this effort. The only error is out of memory.
 pub(crate) fn search<'a>(
     alloc: Global,
@@ -207,7 +197,12 @@ pub(crate) fn search<'a>(
     'branches: for searched in 0..branches {
         let branch = match pending.pop() {
             Some(branch) => branch,
-            None => return Ok(end_search(left)),
+            None => {
+                return match left {
+                    Some(doubt) => Ok(Searched::Unknown(doubt)),
+                    None => Ok(Searched::Nothing),
+                };
+            }
         };
         match explore(alloc, asked, &branch, &mut pending, &mut effort)? {
             Explored::Closed => {}

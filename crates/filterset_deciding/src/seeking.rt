@@ -20,13 +20,6 @@ pub(crate) struct Effort {
     pub left: u64,
 }
 
-impl Effort {
-    /// Takes the steps of so many states that cost so much each.
-    fn take(&mut self, states: u64, cost: u64) {
-        self.left = self.left.saturating_sub(states.saturating_mul(cost));
-    }
-}
-
 /// Makes the condition of a demand, unless its matcher is a pattern or has too many sequences.
 fn condition_of(alloc: Global, demand: Demand<'_>) -> Result<Option<Condition>, AllocError>
     ensures some { IfOk result (λ found. IfSome found (IsConditionOf demand.entry)) }
@@ -59,22 +52,15 @@ fn conditions_of(
     Ok(Some(conditions))
 }
 
-/// Adds how many parts the sequences of a condition have.
-fn add_parts(parts: u64, condition: &Condition) -> u64 {
-    let mut parts = parts;
-    for sequence in &condition.sequences {
-        parts = parts.saturating_add(sequence.len() as u64);
-    }
-    parts
-}
-
 /// Returns how many steps a state costs.
 fn cost_of(conditions: &[Condition]) -> u64
     ensures { 0 < result }
 {
-    let mut parts = 1;
+    let mut parts = 1u64;
     for condition in conditions {
-        parts = add_parts(parts, condition);
+        for sequence in &condition.sequences {
+            parts = parts.saturating_add(sequence.len() as u64);
+        }
     }
     CHARACTERS.saturating_mul(parts).max(1)
 }
@@ -93,7 +79,7 @@ pub(crate) fn seek_text(
     };
     let cost = cost_of(&conditions);
     let Search { found, states } = find_text(alloc, &conditions, effort.left / cost)?;
-    effort.take(states, cost);
+    effort.left = effort.left.saturating_sub(states.saturating_mul(cost));
     match found {
         Found::Text(text) => Ok(Sought::Text(text)),
         Found::Nothing => Ok(Sought::Nothing),

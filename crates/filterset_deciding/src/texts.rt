@@ -1,6 +1,6 @@
 //! Texts that meet demands: whether there is one.
 ghost use Rattle.std.specs.Prelude.{◌≡◌, ◌↔◌, ◌<◌, ◌++◌, ℕ, List, Contains, IfNone, IfOk, IfSome, IsTrue, IsUtf8, OnOk, string_bytes, false, true};
-ghost use Rattle.filterset_deciding.specs.Texts.{AreComparisons, AreSimple, IsEqual, IsMetBy, IsSimple, Meets, matcher_in, NoneEqual, joined, part_of};
+ghost use Rattle.filterset_deciding.specs.Texts.{AreComparisons, AreSimple, IsSimple, Meets, NoneEqual, joined, part_of};
 ghost use Rattle.filterset_deciding.specs.Sought.{IsSoughtOf};
 
 use crate::demand::{Demand, TestField};
@@ -73,36 +73,17 @@ fn fillers(field: TestField) -> &'static [&'static str] {
     }
 }
 
-/// Returns whether the text meets the demand.
-fn is_met(alloc: Global, text: &str, demand: Demand<'_>) -> Result<bool, AllocError>
-    ensures { IfOk result (λ met. IsTrue met ↔ IsMetBy text.now demand.entry) }
-{
-    let is_matched = demand.matcher.is_match(alloc, text)?;
-    Ok(is_matched == demand.is_matched)
-}
-
 /// Returns whether the text meets all demands.
 fn meets(alloc: Global, text: &str, demands: &[Demand<'_>]) -> Result<bool, AllocError>
     ensures { IfOk result (λ met. IsTrue met ↔ Meets text.now demands.now) }
 {
     for demand in demands {
-        if !is_met(alloc, text, *demand)? {
+        let is_matched = demand.matcher.is_match(alloc, text)?;
+        if is_matched != demand.is_matched {
             return Ok(false);
         }
     }
     Ok(true)
-}
-
-/// Returns the only text that can meet the demand, if the matcher has to match, and matches that one alone.
-fn fixed_text<'x>(alloc: Global, demand: Demand<'x>) -> Result<Option<&'x str>, AllocError>
-    ensures only { IfOk result (λ found. IfSome found (λ only. (text : List ℕ) → IsUtf8 text
-        → IsMetBy text demand.entry → text ≡ only.now)) }
-    ensures none { IfOk result (λ found. IfNone found (demand.entry.is_matched ≡ true → ¬ IsEqual (matcher_in demand.entry))) }
-{
-    if !demand.is_matched {
-        return Ok(None);
-    }
-    literal_of(alloc, demand.matcher)
 }
 
 /// Returns the only text that can meet the demands, if some matcher that has to match matches that one alone.
@@ -112,9 +93,11 @@ fn only_text<'x>(alloc: Global, demands: &[Demand<'x>]) -> Result<Option<&'x str
     ensures none { IfOk result (λ found. IfNone found (NoneEqual demands.now)) }
 {
     for demand in demands {
-        match fixed_text(alloc, *demand)? {
-            Some(text) => return Ok(Some(text)),
-            None => {}
+        if !demand.is_matched {
+            continue;
+        }
+        if let Some(text) = literal_of(alloc, demand.matcher)? {
+            return Ok(Some(text));
         }
     }
     Ok(None)
@@ -163,13 +146,6 @@ fn try_samples(alloc: Global, demands: &[Demand<'_>]) -> Result<Option<String>, 
     Ok(None)
 }
 
-/// Returns whether the text has this ASCII character.
-fn has_character(text: &str, c: u8) -> bool
-    ensures { IsTrue result ↔ Contains text.now c }
-{
-    text.as_bytes().contains(&c)
-}
-
 /// Returns whether the text has not this ASCII character, unless it has to match.
 fn is_free(is_matched: bool, text: &str, c: u8) -> bool
     ensures { IsTrue result ↔ (is_matched ≡ false → ¬ Contains text.now c) }
@@ -177,7 +153,7 @@ fn is_free(is_matched: bool, text: &str, c: u8) -> bool
     if is_matched {
         return true;
     }
-    !has_character(text, c)
+    !text.as_bytes().contains(&c)
 }
 
 /// Returns whether the matcher compares texts, and has not this character where it must not match.
@@ -256,45 +232,7 @@ fn take_if_met(alloc: Global, text: String, demands: &[Demand<'_>]) -> Result<So
     Ok(Sought::Text(text))
 }
 
-/// Makes a text that meets the demands, if none that has to match is for equality.
-fn make_text(
-    alloc: Global,
-    demands: &[Demand<'_>],
-    effort: &mut Effort,
-) -> Result<Sought, AllocError>
-    requires { NoneEqual demands.now }
-    ensures { IfOk result (IsSoughtOf demands.now) }
-{
-    match find_separator(demands) {
-        Some(c) => {
-            let text = join_parts(alloc, demands, c)?;
-            take_if_met(alloc, text, demands)
-        }
-        None => seek_text(alloc, demands, effort),
-    }
-}
-
-/// Looks for a text that meets the demands, first among those that are easy to read, if none that has to match is for
-/// equality.
-fn guess_text(
-    alloc: Global,
-    field: TestField,
-    demands: &[Demand<'_>],
-    effort: &mut Effort,
-) -> Result<Sought, AllocError>
-    requires { NoneEqual demands.now }
-    ensures { IfOk result (IsSoughtOf demands.now) }
-{
-    if let Some(text) = try_fillers(alloc, field, demands)? {
-        return Ok(Sought::Text(text));
-    }
-    match try_samples(alloc, demands)? {
-        Some(text) => Ok(Sought::Text(text)),
-        None => make_text(alloc, demands, effort),
-    }
-}
-
-/// Looks for a text that meets the demands. The only error is out of memory.
+/// Looks for a text that meets the demands, first among those that are easy to read. The only error is out of memory.
 pub(crate) fn find_text(
     alloc: Global,
     field: TestField,
@@ -303,11 +241,19 @@ pub(crate) fn find_text(
 ) -> Result<Sought, AllocError>
     ensures { IfOk result (IsSoughtOf demands.now) }
 {
-    match only_text(alloc, demands)? {
-        Some(text) => {
-            let only = String::from_str(alloc, text)?;
-            take_if_met(alloc, only, demands)
-        }
-        None => guess_text(alloc, field, demands, effort),
+    if let Some(text) = only_text(alloc, demands)? {
+        let only = String::from_str(alloc, text)?;
+        return take_if_met(alloc, only, demands);
     }
+    if let Some(text) = try_fillers(alloc, field, demands)? {
+        return Ok(Sought::Text(text));
+    }
+    if let Some(text) = try_samples(alloc, demands)? {
+        return Ok(Sought::Text(text));
+    }
+    let Some(c) = find_separator(demands) else {
+        return seek_text(alloc, demands, effort);
+    };
+    let parts = join_parts(alloc, demands, c)?;
+    take_if_met(alloc, parts, demands)
 }

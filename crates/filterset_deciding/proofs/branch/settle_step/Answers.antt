@@ -1,10 +1,8 @@
-use Rattle.std.proofs.Common.{◌∙◌, Some, arith, refl, subst, sym}
-use Rattle.std.proofs.lemmas.Bool.{false≢true}
-use Rattle.std.proofs.lemmas.Result.{IfOk-weaker}
-use Rattle.filterset_expression.specs.FlatSteps.{step_of}
+use Rattle.std.proofs.Common.{Some, arith, refl, subst, sym}
+use Rattle.filterset_expression.specs.Expression.{compiled_leaf}
+use Rattle.filterset_expression.specs.FlatSteps.{Push, step_of}
 use Rattle.filterset_deciding.specs.Known.{IsKnownStep}
-use Rattle.filterset_deciding.proofs.Refusing.{all_ok}
-use Rattle.filterset_deciding.proofs.Sizes.{open_some}
+use Rattle.filterset_deciding.proofs.Sizes.{open_one, open_some}
 use Rattle.filterset_deciding.proofs.branch.settle_step.Goals as goal
 
 pub returns-then-is_here : goal.returns-then-is_here
@@ -17,8 +15,12 @@ returns-then-is_here c =
       here = λ e. none;
     }
 
-pub returns-clause-known : goal.returns-clause-known
-returns-clause-known c = IfOk-weaker c.narrow_step.result _ _ (λ made known test says leaf before. known test says before) c.narrow_step.ensures.known
+pub returns-in_ok-inferred-in-Leaf-None-clause-known :
+    goal.returns-in_ok-inferred-in-Leaf-None-clause-known
+returns-in_ok-inferred-in-Leaf-None-clause-known c = λ test says leaf before.
+    rw c.in-Leaf-None.is-0 (c.in_ok-inferred-in-Leaf-None.ensures test says)
 
-pub returns-clause-here : goal.returns-clause-here
-returns-clause-here c = all_ok _ c.narrow_step.result (λ made e. absurd (false≢true (sym c.if-is_here.false ∙ e)))
+pub returns-in_ok-inferred-in-Leaf-None-clause-fewer :
+    goal.returns-in_ok-inferred-in-Leaf-None-clause-fewer
+returns-in_ok-inferred-in-Leaf-None-clause-fewer c =
+    rw (c.in-Leaf-None.is-0, c.in-Leaf-None.is-1) (open_one (Push (compiled_leaf c.in-Leaf-None.other.now)) c.in_ok-inferred-in-Leaf-None.inferred)

@@ -1,7 +1,8 @@
-use Rattle.std.proofs.Common.{◌≡◌, ◌<◌, ◌+◌, ◌*◌, ◌^◌, ◌∙◌, ap, inl, inr, length, map, subst, sym, ⊎_elim, arith}
+use Rattle.std.proofs.Common.{◌≡◌, ◌<◌, ◌+◌, ◌*◌, ◌/◌, ◌^◌, ◌∙◌, ap, inl, inr, length, map, subst, sym, ⊎_elim, arith}
 use Rattle.std.specs.Borrow.{Bor}
 use Rattle.filterset_expression.specs.Expression.{with_default}
 use Rattle.filterset_expression.specs.declared.expression.CompiledExpr.{CompiledExpr}
+use Rattle.std.proofs.Math.Nat.{div-lt_iff_lt-mul}
 use Rattle.std.proofs.lemmas.List.{length-map, take_all}
 use Rattle.filterset_expression.specs.Contexts.{default_of}
 use Rattle.filterset_expression.specs.FlatSteps.{step_of, steps_of}
@@ -53,7 +54,7 @@ returns-in-Stopped-clause-stopped c = λ e.
     let default = default_of c.args.cx.now in
     let formulas = formulas_asked c.args.given.now default c.args.exprs.now in
     let steps = c.loop-expr.steps in
-    let branches = c.branches_of-branches.result in
+    let branches = c.args.budget / c.len.result in
     let made = rw (take_all c.loop-expr.expr-index c.args.exprs.now c.loop-expr-test.false) at c.loop-expr.invariant in
     let stopped = rw c.deref.ensures.value at (c.in_ok-search.ensures.stopped c.in-Stopped.is) in
     let items : c.len.result ≡ length steps.items = omega (arith, c.len.ensures, steps.ok.0) in
@@ -61,12 +62,14 @@ returns-in-Stopped-clause-stopped c = λ e.
     let short : (branches < 2 ^ (length (pushed (steps_of steps.items)) + 1))
     → c.args.budget < 2 ^ (length (leaves_asked c.args.given.now default c.args.exprs.now) + 1) * length (steps_asked c.args.given.now default c.args.exprs.now) =
     λ few.
-    let less = c.branches_of-branches.ensures _ (subst (λ n. branches < 2 ^ (n + 1)) (ap (λ s. length (pushed s)) made ∙ ap length (pushed-all formulas)) few) in
+    let some = steps_some (with_default default c.args.given.now) (map (λ (e : Bor CompiledExpr). with_default default e.now) c.args.exprs.now) in
+    let positive : 0 < c.len.result = omega (arith, long, some) in
+    let less = (div-lt_iff_lt-mul positive).0 (subst (λ n. branches < 2 ^ (n + 1)) (ap (λ s. length (pushed s)) made ∙ ap length (pushed-all formulas)) few) in
     subst (λ n. c.args.budget < 2 ^ (length (leaves_asked c.args.given.now default c.args.exprs.now) + 1) * n) long less in
     ⊎_elim (λ few. inl (short few)) (λ open'. inr (open_leaves formulas (steps_of steps.items) made open')) stopped
 
-pub branches_of-branches-requires : goal.branches_of-branches-requires
-branches_of-branches-requires c =
+pub nonzero_div-branches : goal.nonzero_div-branches
+nonzero_div-branches c =
     let default = default_of c.args.cx.now in
     let steps = c.loop-expr.steps in
     let made = rw (take_all c.loop-expr.expr-index c.args.exprs.now c.loop-expr-test.false) at c.loop-expr.invariant in

@@ -1,4 +1,4 @@
-use Rattle.std.proofs.Common.{rules, arith, ◌≡◌, ◌<◌, length, get_or, take}
+use Rattle.std.proofs.Common.{rules, arith, ◌≡◌, ◌<◌, length, get_or, max, take}
 use Rattle.std.proofs.lemmas.List.{take_all}
 use Rattle.filterset_deciding.specs.PackageSets.{IsWithin}
 use Rattle.filterset_deciding.proofs.Agreeing.{each_taken, within_more}
@@ -11,12 +11,13 @@ loop-placed-preserved c =
     let i = c.loop-placed.placed-index in
     let p = c.placed-item.result in
     let old = c.loop-placed.longest in
-    let new = c.larger-longest.result in
+    let new = c.max-longest.result in
+    let most : new ≡ max old c.longest_at.result = search rules in
     let lt : i < length branch = omega (arith, c.loop-placed-test.true) in
     let at : get_or branch i p ≡ p = search (rules, c.placed-item.is) in
     each_taken (IsWithin new) branch i p lt at
-    (each_weaker (IsWithin old) (IsWithin new) (take i branch) (λ q is. within_more old new q c.larger-longest.ensures.one is) c.loop-placed.invariant)
-    (within_more c.longest_at.result new p c.larger-longest.ensures.other c.longest_at.ensures)
+    (each_weaker (IsWithin old) (IsWithin new) (take i branch) (λ q is. within_more old new q (omega (arith, most)) is) c.loop-placed.invariant)
+    (within_more c.longest_at.result new p (omega (arith, most)) c.longest_at.ensures)
 
 pub returns : goal.returns
 returns c = rw (take_all c.loop-placed.placed-index c.args.branch.now c.loop-placed-test.false) at c.loop-placed.invariant

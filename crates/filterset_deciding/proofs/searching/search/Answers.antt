@@ -1,5 +1,4 @@
-use Rattle.std.proofs.Common.{◌≡◌, ◌∙◌, Option, Some, None, [], ◌++◌, IfSome, refl, sym, ap, subst, length, arith, inl, inr}
-use Rattle.std.specs.Prelude.{MatchOption}
+use Rattle.std.proofs.Common.{◌≡◌, ◌∙◌, Some, None, [], ◌++◌, IfSome, sym, ap, subst, length, arith, inl, inr}
 use Rattle.std.specs.List.{AllByRecursion}
 use Rattle.std.specs.declared.vec.Vec.{Vec}
 use Rattle.std.specs.declared.alloc.Global.{Global}
@@ -11,18 +10,12 @@ use Rattle.filterset_deciding.specs.declared.witness.Witness.{Witness}
 use Rattle.filterset_deciding.specs.Known.{steps_in}
 use Rattle.filterset_deciding.specs.Searching.{AgreesWith, HaveSteps, NoneAgrees, pushed}
 use Rattle.filterset_deciding.specs.Waiting.{nodes}
-use Rattle.filterset_deciding.specs.declared.demand.Doubt.{Doubt}
 use Rattle.filterset_deciding.specs.declared.running.ValuedStep.{ValuedStep}
-use Rattle.filterset_deciding.specs.declared.searching.Searched.{Searched}
 use Rattle.filterset_deciding.specs.declared.searching.Searched.TheVariants as searched
 use Rattle.filterset_deciding.proofs.Branches.{each_before, each_pushed, kept_steps, one_fewer}
 use Rattle.filterset_deciding.proofs.Sizes.{kept_size, start_size, stopped_before}
 use Rattle.filterset_deciding.proofs.searching.search.Goals as goal
-use Rattle.filterset_deciding.proofs.searching.search.Goals.{in-Closed, in-Left}
-
-whole_at_end : (left : Option Doubt) (r : Searched) → MatchOption left (r ≡ searched.Nothing) (λ doubt. r ≡ searched.Unknown doubt) → r ≡ searched.Nothing → left ≡ None
-whole_at_end None r e n = refl
-whole_at_end (Some doubt) r e n = absurd (let clash : searched.Unknown doubt ≡ searched.Nothing = sym e ∙ n in cc)
+use Rattle.filterset_deciding.proofs.searching.search.Goals.{in-Closed, in-Left, in-None-left, in-Some-left}
 
 pub branches-init : goal.branches-init
 branches-init c =
@@ -42,11 +35,14 @@ branches-init c =
     }
 
 pub returns-in-None-clause-nothing : goal.returns-in-None-clause-nothing
-returns-in-None-clause-nothing c = λ e test missed.
-    let steps = steps_of c.args.steps.now in
-    let mid : c.pop.new.self.items ≡ [] = rw c.in-None.ensures.cases.0 at c.in-None.ensures.rest in
-    let none : c.branches.pending.items ≡ [] = c.in-None.ensures.items ∙ ap (λ m. m ++ []) mid in
-    c.branches.invariant.missed (whole_at_end c.branches.left c.end_search.result c.end_search.ensures e) test missed (subst (NoneAgrees test steps) (sym none) tt)
+returns-in-None-clause-nothing c =
+    elim c.match-left.branch [
+      | in-Some-left w ↦ rw w.result-is (λ e. absurd (let clash : searched.Unknown w.in-Some-left.doubt ≡ searched.Nothing = e in cc))
+      | in-None-left w ↦ rw w.result-is (λ e test missed.
+          let mid : c.pop.new.self.items ≡ [] = rw c.in-None.ensures.cases.0 at c.in-None.ensures.rest in
+          let none : c.branches.pending.items ≡ [] = c.in-None.ensures.items ∙ ap (λ m. m ++ []) mid in
+          c.branches.invariant.missed w.in-None-left.is test missed (subst (NoneAgrees test (steps_of c.args.steps.now)) (sym none) tt))
+    ]
 
 pub branches-preserved : goal.branches-preserved
 branches-preserved c =

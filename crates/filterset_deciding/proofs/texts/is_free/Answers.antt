@@ -1,6 +1,8 @@
-use Rattle.std.proofs.Common.{◌∙◌, refl, sym}
+use Rattle.std.proofs.Common.{◌∙◌, eqb, refl, sym}
 use Rattle.std.specs.Prelude.{Contains}
 use Rattle.std.proofs.lemmas.Bool.{false≢true}
+use Rattle.std.proofs.lemmas.Bool.Decides.{Decides-eqb}
+use Rattle.std.proofs.lemmas.List.Elements.{Decides-contains, contains_decides}
 use Rattle.filterset_deciding.proofs.Parts.{not_hit}
 use Rattle.filterset_deciding.proofs.texts.is_free.Goals as goal
 
@@ -9,5 +11,7 @@ returns-then-is_matched c = (λ e none. absurd (false≢true (sym none ∙ c.if-
 
 pub returns : goal.returns
 returns c =
-    let own = not_hit c.has_character.result (Contains c.args.text.now c.args.c) c.has_character.ensures in
+    let bytes = c.as_bytes.result.now in
+    let found = Decides-contains bytes c.args.c c.contains.result (contains_decides eqb Decides-eqb bytes c.args.c c.contains.result c.contains.ensures.cases) in
+    let own = not_hit c.contains.result (Contains c.args.text.now c.args.c) (rw c.as_bytes.ensures.value at found) in
     (λ e none. own.0 e, λ f. own.1 (f c.if-is_matched.false))
