@@ -5,28 +5,11 @@ use Rattle.std.specs.List.{zip}
 use Rattle.std.specs.Str.Lines.{lines, lines_of_parts}
 use Rattle.std.proofs.lemmas.List.{length-take-le}
 use Rattle.std.proofs.lemmas.List.Sums.{sum_by_more, sum_by_more_le}
+use Rattle.std.proofs.lemmas.Slice.Zip.{get_or-zip, length-zip}
 use Rattle.filterset_drawing.specs.Columns.{Text}
 use Rattle.filterset_drawing.specs.Lines.{pieces}
 use Rattle.filterset_drawing.proofs.LineLemmas.{extent-slice_split}
 use Rattle.filterset_entries.specs.Entries.{line_start}
-
--- ---- pairs of two lists
-
--- a pair has an element of each
-zip-at : {A B : Type 0} (xs : List A) (ys : List B) (i : ℕ) (p : A × B) → i < length (zip xs ys) → p ≡ get_or (zip xs ys) i p
-    → (i < length xs) × (i < length ys) × (p.0 ≡ get_or xs i p.0) × (p.1 ≡ get_or ys i p.1)
-zip-at [] ys i p lt is = absurd (omega (arith, lt))
-zip-at (x ∷ xs) [] i p lt is = absurd (omega (arith, lt))
-zip-at (x ∷ xs) (y ∷ ys) zero p lt is = (omega arith, omega arith, ap (λ q. q.0) is, ap (λ q. q.1) is)
-zip-at (x ∷ xs) (y ∷ ys) (suc i) p lt is =
-    let (first, second, left, right) = zip-at xs ys i p (omega (arith, lt)) is in
-    (omega (arith, first), omega (arith, second), left, right)
-
--- there are as many pairs as elements of the shorter list
-zip-long : {A B : Type 0} (xs : List A) (ys : List B) → length xs ≤ length ys → length (zip xs ys) ≡ length xs
-zip-long [] ys le = omega arith
-zip-long (x ∷ xs) [] le = absurd (omega (arith, le))
-zip-long (x ∷ xs) (y ∷ ys) le = ap suc (zip-long xs ys (omega (arith, le)))
 
 -- ---- lines
 
@@ -71,7 +54,12 @@ pub record LineTurn (text : Text) (i : ℕ) (line piece : Text) : Type 0 where
 pub line_turn : (text : Text) (i : ℕ) (p : Text × Text) → i < length (zip (lines text) (pieces text))
     → p ≡ get_or (zip (lines text) (pieces text)) i p → LineTurn text i p.0 p.1
 line_turn text i p lt is =
-    let (line, piece, left, right) = zip-at (lines text) (pieces text) i p lt is in
+    let count = length-zip (lines text) (pieces text) in
+    let line : i < length (lines text) = omega (arith, lt, count) in
+    let piece : i < length (pieces text) = omega (arith, lt, count) in
+    let both = is ∙ get_or-zip (lines text) (pieces text) i p line piece in
+    let left : p.0 ≡ get_or (lines text) i p.0 = ap (λ q. q.0) both in
+    let right : p.1 ≡ get_or (pieces text) i p.1 = ap (λ q. q.1) both in
     let long : length p.1 ≡ length (get_or (pieces text) i p.1) = ap length right in
     let fits = sum_by_more_le (λ (t : Text). length t + 1) (pieces text) i p.1 piece in
     let short = line-le (pieces text) i p.0 p.1 line in
@@ -85,4 +73,6 @@ line_turn text i p lt is =
 
 -- there are as many turns as lines
 pub turns_long : (text : Text) → length (zip (lines text) (pieces text)) ≡ length (lines text)
-turns_long text = zip-long (lines text) (pieces text) (lines-le (pieces text))
+turns_long text =
+    let le : length (lines text) ≤ length (pieces text) = lines-le (pieces text) in
+    omega (arith, length-zip (lines text) (pieces text), le)

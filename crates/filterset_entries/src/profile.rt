@@ -1,14 +1,11 @@
 //! The texts of a profile, which are its default filter and the filters of its overrides, and the keys that it sets.
-ghost use Rattle.std.specs.Prelude.{◌≡◌, ◌++◌, IfOk, codes, map, option_and_then, option_map, position, string_bytes};
+ghost use Rattle.std.specs.Prelude.{◌≡◌, ◌++◌, IfOk, codes, map, option_map, position, string_bytes};
 ghost use Rattle.std.specs.List.{AllZip};
 ghost use Rattle.std.specs.Str.{bytes_eq};
 ghost use Rattle.filterset_entries.specs.Checked.{text_row};
-ghost use Rattle.filterset_entries.specs.Entries.{placement_at};
-ghost use Rattle.filterset_entries.specs.Placements.{placement_of};
 ghost use Rattle.filterset_entries.specs.Profile.{IsEntryOf, IsProfileOf, row_at};
 
 use crate::entries::{ConfiguredTexts, place_at};
-use crate::place::FilePlace;
 use crate::setting::OverrideEntry;
 use crate::text::TextEntry;
 use filterset_configuration::{Profile, RankedOverride};
@@ -26,17 +23,6 @@ fn position_of(filtersets: &[ConfiguredFilterset], path: &str) -> Option<usize>
         .position(|filterset| filterset.path.as_str() == path)
 }
 
-/// Returns the place of the filterset that a configuration has at a path, if it was found.
-fn place_called<'t>(configured: ConfiguredTexts<'t>, path: &str) -> Option<FilePlace<'t>>
-    ensures { option_map placement_of result ≡ option_and_then (placement_at configured.entry)
-        (position (λ f. bytes_eq (string_bytes f.path) path.now) configured.entry.filtersets.now) }
-{
-    match position_of(configured.filtersets, path) {
-        Some(at) => place_at(configured, at),
-        None => None,
-    }
-}
-
 /// Makes the entry of a text that a configuration has at a path, with its place in the file, if that was found.
 pub fn entry_at<'t>(
     configured: ConfiguredTexts<'t>,
@@ -46,8 +32,12 @@ pub fn entry_at<'t>(
 ) -> TextEntry<'t>
     ensures { text_row result ≡ row_at configured.entry (string_bytes path) kind text.entry.now }
 {
+    let place = match position_of(configured.filtersets, path.as_str()) {
+        Some(at) => place_at(configured, at),
+        None => None,
+    };
     TextEntry {
-        place: place_called(configured, path.as_str()),
+        place,
         origin: path,
         kind,
         text,
