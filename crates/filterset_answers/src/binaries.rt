@@ -8,31 +8,24 @@ use filterset_sources::{Suite, SuiteStatus};
 use nextest_filtering::BinaryQuery;
 use std::alloc::{AllocError, Global};
 
-/// Returns the binary of a suite.
-fn asked_binary(suite: &Suite) -> AskedBinary<'_>
-    ensures { IsAsked suite.now result }
-{
-    AskedBinary {
-        query: BinaryQuery {
-            package_id: &suite.package_id,
-            binary_id: &suite.binary_id,
-            binary_name: suite.binary_name.as_str(),
-            kind: &suite.kind,
-            platform: suite.platform,
-        },
-        tests: suite.tests.as_slice(),
-        uncounted: suite.uncounted.as_slice(),
-        is_skipped: suite.status == SuiteStatus::Skipped,
-    }
-}
-
 /// Returns the binaries of suites, in their order.
 pub fn asked_binaries(alloc: Global, suites: &[Suite]) -> Result<Vec<AskedBinary<'_>>, AllocError>
     ensures { IfOk result (λ binaries. AllZip IsAsked suites.now binaries.items) }
 {
     let mut binaries = Vec::with_capacity(alloc, suites.len())?;
     for suite in suites {
-        binaries.push(asked_binary(suite))?;
+        binaries.push(AskedBinary {
+            query: BinaryQuery {
+                package_id: &suite.package_id,
+                binary_id: &suite.binary_id,
+                binary_name: suite.binary_name.as_str(),
+                kind: &suite.kind,
+                platform: suite.platform,
+            },
+            tests: suite.tests.as_slice(),
+            uncounted: suite.uncounted.as_slice(),
+            is_skipped: suite.status == SuiteStatus::Skipped,
+        })?;
     }
     Ok(binaries)
 }

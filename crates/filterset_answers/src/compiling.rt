@@ -1,5 +1,5 @@
 //! Texts as the filtersets that they spell.
-ghost use Rattle.std.specs.Prelude.{◌≡◌, ◌+◌, ◌++◌, ◌∷◌, [], IfOk, OnOk, filter_map, map, option_to_list, string_bytes};
+ghost use Rattle.std.specs.Prelude.{◌≡◌, ◌++◌, ◌∷◌, [], IfOk, OnOk, filter_map, map, option_to_list, string_bytes};
 ghost use Rattle.std.specs.List.{AllZip};
 ghost use Rattle.filterset_drawing.specs.Columns.{Text};
 ghost use Rattle.nextest_filtering.specs.Groups.{IsKnown};
@@ -89,14 +89,7 @@ fn compile_entry(
     }
 }
 
-/// Returns the number of the text after this many. A number that a `usize` cannot hold counts as out of memory.
-fn number_after(count: usize) -> Result<usize, AllocError>
-    ensures { IfOk result (λ number. number ≡ count + 1) }
-{
-    count.checked_add(1).ok_or(AllocError)
-}
-
-/// Compiles the next text, or writes its faults.
+/// Compiles the next text, or writes its faults. A number that a `usize` cannot hold counts as out of memory.
 fn compile_text(
     log: &mut FaultLog,
     alloc: Global,
@@ -107,7 +100,7 @@ fn compile_text(
     ensures { let row = text_row entry.now in IfOk result (λ made.
         Compiles compiler.now (row ∷ []) log.old log.new (HasMade compiler.now row made)) }
 {
-    let number = number_after(log.count)?;
+    let number = log.count.checked_add(1).ok_or(AllocError)?;
     let made = compile_entry(&mut log.text, alloc, compiler, number, entry)?;
     log.count = number;
     if made.is_none() {

@@ -45,26 +45,6 @@ pub fn asked_overrides<'a>(
     Ok(asked)
 }
 
-/// Returns an override, whose filter this filterset is, and which sets this group.
-fn group_override<'g>(
-    entry: &'g OverrideEntry<'_>,
-    made: &'g Option<Filterset>,
-    group: &'g str,
-) -> GroupOverride<'g>
-    ensures { (setting : settings.Setting)
-        → IsFilterFor setting.graph.now setting.groups.now entry.entry.now made.entry.now
-        → option_map (λ g. g.now) entry.entry.now.group ≡ Some group.entry.now
-        → IsOverrideFor setting entry.entry.now result }
-{
-    GroupOverride {
-        path: entry.path,
-        filter: expression_of(made),
-        for_target: entry.for_target,
-        for_host: entry.for_host,
-        group,
-    }
-}
-
 /// Adds an override, whose filter this filterset is, if it sets a group.
 fn push_group<'g>(
     overrides: &mut Vec<GroupOverride<'g>>,
@@ -79,7 +59,13 @@ fn push_group<'g>(
     let Some(group) = entry.group else {
         return Ok(());
     };
-    overrides.push(group_override(entry, made, group))?;
+    overrides.push(GroupOverride {
+        path: entry.path,
+        filter: expression_of(made),
+        for_target: entry.for_target,
+        for_host: entry.for_host,
+        group,
+    })?;
     Ok(())
 }
 

@@ -16,4 +16,4 @@ loop-suite-preserved c =
     let suite = c.suite-item.result in
     let lt : i < length suites = omega (arith, c.loop-suite-test.true) in
     let at : get_or suites i suite ≡ suite = search (rules, c.suite-item.is) in
-    rw (c.in_ok-push.ensures.items, one_more suites i suite lt at) (AllZip-push IsAsked (take i suites) _ suite _ c.loop-suite.invariant c.asked_binary.ensures)
+    rw (c.in_ok-push.ensures.items, one_more suites i suite lt at) (AllZip-push IsAsked (take i suites) _ suite _ c.loop-suite.invariant (search rules))
