@@ -2,14 +2,13 @@
 ghost use Rattle.std.specs.Prelude.{◌≡◌, IfOk, map};
 ghost use Rattle.filterset_language.specs.Views.{leaf_of};
 ghost use Rattle.filterset_matchers.specs.Matchers.{matcher_of};
-ghost use Rattle.filterset_names.specs.Matched.{IsBuiltFor, IsShortlist, MatchesLeaf, MatchesPackages, MatchesSuites, MatchesTests, MeansTheSame, PicksSuite};
+ghost use Rattle.filterset_names.specs.Matched.{IsShortlist, MatchesLeaf, MatchesPackages, MatchesSuites, MeansTheSame, PicksSuite};
 ghost use Rattle.filterset_names.specs.Workspaces.{workspace_row};
 
 use crate::matching::{Compared, matching, matching_suites, suites_built_for};
 use crate::names::test_names;
 use crate::packages::{Reach, picked_packages};
 use crate::workspace::Workspace;
-use filterset_graph::BuildPlatform;
 use filterset_language::ParsedLeaf;
 use filterset_matchers::NameMatcher;
 use std::alloc::{AllocError, Global};
@@ -70,31 +69,6 @@ fn match_suites<'w>(
     Ok(Some(Matched::Binaries(shortlist_of(found))))
 }
 
-/// Returns the test binaries that are built for a platform.
-fn match_platform<'w>(
-    alloc: Global,
-    workspace: &Workspace<'w>,
-    platform: BuildPlatform,
-) -> Result<Option<Matched<'w>>, AllocError>
-    ensures { IfOk result (MatchesSuites (workspace_row workspace.now) (IsBuiltFor platform)) }
-{
-    let found = suites_built_for(alloc, platform, workspace.suites)?;
-    Ok(Some(Matched::Binaries(shortlist_of(found))))
-}
-
-/// Returns the tests whose names a matcher matches.
-fn match_tests<'w>(
-    alloc: Global,
-    workspace: &Workspace<'w>,
-    matcher: &NameMatcher,
-) -> Result<Option<Matched<'w>>, AllocError>
-    ensures { IfOk result (MatchesTests (workspace_row workspace.now) (matcher_of matcher.now)) }
-{
-    let names = test_names(alloc, workspace.suites)?;
-    let found = matching(alloc, matcher, names.as_slice())?;
-    Ok(Some(Matched::Tests(shortlist_of(found))))
-}
-
 /// Returns what a predicate matches.
 fn match_predicate<'w>(
     alloc: Global,
@@ -114,8 +88,15 @@ fn match_predicate<'w>(
         ParsedLeaf::Kind(matcher, _) => match_suites(alloc, workspace, Compared::Kind, matcher),
         ParsedLeaf::Binary(matcher, _) => match_suites(alloc, workspace, Compared::Name, matcher),
         ParsedLeaf::BinaryId(matcher, _) => match_suites(alloc, workspace, Compared::Id, matcher),
-        ParsedLeaf::Platform(platform, _) => match_platform(alloc, workspace, *platform),
-        ParsedLeaf::Test(matcher, _) => match_tests(alloc, workspace, matcher),
+        ParsedLeaf::Platform(platform, _) => {
+            let found = suites_built_for(alloc, *platform, workspace.suites)?;
+            Ok(Some(Matched::Binaries(shortlist_of(found))))
+        }
+        ParsedLeaf::Test(matcher, _) => {
+            let names = test_names(alloc, workspace.suites)?;
+            let found = matching(alloc, matcher, names.as_slice())?;
+            Ok(Some(Matched::Tests(shortlist_of(found))))
+        }
         ParsedLeaf::Group(..) | ParsedLeaf::Default(_) | ParsedLeaf::All | ParsedLeaf::None => {
             Ok(None)
         }

@@ -1,40 +1,16 @@
 //! The names and the test binaries that a matcher matches.
-ghost use Rattle.std.specs.Prelude.{◌≡◌, ◌↔◌, ◌++◌, ◌∷◌, [], IfOk, IsTrue, List, OnOk, map};
-ghost use Rattle.filterset_graph.specs.Packages.{Text};
+ghost use Rattle.std.specs.Prelude.{◌≡◌, ◌↔◌, IfOk, IsTrue, map};
 ghost use Rattle.filterset_matchers.specs.Matcher.{MatchesName};
 ghost use Rattle.filterset_matchers.specs.Matchers.{matcher_of};
 ghost use Rattle.filterset_names.specs.Matched.{IsBuiltFor, PicksSuite, binary_id};
 ghost use Rattle.filterset_names.specs.Matched as spec;
-ghost use Rattle.filterset_names.specs.ReadyMatchers.{ready_matcher};
 ghost use Rattle.filterset_names.specs.Sieves.{Selects, SelectsAs};
-ghost use Rattle.filterset_sources.specs.declared.list.Suite as declared;
 
 use crate::ready::ReadyMatcher;
 use filterset_graph::BuildPlatform;
 use filterset_matchers::NameMatcher;
 use filterset_sources::Suite;
 use std::alloc::{AllocError, Global};
-
-/// Adds a name, if it matches.
-fn push_matching<'w>(
-    found: &mut Vec<&'w str>,
-    alloc: Global,
-    ready: &mut ReadyMatcher<'_>,
-    name: &'w str,
-) -> Result<(), AllocError>
-    ensures found { OnOk result ((names : List Text)
-        → Selects (MatchesName (ready_matcher ready.old)) names (map (λ n. n.now) found.old.items)
-        → Selects (MatchesName (ready_matcher ready.old)) (names ++ name.entry.now ∷ [])
-        (map (λ n. n.now) found.new.items)) }
-    ensures same { ready_matcher ready.new ≡ ready_matcher ready.old }
-{
-    if ready.matches(alloc, name)? {
-        found.push(name)?;
-        Ok(())
-    } else {
-        Ok(())
-    }
-}
 
 /// Returns the names that match.
 pub(crate) fn matching<'w>(
@@ -48,7 +24,9 @@ pub(crate) fn matching<'w>(
     let mut ready = ReadyMatcher::new(alloc, matcher)?;
     let mut found = Vec::new(alloc);
     for name in names {
-        push_matching(&mut found, alloc, &mut ready, name)?;
+        if ready.matches(alloc, name)? {
+            found.push(*name)?;
+        }
     }
     Ok(found)
 }
@@ -72,28 +50,6 @@ pub(crate) fn compared_text(compared: Compared, suite: &Suite) -> &str
     }
 }
 
-/// Adds the id of a test binary, if it matches.
-fn push_suite<'w>(
-    found: &mut Vec<&'w str>,
-    alloc: Global,
-    compared: Compared,
-    ready: &mut ReadyMatcher<'_>,
-    suite: &'w Suite,
-) -> Result<(), AllocError>
-    ensures found { OnOk result ((suites : List declared.Suite)
-        → SelectsAs (PicksSuite compared (ready_matcher ready.old)) binary_id suites (map (λ n. n.now) found.old.items)
-        → SelectsAs (PicksSuite compared (ready_matcher ready.old)) binary_id (suites ++ suite.entry.now ∷ [])
-        (map (λ n. n.now) found.new.items)) }
-    ensures same { ready_matcher ready.new ≡ ready_matcher ready.old }
-{
-    if ready.matches(alloc, compared_text(compared, suite))? {
-        found.push(suite.binary_id.as_str())?;
-        Ok(())
-    } else {
-        Ok(())
-    }
-}
-
 /// Returns the ids of the test binaries that match.
 pub(crate) fn matching_suites<'w>(
     alloc: Global,
@@ -107,7 +63,9 @@ pub(crate) fn matching_suites<'w>(
     let mut ready = ReadyMatcher::new(alloc, matcher)?;
     let mut found = Vec::new(alloc);
     for suite in suites {
-        push_suite(&mut found, alloc, compared, &mut ready, suite)?;
+        if ready.matches(alloc, compared_text(compared, suite))? {
+            found.push(suite.binary_id.as_str())?;
+        }
     }
     Ok(found)
 }
@@ -117,24 +75,6 @@ pub(crate) fn is_built_for(platform: BuildPlatform, suite: &Suite) -> bool
     ensures { IsTrue result ↔ IsBuiltFor platform suite.now }
 {
     suite.platform == platform
-}
-
-/// Adds the id of a test binary, if it is built for a platform.
-fn push_built<'w>(
-    found: &mut Vec<&'w str>,
-    platform: BuildPlatform,
-    suite: &'w Suite,
-) -> Result<(), AllocError>
-    ensures { OnOk result ((suites : List declared.Suite)
-        → SelectsAs (IsBuiltFor platform) binary_id suites (map (λ n. n.now) found.old.items)
-        → SelectsAs (IsBuiltFor platform) binary_id (suites ++ suite.entry.now ∷ []) (map (λ n. n.now) found.new.items)) }
-{
-    if is_built_for(platform, suite) {
-        found.push(suite.binary_id.as_str())?;
-        Ok(())
-    } else {
-        Ok(())
-    }
 }
 
 /// Returns the ids of the test binaries that are built for a platform.
@@ -148,7 +88,9 @@ pub(crate) fn suites_built_for<'w>(
 {
     let mut found = Vec::new(alloc);
     for suite in suites {
-        push_built(&mut found, platform, suite)?;
+        if is_built_for(platform, suite) {
+            found.push(suite.binary_id.as_str())?;
+        }
     }
     Ok(found)
 }

@@ -1,12 +1,12 @@
 //! The names of a workspace.
-ghost use Rattle.std.specs.Prelude.{◌≡◌, ◌++◌, IfOk, OnOk, filter, map, string_bytes};
+ghost use Rattle.std.specs.Prelude.{◌≡◌, IfOk, filter, map, string_bytes};
 ghost use Rattle.std.specs.List.{flat_map};
 ghost use Rattle.filterset_names.specs.Names.{names_in};
 ghost use Rattle.filterset_names.specs.Workspaces.{workspace_row};
 
 use crate::packages::push_member;
 use crate::workspace::Workspace;
-use filterset_graph::{PackageMetadata, TestCaseName};
+use filterset_graph::PackageMetadata;
 use filterset_sources::Suite;
 use std::alloc::{AllocError, Global};
 
@@ -61,17 +61,6 @@ fn binary_ids<'w>(alloc: Global, suites: &'w [Suite]) -> Result<Vec<&'w str>, Al
     Ok(names)
 }
 
-/// Adds the names of tests.
-fn push_tests<'w>(names: &mut Vec<&'w str>, tests: &'w [TestCaseName]) -> Result<(), AllocError>
-    ensures { OnOk result
-        (map (λ n. n.now) names.new.items ≡ map (λ n. n.now) names.old.items ++ tests.entry.now) }
-{
-    for test in tests {
-        names.push(test.as_str())?;
-    }
-    Ok(())
-}
-
 /// Returns the names of the tests of test binaries.
 pub(crate) fn test_names<'w>(alloc: Global, suites: &'w [Suite]) -> Result<Vec<&'w str>, AllocError>
     ensures { IfOk result (λ names. map (λ n. n.now) names.items
@@ -79,7 +68,9 @@ pub(crate) fn test_names<'w>(alloc: Global, suites: &'w [Suite]) -> Result<Vec<&
 {
     let mut names = Vec::new(alloc);
     for suite in suites {
-        push_tests(&mut names, suite.tests.as_slice())?;
+        for test in &suite.tests {
+            names.push(test.as_str())?;
+        }
     }
     Ok(names)
 }

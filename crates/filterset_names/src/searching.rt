@@ -1,15 +1,13 @@
 //! Whether a matcher matches any name, package or test binary.
-ghost use Rattle.std.specs.Prelude.{◌≡◌, ◌↔◌, Any, IfOk, IsTrue, map};
+ghost use Rattle.std.specs.Prelude.{◌↔◌, Any, IfOk, IsTrue, map};
 ghost use Rattle.filterset_matchers.specs.Matcher.{MatchesName};
 ghost use Rattle.filterset_matchers.specs.Matchers.{matcher_of};
 ghost use Rattle.filterset_names.specs.Matched.{IsBuiltFor, PicksPackage, PicksSuite};
-ghost use Rattle.filterset_names.specs.Something.{IsMemberNamed};
-ghost use Rattle.filterset_names.specs.ReadyMatchers.{ready_matcher};
 
 use crate::matching::{Compared, compared_text, is_built_for};
 use crate::packages::Reach;
 use crate::ready::ReadyMatcher;
-use filterset_graph::{BuildPlatform, PackageGraph, PackageMetadata};
+use filterset_graph::{BuildPlatform, PackageGraph};
 use filterset_matchers::NameMatcher;
 use filterset_sources::Suite;
 use std::alloc::{AllocError, Global};
@@ -61,39 +59,6 @@ pub(crate) fn any_built_for(platform: BuildPlatform, suites: &[Suite]) -> bool
     false
 }
 
-/// Returns whether a package is of the workspace and its name matches.
-fn is_member_named(
-    alloc: Global,
-    ready: &mut ReadyMatcher<'_>,
-    metadata: &PackageMetadata,
-) -> Result<bool, AllocError>
-    ensures named { IfOk result (λ named. IsTrue named ↔ IsMemberNamed (ready_matcher ready.old) metadata.now) }
-    ensures same { ready_matcher ready.new ≡ ready_matcher ready.old }
-{
-    if metadata.in_workspace {
-        ready.matches(alloc, metadata.name())
-    } else {
-        Ok(false)
-    }
-}
-
-/// Returns whether the name of a package of the workspace matches.
-fn any_member(
-    alloc: Global,
-    matcher: &NameMatcher,
-    packages: &[PackageMetadata],
-) -> Result<bool, AllocError>
-    ensures { IfOk result (λ any. IsTrue any ↔ Any (IsMemberNamed (matcher_of matcher.now)) packages.now) }
-{
-    let mut ready = ReadyMatcher::new(alloc, matcher)?;
-    for package in packages {
-        if is_member_named(alloc, &mut ready, package)? {
-            return Ok(true);
-        }
-    }
-    Ok(false)
-}
-
 /// Returns whether a package is meant. A package that is named is among those that it reaches and that reach it, so that only
 /// names are compared.
 pub(crate) fn any_picked(
@@ -104,5 +69,14 @@ pub(crate) fn any_picked(
     ensures { IfOk result (λ any. (reach : Reach)
         → IsTrue any ↔ Any (PicksPackage graph.now reach (matcher_of matcher.now)) graph.now) }
 {
-    any_member(alloc, matcher, graph.packages())
+    let mut ready = ReadyMatcher::new(alloc, matcher)?;
+    for package in graph.packages() {
+        if !package.in_workspace {
+            continue;
+        }
+        if ready.matches(alloc, package.name())? {
+            return Ok(true);
+        }
+    }
+    Ok(false)
 }

@@ -1,18 +1,17 @@
-use Rattle.std.proofs.Common.{◌≡◌, ◌<◌, ◌++◌, [], ◌∷◌, Bor, List, arith, length, map, subst, sym, take, ◌∙◌}
+use Rattle.std.proofs.Common.{◌↔◌, ◌++◌, [], ◌∷◌, Bor, IsTrue, get_or, map, subst, sym, take, ◌∙◌}
+use Rattle.std.proofs.lemmas.Bool.{false≢true}
 use Rattle.std.proofs.lemmas.List.{map_more, take_all}
 use Rattle.filterset_graph.specs.Packages.{Text}
 use Rattle.filterset_matchers.specs.Matcher.{Matcher, MatchesName}
 use Rattle.filterset_matchers.specs.Matchers.{matcher_of}
 use Rattle.filterset_names.specs.Sieves.{Selects}
 use Rattle.filterset_names.specs.Sieves.Sieves.{no_more}
+use Rattle.filterset_names.proofs.SieveLemmas.{Selects-left, Selects-taken}
 use Rattle.filterset_names.proofs.matching.matching.Goals as goal
+use Rattle.filterset_names.proofs.matching.matching.Goals.{then-branch+in_ok-push, else-branch}
 
 abbrev text : Bor Text → Text
 text n = n.now
-
-along : (m k : Matcher) (old : List Text) (name : Text) (new : List Text) → m ≡ k → Selects (MatchesName m) (old ++ name ∷ []) new
-    → Selects (MatchesName k) (old ++ name ∷ []) new
-along m k old name new e are = subst (λ (x : Matcher). Selects (MatchesName x) (old ++ name ∷ []) new) e are
 
 pub loop-name-init : goal.loop-name-init
 loop-name-init c = (c.in_ok-ready.ensures, rw c.new-found.ensures.items no_more)
@@ -21,16 +20,19 @@ pub loop-name-preserved : goal.loop-name-preserved
 loop-name-preserved c =
     let names = c.args.names.now in
     let i = c.loop-name.name-index in
-    let lt : i < length names = omega (arith, c.loop-name-test.true) in
+    let none : Bor Text = record { ref_ptr = (0, 0); now = [] } in
+    let name = get_or names i none in
     let old = map text (take i names) in
-    let new = map text c.push_matching.new.found.items in
     let same = c.loop-name.invariant.0 in
-    let before : Matcher → Type 0 = λ m. Selects (MatchesName m) old (map text c.loop-name.found.items) in
-    let P : List Text → Type 0 = λ ns. Selects (MatchesName (matcher_of c.args.matcher.now)) ns new in (
-      c.push_matching.ensures.same ∙ same,
-      subst P (sym (map_more text names i _ lt))
-          (along _ _ old _ new same (c.in_ok-push_matching.ensures.found old (subst before (sym same) c.loop-name.invariant.1))),
-    )
+    let P = MatchesName (matcher_of c.args.matcher.now) in
+    let says = subst (λ (m : Matcher). IsTrue c.in_ok-matches.field-0 ↔ MatchesName m name.now) same c.in_ok-matches.ensures.matches in
+    let next : Selects P (old ++ name.now ∷ []) (map text c.if-branch.found.items) = elim c.if-branch.branch [
+      | then-branch+in_ok-push w ↦
+          rw w.found-is (Selects-taken P text old name c.loop-name.found.items w.push.new.self.items w.in_ok-push.ensures.items c.loop-name.invariant.1 (says.0 w.if-branch.true))
+      | else-branch w ↦
+          rw w.found-is (Selects-left P old _ name.now c.loop-name.invariant.1 (λ is. false≢true (sym w.if-branch.false ∙ says.1 is)))
+    ] in
+    (c.in_ok-matches.ensures.same ∙ same, subst (λ ns. Selects P ns (map text c.if-branch.found.items)) (sym (map_more text names i none c.loop-name-test.true)) next)
 
 pub returns : goal.returns
 returns c =

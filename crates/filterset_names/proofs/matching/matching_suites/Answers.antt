@@ -1,10 +1,13 @@
-use Rattle.std.proofs.Common.{◌≡◌, ◌<◌, ◌++◌, [], ◌∷◌, ℕ, Bor, List, arith, get_or, length, map, refl, rules, subst, sym, take, ◌∙◌}
+use Rattle.std.proofs.Common.{◌↔◌, ◌++◌, [], ◌∷◌, ℕ, Bor, IsTrue, List, map, refl, sym, take, ◌∙◌}
+use Rattle.std.proofs.lemmas.Bool.{false≢true}
 use Rattle.std.proofs.lemmas.List.{take_all, take_more}
-use Rattle.filterset_matchers.specs.Matcher.{Matcher}
+use Rattle.filterset_matchers.specs.Matchers.{matcher_of}
 use Rattle.filterset_names.specs.Matched.{PicksSuite, binary_id}
 use Rattle.filterset_names.specs.Sieves.{SelectsAs}
 use Rattle.filterset_names.specs.Sieves.Sieves.{no_more}
+use Rattle.filterset_names.proofs.SieveLemmas.{as-left, as-taken}
 use Rattle.filterset_names.proofs.matching.matching_suites.Goals as goal
+use Rattle.filterset_names.proofs.matching.matching_suites.Goals.{then-branch+in_ok-push, else-branch}
 
 abbrev text : Bor (List ℕ) → List ℕ
 text n = n.now
@@ -17,16 +20,18 @@ loop-suite-preserved c =
     let suites = c.args.suites.now in
     let i = c.loop-suite.suite-index in
     let suite = c.suite-item.result in
-    let lt : i < length suites = omega (arith, c.loop-suite-test.true) in
-    let at : get_or suites i suite ≡ suite = search (rules, c.suite-item.is) in
     let old = take i suites in
-    let found = map text c.loop-suite.found.items in
-    let new = map text c.push_suite.new.found.items in
     let same = c.loop-suite.invariant.0 in
-    let before : Matcher → Type 0 = λ m. SelectsAs (PicksSuite c.args.compared m) binary_id old found in
-    let behind : Matcher → Type 0 = λ m. SelectsAs (PicksSuite c.args.compared m) binary_id (old ++ suite ∷ []) new in
-    let more = subst behind same (c.in_ok-push_suite.ensures.found old (subst before (sym same) c.loop-suite.invariant.1)) in
-    (c.push_suite.ensures.same ∙ same, rw (take_more suites i suite lt, at) more)
+    let matcher = matcher_of c.args.matcher.now in
+    let Picks = PicksSuite c.args.compared matcher in
+    let says : IsTrue c.in_ok-matches.field-0 ↔ Picks suite = rw (same, c.compared_text.ensures) at c.in_ok-matches.ensures.matches in
+    let next : SelectsAs Picks binary_id (old ++ suite ∷ []) (map text c.if-branch.found.items) = elim c.if-branch.branch [
+      | then-branch+in_ok-push w ↦
+          rw w.found-is (as-taken Picks binary_id text old suite c.loop-suite.found.items w.push.new.self.items w.as_str.result w.in_ok-push.ensures.items w.as_str.ensures c.loop-suite.invariant.1 (says.0 w.if-branch.true))
+      | else-branch w ↦
+          rw w.found-is (as-left Picks binary_id old suite _ c.loop-suite.invariant.1 (λ is. false≢true (sym w.if-branch.false ∙ says.1 is)))
+    ] in
+    (c.in_ok-matches.ensures.same ∙ same, rw (take_more suites i suite c.loop-suite-test.true, (sym c.suite-item.is)) next)
 
 pub returns : goal.returns
 returns c =

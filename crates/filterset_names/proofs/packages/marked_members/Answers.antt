@@ -25,16 +25,15 @@ loop-index-preserved c =
     let i = c.loop-index.index in
     let p = c.index-packages-index.result in
     let mark = get_or marks i false in
-    let lt : i < length packages = omega (arith, c.loop-index-test.true) in
-    let within : i < length marks = omega (arith, lt, c.requires.marked) in
-    let at : slice_get packages i ≡ Some p = slice_get-get_or packages i p lt ∙ ap (λ (q : PackageMetadata). Some q) (sym c.index-packages-index.is) in
+    let within : i < length marks = omega (arith, c.loop-index-test.true, c.requires.marked) in
+    let at : slice_get packages i ≡ Some p = slice_get-get_or packages i p c.loop-index-test.true ∙ ap (λ (q : PackageMetadata). Some q) (sym c.index-packages-index.is) in
     let here = member_here packages marks c.requires.distinct i p mark at (slice_get-get_or marks i false within) in
     let member : PackageMetadata → Type 0 = λ q. IsMarkedMember packages marks q.id in
     let names = map text c.loop-index.found.items in
     let next = as-next member package_name (take i packages) p names (mark && p.in_workspace) here.0 here.1 c.loop-index.invariant in
     let seen = subst (SelectsAs member package_name (take i packages ++ p ∷ [])) (sym c.in_ok-push_member.ensures) next in
     let same : get_or packages i p ≡ p = sym c.index-packages-index.is in
-    rw (take_more packages i p lt, same) seen
+    rw (take_more packages i p c.loop-index-test.true, same) seen
 
 pub returns : goal.returns
 returns c =
