@@ -297,21 +297,6 @@ message-coming stream h l found short fits =
     let P : Bytes → Type 0 = λ t. IsHead None t l in
     inr (take h stream, drop h stream, l, subst P start head, omega arith, sym (take-append-drop h stream), omega arith)
 
--- ---- frames have bytes
-
-head-some : {found : Option ℕ} {head : Bytes} {l : ℕ} → IsHead found head l → 0 < length head
-head-some end_of_head = omega arith
-head-some (next_line line rest break is later) = omega (arith, length-append line (13 ∷ 10 ∷ rest))
-
-pub frame-some : (frame message : Bytes) → IsFrame frame message → 0 < length frame
-frame-some frame message (head, is, small, e) = let some = head-some is in omega (arith, ap length e, length-append head message)
-
-pub empty-partial : (stream : Bytes) → stream ≡ [] → IsPartial stream
-empty-partial stream none frame message rest is e =
-    let some = frame-some frame message is in
-    let size : length stream ≡ 0 = ap length none in
-    omega (arith, ap length e, length-append frame rest)
-
 -- ---- one stream has one message at its front
 
 pub same_split : (xs ys front back : Bytes) → xs ++ front ≡ ys ++ back → length xs ≡ length ys → (xs ≡ ys) × (front ≡ back)

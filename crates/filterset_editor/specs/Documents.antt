@@ -1,6 +1,7 @@
 -- Documents that are open, and what notifications do to them.
-use Rattle.std.specs.Prelude.{◌≡◌, ◌++◌, ℕ, List, [], ◌∷◌, Option, None, Some, option_and_then, position, slice_get, slice_set, string_bytes}
+use Rattle.std.specs.Prelude.{◌≡◌, ◌++◌, ℕ, List, [], ◌∷◌, Option, option_and_then, position, slice_get, slice_set, string_bytes}
 use Rattle.std.specs.List.{remove}
+use Rattle.std.specs.Option.{option_map_or}
 use Rattle.std.specs.Str.{bytes_eq}
 use Rattle.filterset_editor.specs.Edits.{AreChanged}
 use Rattle.filterset_editor.specs.Positions.{Text}
@@ -25,20 +26,13 @@ place_of uri documents = position (λ d. bytes_eq (string_bytes d.uri) uri) docu
 abbrev pub document_of : Text → List Document → Option Document
 document_of uri documents = option_and_then (slice_get documents) (place_of uri documents)
 
--- the documents with this one in place of the one at a place, or behind the others
-abbrev pub put_at : Document → List Document → Option ℕ → List Document
-put_at document documents None = documents ++ document ∷ []
-put_at document documents (Some i) = slice_set documents i document
-
+-- the documents with this one in place of the one of its address, or behind the others
 abbrev pub put_document : Document → List Document → List Document
-put_document document documents = put_at document documents (place_of (string_bytes document.uri) documents)
-
-abbrev pub without_at : List Document → Option ℕ → List Document
-without_at documents None = documents
-without_at documents (Some i) = remove documents i
+put_document document documents =
+    option_map_or (λ i. slice_set documents i document) (place_of (string_bytes document.uri) documents) (documents ++ document ∷ [])
 
 abbrev pub without_document : Text → List Document → List Document
-without_document uri documents = without_at documents (place_of uri documents)
+without_document uri documents = option_map_or (λ i. remove documents i) (place_of uri documents) documents
 
 -- the next version of a document: its text is the one that the changes give
 abbrev pub IsRevised : Encoding → Document → Revision → Document → Type 0

@@ -41,14 +41,11 @@ length_in value =
     let behind = drop count text in
     if count == 0 || nat_lt (prefix_len is_blank behind) (length behind) then None else allowed (more_digits 0 (take count text))
 
--- the name of the field that gives the length, in any case
-abbrev pub is_length_name : Bytes → Bool
-is_length_name name = str_eq_ignore_ascii_case name (codes "content-length")
-
--- What is known of the message's length behind a field, if `found` was known before it. One field alone gives the length.
+-- What is known of the message's length behind a field, if `found` was known before it. One field alone gives the length: that
+-- with this name, in any case.
 abbrev pub behind_field : Option ℕ → Bytes → Bytes → Option (Option ℕ)
 behind_field found name value =
-    if is_length_name name
+    if str_eq_ignore_ascii_case name (codes "content-length")
     then (if is_some found then None else option_map Some (length_in value))
     else Some found
 

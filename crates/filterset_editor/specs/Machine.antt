@@ -1,5 +1,6 @@
 -- The server as a machine: what it answers to a message in a phase, and its state after that.
-use Rattle.std.specs.Prelude.{◌≡◌, ℤ, negsuc, Bool, true, false, List, [], ◌∷◌, Option, Some, None, MatchOption, codes, map, string_bytes}
+use Rattle.std.specs.Prelude.{◌≡◌, ℤ, negsuc, true, false, List, [], ◌∷◌, Option, Some, None, MatchOption, codes, map, string_bytes}
+use Rattle.std.specs.Option.{option_map_or}
 use Rattle.serde_json.specs.Data.{Data, null, number, unsigned, boolean, string, array, object, no_members}
 use Rattle.serde_json.specs.Find.{of_integer}
 use Rattle.serde_json.specs.View.{view, items_of}
@@ -117,14 +118,11 @@ abbrev pub notification_data : Text → Data → Data
 notification_data method params =
     object_of (version_of_rpc ∷ (codes "method", string method) ∷ (codes "params", params) ∷ [])
 
-abbrev pub version_pairs : Option ℤ → List Pair
-version_pairs None = []
-version_pairs (Some version) = (codes "version", number (of_integer version)) ∷ []
-
 -- the diagnostics of a document, or of a version of it
 abbrev pub published_data : Text → Option ℤ → List Data → Data
 published_data uri version diagnostics = notification_data (codes "textDocument/publishDiagnostics") (object_of
-    ((codes "diagnostics", array (items_of diagnostics)) ∷ (codes "uri", string uri) ∷ version_pairs version))
+    ((codes "diagnostics", array (items_of diagnostics)) ∷ (codes "uri", string uri)
+    ∷ option_map_or (λ v. (codes "version", number (of_integer v)) ∷ []) version []))
 
 -- the diagnostics that a document has
 abbrev pub Publishes : Says → Encoding → Document → Option Data → Type 0
@@ -153,14 +151,11 @@ pub record State : Type 0 where
 abbrev pub state_of : Server → State
 state_of server = record { phase = server.phase; documents = server.documents.items }
 
-abbrev pub is_stopped : Phase → Bool
-is_stopped Stopped = true
-is_stopped phase = false
-
 -- the phase after `exit`, which is in order only if the server was shut down
 abbrev pub phase_at_exit : Phase → Phase
 phase_at_exit (Over in_order) = Over in_order
-phase_at_exit phase = Over (is_stopped phase)
+phase_at_exit Stopped = Over true
+phase_at_exit phase = Over false
 
 -- documents are kept while the session goes on
 abbrev pub Keeps : Says → Phase → Notice → List Document → Option Data → List Document → Type 0

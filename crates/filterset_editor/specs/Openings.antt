@@ -1,6 +1,7 @@
 -- How a session begins: the first message of a stream, and the options that it gives the server.
-use Rattle.std.specs.Prelude.{◌≡◌, ◌⊎◌, ◌&&◌, ◌++◌, [], ◌∷◌, Bool, false, Option, Some, None, codes, is_some, option_and_then, if◌then◌else◌}
+use Rattle.std.specs.Prelude.{◌≡◌, ◌⊎◌, ◌&&◌, ◌++◌, [], ◌∷◌, false, Option, None, codes, is_some, option_and_then, if◌then◌else◌}
 use Rattle.std.specs.Io.KnownBytes.{Consumes, IsAtEnd}
+use Rattle.std.specs.Option.{option_map_or}
 use Rattle.std.specs.Str.{bytes_eq}
 use Rattle.serde_json.specs.Data.{Data, number, unsigned, string}
 use Rattle.serde_json.specs.Find.{get, pointer}
@@ -10,17 +11,12 @@ use Rattle.filterset_editor.specs.Messages.{IsParsed, method_of}
 use Rattle.filterset_editor.specs.Positions.{Text}
 use Rattle.filterset_editor.specs.Values.{object_of}
 
-abbrev pub names_initialize : Option Text → Bool
-names_initialize None = false
-names_initialize (Some name) = bytes_eq name (codes "initialize")
-
--- the message is the request `initialize`
-abbrev pub is_initialize : Data → Bool
-is_initialize d = names_initialize (method_of d) && is_some (get (codes "id") d)
-
--- the options of the request `initialize`
+-- the options of a message, if it is the request `initialize`
 abbrev pub options_in : Data → Option Data
-options_in d = if is_initialize d then pointer (codes "/params/initializationOptions") d else None
+options_in d =
+    if option_map_or (λ name. bytes_eq name (codes "initialize")) (method_of d) false && is_some (get (codes "id") d)
+    then pointer (codes "/params/initializationOptions") d
+    else None
 
 -- the options that the bytes of a message give
 abbrev pub GivesOptions : Bytes → Option Data → Type 0

@@ -67,13 +67,9 @@ abbrev pub AnswersOrRunsOut : Says → State → Incoming → Bytes → State �
 AnswersOrRunsOut S old incoming written new = (answer : Option Data) × Writes answer written
     × (Answers S old incoming answer new ⊎ RunsOut S old incoming answer new)
 
--- What is written for a message that memory is too short to read, and the state after it: an error without an id. Since the
--- message may change a document, all are forgotten.
-abbrev pub RefusesMessage : State → Bytes → State → Type 0
-RefusesMessage old written new = Writes (Some (refused_data null)) written × ForgetsAll old new
-
--- what is written for the bytes of a message, and the state after it
+-- What is written for the bytes of a message, and the state after it. If memory is too short to read the message, that is an
+-- error without an id and, since the message may change a document, all are forgotten.
 abbrev pub Exchange : Says → State → Bytes → Bytes → State → Type 0
 Exchange S old message written new =
     ((incoming : Incoming) × IsIncoming message incoming × AnswersOrRunsOut S old incoming written new)
-    ⊎ RefusesMessage old written new
+    ⊎ (Writes (Some (refused_data null)) written × ForgetsAll old new)

@@ -53,18 +53,15 @@ fn number(digits: &[u8]) -> Option<usize>
     Some(value)
 }
 
-fn is_blank(byte: u8) -> bool
-    ensures { result ≡ spec.is_blank byte }
-{
-    byte == b' ' || byte == b'\t'
-}
-
 /// Returns how many blanks are at the front.
 fn blanks(bytes: &[u8]) -> usize
     ensures value { result ≡ prefix_len spec.is_blank bytes.now }
     ensures within { result ≤ length bytes.now }
 {
-    bytes.iter().take_while(|byte| is_blank(**byte)).count()
+    bytes
+        .iter()
+        .take_while(|byte| **byte == b' ' || **byte == b'\t')
+        .count()
 }
 
 /// Returns how many digits are at the front.
@@ -92,19 +89,12 @@ fn length_in(value: &[u8]) -> Option<usize>
     number(&text[..count])
 }
 
-/// Returns whether a field of this name gives the length.
-fn is_length_name(name: &[u8]) -> bool
-    ensures { result ≡ spec.is_length_name name.now }
-{
-    name.eq_ignore_ascii_case(b"content-length")
-}
-
 /// Returns what is known of the length behind a field.
 fn behind_field(found: Option<usize>, name: &[u8], value: &[u8]) -> Option<Option<usize>>
     ensures value { result ≡ spec.behind_field found name.now value.now }
     ensures bound { IsBounded found → IfSome result IsBounded }
 {
-    if !is_length_name(name) {
+    if !name.eq_ignore_ascii_case(b"content-length") {
         return Some(found);
     }
     if found.is_some() {

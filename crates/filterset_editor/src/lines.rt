@@ -1,5 +1,5 @@
 //! The lines of a text, so that a position costs a search.
-ghost use Rattle.std.specs.Prelude.{◌≡◌, ◌≤◌, ◌<◌, ◌+◌, ℕ, IfOk, Some, drop, length, slice_get, slice_index};
+ghost use Rattle.std.specs.Prelude.{◌≡◌, ◌≤◌, ◌<◌, ◌+◌, ℕ, IfOk, drop, length, slice_index};
 ghost use Rattle.std.specs.List.{slice_range};
 ghost use Rattle.std.specs.Str.{IsCharBoundary};
 ghost use Rattle.filterset_editor.specs.Positions as spec;
@@ -103,17 +103,6 @@ fn position_of(text: &str, starts: &[usize], encoding: Encoding, offset: usize) 
     }
 }
 
-/// Returns the offset of a column in a line that begins at `start`.
-fn offset_in(text: &str, start: usize, encoding: Encoding, position: Position) -> usize
-    requires { slice_get (line_starts text.now) position.line ≡ Some start }
-    ensures value { IsOffset encoding text.now position result }
-    ensures boundary { IsCharBoundary text.now result }
-    ensures corresponds { (offset : ℕ) → StandsAt encoding text.now position offset → result ≡ offset }
-{
-    let line = behind(text, start);
-    start + bytes_before(encoding, position.character, line)
-}
-
 /// Returns the offset of a position in a text whose lines begin there.
 fn offset_of(text: &str, starts: &[usize], encoding: Encoding, position: Position) -> usize
     requires { starts.now ≡ line_starts text.now }
@@ -122,7 +111,10 @@ fn offset_of(text: &str, starts: &[usize], encoding: Encoding, position: Positio
     ensures corresponds { (offset : ℕ) → StandsAt encoding text.now position offset → result ≡ offset }
 {
     match starts.get(position.line) {
-        Some(start) => offset_in(text, *start, encoding, position),
+        Some(start) => {
+            let line = behind(text, *start);
+            *start + bytes_before(encoding, position.character, line)
+        }
         None => text.len(),
     }
 }

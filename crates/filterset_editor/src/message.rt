@@ -3,7 +3,7 @@ ghost use Rattle.std.specs.Prelude.{◌≡◌, IfOk, codes, map, option_and_then
 ghost use Rattle.serde_json.specs.Find.{as_str, get};
 ghost use Rattle.serde_json.specs.View.{items_view, view};
 ghost use Rattle.filterset_editor.specs.Messages as spec;
-ghost use Rattle.filterset_editor.specs.Messages.{IsIncoming, IsParsed, IsSaid, call_row, change_row, said_of};
+ghost use Rattle.filterset_editor.specs.Messages.{IsIncoming, IsParsed, call_row, change_row, said_of};
 
 use crate::documents::{Document, Revision};
 use crate::edits::Change;
@@ -226,21 +226,6 @@ pub fn method_of(message: &Value) -> Option<&str>
     message.get("method")?.as_str()
 }
 
-/// Reads what a message is that is JSON.
-fn read_value(alloc: Global, message: &Value) -> Result<Incoming, AllocError>
-    ensures { IfOk result (IsSaid (view message.now)) }
-{
-    match (method_of(message), message.get("id")) {
-        (Some(method), Some(id)) => Ok(Incoming::Request {
-            id: id.clone()?,
-            call: read_call(alloc, method, message)?,
-        }),
-        (Some(method), None) => Ok(Incoming::Notification(read_notice(alloc, method, message)?)),
-        (None, Some(_)) => Ok(Incoming::Response),
-        (None, None) => Ok(Incoming::NotMessage),
-    }
-}
-
 /// Reads bytes as JSON, if they are. Returns an error only if out of memory.
 pub fn parse_json(alloc: Global, content: &[u8]) -> Result<Option<Value>, AllocError>
     ensures { IfOk result (λ parsed. IsParsed content.now (option_map view parsed)) }
@@ -259,8 +244,18 @@ pub fn parse_json(alloc: Global, content: &[u8]) -> Result<Option<Value>, AllocE
 pub fn read_message(alloc: Global, content: &[u8]) -> Result<Incoming, AllocError>
     ensures { IfOk result (IsIncoming content.now) }
 {
-    match parse_json(alloc, content)? {
-        Some(value) => read_value(alloc, &value),
-        None => Ok(Incoming::NotJson),
+    let Some(message) = parse_json(alloc, content)? else {
+        return Ok(Incoming::NotJson);
+    };
+    match (method_of(&message), message.get("id")) {
+        (Some(method), Some(id)) => Ok(Incoming::Request {
+            id: id.clone()?,
+            call: read_call(alloc, method, &message)?,
+        }),
+        (Some(method), None) => {
+            Ok(Incoming::Notification(read_notice(alloc, method, &message)?))
+        }
+        (None, Some(_)) => Ok(Incoming::Response),
+        (None, None) => Ok(Incoming::NotMessage),
     }
 }

@@ -26,16 +26,6 @@ pub struct Opening {
     pub options: Option<Value>,
 }
 
-/// Returns whether a message is the request `initialize`.
-fn is_initialize(message: &Value) -> bool
-    ensures { result ≡ spec.is_initialize (view message.now) }
-{
-    match method_of(message) {
-        Some(method) => is_same(method, "initialize") && message.get("id").is_some(),
-        None => false,
-    }
-}
-
 /// Reads the options that the bytes of a message give.
 fn read_options(alloc: Global, message: &[u8]) -> Result<Option<Value>, AllocError>
     ensures { IfOk result (λ found. GivesOptions message.now (option_map view found)) }
@@ -43,7 +33,13 @@ fn read_options(alloc: Global, message: &[u8]) -> Result<Option<Value>, AllocErr
     let Some(message) = parse_json(alloc, message)? else {
         return Ok(None);
     };
-    if !is_initialize(&message) {
+    let Some(method) = method_of(&message) else {
+        return Ok(None);
+    };
+    if !is_same(method, "initialize") {
+        return Ok(None);
+    }
+    if message.get("id").is_none() {
         return Ok(None);
     }
     match message.pointer("/params/initializationOptions") {

@@ -34,27 +34,18 @@ fn is_break(character: char) -> bool
     character == '\n' || character == '\r'
 }
 
-/// Returns how many units a character counts.
-fn counted(encoding: Encoding, character: char) -> usize
-    ensures value { result ≡ spec.counted encoding character }
-    ensures bound { result ≤ len_utf8 character }
-{
-    match encoding {
-        Encoding::Utf8 => character.len_utf8(),
-        Encoding::Utf16 => character.len_utf16(),
-        Encoding::Utf32 => 1,
-    }
-}
-
 /// Returns how many units of a column a character has: none if it is of a line break.
 fn units(encoding: Encoding, character: char) -> usize
     ensures value { result ≡ spec.units_of encoding character }
     ensures bound { result ≤ len_utf8 character }
 {
     if is_break(character) {
-        0
-    } else {
-        counted(encoding, character)
+        return 0;
+    }
+    match encoding {
+        Encoding::Utf8 => character.len_utf8(),
+        Encoding::Utf16 => character.len_utf16(),
+        Encoding::Utf32 => 1,
     }
 }
 

@@ -68,23 +68,6 @@ fn diagnose<L: Language>(
     )
 }
 
-/// Takes a document that is opened.
-fn open<L: Language>(
-    documents: &mut Vec<Document>,
-    language: &L,
-    alloc: Global,
-    encoding: Encoding,
-    document: Document,
-) -> Result<Option<Value>, AllocError>
-    ensures ok { IfOk result (λ answer. Notifies (L.says language.now) encoding (Notice.Opened document)
-        documents.old.items (option_map view answer) documents.new.items) }
-    ensures err { OnErr result (documents.new.items ≡ documents.old.items) }
-{
-    let value = diagnose(language, alloc, encoding, &document)?;
-    put_document(documents, document)?;
-    Ok(Some(value))
-}
-
 /// Takes changes of a document.
 fn change<L: Language>(
     documents: &mut Vec<Document>,
@@ -120,7 +103,11 @@ fn keep<L: Language>(
 {
     match phase {
         Phase::Running(encoding) => match notice {
-            Notice::Opened(document) => open(documents, language, alloc, encoding, document),
+            Notice::Opened(document) => {
+                let value = diagnose(language, alloc, encoding, &document)?;
+                put_document(documents, document)?;
+                Ok(Some(value))
+            }
             Notice::Changed(revision) => change(documents, language, alloc, encoding, revision),
             Notice::Closed(uri) => {
                 let value = publish(alloc, uri.as_str(), None, Vec::new(alloc))?;
