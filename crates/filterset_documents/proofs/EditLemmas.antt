@@ -1,10 +1,11 @@
 -- Edits of texts.
-use Rattle.std.proofs.Common.{◌≡◌, ℕ, zero, suc, Bool, true, false, refl, arith, ◌+◌, ◌-◌, ◌<◌, ◌≤◌, ◌∙◌, All, Contains, List, [], ◌∷◌, ◌++◌, append_assoc, ap, drop, get_or, length, map, subst, sym, take}
+use Rattle.std.proofs.Common.{◌≡◌, ℕ, suc, Bool, true, false, refl, arith, ◌+◌, ◌-◌, ◌<◌, ◌≤◌, ◌∙◌, All, Contains, List, [], ◌∷◌, ◌++◌, append_assoc, ap, drop, get_or, length, map, subst, sym, take}
 use Rattle.std.specs.Prelude.{IsSomeAnd, None, Option, Some, if◌then◌else◌}
 use Rattle.std.proofs.lemmas.List.{append-nil, drop-drop, get_or-drop, get_or-map, get_or_default, length-drop, length-map, length-take-le}
-use Rattle.std.proofs.lemmas.List.Elements.{All-append}
+use Rattle.std.proofs.lemmas.List.Elements.{All-append, All-cons, All-head, All-nil, All-tail, All-weaker}
 use Rattle.std.proofs.lemmas.Str.{IsCharBoundary-from_rest}
 use Rattle.std.specs.List.Sorted.{IsNonDecreasingBy}
+use Rattle.std.specs.Option.{option_map_or}
 use Rattle.std.specs.Str.{IsCharBoundary, bytes_eq}
 use Rattle.std.specs.Borrow.{Bor}
 use Rattle.filterset_entries.specs.Checked.{TextRow, text_row}
@@ -13,30 +14,10 @@ use Rattle.filterset_entries.specs.Placements.{Placement}
 use Rattle.filterset_editor.specs.Positions.{Text}
 use Rattle.filterset_configuration.specs.Numbers.{AreApart}
 use Rattle.filterset_configuration.specs.declared.stretch.Stretch.{Stretch}
-use Rattle.filterset_documents.specs.Edits.{EditRow, IsBetween, IsWithin, ReplacesOne, edited_from, place_edits, rewrites, row_edits, written_at}
+use Rattle.filterset_documents.specs.Edits.{EditRow, IsBetween, IsWithin, ReplacesOne, edited_from, rewrites, row_edits, written_at}
 use Rattle.filterset_documents.specs.Filtersets.{stretch_at}
 use Rattle.filterset_documents.proofs.BecomingLemmas.{now_of}
 use Rattle.filterset_documents.proofs.JoinLemmas.{rows_more}
-
--- ---- each element of a list
-
-all_none : {A : Type 0} (P : A → Type 0) → All P []
-all_none P = λ k d lt. absurd (omega (arith, lt))
-
-pub all_first : {A : Type 0} (P : A → Type 0) (x : A) (xs : List A) → P x → All P xs → All P (x ∷ xs)
-all_first P x xs is all = λ k. elim k as (λ n. (d : _) → n < length (x ∷ xs) → P (get_or (x ∷ xs) n d)) [
-  | zero ↦ λ d lt. is
-  | suc n ↦ λ d lt. all n d (omega (arith, lt))
-]
-
-pub all_head : {A : Type 0} (P : A → Type 0) (x : A) (xs : List A) → All P (x ∷ xs) → P x
-all_head P x xs all = all 0 x (omega arith)
-
-pub all_tail : {A : Type 0} (P : A → Type 0) (x : A) (xs : List A) → All P (x ∷ xs) → All P xs
-all_tail P x xs all = λ k d lt. all (suc k) d (omega (arith, lt))
-
-all_weaker : {A : Type 0} (P Q : A → Type 0) (xs : List A) → ((x : A) → P x → Q x) → All P xs → All Q xs
-all_weaker P Q xs weaker all = λ k d lt. weaker (get_or xs k d) (all k d lt)
 
 -- ---- edits of a text from an offset on
 
@@ -82,15 +63,15 @@ in_rest text at s from to front back =
 pub left_more : (text : Text) (at : ℕ) (e : EditRow) (es : List EditRow) → at ≤ e.at.from → e.at.from ≤ e.at.to
     → IsCharBoundary text e.at.from → IsCharBoundary text e.at.to → AreLeft text e.at.to es → AreLeft text at (e ∷ es)
 left_more text at e es from to front back (apart, all) =
-    ((from, to, apart), all_first (IsBetween text) e es (front, back) all)
+    ((from, to, apart), All-cons (IsBetween text) e es (front, back) all)
 
 pub left_next : (text : Text) (at : ℕ) (e : EditRow) (es : List EditRow) → AreLeft text at (e ∷ es) → AreLeft text e.at.to es
-left_next text at e es (apart, all) = (apart.2, all_tail (IsBetween text) e es all)
+left_next text at e es (apart, all) = (apart.2, All-tail (IsBetween text) e es all)
 
 pub left_within : (text : Text) (at : ℕ) (e : EditRow) (es : List EditRow) → at ≤ length text → AreLeft text at (e ∷ es)
     → IsWithin at (drop at text) e.at
 left_within text at e es within (apart, all) =
-    let (front, back) = all_head (IsBetween text) e es all in
+    let (front, back) = All-head (IsBetween text) e es all in
     in_rest text at e.at apart.0 apart.1 front back
 
 -- what is written with one edit more
@@ -139,26 +120,26 @@ rewrites_next entries texts i entry d old new lt within at are added =
 -- the edit of a filterset replaces it
 one_edit : (b : Bool) (at : Placement) (made : Text)
     → All (λ (edit : EditRow). edit.at ≡ stretch_at at.spot) (if b then [] else record { at = stretch_at at.spot; text = made } ∷ [])
-one_edit true at made = all_none (λ (edit : EditRow). edit.at ≡ stretch_at at.spot)
+one_edit true at made = All-nil (λ (edit : EditRow). edit.at ≡ stretch_at at.spot)
 one_edit false at made =
     let P : EditRow → Type 0 = λ edit. edit.at ≡ stretch_at at.spot in
-    all_first P _ [] refl (all_none P)
+    All-cons P _ [] refl (All-nil P)
 
 replaces_place : (place : Option Placement) (text new : Text)
-    → All (λ (edit : EditRow). IsSomeAnd place (λ at. edit.at ≡ stretch_at at.spot)) (place_edits place text new)
-replaces_place None text new = all_none (λ (edit : EditRow). ⊥)
+    → All (λ (edit : EditRow). IsSomeAnd place (λ at. edit.at ≡ stretch_at at.spot)) (option_map_or (λ (at : Placement). if bytes_eq text new then [] else record { at = stretch_at at.spot; text = written_at at.spot new } ∷ []) place [])
+replaces_place None text new = All-nil (λ (edit : EditRow). ⊥)
 replaces_place (Some at) text new = one_edit (bytes_eq text new) at (written_at at.spot new)
 
 -- the edits of filtersets, of which each is one of these, replace these
 replaces_all : (all rows : List TextRow) (texts : List Text) → ((row : TextRow) → Contains rows row → Contains all row)
     → All (ReplacesOne all) (rewrites rows texts)
-replaces_all all [] texts among = all_none (ReplacesOne all)
-replaces_all all (row ∷ rows) [] among = all_none (ReplacesOne all)
+replaces_all all [] texts among = All-nil (ReplacesOne all)
+replaces_all all (row ∷ rows) [] among = All-nil (ReplacesOne all)
 replaces_all all (row ∷ rows) (new ∷ texts) among =
     let Is = ReplacesOne all in
     let here : Contains all row = among row (0, omega arith, refl) in
     let front = row_edits row new in
-    let one = all_weaker (λ edit. IsSomeAnd row.place (λ at. edit.at ≡ stretch_at at.spot)) Is front (λ edit at. (row, here, at)) (replaces_place row.place row.text new) in
+    let one = All-weaker (λ edit. IsSomeAnd row.place (λ at. edit.at ≡ stretch_at at.spot)) Is (λ edit at. (row, here, at)) front (replaces_place row.place row.text new) in
     let others = replaces_all all rows texts (λ r (k, lt, at). among r (suc k, omega (arith, lt), at)) in
     All-append Is front (rewrites rows texts) one others
 

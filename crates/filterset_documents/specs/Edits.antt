@@ -1,12 +1,13 @@
 -- Changes of texts.
-use Rattle.std.specs.Prelude.{◌≡◌, ◌≤◌, ◌-◌, ◌++◌, ◌==◌, ◌||◌, ℕ, All, Bool, Contains, IsSomeAnd, List, [], ◌∷◌, None, Option, Some, chars, codes, drop, encode_utf8, map, string_bytes, take, if◌then◌else◌}
+use Rattle.std.specs.Prelude.{◌≡◌, ◌≤◌, ◌-◌, ◌++◌, ◌==◌, ◌||◌, ℕ, All, Bool, Contains, IsSomeAnd, List, [], ◌∷◌, chars, codes, drop, encode_utf8, map, string_bytes, take, if◌then◌else◌}
 use Rattle.std.specs.List.{AllZip, flat_map, list_any}
+use Rattle.std.specs.Option.{option_map_or}
 use Rattle.std.specs.List.Sorted.{IsNonDecreasingBy, IsPermutation}
 use Rattle.std.specs.Str.{IsCharBoundary, bytes_eq}
 use Rattle.serde_json.specs.Data.{Data, array, string, object, member, no_members}
 use Rattle.serde_json.specs.View.{items_of}
 use Rattle.filterset_entries.specs.Checked.{TextRow}
-use Rattle.filterset_entries.specs.Placements.{Placement, TextSpot, line, literal}
+use Rattle.filterset_entries.specs.Placements.{TextSpot, line, literal}
 use Rattle.filterset_editor.specs.Positions.{Text}
 use Rattle.filterset_editor.specs.declared.positions.Encoding.{Encoding}
 use Rattle.filterset_editor.specs.declared.positions.Range.{Range}
@@ -75,18 +76,10 @@ written_at (line stretch) text = text
 
 -- ---- texts of filtersets
 
--- the edit by which a filterset at this spot gets a text, if that is another
-abbrev pub spot_edits : Text → TextSpot → Text → List EditRow
-spot_edits text spot new =
-    if bytes_eq text new then [] else record { at = stretch_at spot; text = written_at spot new } ∷ []
-
--- the same, if the filterset is found
-abbrev pub place_edits : Option Placement → Text → Text → List EditRow
-place_edits None text new = []
-place_edits (Some at) text new = spot_edits text at.spot new
-
+-- the edit by which a filterset gets a text, if it is found and has another
 abbrev pub row_edits : TextRow → Text → List EditRow
-row_edits row new = place_edits row.place row.text new
+row_edits row new = option_map_or (λ at. if bytes_eq row.text new then []
+    else record { at = stretch_at at.spot; text = written_at at.spot new } ∷ []) row.place []
 
 -- the edits by which filtersets get these texts, one after the other
 abbrev pub rewrites : List TextRow → List Text → List EditRow

@@ -1,5 +1,5 @@
 //! Changes of texts.
-ghost use Rattle.std.specs.Prelude.{◌≡◌, ◌++◌, ◌-◌, ◌↔◌, All, IfNone, IfOk, IfSome, IsSome, List, OnOk, drop, length, map, option_map, option_to_list, string_bytes, take};
+ghost use Rattle.std.specs.Prelude.{◌≡◌, ◌++◌, ◌-◌, ◌↔◌, All, IfNone, IfOk, IfSome, IsSome, List, OnOk, drop, length, map, string_bytes, take};
 ghost use Rattle.std.specs.List.{AllZip};
 ghost use Rattle.std.specs.Str.{bytes_eq};
 ghost use Rattle.serde_json.specs.Data.{Data, array};
@@ -42,23 +42,7 @@ fn written_at(alloc: Global, spot: Spot<'_>, text: &str) -> Result<String, Alloc
     }
 }
 
-/// Makes the edit by which a filterset gets a text, unless it has that or is not found.
-fn edit_of(alloc: Global, entry: &TextEntry<'_>, text: &str) -> Result<Option<Edit>, AllocError>
-    ensures { IfOk result (λ o. option_to_list (option_map edit_row o) ≡ row_edits (text_row entry.now) text.now) }
-{
-    let Some(place) = entry.place else {
-        return Ok(None);
-    };
-    if is_same(entry.text, text) {
-        return Ok(None);
-    }
-    Ok(Some(Edit {
-        at: stretch_at(place.spot),
-        text: written_at(alloc, place.spot, text)?,
-    }))
-}
-
-/// Adds the edit by which a filterset gets a text, unless it has that.
+/// Adds the edit by which a filterset gets a text, unless it has that or is not found.
 fn push_edit(
     edits: &mut Vec<Edit>,
     alloc: Global,
@@ -68,13 +52,17 @@ fn push_edit(
     ensures { OnOk result (map edit_row edits.new.items
         ≡ map edit_row edits.old.items ++ row_edits (text_row entry.now) text.now) }
 {
-    match edit_of(alloc, entry, text)? {
-        Some(edit) => {
-            edits.push(edit)?;
-            Ok(())
-        }
-        None => Ok(()),
+    let Some(place) = entry.place else {
+        return Ok(());
+    };
+    if is_same(entry.text, text) {
+        return Ok(());
     }
+    edits.push(Edit {
+        at: stretch_at(place.spot),
+        text: written_at(alloc, place.spot, text)?,
+    })?;
+    Ok(())
 }
 
 /// Makes the edits by which filtersets get texts.
@@ -156,24 +144,16 @@ fn edit_value(alloc: Global, text: &str, range: Range) -> Result<Value, AllocErr
     json!(in alloc; { "newText": text, "range": range })
 }
 
-/// Makes the values of edits.
-fn edit_values(alloc: Global, shown: &Shown<'_>, edits: &[Edit]) -> Result<Vec<Value>, AllocError>
-    ensures { IfOk result (λ values. AllZip (IsEdit shown.now.encoding shown.now.lines.text.now)
-        (map edit_row edits.now) (map view values.items)) }
-{
-    let mut values = Vec::with_capacity(alloc, edits.len())?;
-    for edit in edits {
-        let range = range_of(shown, stretch_span(edit.at));
-        values.push(edit_value(alloc, edit.text.as_str(), range)?)?;
-    }
-    Ok(values)
-}
-
 /// Makes the value of edits.
 pub fn edits_value(alloc: Global, shown: &Shown<'_>, edits: &[Edit]) -> Result<Value, AllocError>
     ensures { IfOk result (λ value. (values : List Data)
         × AllZip (IsEdit shown.now.encoding shown.now.lines.text.now) (map edit_row edits.now) values
         × (view value ≡ array (items_of values))) }
 {
-    Ok(Value::Array(edit_values(alloc, shown, edits)?))
+    let mut values = Vec::with_capacity(alloc, edits.len())?;
+    for edit in edits {
+        let range = range_of(shown, stretch_span(edit.at));
+        values.push(edit_value(alloc, edit.text.as_str(), range)?)?;
+    }
+    Ok(Value::Array(values))
 }

@@ -2,7 +2,7 @@ use Rattle.std.proofs.Common.{map, take}
 use Rattle.std.specs.List.{AllZip}
 use Rattle.serde_json.specs.View.{view}
 use Rattle.filterset_documents.specs.Edits.{edit_row, IsEdit}
-use Rattle.filterset_documents.proofs.edits.edit_values.Given as goal
+use Rattle.filterset_documents.proofs.edits.edits_value.Given as goal
 
 -- the edits so far have their values
 abbrev pub invariant-loop-edit : goal.invariant-loop-edit

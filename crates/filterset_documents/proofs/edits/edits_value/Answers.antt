@@ -1,14 +1,15 @@
-use Rattle.std.proofs.Common.{rules, arith, ◌≡◌, ◌<◌, length, get_or}
+use Rattle.std.proofs.Common.{rules, arith, ◌≡◌, ◌<◌, length, get_or, map}
 use Rattle.std.proofs.lemmas.List.{take_all}
 use Rattle.serde_json.specs.View.{view}
+use Rattle.serde_json.specs.declared.value.Value.{the_lemmas}
 use Rattle.filterset_documents.specs.Edits.{edit_row, IsEdit}
 use Rattle.filterset_documents.proofs.JoinLemmas.{Zips-rows}
-use Rattle.filterset_documents.proofs.edits.edit_values.Goals as goal
+use Rattle.filterset_documents.proofs.edits.edits_value.Goals as goal
 
 pub returns : goal.returns
 returns c =
     let are = c.loop-edit.invariant in
-    rw (take_all c.loop-edit.edit-index c.args.edits.now c.loop-edit-test.false) at are
+    (map view c.loop-edit.values.items, rw (take_all c.loop-edit.edit-index c.args.edits.now c.loop-edit-test.false) at are, search (rules, the_lemmas))
 
 pub loop-edit-preserved : goal.loop-edit-preserved
 loop-edit-preserved c =
