@@ -1,12 +1,12 @@
 -- Names that are gathered, one by one.
-use Rattle.std.proofs.Common.{◌≡◌, ◌<◌, ◌&&◌, ◌||◌, ⊎_elim, ℕ, Bool, Bor, true, false, not, List, [], ◌∷◌, ◌++◌, length, length-append, map, refl, sym, ◌∙◌, ap, subst, arith}
+use Rattle.std.proofs.Common.{◌≡◌, ◌<◌, ◌+◌, ◌&&◌, ◌||◌, ◌⊎◌, ⊎_elim, inl, inr, ℕ, Bool, Bor, true, false, not, List, [], ◌∷◌, ◌++◌, get_or, length, length-append, map, take, refl, sym, ◌∙◌, ap, subst, arith}
 use Rattle.std.specs.Prelude.{Contains, IsTrue, nat_lt}
 use Rattle.std.specs.List.{IsDistinct, list_any}
 use Rattle.std.specs.Str.{bytes_eq}
 use Rattle.std.specs.Cmp.Lexicographic.{nat_list_eq_equiv}
 use Rattle.std.proofs.lemmas.Bool.{false≢true}
 use Rattle.std.proofs.lemmas.Bool.Decides.{nat_tests}
-use Rattle.std.proofs.lemmas.List.{length-map}
+use Rattle.std.proofs.lemmas.List.{length-map, map-append, map_more}
 use Rattle.std.proofs.lemmas.List.Elements.{Contains-append_left, Contains-push, Contains-push_cases}
 use Rattle.std.proofs.lemmas.Map.Keys.{IsDistinct-push}
 use Rattle.std.proofs.lemmas.Map.Views.{Contains-from_any}
@@ -83,11 +83,27 @@ module _ (names : List Text) (typed : Text) (seen : List (Bor Text)) (name : Tex
   wanted = may_offer typed name && nat_lt (length seen) limit && not (list_any (λ n. bytes_eq name n.now) seen)
 
   -- one more name is wanted or not
-  pub gathers-wanted : wanted ≡ true → IsGathered (names ++ name ∷ []) typed (found ++ name ∷ [])
+  gathers-wanted : wanted ≡ true → IsGathered (names ++ name ∷ []) typed (found ++ name ∷ [])
   gathers-wanted e = by_true (may_offer typed name) (nat_lt (length seen) limit) (list_any (λ n. bytes_eq name n.now) seen) refl refl refl e
 
-  pub gathers-unwanted : wanted ≡ false → IsGathered (names ++ name ∷ []) typed found
+  gathers-unwanted : wanted ≡ false → IsGathered (names ++ name ∷ []) typed found
   gathers-unwanted e = by_false (may_offer typed name) (nat_lt (length seen) limit) (list_any (λ n. bytes_eq name n.now) seen) refl refl refl e
+
+-- one more of some names is wanted or not
+pub gathers-next : (all : List (Bor Text)) (i : ℕ) (d : Bor Text) (typed : Text) (seen new : List (Bor Text)) (is_wanted : Bool)
+    → is_wanted ≡ (may_offer typed (get_or all i d).now && nat_lt (length seen) limit && not (list_any (λ n. bytes_eq (get_or all i d).now n.now) seen))
+    → i < length all → IsGathered (map text (take i all)) typed (map text seen)
+    → ((is_wanted ≡ true) × (new ≡ seen ++ get_or all i d ∷ [])) ⊎ ((is_wanted ≡ false) × (new ≡ seen))
+    → IsGathered (map text (take (i + 1) all)) typed (map text new)
+gathers-next all i d typed seen new is_wanted asked lt is (inl (wants, pushed)) =
+    let texts = ap (map text) pushed ∙ map-append text seen (get_or all i d ∷ []) in
+    subst (λ (ns : List Text). IsGathered ns typed (map text new)) (sym (map_more text all i d lt))
+    (subst (λ (fs : List Text). IsGathered (map text (take i all) ++ (get_or all i d).now ∷ []) typed fs) (sym texts)
+    (gathers-wanted (map text (take i all)) typed seen (get_or all i d).now is (sym asked ∙ wants)))
+gathers-next all i d typed seen new is_wanted asked lt is (inr (other, same)) =
+    subst (λ (ns : List Text). IsGathered ns typed (map text new)) (sym (map_more text all i d lt))
+    (subst (λ (fs : List (Bor Text)). IsGathered (map text (take i all) ++ (get_or all i d).now ∷ []) typed (map text fs)) (sym same)
+    (gathers-unwanted (map text (take i all)) typed seen (get_or all i d).now is (sym asked ∙ other)))
 
 -- nothing is gathered of no names
 pub gathers-none : (typed : Text) → IsGathered [] typed []

@@ -1,12 +1,8 @@
 -- Candidates that stand, and lists of what comes of them.
-use Rattle.std.proofs.Common.{◌≡◌, ◌==◌, Bool, true, false, not, List, [], ◌∷◌, ◌++◌, map, length, ap, sym, ◌∙◌, subst}
+use Rattle.std.proofs.Common.{◌≡◌, ◌==◌, Bool, not, List, [], ◌∷◌, ◌++◌, map, length, ap, sym, ◌∙◌, subst}
 use Rattle.std.proofs.lemmas.List.{length-map, map-append}
-use Rattle.std.specs.Prelude.{MatchBool}
 use Rattle.std.specs.List.{AllZip}
 use Rattle.filterset_configuration.proofs.Zips.{zip_push}
-
-pub false-true : false ≡ true → ⊥
-false-true e = let P : Bool → Type 0 = λ b. MatchBool b (Unit {0}) ⊥ in subst P (sym e) tt
 
 -- a list of what elements are seen as is empty exactly if there are none
 pub seen-some : {A B : Type 0} (f : A → B) (xs : List A) (ys : List B) (answer empty : Bool) → map f xs ≡ ys → answer ≡ not empty

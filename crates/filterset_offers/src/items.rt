@@ -1,10 +1,10 @@
 //! The items of what is offered.
-ghost use Rattle.std.specs.Prelude.{◌≡◌, ◌++◌, ◌∷◌, [], IfOk, List, OnOk, map};
+ghost use Rattle.std.specs.Prelude.{◌≡◌, IfOk, map};
 ghost use Rattle.std.specs.List.{AllZip};
 ghost use Rattle.serde_json.specs.View.{view};
 ghost use Rattle.filterset_entries.specs.Placements.{spot_of};
 ghost use Rattle.filterset_documents.specs.Edits.{edit_data};
-ghost use Rattle.filterset_offers.specs.Candidates.{Row, row_of};
+ghost use Rattle.filterset_offers.specs.Candidates.{row_of};
 ghost use Rattle.filterset_offers.specs.Completion.{IsItem, item_data};
 ghost use Rattle.filterset_offers.specs.Gaps.{gap_row};
 ghost use Rattle.filterset_offers.specs.Standing.{gap_rows, inserted};
@@ -60,25 +60,6 @@ fn item_of(
     item_value(alloc, candidate, edit)
 }
 
-/// Adds the item of a candidate for a filterset at this place.
-fn push_item(
-    values: &mut Vec<Value>,
-    alloc: Global,
-    shown: &Shown<'_>,
-    place: FilePlace<'_>,
-    gaps: &Gaps<'_>,
-    candidate: &Candidate<'_>,
-) -> Result<(), AllocError>
-    ensures { (rows : List Row) → AllZip (IsItem shown.now.encoding shown.now.lines.text.now (spot_of place.entry.spot)
-        (gap_rows gaps.now)) rows (map view values.old.items)
-        → OnOk result (AllZip (IsItem shown.now.encoding shown.now.lines.text.now (spot_of place.entry.spot)
-        (gap_rows gaps.now)) (rows ++ row_of candidate.now ∷ []) (map view values.new.items)) }
-{
-    let item = item_of(alloc, shown, place, gaps, candidate)?;
-    values.push(item)?;
-    Ok(())
-}
-
 /// Makes the items of candidates for a filterset at this place.
 pub fn items_of(
     alloc: Global,
@@ -92,7 +73,8 @@ pub fn items_of(
 {
     let mut values = Vec::with_capacity(alloc, candidates.len())?;
     for candidate in candidates {
-        push_item(&mut values, alloc, shown, place, gaps, candidate)?;
+        let item = item_of(alloc, shown, place, gaps, candidate)?;
+        values.push(item)?;
     }
     Ok(values)
 }

@@ -4,7 +4,7 @@ ghost use Rattle.filterset_language.specs.Views.{leaf_of, tree_of};
 ghost use Rattle.filterset_matchers.specs.Matchers.{matcher_of};
 ghost use Rattle.filterset_offers.specs.Candidates.{row_of};
 ghost use Rattle.filterset_offers.specs.Marks as spec;
-ghost use Rattle.filterset_offers.specs.Marks.{has_mark, has_some, is_marked};
+ghost use Rattle.filterset_offers.specs.Marks.{has_mark};
 
 use crate::candidates::{Candidate, Mark, Owner};
 use filterset_documents::{is_same, leaf_span};
@@ -155,53 +155,16 @@ fn has_mark(kind: FiltersetKind, mark: Mark, label: &str, at: usize, leaf: &Pars
     }
 }
 
-/// Returns whether a span holds the byte at an offset.
-fn covers(span: Option<SourceSpan>, at: usize) -> bool
-    ensures { result ≡ spec.covers span at }
-{
-    match span {
-        Some(span) => span.offset() <= at && at - span.offset() < span.len(),
-        None => false,
-    }
-}
-
 /// Returns whether a candidate that begins at an offset may be a part of a predicate's argument, and not precede an operand.
 fn is_hiding(mark: Mark, at: usize, leaf: &ParsedLeaf) -> bool
     ensures { result ≡ spec.is_hiding mark at (leaf_of leaf.now) }
 {
-    match mark {
-        Mark::Precedes(_) => covers(leaf_span(leaf), at),
-        Mark::Begins(_) | Mark::Inside(_) | Mark::Names(_) => false,
+    match (mark, leaf_span(leaf)) {
+        (Mark::Precedes(_), Some(span)) => {
+            span.offset() <= at && at - span.offset() < span.len()
+        }
+        _ => false,
     }
-}
-
-/// Returns whether a predicate of a tree has the mark of a candidate at an offset.
-fn has_marked(
-    alloc: Global,
-    kind: FiltersetKind,
-    candidate: &Candidate<'_>,
-    at: usize,
-    tree: &ParsedExpr,
-) -> Result<bool, AllocError>
-    ensures { IfOk result (λ answer. answer ≡ has_some (is_marked kind (row_of candidate.now) at) (tree_of tree.now)) }
-{
-    let found = tree.leaves_where(alloc, |leaf| {
-        has_mark(kind, candidate.mark, candidate.label, at, leaf)
-    })?;
-    Ok(!found.is_empty())
-}
-
-/// Returns whether a candidate that begins at an offset may be a part of an argument of a tree.
-fn has_hiding(
-    alloc: Global,
-    candidate: &Candidate<'_>,
-    at: usize,
-    tree: &ParsedExpr,
-) -> Result<bool, AllocError>
-    ensures { IfOk result (λ answer. answer ≡ has_some (spec.is_hiding candidate.now.mark at) (tree_of tree.now)) }
-{
-    let found = tree.leaves_where(alloc, |leaf| is_hiding(candidate.mark, at, leaf))?;
-    Ok(!found.is_empty())
 }
 
 /// Returns whether a tree shows that a candidate, which begins at an offset, stands where it may.
@@ -214,7 +177,11 @@ pub fn shows(
 ) -> Result<bool, AllocError>
     ensures { IfOk result (λ answer. answer ≡ spec.shows kind (row_of candidate.now) at (tree_of tree.now)) }
 {
-    let is_marked = has_marked(alloc, kind, candidate, at, tree)?;
-    let is_hidden = has_hiding(alloc, candidate, at, tree)?;
+    let marked = tree.leaves_where(alloc, |leaf| {
+        has_mark(kind, candidate.mark, candidate.label, at, leaf)
+    })?;
+    let hiding = tree.leaves_where(alloc, |leaf| is_hiding(candidate.mark, at, leaf))?;
+    let is_marked = !marked.is_empty();
+    let is_hidden = !hiding.is_empty();
     Ok(is_marked && !is_hidden)
 }

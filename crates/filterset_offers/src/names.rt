@@ -1,8 +1,7 @@
 //! The names of a workspace that may be offered.
-ghost use Rattle.std.specs.Prelude.{◌≡◌, ◌++◌, ◌&&◌, ◌∷◌, [], IfOk, List, OnOk, length, map, nat_lt, not};
+ghost use Rattle.std.specs.Prelude.{◌≡◌, ◌&&◌, IfOk, length, map, nat_lt, not};
 ghost use Rattle.std.specs.List.{list_all, list_any};
 ghost use Rattle.std.specs.Str.{bytes_eq};
-ghost use Rattle.filterset_editor.specs.Positions.{Text};
 ghost use Rattle.filterset_names.specs.Workspaces.{known_of, workspace_row};
 ghost use Rattle.filterset_offers.specs.Candidates as candidates;
 ghost use Rattle.filterset_offers.specs.Candidates.{row_of};
@@ -46,26 +45,15 @@ fn is_wanted(names: &[&str], typed: &str, name: &str) -> bool
     may_offer(typed, name) && names.len() < LIMIT && !has_name(names, name)
 }
 
-/// Adds a name, if it is wanted.
-fn push_name<'w>(found: &mut Vec<&'w str>, typed: &str, name: &'w str) -> Result<(), AllocError>
-    ensures { OnOk result ((names : List Text) → IsGathered names typed.now (map (λ n. n.now) found.old.items)
-        → IsGathered (names ++ name.entry.now ∷ []) typed.now (map (λ n. n.now) found.new.items)) }
-{
-    if is_wanted(found.as_slice(), typed, name) {
-        found.push(name)?;
-        Ok(())
-    } else {
-        Ok(())
-    }
-}
-
 /// Returns the names that may be offered, each once.
 fn gather<'w>(alloc: Global, names: &[&'w str], typed: &str) -> Result<Vec<&'w str>, AllocError>
     ensures { IfOk result (λ found. IsGathered (map (λ n. n.now) names.now) typed.now (map (λ n. n.now) found.items)) }
 {
     let mut found = Vec::new(alloc);
     for name in names {
-        push_name(&mut found, typed, name)?;
+        if is_wanted(found.as_slice(), typed, name) {
+            found.push(name)?;
+        }
     }
     Ok(found)
 }

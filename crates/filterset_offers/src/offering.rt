@@ -1,33 +1,12 @@
 //! What is offered.
-ghost use Rattle.std.specs.Prelude.{◌++◌, ◌∷◌, [], IfOk, List, OnOk, map};
-ghost use Rattle.filterset_offers.specs.Candidates.{Row, row_of};
+ghost use Rattle.std.specs.Prelude.{IfOk, map};
+ghost use Rattle.filterset_offers.specs.Candidates.{row_of};
 ghost use Rattle.filterset_offers.specs.Standing.{AreFitting, AreOffered, gap_rows};
 
 use crate::candidates::Candidate;
 use crate::standing::{Gaps, fits};
 use nextest_filtering::FiltersetKind;
 use std::alloc::{AllocError, Global};
-
-/// Adds a candidate, if it fits.
-fn push_fitting<'n>(
-    found: &mut Vec<Candidate<'n>>,
-    alloc: Global,
-    kind: FiltersetKind,
-    gaps: &Gaps<'_>,
-    is_closed: bool,
-    candidate: &Candidate<'n>,
-) -> Result<(), AllocError>
-    ensures { (rows : List Row) → AreFitting kind (gap_rows gaps.now) is_closed rows (map row_of found.old.items)
-        → OnOk result (AreFitting kind (gap_rows gaps.now) is_closed (rows ++ row_of candidate.now ∷ [])
-        (map row_of found.new.items)) }
-{
-    if fits(alloc, kind, gaps, is_closed, candidate)? {
-        found.push(*candidate)?;
-        Ok(())
-    } else {
-        Ok(())
-    }
-}
 
 /// Returns the candidates that fit.
 fn fitting<'n>(
@@ -42,7 +21,9 @@ fn fitting<'n>(
 {
     let mut found = Vec::new(alloc);
     for candidate in candidates {
-        push_fitting(&mut found, alloc, kind, gaps, is_closed, candidate)?;
+        if fits(alloc, kind, gaps, is_closed, candidate)? {
+            found.push(*candidate)?;
+        }
     }
     Ok(found)
 }

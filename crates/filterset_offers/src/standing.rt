@@ -1,6 +1,5 @@
 //! Which candidates stand where they are put.
-ghost use Rattle.std.specs.Prelude.{◌≡◌, ◌==◌, ◌-◌, ◌↔◌, IfOk, IfSome, IsSome, string_bytes};
-ghost use Rattle.std.specs.List.{count_by};
+ghost use Rattle.std.specs.Prelude.{◌≡◌, ◌↔◌, IfOk, IfSome, IsSome, string_bytes};
 ghost use Rattle.std.specs.Str.{IsCharBoundary};
 ghost use Rattle.filterset_offers.specs.Candidates.{row_of};
 ghost use Rattle.filterset_offers.specs.Gaps.{gap_row};
@@ -98,21 +97,15 @@ fn stands(
     shows(alloc, kind, candidate, gap.at.offset(), &tree)
 }
 
-/// Returns how many parentheses of a text are not closed.
-fn open_count(text: &[u8]) -> usize
-    ensures { result ≡ count_by (λ b. b == 40) text.now - count_by (λ b. b == 41) text.now }
-{
-    let opening = text.iter().filter(|byte| **byte == b'(').count();
-    let closing = text.iter().filter(|byte| **byte == b')').count();
-    opening.saturating_sub(closing)
-}
-
 /// Makes what closes a text.
 fn closing_of(alloc: Global, text: &str) -> Result<String, AllocError>
     ensures { IfOk result (λ made. string_bytes made ≡ spec.closing text.now) }
 {
+    let bytes = text.as_bytes();
+    let opened = bytes.iter().filter(|byte| **byte == b'(').count();
+    let closed = bytes.iter().filter(|byte| **byte == b')').count();
     let mut closing = String::new(alloc);
-    for _written in 0..open_count(text.as_bytes()) {
+    for _written in 0..opened.saturating_sub(closed) {
         closing.push_str(")")?;
     }
     Ok(closing)

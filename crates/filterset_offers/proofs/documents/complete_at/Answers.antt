@@ -1,4 +1,5 @@
 use Rattle.std.proofs.Common.{◌≡◌, ◌∙◌, ℕ, ap, false, inl, inr, refl, rules, subst, sym, true}
+use Rattle.std.proofs.lemmas.Bool.{false≢true}
 use Rattle.std.proofs.lemmas.Result.{IfOk-weaker}
 use Rattle.serde_json.specs.View.{view}
 use Rattle.serde_json.specs.declared.value.Value.{the_lemmas}
@@ -9,7 +10,6 @@ use Rattle.filterset_documents.specs.Filtersets.{is_in}
 use Rattle.filterset_names.specs.Workspaces.{known_of}
 use Rattle.filterset_offers.specs.Completion.{CompletesIn, CompletesText}
 use Rattle.filterset_offers.specs.Standing.{GapRows}
-use Rattle.filterset_offers.proofs.StandingLemmas.{false-true}
 use Rattle.filterset_offers.proofs.documents.complete_at.Goals as goal
 
 pub returns-then-is_in : goal.returns-then-is_in
@@ -47,4 +47,4 @@ returns-in_default c =
     let shown = c.args.shown.now in
     let row = text_row c.args.entry.now in
     let At : ℕ → Type 0 = λ k. CompletesText known shown.encoding shown.lines.text.now c.args.offset (spot_of c.args.place.spot) row k (view Null) in
-    subst At c.text_offset.ensures (inl (λ b. false-true (c.in_default.ensures.boundary.1 b), search (rules, the_lemmas)))
+    subst At c.text_offset.ensures (inl (λ b. false≢true (c.in_default.ensures.boundary.1 b), search (rules, the_lemmas)))

@@ -6,6 +6,7 @@ use Rattle.filterset_entries.specs.Placements.{spot_of}
 use Rattle.filterset_offers.specs.Candidates.{Row, row_of}
 use Rattle.filterset_offers.specs.Completion.{IsItem}
 use Rattle.filterset_offers.specs.Standing.{gap_rows}
+use Rattle.filterset_offers.proofs.StandingLemmas.{zip-pushed}
 use Rattle.filterset_offers.proofs.items.items_of.Goals as goal
 
 pub loop-candidate-preserved : goal.loop-candidate-preserved
@@ -14,7 +15,8 @@ loop-candidate-preserved c =
     let candidates = c.args.candidates.now in
     let i = c.loop-candidate.candidate-index in
     let lt : i < length candidates = omega (arith, c.loop-candidate-test.true) in
-    let P : List Row → Type 0 = λ rows. AllZip (IsItem shown.encoding shown.lines.text.now (spot_of c.args.place.spot) (gap_rows c.args.gaps.now)) rows
-    (map view c.push_item.new.values.items) in
+    let R = IsItem shown.encoding shown.lines.text.now (spot_of c.args.place.spot) (gap_rows c.args.gaps.now) in
+    let P : List Row → Type 0 = λ rows. AllZip R rows (map view c.push.new.self.items) in
     subst P (sym (map_more row_of candidates i _ lt))
-    (c.in_ok-push_item.ensures (map row_of (take i candidates)) c.loop-candidate.invariant)
+    (zip-pushed R view (map row_of (take i candidates)) _ c.loop-candidate.values.items c.push.new.self.items c.in_ok-item.item
+    c.in_ok-push.ensures.items c.loop-candidate.invariant c.in_ok-item.ensures)

@@ -1,23 +1,21 @@
-use Rattle.std.proofs.Common.{◌<◌, Bor, List, arith, length, map, subst, sym, take}
-use Rattle.std.proofs.lemmas.List.{map_more, take_all}
+use Rattle.std.proofs.Common.{◌∙◌, Bor, Global, Vec, ap, inl, inr}
+use Rattle.std.proofs.lemmas.List.{take_all}
 use Rattle.filterset_editor.specs.Positions.{Text}
-use Rattle.filterset_offers.specs.Names.{IsGathered}
-use Rattle.filterset_offers.proofs.GatherLemmas.{gathers-none}
+use Rattle.filterset_offers.proofs.GatherLemmas.{gathers-next, gathers-none}
 use Rattle.filterset_offers.proofs.names.gather.Goals as goal
-
-abbrev text : Bor Text → Text
-text n = n.now
+use Rattle.filterset_offers.proofs.names.gather.Goals.{then-is_wanted+in_ok-push, else-is_wanted}
 
 pub loop-name-init : goal.loop-name-init
 loop-name-init c = rw c.new-found.ensures.items (gathers-none c.args.typed.now)
 
 pub loop-name-preserved : goal.loop-name-preserved
 loop-name-preserved c =
-    let names = c.args.names.now in
-    let i = c.loop-name.name-index in
-    let lt : i < length names = omega (arith, c.loop-name-test.true) in
-    let P : List Text → Type 0 = λ ns. IsGathered ns c.args.typed.now (map text c.push_name.new.found.items) in
-    subst P (sym (map_more text names i _ lt)) (c.in_ok-push_name.ensures (map text (take i names)) c.loop-name.invariant)
+    gathers-next c.args.names.now c.loop-name.name-index _ c.args.typed.now c.loop-name.found.items c.if-is_wanted.found.items c.is_wanted.result
+    (rw c.as_slice.ensures.value at c.is_wanted.ensures) c.loop-name-test.true c.loop-name.invariant
+    (elim c.if-is_wanted.branch [
+      | then-is_wanted+in_ok-push w ↦ inl (w.if-is_wanted.true, ap (λ (v : Vec (Bor Text) Global). v.items) w.found-is ∙ w.in_ok-push.ensures.items)
+      | else-is_wanted w ↦ inr (w.if-is_wanted.false, ap (λ (v : Vec (Bor Text) Global). v.items) w.found-is)
+    ])
 
 pub returns : goal.returns
 returns c =
