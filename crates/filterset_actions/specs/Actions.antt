@@ -70,15 +70,11 @@ abbrev pub RangeActions : SubjectRow → Placement → ProposalRow → Text → 
 RangeActions subject place p text None ds = ds ≡ []
 RangeActions subject place p text (Some range) ds = (d : Data) × IsAction subject place p range text d × (ds ≡ d ∷ [])
 
--- the action of a proposal that makes a change, if there is one
-abbrev pub ChangeActions : SubjectRow → Placement → ProposalRow → Option Change → List Data → Type 0
-ChangeActions subject place p None ds = ds ≡ []
-ChangeActions subject place p (Some change) ds = RangeActions subject place p (string_bytes change.text) change.range ds
-
 -- the action by which the filterset at a position gets this text, if a change of the file gives it that and changes no other
 abbrev pub NewActions : SubjectRow → ℕ → Placement → ProposalRow → Text → List Data → Type 0
 NewActions subject at place p new ds =
-    (chosen : Option Change) × IsChosen subject at place.spot p new chosen × ChangeActions subject place p chosen ds
+    (chosen : Option Change) × IsChosen subject at place.spot p new chosen
+    × MatchOption chosen (ds ≡ []) (λ change. RangeActions subject place p (string_bytes change.text) change.range ds)
 
 -- the action of a proposal for the text of the filterset at a position, if it mends the text
 abbrev pub ProposalActions : SubjectRow → ℕ → Placement → Text → ProposalRow → List Data → Type 0

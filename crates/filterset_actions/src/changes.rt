@@ -15,17 +15,6 @@ use filterset_entries::{FilePlace, TextEntry};
 use std::alloc::{AllocError, Global};
 use std::slice;
 
-/// Lists the texts of filtersets.
-fn list_texts<'t>(alloc: Global, entries: &[TextEntry<'t>]) -> Result<Vec<&'t str>, AllocError>
-    ensures { IfOk result (λ texts. map (λ t. t.now) texts.items ≡ texts_of (map text_row entries.now)) }
-{
-    let mut texts = Vec::with_capacity(alloc, entries.len())?;
-    for entry in entries {
-        texts.push(entry.text)?;
-    }
-    Ok(texts)
-}
-
 /// Lists the texts of filtersets of which the one at a position gets another.
 fn list_changed<'t>(
     alloc: Global,
@@ -37,7 +26,10 @@ fn list_changed<'t>(
     ensures { IfOk result (λ texts. map (λ t. t.now) texts.items
         ≡ slice_set (texts_of (map text_row entries.now)) at new.entry.now) }
 {
-    let mut texts = list_texts(alloc, entries)?;
+    let mut texts = Vec::with_capacity(alloc, entries.len())?;
+    for entry in entries {
+        texts.push(entry.text)?;
+    }
     texts[at] = new;
     Ok(texts)
 }
