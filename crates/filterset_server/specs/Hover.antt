@@ -1,5 +1,6 @@
 -- What the server shows of the predicate at a position.
-use Rattle.std.specs.Prelude.{◌≡◌, ◌++◌, ℕ, Bool, List, MatchOption, Option, Some, None, codes, find, false}
+use Rattle.std.specs.Prelude.{◌≡◌, ◌++◌, ℕ, Bool, List, MatchOption, Option, codes, find, false}
+use Rattle.std.specs.Option.{option_map_or}
 use Rattle.serde_json.specs.Data.{Data, string, object, member, no_members, null}
 use Rattle.filterset_entries.specs.Checked.{TextRow}
 use Rattle.filterset_entries.specs.Placements.{Placement, file_part}
@@ -28,13 +29,9 @@ hover_data text range =
 abbrev pub leaf_part : Option Placement → Leaf SourceSpan → Option FileSpan
 leaf_part place leaf = file_part place (leaf_span leaf)
 
-abbrev pub is_in_part : Option FileSpan → ℕ → Bool
-is_in_part None offset = false
-is_in_part (Some part) offset = is_in part.span offset
-
 -- the predicate has a span, which holds this offset of the file
 abbrev pub is_leaf_at : Option Placement → ℕ → Leaf SourceSpan → Bool
-is_leaf_at place offset leaf = is_in_part (leaf_part place leaf) offset
+is_leaf_at place offset leaf = option_map_or (λ part. is_in part.span offset) (leaf_part place leaf) false
 
 -- the hover of a predicate: what it means, and what it matches in the workspace, for the range of its span in the file
 abbrev pub HoversLeaf : Option WorkspaceRow → Encoding → Text → Option Placement → Leaf SourceSpan → Data → Type 0

@@ -13,7 +13,7 @@ use Rattle.filterset_editor.specs.Documents.{DocumentRow}
 use Rattle.filterset_editor.specs.Positions.{Text}
 use Rattle.filterset_editor.specs.declared.positions.Encoding.{Encoding}
 use Rattle.filterset_faults.specs.declared.span.SourceSpan.{SourceSpan}
-use Rattle.filterset_grammar.specs.Tree.{Leaf, Matching, Tree, tree_leaves}
+use Rattle.filterset_grammar.specs.Tree.{Leaf, Matching, tree_leaves}
 use Rattle.filterset_grammar.specs.declared.predicate.Predicate.TheVariants.{Test}
 use Rattle.filterset_listing.specs.Unmatched.{Unmatched, unmatched_message}
 use Rattle.filterset_names.specs.Something.{MatchesSomething}
@@ -55,13 +55,10 @@ has_part place leaf = is_some (leaf_part place leaf)
 
 -- ---- filtersets
 
--- the warnings of the predicates of a tree, one after the other
-abbrev pub TreeWarnings : WorkspaceRow → Encoding → Text → Option Placement → Tree SourceSpan → List Data → Type 0
-TreeWarnings w encoding text place e ds = Joins (LeafWarnings w encoding text place) (filter (has_part place) (tree_leaves e)) ds
-
--- those of the tree that a filterset reads as; none if it reads as none
+-- the warnings of the predicates of the tree that a filterset reads as, one after the other; none if it reads as none
 abbrev pub RowWarnings : WorkspaceRow → Encoding → Text → TextRow → List Data → Type 0
-RowWarnings w encoding text row = OfTree row.text (TreeWarnings w encoding text row.place) []
+RowWarnings w encoding text row =
+    OfTree row.text (λ e ds. Joins (LeafWarnings w encoding text row.place) (filter (has_part row.place) (tree_leaves e)) ds) []
 
 -- those of filtersets, one after the other, where a workspace is known
 abbrev pub RowsWarnings : Option WorkspaceRow → Encoding → Text → List TextRow → List Data → Type 0

@@ -4,8 +4,6 @@ ghost use Rattle.std.specs.List.{AllZip};
 ghost use Rattle.serde_json.specs.View.{view};
 ghost use Rattle.filterset_entries.specs.Checked.{text_row};
 ghost use Rattle.filterset_documents.specs.Contents.{content_row};
-ghost use Rattle.filterset_documents.specs.Filtersets.{OfTree};
-ghost use Rattle.filterset_grammar.specs.Printing.{printed};
 ghost use Rattle.filterset_server.specs.Formatting.{FormatsContent, IsFormatted, RewritesContent};
 
 use filterset_documents::{
@@ -15,22 +13,15 @@ use filterset_entries::TextEntry;
 use serde_json::Value;
 use std::alloc::{AllocError, Global};
 
-/// Makes a text as it prints, if it reads as a tree, and else a copy of it.
-fn print_text(alloc: Global, text: &str) -> Result<String, AllocError>
-    ensures { IfOk result (λ new. OfTree text.now (λ e printed_text. printed_text ≡ printed e) text.now (string_bytes new)) }
-{
-    match parse_text(alloc, text)? {
-        Some(tree) => format!(in alloc; "{tree}"),
-        None => String::from_str(alloc, text),
-    }
-}
-
-/// Makes the text that a filterset gets.
+/// Makes the text that a filterset with a place gets: as it prints, if it reads as a tree. Others are copied.
 fn format_entry(alloc: Global, entry: &TextEntry<'_>) -> Result<String, AllocError>
     ensures { IfOk result (λ new. IsFormatted (text_row entry.now) (string_bytes new)) }
 {
-    match entry.place {
-        Some(_) => print_text(alloc, entry.text),
+    let Some(_) = entry.place else {
+        return String::from_str(alloc, entry.text);
+    };
+    match parse_text(alloc, entry.text)? {
+        Some(tree) => format!(in alloc; "{tree}"),
         None => String::from_str(alloc, entry.text),
     }
 }

@@ -1,13 +1,12 @@
 //! What the predicate at a position means.
-ghost use Rattle.std.specs.Prelude.{◌≡◌, IfOk, filter, map, option_map};
+ghost use Rattle.std.specs.Prelude.{◌≡◌, IfOk, map, option_map};
 ghost use Rattle.serde_json.specs.View.{view};
 ghost use Rattle.filterset_entries.specs.Checked.{text_row};
 ghost use Rattle.filterset_entries.specs.Placements.{placement_of};
-ghost use Rattle.filterset_grammar.specs.Tree.{tree_leaves};
 ghost use Rattle.filterset_language.specs.Views.{leaf_of, tree_of};
 ghost use Rattle.filterset_names.specs.Workspaces.{known_of};
 ghost use Rattle.filterset_server.specs.Hover.{HoversLeaf, HoversRow, HoversRows, HoversTree};
-ghost use Rattle.filterset_server.specs.Hover.{hover_data, is_in_part, is_leaf_at, leaf_part};
+ghost use Rattle.filterset_server.specs.Hover.{hover_data, is_leaf_at, leaf_part};
 
 use crate::matches::leaf_matches;
 use crate::words::leaf_text;
@@ -20,16 +19,6 @@ use filterset_names::Workspace;
 use serde_json::{Value, json};
 use std::alloc::{AllocError, Global};
 
-/// Returns whether an offset is in a part of the file or at its end.
-fn is_in_part(part: Option<FileSpan<'_>>, offset: usize) -> bool
-    ensures { result ≡ is_in_part part.entry offset }
-{
-    match part {
-        Some(part) => is_in(part.span, offset),
-        None => false,
-    }
-}
-
 /// Returns the span of the file that a predicate's span in a text at this place was read from.
 pub(crate) fn leaf_part<'t>(place: Option<FilePlace<'t>>, leaf: &ParsedLeaf) -> Option<FileSpan<'t>>
     ensures { result ≡ leaf_part (option_map placement_of place.entry) (leaf_of leaf.now) }
@@ -41,7 +30,10 @@ pub(crate) fn leaf_part<'t>(place: Option<FilePlace<'t>>, leaf: &ParsedLeaf) -> 
 fn is_leaf_at(place: Option<FilePlace<'_>>, offset: usize, leaf: &ParsedLeaf) -> bool
     ensures { result ≡ is_leaf_at (option_map placement_of place.entry) offset (leaf_of leaf.now) }
 {
-    is_in_part(leaf_part(place, leaf), offset)
+    match leaf_part(place, leaf) {
+        Some(part) => is_in(part.span, offset),
+        None => false,
+    }
 }
 
 /// Makes the value of a text in Markdown about a range.
@@ -72,19 +64,6 @@ fn hover_leaf(
     hover_value(alloc, text.as_str(), range)
 }
 
-/// Returns the predicates of a tree of a text at this place that are at this offset of the file.
-fn leaves_at<'e>(
-    alloc: Global,
-    place: Option<FilePlace<'_>>,
-    offset: usize,
-    tree: &'e ParsedExpr,
-) -> Result<Vec<&'e ParsedLeaf>, AllocError>
-    ensures { IfOk result (λ found. map (λ leaf. leaf_of leaf.now) found.items
-        ≡ filter (is_leaf_at (option_map placement_of place.entry) offset) (tree_leaves (tree_of tree.entry.now))) }
-{
-    tree.leaves_where(alloc, |leaf| is_leaf_at(place, offset, leaf))
-}
-
 /// Makes the hover of the first predicate at this offset of the file, in the tree of a text at this place.
 fn hover_tree(
     alloc: Global,
@@ -97,7 +76,7 @@ fn hover_tree(
     ensures { IfOk result (λ value. HoversTree (known_of workspace.entry) shown.now.encoding shown.now.lines.text.now
         (option_map placement_of place.entry) offset (tree_of tree.now) (view value)) }
 {
-    let leaves = leaves_at(alloc, place, offset, tree)?;
+    let leaves = tree.leaves_where(alloc, |leaf| is_leaf_at(place, offset, leaf))?;
     match leaves.first() {
         Some(leaf) => hover_leaf(alloc, workspace, shown, place, leaf),
         None => Ok(Value::Null),

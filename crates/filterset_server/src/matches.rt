@@ -1,23 +1,14 @@
 //! What predicates match in a workspace, as Markdown.
-ghost use Rattle.std.specs.Prelude.{◌≡◌, ◌++◌, IfOk, OnOk, map, string_bytes};
+ghost use Rattle.std.specs.Prelude.{◌≡◌, IfOk, map, string_bytes};
 ghost use Rattle.filterset_language.specs.Views.{leaf_of};
 ghost use Rattle.filterset_names.specs.Workspaces.{known_of};
-ghost use Rattle.filterset_server.specs.Matches.{SaysMatched, matched_text, more_line, name_line, name_lines, shortlist_text};
+ghost use Rattle.filterset_server.specs.Matches.{SaysMatched, matched_text, more_line, name_lines, shortlist_text};
 
 use crate::words::code_span;
 use filterset_language::ParsedLeaf;
 use filterset_names::{Matched, Shortlist, Workspace, match_leaf};
 use std::alloc::{AllocError, Global};
-
-/// Adds the line of a name.
-fn push_line(lines: &mut String, alloc: Global, name: &str) -> Result<(), AllocError>
-    ensures { OnOk result (string_bytes lines.new ≡ string_bytes lines.old ++ name_line name.now) }
-{
-    let code = code_span(alloc, name)?;
-    lines.push_str("\n- ")?;
-    lines.push_str(code.as_str())?;
-    Ok(())
-}
+use std::fmt::Write;
 
 /// Writes a line for each name.
 fn name_lines(alloc: Global, names: &[&str]) -> Result<String, AllocError>
@@ -25,7 +16,8 @@ fn name_lines(alloc: Global, names: &[&str]) -> Result<String, AllocError>
 {
     let mut lines = String::new(alloc);
     for name in names {
-        push_line(&mut lines, alloc, name)?;
+        let code = code_span(alloc, name)?;
+        write!(lines, "\n- {code}")?;
     }
     Ok(lines)
 }

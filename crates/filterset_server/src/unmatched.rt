@@ -1,20 +1,19 @@
 //! Warnings of predicates that match nothing in a workspace.
-ghost use Rattle.std.specs.Prelude.{◌≡◌, IfOk, filter, map, option_map};
+ghost use Rattle.std.specs.Prelude.{◌≡◌, IfOk, map, option_map};
 ghost use Rattle.std.specs.List.{count_by};
 ghost use Rattle.serde_json.specs.View.{view};
 ghost use Rattle.filterset_entries.specs.Checked.{text_row};
 ghost use Rattle.filterset_entries.specs.Placements.{placement_of};
 ghost use Rattle.filterset_documents.specs.Joins.{Joins};
-ghost use Rattle.filterset_grammar.specs.Tree.{tree_leaves};
-ghost use Rattle.filterset_language.specs.Views.{leaf_of, tree_of};
+ghost use Rattle.filterset_language.specs.Views.{leaf_of};
 ghost use Rattle.filterset_names.specs.Workspaces.{known_of, workspace_row};
-ghost use Rattle.filterset_server.specs.Unmatched.{LeafWarnings, RowWarnings, RowsWarnings, TreeWarnings, WarnsOfLeaf, has_part, is_skipped, skipped_for};
+ghost use Rattle.filterset_server.specs.Unmatched.{LeafWarnings, RowWarnings, RowsWarnings, WarnsOfLeaf, has_part, is_skipped, skipped_for};
 
 use crate::hover::leaf_part;
 use filterset_documents::{Shown, diagnostic_at, parse_text};
 use filterset_drawing::Severity;
 use filterset_entries::{FilePlace, TextEntry};
-use filterset_language::{ParsedExpr, ParsedLeaf};
+use filterset_language::ParsedLeaf;
 use filterset_listing::UnmatchedPredicate;
 use filterset_names::{Workspace, WorkspaceIndex};
 use filterset_sources::{Suite, SuiteStatus};
@@ -104,18 +103,6 @@ fn has_part(place: Option<FilePlace<'_>>, leaf: &ParsedLeaf) -> bool
     leaf_part(place, leaf).is_some()
 }
 
-/// Returns the predicates of a tree of a text at this place that have a span in the file.
-fn leaves_in<'e>(
-    alloc: Global,
-    place: Option<FilePlace<'_>>,
-    tree: &'e ParsedExpr,
-) -> Result<Vec<&'e ParsedLeaf>, AllocError>
-    ensures { IfOk result (λ found. map (λ leaf. leaf_of leaf.now) found.items
-        ≡ filter (has_part (option_map placement_of place.entry)) (tree_leaves (tree_of tree.entry.now))) }
-{
-    tree.leaves_where(alloc, |leaf| has_part(place, leaf))
-}
-
 /// Makes the warnings of predicates of a text at this place, one after the other.
 fn warn_leaves(
     alloc: Global,
@@ -136,21 +123,6 @@ fn warn_leaves(
     Ok(values)
 }
 
-/// Makes the warnings of the predicates of a tree of a text at this place.
-fn tree_warnings(
-    alloc: Global,
-    asked: &Asked<'_>,
-    shown: &Shown<'_>,
-    place: Option<FilePlace<'_>>,
-    tree: &ParsedExpr,
-) -> Result<Vec<Value>, AllocError>
-    ensures { IfOk result (λ values. TreeWarnings (workspace_row asked.now.index.workspace) shown.now.encoding shown.now.lines.text.now
-        (option_map placement_of place.entry) (tree_of tree.now) (map view values.items)) }
-{
-    let leaves = leaves_in(alloc, place, tree)?;
-    warn_leaves(alloc, asked, shown, place, leaves.as_slice())
-}
-
 /// Makes the warnings of a filterset.
 fn entry_warnings(
     alloc: Global,
@@ -161,10 +133,11 @@ fn entry_warnings(
     ensures { IfOk result (λ values. RowWarnings (workspace_row asked.now.index.workspace) shown.now.encoding shown.now.lines.text.now
         (text_row entry.now) (map view values.items)) }
 {
-    match parse_text(alloc, entry.text)? {
-        Some(tree) => tree_warnings(alloc, asked, shown, entry.place, &tree),
-        None => Ok(Vec::new(alloc)),
-    }
+    let Some(tree) = parse_text(alloc, entry.text)? else {
+        return Ok(Vec::new(alloc));
+    };
+    let leaves = tree.leaves_where(alloc, |leaf| has_part(entry.place, leaf))?;
+    warn_leaves(alloc, asked, shown, entry.place, leaves.as_slice())
 }
 
 /// Makes the warnings of filtersets in a workspace that is prepared, one after the other.

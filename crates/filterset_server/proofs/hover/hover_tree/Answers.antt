@@ -21,12 +21,12 @@ returns-in-Some c =
     let test = is_leaf_at (option_map placement_of c.args.place) c.args.offset in
     let leaf = c.in-Some.leaf.now in
     let first : find test (tree_leaves (tree_of c.args.tree.now)) ≡ Some (seen leaf) =
-    find_first seen test (tree_leaves (tree_of c.args.tree.now)) c.in_ok-leaves.leaves.items (Some leaf) c.in_ok-leaves.ensures (c.in-Some.ensures.value ∙ ap front c.deref.ensures.value) in
+    find_first seen test (tree_leaves (tree_of c.args.tree.now)) c.in_ok-leaves.leaves.items (Some leaf) (c.in_ok-leaves.ensures test (search rules)) (c.in-Some.ensures.value ∙ ap front c.deref.ensures.value) in
     rw first c.hover_leaf.ensures
 
 pub returns : goal.returns
 returns c =
     let test = is_leaf_at (option_map placement_of c.args.place) c.args.offset in
     let first : find test (tree_leaves (tree_of c.args.tree.now)) ≡ None =
-    find_first seen test (tree_leaves (tree_of c.args.tree.now)) c.in_ok-leaves.leaves.items None c.in_ok-leaves.ensures (c.in-None.ensures.value ∙ ap front c.deref.ensures.value) in
+    find_first seen test (tree_leaves (tree_of c.args.tree.now)) c.in_ok-leaves.leaves.items None (c.in_ok-leaves.ensures test (search rules)) (c.in-None.ensures.value ∙ ap front c.deref.ensures.value) in
     rw first (search (rules, the_lemmas))
