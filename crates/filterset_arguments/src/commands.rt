@@ -70,11 +70,6 @@ fn config<'a>(alloc: Global, help: &'a str) -> Result<Arg<'a>, AllocError> {
         .alias("config-file")
 }
 
-/// Makes the same option where it must be given.
-fn required_config<'a>(alloc: Global, help: &'a str) -> Result<Arg<'a>, AllocError> {
-    Ok(config(alloc, help)?.required(true))
-}
-
 /// Makes the command `check`.
 fn check<'a>(alloc: Global) -> Result<Command<'a>, AllocError> {
     let command = Command::new(alloc, "check")
@@ -110,21 +105,16 @@ fn check<'a>(alloc: Global) -> Result<Command<'a>, AllocError> {
     with_argument(command, more_texts(alloc))?.arg(texts(alloc))
 }
 
-/// Makes the command `format`.
-fn format<'a>(alloc: Global) -> Result<Command<'a>, AllocError> {
-    let command = Command::new(alloc, "format")
-        .about("Prints filtersets in standard form")
-        .after_help("Example: filterset format 'not!all()'")
-        .arg(color(alloc))?;
-    let command = with_argument(command, more_texts(alloc))?;
-    with_argument(command, texts(alloc).required_unless_present("filterset"))
-}
-
-/// Makes the command `simplify`.
-fn simplify<'a>(alloc: Global) -> Result<Command<'a>, AllocError> {
-    let command = Command::new(alloc, "simplify")
-        .about("Prints filtersets without the parts that change nothing")
-        .after_help("Example: filterset simplify 'test(a) or (test(a) and test(b))'")
+/// Makes a command that prints each of its filtersets in another way.
+fn printing<'a>(
+    alloc: Global,
+    name: &'a str,
+    about: &'a str,
+    example: &'a str,
+) -> Result<Command<'a>, AllocError> {
+    let command = Command::new(alloc, name)
+        .about(about)
+        .after_help(example)
         .arg(color(alloc))?;
     let command = with_argument(command, more_texts(alloc))?;
     with_argument(command, texts(alloc).required_unless_present("filterset"))
@@ -320,7 +310,8 @@ fn overrides<'a>(alloc: Global) -> Result<Command<'a>, AllocError> {
                 "a filterset of the tests to count; repeat for a union; defaults to all tests",
             ),
         )?;
-    let config = required_config(alloc, "nextest's configuration, or `-` for standard input");
+    let config = config(alloc, "nextest's configuration, or `-` for standard input");
+    let config = config.map(|config| config.required(true));
     let command = with_argument(with_workspace(alloc, command)?, config)?;
     let command = with_profile(alloc, command)?
         .arg(run_ignored(alloc))?
@@ -376,46 +367,6 @@ fn question<'a>(
         )
 }
 
-/// Makes the command `same`.
-fn same<'a>(alloc: Global) -> Result<Command<'a>, AllocError> {
-    question(
-        alloc,
-        "same",
-        "Decides whether filtersets pick the same tests, for every possible test",
-        "Example: filterset same 'not (test(a) or test(b))' 'not test(a) and not test(b)'",
-    )
-}
-
-/// Makes the command `cover`.
-fn cover<'a>(alloc: Global) -> Result<Command<'a>, AllocError> {
-    question(
-        alloc,
-        "cover",
-        "Decides whether at least one filterset picks each possible test",
-        "Example: filterset cover --cargo-metadata metadata.json 'package(parser)' 'rdeps(lexer)'",
-    )
-}
-
-/// Makes the command `disjoint`.
-fn disjoint<'a>(alloc: Global) -> Result<Command<'a>, AllocError> {
-    question(
-        alloc,
-        "disjoint",
-        "Decides whether at most one filterset picks each possible test",
-        "Example: filterset disjoint 'kind(lib)' 'kind(test)'",
-    )
-}
-
-/// Makes the command `partition`.
-fn partition<'a>(alloc: Global) -> Result<Command<'a>, AllocError> {
-    question(
-        alloc,
-        "partition",
-        "Decides whether exactly one filterset picks each possible test",
-        "Example: filterset partition 'test(~slow)' 'not test(~slow)'",
-    )
-}
-
 /// Makes the command `lsp`.
 fn lsp<'a>(alloc: Global) -> Result<Command<'a>, AllocError> {
     let command = Command::new(alloc, "lsp")
@@ -463,16 +414,52 @@ pub fn arguments<'a>(alloc: Global) -> Result<Command<'a>, AllocError> {
         .after_help("Example: filterset check --config .config/nextest.toml")
         .subcommand_required(true);
     let command = with_command(command, check(alloc))?;
-    let command = with_command(command, format(alloc))?;
-    let command = with_command(command, simplify(alloc))?;
+    let format = printing(
+        alloc,
+        "format",
+        "Prints filtersets in standard form",
+        "Example: filterset format 'not!all()'",
+    );
+    let command = with_command(command, format)?;
+    let simplify = printing(
+        alloc,
+        "simplify",
+        "Prints filtersets without the parts that change nothing",
+        "Example: filterset simplify 'test(a) or (test(a) and test(b))'",
+    );
+    let command = with_command(command, simplify)?;
     let command = with_command(command, list(alloc))?;
     let command = with_command(command, compare(alloc))?;
     let command = with_command(command, explain(alloc))?;
     let command = with_command(command, overrides(alloc))?;
-    let command = with_command(command, same(alloc))?;
-    let command = with_command(command, cover(alloc))?;
-    let command = with_command(command, disjoint(alloc))?;
-    let command = with_command(command, partition(alloc))?;
+    let same = question(
+        alloc,
+        "same",
+        "Decides whether filtersets pick the same tests, for every possible test",
+        "Example: filterset same 'not (test(a) or test(b))' 'not test(a) and not test(b)'",
+    );
+    let command = with_command(command, same)?;
+    let cover = question(
+        alloc,
+        "cover",
+        "Decides whether at least one filterset picks each possible test",
+        "Example: filterset cover --cargo-metadata metadata.json 'package(parser)' 'rdeps(lexer)'",
+    );
+    let command = with_command(command, cover)?;
+    let disjoint = question(
+        alloc,
+        "disjoint",
+        "Decides whether at most one filterset picks each possible test",
+        "Example: filterset disjoint 'kind(lib)' 'kind(test)'",
+    );
+    let command = with_command(command, disjoint)?;
+    let partition = question(
+        alloc,
+        "partition",
+        "Decides whether exactly one filterset picks each possible test",
+        "Example: filterset partition 'test(~slow)' 'not test(~slow)'",
+    );
+    let command = with_command(command, partition)?;
     let command = with_command(command, lsp(alloc))?;
     with_command(command, completions(alloc))
 }
