@@ -42,11 +42,8 @@ use Rattle.filterset_loading.specs.declared.workspace.WorkspacePaths.{WorkspaceP
 use Rattle.std.specs.Option.{option_map_or}
 
 -- how many of these paths stand for standard input
-abbrev pub is_some_input : Option (Bor Text) → Bool
-is_some_input path = option_map_or (λ p. is_input p.now) path false
-
 abbrev pub inputs_of : List (Option (Bor Text)) → ℕ
-inputs_of paths = count_by is_some_input paths
+inputs_of paths = count_by (λ path. option_map_or (λ p. is_input p.now) path false) paths
 
 abbrev pub profile_inputs : Option ProfileRequest → ℕ
 profile_inputs None = 0
@@ -236,11 +233,6 @@ Gives matches name found = (subcommand_name_of matches ≡ Some name)
 abbrev pub IsAsked : ArgMatches → Request → Type 0
 IsAsked matches request = (name : Text) × (found : Found) × Gives matches name found × IsAskedBy name found request
 
--- `completions` asks for the script of this shell
-abbrev pub IsShellAsked : ArgMatches → Shell → Type 0
-IsShellAsked matches shell =
-    (found : Found) × Gives matches (codes "completions") found × IsTextAsked found (codes "shell") (name_of shell)
-
 -- the files of the workspace, all of whose tests count, if there is one: both or none
 abbrev pub IsWorkspaceAsked : Found → Option WorkspacePaths → Type 0
 IsWorkspaceAsked found None = first_value found (codes "metadata") ≡ None
@@ -250,7 +242,8 @@ IsWorkspaceAsked found (Some paths) = AreFilesAsked found paths × (paths.run_ig
 -- an editor, with a workspace or without
 abbrev pub IsTask : ArgMatches → Task → Type 0
 IsTask matches (Answer request) = IsAsked matches request × (input_count request ≤ 1)
-IsTask matches (Complete shell) = IsShellAsked matches shell
+IsTask matches (Complete shell) =
+    (found : Found) × Gives matches (codes "completions") found × IsTextAsked found (codes "shell") (name_of shell)
 IsTask matches (Serve paths) = (found : Found) × Gives matches (codes "lsp") found × IsWorkspaceAsked found paths
 
 -- an argument is missing, `-` is given beside other filtersets, or the budget is no number

@@ -158,23 +158,6 @@ fn names_of(alloc: Global, profiles: &[Profile]) -> Result<Vec<String>, AllocErr
     Ok(names)
 }
 
-/// Makes the fault of a profile that there is not, or that falls back on none.
-fn wrong_profile(
-    alloc: Global,
-    request: &ProfileRequest<'_>,
-    profiles: &[Profile],
-    fault: LineageFault,
-) -> Result<CommandFault, AllocError>
-    ensures { IsLineageFault profiles.now request.now.name.now fault → fault ≢ LineageFault.OutOfMemory alloc_error
-        → IfOk result (LacksProfile request.now profiles.now) }
-{
-    Ok(CommandFault::Profile {
-        file: String::from_str(alloc, name_of(request.configuration))?,
-        fault,
-        known: names_of(alloc, profiles)?,
-    })
-}
-
 /// Returns the profile that is asked for, and those that it falls back on.
 pub fn lineage_of<'p>(
     alloc: Global,
@@ -187,7 +170,11 @@ pub fn lineage_of<'p>(
     match lineage(alloc, profiles, request.name) {
         Ok(chain) => Ok(chain),
         Err(LineageFault::OutOfMemory(refused)) => Err(CommandFault::from(refused)),
-        Err(fault) => Err(wrong_profile(alloc, request, profiles, fault)?),
+        Err(fault) => Err(CommandFault::Profile {
+            file: String::from_str(alloc, name_of(request.configuration))?,
+            fault,
+            known: names_of(alloc, profiles)?,
+        }),
     }
 }
 

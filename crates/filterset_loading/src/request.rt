@@ -1,7 +1,7 @@
 //! What the command line asks for.
 ghost use Rattle.std.specs.Prelude.{◌≡◌, ◌≤◌, length};
 ghost use Rattle.filterset_loading.specs.Configurations.{profile_at};
-ghost use Rattle.filterset_loading.specs.Words.{input_count, inputs_of, is_some_input, profile_inputs, text_inputs, warning_inputs};
+ghost use Rattle.filterset_loading.specs.Words.{input_count, inputs_of, profile_inputs, text_inputs};
 
 use crate::input::is_input;
 use crate::profile::ProfileRequest;
@@ -163,22 +163,15 @@ pub enum Task<'w> {
     Serve(Option<WorkspacePaths<'w>>),
 }
 
-/// Returns whether there is a path, and it stands for standard input.
-fn is_some_input(path: Option<&str>) -> bool
-    ensures { result ≡ is_some_input path.entry }
-{
-    match path {
-        Some(path) => is_input(path),
-        None => false,
-    }
-}
-
 /// Returns how many of these paths stand for standard input.
 fn inputs_of(paths: &[Option<&str>]) -> usize
     ensures value { result ≡ inputs_of paths.now }
     ensures bound { result ≤ length paths.now }
 {
-    paths.iter().filter(|path| is_some_input(**path)).count()
+    paths
+        .iter()
+        .filter(|path| path.is_some_and(is_input))
+        .count()
 }
 
 /// Returns how many paths of a profile stand for standard input.
@@ -188,17 +181,6 @@ fn profile_inputs(profile: &Option<ProfileRequest<'_>>) -> usize
 {
     match profile {
         Some(own) => inputs_of(&[Some(own.configuration), own.target_cfg, own.host_cfg]),
-        None => 0,
-    }
-}
-
-/// Returns how many paths of the list of tests and of its profile stand for standard input.
-fn warning_inputs(warnings: &Option<WarningRequest<'_>>) -> usize
-    ensures value { result ≡ warning_inputs warnings.now }
-    ensures bound { result ≤ 3 }
-{
-    match warnings {
-        Some(own) => inputs_of(&[Some(own.paths.list), own.target_cfg, own.host_cfg]),
         None => 0,
     }
 }
@@ -222,7 +204,11 @@ impl Request<'_> {
         match self {
             Request::Check { texts, paths, .. } => {
                 let own = inputs_of(&[paths.metadata, paths.configuration]);
-                text_inputs(texts) + (own + warning_inputs(&paths.warnings))
+                let warned = match &paths.warnings {
+                    Some(own) => inputs_of(&[Some(own.paths.list), own.target_cfg, own.host_cfg]),
+                    None => 0,
+                };
+                text_inputs(texts) + (own + warned)
             }
             Request::Format { texts, .. } => text_inputs(texts),
             Request::Simplify { texts, .. } => text_inputs(texts),

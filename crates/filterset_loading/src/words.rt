@@ -69,8 +69,14 @@ fn request_named<'m>(name: &str, own: &'m ArgMatches<'_>) -> Result<Request<'m>,
 {
     match name {
         "check" => check_of(own),
-        "format" => format_of(own),
-        "simplify" => simplify_of(own),
+        "format" => Ok(Request::Format {
+            form: Form::Drawn(color_of(own)),
+            texts: texts_of(own)?,
+        }),
+        "simplify" => Ok(Request::Simplify {
+            form: Form::Drawn(color_of(own)),
+            texts: texts_of(own)?,
+        }),
         "list" => list_of(own),
         "compare" => compare_of(own),
         "explain" => explain_of(own),
@@ -120,28 +126,6 @@ fn warnings_of<'m>(matches: &'m ArgMatches<'_>) -> Result<Option<WarningRequest<
         target_cfg: matches.get_str("target-cfg"),
         host_cfg: matches.get_str("host-cfg"),
     }))
-}
-
-/// Returns what `format` asks for.
-fn format_of<'m>(matches: &'m ArgMatches<'_>) -> Result<Request<'m>, CommandFault>
-    ensures asked { IfOk result (IsAskedBy (codes "format") (found_of matches.now)) }
-    ensures refused { IfErr result (IsFaultOf (found_of matches.now)) }
-{
-    Ok(Request::Format {
-        form: Form::Drawn(color_of(matches)),
-        texts: texts_of(matches)?,
-    })
-}
-
-/// Returns what `simplify` asks for.
-fn simplify_of<'m>(matches: &'m ArgMatches<'_>) -> Result<Request<'m>, CommandFault>
-    ensures asked { IfOk result (IsAskedBy (codes "simplify") (found_of matches.now)) }
-    ensures refused { IfErr result (IsFaultOf (found_of matches.now)) }
-{
-    Ok(Request::Simplify {
-        form: Form::Drawn(color_of(matches)),
-        texts: texts_of(matches)?,
-    })
 }
 
 /// Returns what `list` asks for.
