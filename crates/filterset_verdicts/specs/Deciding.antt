@@ -50,12 +50,9 @@ within_of (Some text) metadata = text.now
 within_of None (Some path) = codes "package(#*)"
 within_of None None = codes "all()"
 
-abbrev pub within_text : DecisionRequest → Text
-within_text request = within_of request.within request.metadata
-
 -- the rows of the filterset of the tests that the question is about, and of the filtersets
 abbrev pub request_rows : DecisionRequest → List TextRow
-request_rows request = test_row (codes "--within") (within_text request)
+request_rows request = test_row (codes "--within") (within_of request.within request.metadata)
     ∷ numbered_rows (codes "argument") kinds.Test (map (λ t. t.now) request.texts.now)
 
 -- the answer to the question of the request about these rows, over these packages, test binaries and groups, under this

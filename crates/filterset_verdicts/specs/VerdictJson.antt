@@ -34,10 +34,6 @@ test_data name test = object (member (codes "binary") (string (string_bytes test
 abbrev pub demand_item : TestField → Demand → Data
 demand_item field demand = string (demand_text field demand)
 
--- what an unknown answer depends on
-abbrev pub doubt_data : Doubt → Data
-doubt_data doubt = array (items_of (map (demand_item doubt.field) doubt.demands.items))
-
 -- the answer, whether the budget was spent, what the answer depends on, whether the test is one of the list, which filtersets
 -- pick it, the question, and the test
 abbrev pub verdict_data : Text → Bool → Data → Data → Data → Question → Data → Data
@@ -54,6 +50,6 @@ IsVerdictData question is_listed packages (verdicts.Fails witness) d =
     × (d ≡ verdict_data (codes "no") false null (boolean is_listed)
     (array (items_of (map number_item (picked_numbers 1 witness.picks.items)))) question (test_data name witness.test))
 IsVerdictData question is_listed packages (verdicts.Unknown doubt) d =
-    d ≡ verdict_data (codes "unknown") false (doubt_data doubt) null null question null
+    d ≡ verdict_data (codes "unknown") false (array (items_of (map (demand_item doubt.field) doubt.demands.items))) null null question null
 IsVerdictData question is_listed packages verdicts.Stopped d =
     d ≡ verdict_data (codes "unknown") true null null null question null

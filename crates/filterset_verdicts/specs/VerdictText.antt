@@ -89,14 +89,11 @@ field_word fields.BinaryId = codes "binary_id"
 field_word fields.TestName = codes "test"
 field_word fields.Group = codes "group"
 
--- what stands before a predicate that has to be true, or to be false
-abbrev pub sign_of : Bool → Text
-sign_of is_matched = if is_matched then [] else codes "not "
-
 -- what is demanded of a text of a test, as a predicate
 abbrev pub demand_text : TestField → Demand → Text
 demand_text field demand =
-    sign_of demand.is_matched ++ (field_word field ++ (codes "(" ++ (printed_matcher (matcher_of demand.matcher.now) ++ codes ")")))
+    (if demand.is_matched then [] else codes "not ")
+    ++ (field_word field ++ (codes "(" ++ (printed_matcher (matcher_of demand.matcher.now) ++ codes ")")))
 
 abbrev pub demand_line : TestField → Demand → Text
 demand_line field demand = codes "  " ++ (demand_text field demand ++ codes "\n")

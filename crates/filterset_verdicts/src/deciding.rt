@@ -8,7 +8,7 @@ ghost use Rattle.filterset_sources.specs.Platforms.{ArePlatforms};
 ghost use Rattle.nextest_filtering.specs.Groups.{IsGlobalOnly, IsKnown};
 ghost use Rattle.nextest_filtering.specs.declared.compile.context.KnownGroups as contexts;
 ghost use Rattle.filterset_loading.specs.Configurations.{given_row};
-ghost use Rattle.filterset_verdicts.specs.Deciding.{AnswersDecision, AnswersKnown, AnswersListed, AnswersNamed, AnswersProfiles, AnswersRows, IsDecisionFault, IsDefaultKind, IsDefaultRow, IsListedFault, IsNamedFault, LacksNamed, naming_of, nowhere, outcome_of, request_rows, within_text};
+ghost use Rattle.filterset_verdicts.specs.Deciding.{AnswersDecision, AnswersKnown, AnswersListed, AnswersNamed, AnswersProfiles, AnswersRows, IsDecisionFault, IsDefaultKind, IsDefaultRow, IsListedFault, IsNamedFault, LacksNamed, naming_of, nowhere, outcome_of, request_rows, within_of};
 ghost use Rattle.filterset_loading.specs.Files.{OrMemory};
 ghost use Rattle.filterset_loading.specs.Workspaces.{IsPlatformsFault};
 
@@ -41,7 +41,7 @@ struct KnownWorkspace<'k> {
 /// Returns the filterset of the tests that the question is about: the given one, or else that of all tests of the workspace,
 /// or of all tests if no workspace is given.
 fn within_text<'w>(request: &DecisionRequest<'w>) -> &'w str
-    ensures { result.now ≡ within_text request.now }
+    ensures { result.now ≡ within_of request.now.within request.now.metadata }
 {
     match (request.within, request.metadata) {
         (Some(text), _) => text,
@@ -63,27 +63,6 @@ fn request_entries<'w>(
     Ok(entries)
 }
 
-/// Returns the setting without overrides and profiles.
-fn plain_setting<'s>(
-    graph: &'s PackageGraph,
-    groups: &'s KnownGroups,
-    default: &'s TextEntry<'s>,
-) -> Setting<'s>
-    ensures graph { result.graph.now ≡ graph.entry.now }
-    ensures groups { result.groups.now ≡ groups.entry.now }
-    ensures default { result.default.now ≡ default.entry.now }
-    ensures overrides { result.overrides.now ≡ [] }
-    ensures profiles { result.profiles.now ≡ [] }
-{
-    Setting {
-        graph,
-        groups,
-        default,
-        overrides: &[],
-        profiles: &[],
-    }
-}
-
 /// Answers the question of a request about these entries, for this workspace and these groups and under this default filter.
 fn decide_entries(
     alloc: Global,
@@ -99,7 +78,13 @@ fn decide_entries(
     ensures { IfOk result (λ answer. AnswersRows request.now workspace.entry.graph.now workspace.entry.suites.now groups.now (text_row default.now)
         (map text_row entries.now) answer.ending (string_bytes answer.text)) }
 {
-    let setting = plain_setting(workspace.graph, groups, default);
+    let setting = Setting {
+        graph: workspace.graph,
+        groups,
+        default,
+        overrides: &[],
+        profiles: &[],
+    };
     let asked = TextQuestion {
         question: request.question,
         entries,
@@ -107,33 +92,6 @@ fn decide_entries(
         budget: request.budget,
     };
     answer_texts(alloc, request.form, &setting, &asked)
-}
-
-/// Returns the text of the default filter without a profile: the given one, or else that of all tests.
-fn default_text<'w>(request: &DecisionRequest<'w>) -> &'w str
-    ensures { default_row result.now ≡ unwrap_or (given_row request.now.default_filter) (default_row (codes "all()")) }
-{
-    match request.default_filter {
-        Some(text) => text,
-        None => "all()",
-    }
-}
-
-/// Answers without a profile: under the default filter that is given, or else all tests.
-fn decide_plainly(
-    alloc: Global,
-    request: &DecisionRequest<'_>,
-    workspace: KnownWorkspace<'_>,
-    entries: &[TextEntry<'_>],
-) -> Result<Answer, AllocError>
-    requires some { 0 < length entries.now }
-    ensures { IfOk result (λ answer. (groups : contexts.KnownGroups) × IsGlobalOnly groups
-        × AnswersRows request.now workspace.entry.graph.now workspace.entry.suites.now groups (unwrap_or (given_row request.now.default_filter) (default_row (codes "all()")))
-        (map text_row entries.now) answer.ending (string_bytes answer.text)) }
-{
-    let groups = KnownGroups::global_only(alloc);
-    let default = default_entry(alloc, default_text(request))?;
-    decide_entries(alloc, request, workspace, &groups, &default, entries)
 }
 
 /// Returns the default filter under profiles: the given one, or else that of the profile.
@@ -234,7 +192,8 @@ fn decide_configured<F: FileSource>(
     )
 }
 
-/// Answers for a workspace, under profiles on these platforms or without one.
+/// Answers for a workspace: under profiles on these platforms, or without one under the default filter that is given, or else
+/// all tests.
 fn decide_known<F: FileSource>(
     alloc: Global,
     files: &F,
@@ -249,7 +208,12 @@ fn decide_known<F: FileSource>(
 {
     let entries = request_entries(alloc, request)?;
     match &request.profile {
-        None => Ok(decide_plainly(alloc, request, workspace, entries.as_slice())?),
+        None => {
+            let groups = KnownGroups::global_only(alloc);
+            let default = default_entry(alloc, request.default_filter.unwrap_or("all()"))?;
+            let entries = entries.as_slice();
+            Ok(decide_entries(alloc, request, workspace, &groups, &default, entries)?)
+        }
         Some(profile) => decide_configured(
             alloc, files, request, workspace, profile, built, entries,
         ),

@@ -2,7 +2,7 @@
 ghost use Rattle.std.specs.Prelude.{◌≡◌, ◌++◌, IfOk, OnOk, string_bytes};
 ghost use Rattle.filterset_graph.specs.Platforms.{platform_text};
 ghost use Rattle.filterset_verdicts.specs.VerdictForm.{IsVerdictIn};
-ghost use Rattle.filterset_verdicts.specs.VerdictText.{IsPackageText, IsVerdictText, IsWitnessText, demand_line, demand_text, doubt_text, ending_of, failed_text, field_word, field_line, held_text, open_text, origin_line, picked_line, picked_lines, picked_text, test_text};
+ghost use Rattle.filterset_verdicts.specs.VerdictText.{IsPackageText, IsVerdictText, IsWitnessText, demand_text, doubt_text, ending_of, failed_text, field_line, field_word, held_text, open_text, origin_line, picked_line, picked_text, test_text};
 ghost use Rattle.std.specs.List.{flat_map};
 
 use crate::json::verdict_line;
@@ -121,24 +121,15 @@ fn push_pick(output: &mut String, number: usize, is_picked: bool) -> Result<(), 
     Ok(())
 }
 
-/// Writes a line for each filterset that picks the test, numbered from 1.
-fn push_picks(output: &mut String, picks: &[bool]) -> Result<(), AllocError>
-    ensures { OnOk result (string_bytes output.new ≡ string_bytes output.old ++ picked_lines 1 picks.now) }
-{
-    for (i, is_picked) in picks.iter().enumerate() {
-        push_pick(output, i + 1, *is_picked)?;
-    }
-    Ok(())
-}
-
 /// Writes which filtersets pick the test.
-fn push_all_picks(output: &mut String, picks: &[bool]) -> Result<(), AllocError>
+fn push_picks(output: &mut String, picks: &[bool]) -> Result<(), AllocError>
     ensures { OnOk result (string_bytes output.new ≡ string_bytes output.old ++ picked_text picks.now) }
 {
     if picks.iter().filter(|is_picked| **is_picked).count() == 0 {
-        output.push_str("picked by none\n")?;
-    } else {
-        push_picks(output, picks)?;
+        return output.push_str("picked by none\n");
+    }
+    for (i, is_picked) in picks.iter().enumerate() {
+        push_pick(output, i + 1, *is_picked)?;
     }
     Ok(())
 }
@@ -156,7 +147,7 @@ fn witness_text(
     let mut text = String::from_str(alloc, failed_text(question))?;
     let name = package_text(graph, &witness.test.package_id);
     push_test(&mut text, is_listed, name, &witness.test)?;
-    push_all_picks(&mut text, witness.picks.as_slice())?;
+    push_picks(&mut text, witness.picks.as_slice())?;
     Ok(text)
 }
 
@@ -187,42 +178,16 @@ pub(crate) fn demand_text(
     format!(in alloc; "{sign}{word}({matcher})")
 }
 
-/// Writes a line for what is demanded of a text.
-fn push_demand(
-    alloc: Global,
-    output: &mut String,
-    field: TestField,
-    demand: &Demand<'_>,
-) -> Result<(), AllocError>
-    ensures { OnOk result (string_bytes output.new ≡ string_bytes output.old ++ demand_line field demand.now) }
-{
-    let text = demand_text(alloc, field, demand)?;
-    writeln!(output, "  {text}")?;
-    Ok(())
-}
-
-/// Writes a line for each demand.
-fn push_demands(
-    alloc: Global,
-    output: &mut String,
-    field: TestField,
-    demands: &[Demand<'_>],
-) -> Result<(), AllocError>
-    ensures { OnOk result (string_bytes output.new ≡ string_bytes output.old ++ flat_map (demand_line field) demands.now) }
-{
-    for demand in demands {
-        push_demand(alloc, output, field, demand)?;
-    }
-    Ok(())
-}
-
 /// Writes that the answer is unknown, and what it depends on.
 fn doubt_text(alloc: Global, question: Question, doubt: &Doubt<'_>) -> Result<String, AllocError>
     ensures { IfOk result (λ text. string_bytes text ≡ doubt_text question doubt.now) }
 {
     let mut text = String::from_str(alloc, open_text(question))?;
     text.push_str("it hangs on whether some test is in all of:\n")?;
-    push_demands(alloc, &mut text, doubt.field, doubt.demands.as_slice())?;
+    for demand in &doubt.demands {
+        let demanded = demand_text(alloc, doubt.field, demand)?;
+        writeln!(text, "  {demanded}")?;
+    }
     Ok(text)
 }
 
