@@ -64,19 +64,7 @@ lines_rise id answer tests from to ordered =
 -- a line ends in an ASCII byte
 line_ends : (id : Text) (answer : Bool) (test : TestEntry) → (front : Text) × (test_line id answer test ≡ front ++ 10 ∷ [])
 line_ends id answer test =
-    let word = answer_text (Some answer) in
-    let e1 = append_assoc (codes ": ") word (codes "\n") in
-    let e2 = append_assoc test.name (codes ": " ++ word) (codes "\n") in
-    let e3 = append_assoc (codes " ") (test.name ++ (codes ": " ++ word)) (codes "\n") in
-    let e4 = append_assoc id (codes " " ++ (test.name ++ (codes ": " ++ word))) (codes "\n") in
-    let e5 = append_assoc (codes "  test ") (id ++ (codes " " ++ (test.name ++ (codes ": " ++ word)))) (codes "\n") in (
-      codes "  test " ++ (id ++ (codes " " ++ (test.name ++ (codes ": " ++ word)))),
-      ap (λ xs. codes "  test " ++ (id ++ (codes " " ++ (test.name ++ xs)))) (sym e1)
-          ∙ ap (λ xs. codes "  test " ++ (id ++ (codes " " ++ xs))) (sym e2)
-          ∙ ap (λ xs. codes "  test " ++ (id ++ xs)) (sym e3)
-          ∙ ap (λ xs. codes "  test " ++ xs) (sym e4)
-          ∙ sym e5,
-    )
+    (codes "  test " ++ (id ++ (codes " " ++ (test.name ++ (codes ": " ++ answer_text (Some answer))))), simp append_assoc)
 
 -- a text of lines may be cut where a line begins
 pub lines_cut : (id : Text) (answer : Bool) (tests : List TestEntry) (text : Text) (k at : ℕ) → IsUtf8 text → k ≤ length tests

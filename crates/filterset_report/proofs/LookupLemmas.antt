@@ -4,6 +4,7 @@ use Rattle.std.specs.Prelude.{IsSomeAnd, option_map, string_bytes}
 use Rattle.std.specs.List.{find}
 use Rattle.std.specs.Str.{bytes_eq}
 use Rattle.filterset_matchers.specs.Matcher.{Matcher, MatchesName}
+use Rattle.filterset_expression.proofs.Meanings.{alike}
 use Rattle.filterset_expression.specs.declared.query.BinaryQuery.{BinaryQuery}
 use Rattle.filterset_expression.specs.declared.query.TestQuery.{TestQuery}
 use Rattle.filterset_columns.specs.Columns.{test_of}
@@ -27,71 +28,27 @@ find_mapped : {A B : Type 0} (f : A → B) (test : B → Bool) (xs : List A) →
 find_mapped f test [] = refl
 find_mapped f test (x ∷ xs) = mapped_step f (test (f x)) x (find test (map f xs)) (find (λ x. test (f x)) xs) (find_mapped f test xs)
 
--- the same of binaries by their ids, and of tests by their names
-pub first_binary : (id : Text) (binaries : List BinaryEntry) (found : Option BinaryEntry) → find (λ (b : BinaryEntry). bytes_eq b.id id) binaries ≡ found →
-    find (λ (b : BinaryRow). bytes_eq b.id id) (map binary_row binaries) ≡ option_map binary_row found
-first_binary id binaries found is = find_mapped binary_row (λ (b : BinaryRow). bytes_eq b.id id) binaries ∙ ap (option_map binary_row) is
-
-pub first_test : (name : Text) (tests : List TestEntry) (found : Option TestEntry) → find (λ (t : TestEntry). bytes_eq t.name name) tests ≡ found →
-    find (λ (t : TestRow). bytes_eq t.name name) (map test_row tests) ≡ option_map test_row found
-first_test name tests found is = find_mapped test_row (λ (t : TestRow). bytes_eq t.name name) tests ∙ ap (option_map test_row) is
-
--- the matcher matches no group where the binary is not there, or has no test of the name
-pub no_binary : (binaries : List BinaryRow) (query : TestQuery) (matcher : Matcher) → find (λ (b : BinaryRow). bytes_eq b.id query.binary_query.binary_id.now) binaries ≡ None →
-    ¬ matches_recorded_group binaries query matcher
-no_binary binaries query matcher none is =
-    subst (λ (o : Option BinaryRow). IsSomeAnd o (λ (binary : BinaryRow). IsSomeAnd (find (λ (t : TestRow). bytes_eq t.name query.test_name.now) binary.tests) (λ (test : TestRow). MatchesName matcher test.group))) none is
-
-pub in_binary : (binaries : List BinaryRow) (query : TestQuery) (matcher : Matcher) (binary : BinaryRow) →
-    find (λ (b : BinaryRow). bytes_eq b.id query.binary_query.binary_id.now) binaries ≡ Some binary →
-    IsSomeAnd (find (λ (t : TestRow). bytes_eq t.name query.test_name.now) binary.tests) (λ (test : TestRow). MatchesName matcher test.group) ↔ matches_recorded_group binaries query matcher
-in_binary binaries query matcher binary found =
-    let Matches = λ (o : Option BinaryRow). IsSomeAnd o (λ (b : BinaryRow). IsSomeAnd (find (λ (t : TestRow). bytes_eq t.name query.test_name.now) b.tests) (λ (test : TestRow). MatchesName matcher test.group)) in
-    (λ here. subst Matches (sym found) here, λ there. subst Matches found there)
-
-pub no_test : (binaries : List BinaryRow) (query : TestQuery) (matcher : Matcher) (binary : BinaryRow) →
-    find (λ (b : BinaryRow). bytes_eq b.id query.binary_query.binary_id.now) binaries ≡ Some binary →
-    find (λ (t : TestRow). bytes_eq t.name query.test_name.now) binary.tests ≡ None → ¬ matches_recorded_group binaries query matcher
-no_test binaries query matcher binary found none is =
-    subst (λ (o : Option TestRow). IsSomeAnd o (λ (test : TestRow). MatchesName matcher test.group)) none ((in_binary binaries query matcher binary found).1 is)
-
--- and else the group of the test
-pub of_test : (binaries : List BinaryRow) (query : TestQuery) (matcher : Matcher) (binary : BinaryRow) (test : TestRow) →
-    find (λ (b : BinaryRow). bytes_eq b.id query.binary_query.binary_id.now) binaries ≡ Some binary →
-    find (λ (t : TestRow). bytes_eq t.name query.test_name.now) binary.tests ≡ Some test → MatchesName matcher test.group ↔ matches_recorded_group binaries query matcher
-of_test binaries query matcher binary test found named =
-    let Matches = λ (o : Option TestRow). IsSomeAnd o (λ (t : TestRow). MatchesName matcher t.group) in
-    let inside = in_binary binaries query matcher binary found in
-    (λ here. inside.0 (subst Matches (sym named) here), λ there. subst Matches named (inside.1 there))
-
 -- the matcher matches the group that the entries put the test in
-recorded_test : (binaries : List BinaryEntry) (query : TestQuery) (matcher : Matcher) (binary : BinaryEntry) (named : Option TestEntry)
-    → find (λ (b : BinaryEntry). bytes_eq b.id query.binary_query.binary_id.now) binaries ≡ Some binary
-    → find (λ (t : TestEntry). bytes_eq t.name query.test_name.now) binary.tests.items ≡ named
-    → IsSomeAnd (option_map (λ (t : TestEntry). string_bytes t.group) named) (MatchesName matcher) ↔ matches_recorded_group (map binary_row binaries) query matcher
-recorded_test binaries query matcher binary None found is = (
-  λ none. absurd none,
-  λ some. absurd (no_test (map binary_row binaries) query matcher (binary_row binary)
-      (first_binary query.binary_query.binary_id.now binaries (Some binary) found) (first_test query.test_name.now binary.tests.items None is) some),
-)
-recorded_test binaries query matcher binary (Some test) found is =
-    of_test (map binary_row binaries) query matcher (binary_row binary) (test_row test)
-    (first_binary query.binary_query.binary_id.now binaries (Some binary) found) (first_test query.test_name.now binary.tests.items (Some test) is)
+of_test : (matcher : Matcher) (found : Option TestEntry)
+    → IsSomeAnd (option_map (λ (t : TestEntry). string_bytes t.group) found) (MatchesName matcher) ↔ IsSomeAnd (option_map test_row found) (λ (test : TestRow). MatchesName matcher test.group)
+of_test matcher None = alike ⊥
+of_test matcher (Some test) = alike (MatchesName matcher (string_bytes test.group))
 
-recorded_in : (binaries : List BinaryEntry) (query : TestQuery) (matcher : Matcher) (found : Option BinaryEntry)
-    → find (λ (b : BinaryEntry). bytes_eq b.id query.binary_query.binary_id.now) binaries ≡ found
-    → IsSomeAnd (group_in found query.test_name.now) (MatchesName matcher) ↔ matches_recorded_group (map binary_row binaries) query matcher
-recorded_in binaries query matcher None is = (
-  λ none. absurd none,
-  λ some. absurd (no_binary (map binary_row binaries) query matcher (first_binary query.binary_query.binary_id.now binaries None is) some),
-)
-recorded_in binaries query matcher (Some binary) is =
-    recorded_test binaries query matcher binary (find (λ (t : TestEntry). bytes_eq t.name query.test_name.now) binary.tests.items) is refl
+of_binary : (name : Text) (matcher : Matcher) (found : Option BinaryEntry) → IsSomeAnd (group_in found name) (MatchesName matcher)
+    ↔ IsSomeAnd (option_map binary_row found) (λ (binary : BinaryRow). IsSomeAnd (find (λ (t : TestRow). bytes_eq t.name name) binary.tests) (λ (test : TestRow). MatchesName matcher test.group))
+of_binary name matcher None = alike ⊥
+of_binary name matcher (Some binary) =
+    let tests = binary.tests.items in
+    subst (λ (found : Option TestRow). IsSomeAnd (group_with name tests) (MatchesName matcher) ↔ IsSomeAnd found (λ (test : TestRow). MatchesName matcher test.group))
+    (sym (find_mapped test_row (λ (t : TestRow). bytes_eq t.name name) tests)) (of_test matcher (find (λ (t : TestEntry). bytes_eq t.name name) tests))
 
 pub recorded : (binaries : List BinaryEntry) (query : TestQuery) (matcher : Matcher)
     → IsSomeAnd (recorded_group binaries query) (MatchesName matcher) ↔ matches_recorded_group (map binary_row binaries) query matcher
 recorded binaries query matcher =
-    recorded_in binaries query matcher (find (λ (b : BinaryEntry). bytes_eq b.id query.binary_query.binary_id.now) binaries) refl
+    let id = query.binary_query.binary_id.now in
+    let Has = λ (binary : BinaryRow). IsSomeAnd (find (λ (t : TestRow). bytes_eq t.name query.test_name.now) binary.tests) (λ (test : TestRow). MatchesName matcher test.group) in
+    subst (λ (found : Option BinaryRow). IsSomeAnd (recorded_group binaries query) (MatchesName matcher) ↔ IsSomeAnd found Has)
+    (sym (find_mapped binary_row (λ (b : BinaryRow). bytes_eq b.id id) binaries)) (of_binary query.test_name.now matcher (find (λ (b : BinaryEntry). bytes_eq b.id id) binaries))
 
 -- a listed test of the first binary with the id is in its group
 pub listed_group : (binaries : List BinaryEntry) (asked : BinaryQuery) (binary : BinaryEntry) (test : GroupedTest)

@@ -1,25 +1,16 @@
 -- What filtersets are asked for.
-use Rattle.std.specs.Prelude.{◌≡◌, ◌↔◌, Bool, IsTrue, List, map}
+use Rattle.std.specs.Prelude.{◌≡◌, List, map}
 use Rattle.filterset_columns.specs.Columns.{default_filter_of, expr_of}
 use Rattle.filterset_columns.specs.declared.expression.ColumnExpr.{ColumnExpr}
-use Rattle.filterset_expression.specs.Meaning.{IsCompiled, Meaning}
-use Rattle.filterset_expression.specs.declared.query.BinaryQuery.{BinaryQuery}
-use Rattle.filterset_expression.specs.declared.query.TestQuery.{TestQuery}
-use Rattle.filterset_json.specs.Shape.{Text}
+use Rattle.filterset_expression.specs.Meaning.{IsCompiled}
 use Rattle.filterset_expression.specs.FlatExpressions.{IsFlatOfTree}
 use Rattle.filterset_expression.specs.declared.flat.FlatExpr.{FlatExpr}
 use Rattle.filterset_grammar.specs.Tree.{Tree}
 use Rattle.filterset_faults.specs.declared.span.SourceSpan.{SourceSpan}
 use Rattle.filterset_report.specs.declared.lookup.RecordLookup.{RecordLookup}
 use Rattle.filterset_report.specs.Library.{Background}
-use Rattle.filterset_report.specs.Lookup.{matches_recorded_group}
 use Rattle.filterset_report.specs.Record.{BinaryRow}
 use Rattle.filterset_report.specs.Rows.{binary_row}
-
--- P holds of each tree that the expression may be asked for, and of the background that it is asked against
-abbrev pub ForItsTree : FlatExpr → (Background → Tree SourceSpan → Type 0) → Type 0
-ForItsTree flat P = (background : Background) (tree : Tree SourceSpan)
-    → IsFlatOfTree flat background.packages tree background.default → P background tree
 
 -- the lookup tells the groups of the tests of these binaries
 abbrev pub IsLookupOf : List BinaryRow → RecordLookup → Type 0
@@ -33,17 +24,11 @@ ForItsExpr columns P = (background : Background) (tree : Tree SourceSpan)
 
 -- P holds of each tree that both may be asked for, and of the background that they are asked against
 abbrev pub ForItsColumns : FlatExpr → ColumnExpr → (Background → Tree SourceSpan → Type 0) → Type 0
-ForItsColumns flat columns P = ForItsTree flat (λ background tree.
-    IsCompiled background.packages tree (expr_of columns) → default_filter_of columns ≡ background.default
-    → P background tree)
+ForItsColumns flat columns P = (background : Background) (tree : Tree SourceSpan)
+    → IsFlatOfTree flat background.packages tree background.default
+    → IsCompiled background.packages tree (expr_of columns) → default_filter_of columns ≡ background.default
+    → P background tree
 
 -- both are about the same expression and default filter
 abbrev pub IsSameExpr : ColumnExpr → ColumnExpr → Type 0
 IsSameExpr old new = (expr_of new ≡ expr_of old) × (default_filter_of new ≡ default_filter_of old)
-
--- the answer for the test with this name, of the binary that is asked about: whether the tree is true of it
-abbrev pub IsAnswered : Background → Tree SourceSpan → BinaryQuery → Text → Bool → Type 0
-IsAnswered background tree asked name answer = (query : TestQuery)
-    × (query.binary_query ≡ asked) × (query.test_name.now ≡ name)
-    × (IsTrue answer ↔ Meaning tree background.packages query background.default
-    (matches_recorded_group background.binaries))

@@ -1,9 +1,9 @@
 //! Binaries with the names and the lines of their tests, which are made once and used for each filterset.
-ghost use Rattle.std.specs.Prelude.{◌≡◌, ◌++◌, ◌+◌, ◌-◌, ◌≤◌, ℕ, true, false, IfOk, OnOk, drop, length, map, slice_index, string_bytes, take};
+ghost use Rattle.std.specs.Prelude.{◌≡◌, ◌+◌, ◌-◌, ◌≤◌, ℕ, true, false, IfOk, drop, length, map, slice_index, string_bytes, take};
 ghost use Rattle.filterset_columns.specs.Columns.{names_of};
-ghost use Rattle.filterset_report.specs.Lines.{lines_of, test_line};
+ghost use Rattle.filterset_report.specs.Lines.{lines_of};
 
-use crate::record::{BinaryEntry, TestEntry};
+use crate::record::BinaryEntry;
 use filterset_columns::Names;
 use std::alloc::{AllocError, Global};
 use std::fmt::Write;
@@ -22,15 +22,6 @@ pub struct TestLines<'a> {
         → slice_index starts.items k ≡ length (lines_of binary.now.id answer (take k binary.now.tests.items)) },
 }
 
-/// Adds the line of a test of the binary with this id.
-fn push_line(lines: &mut String, id: &str, test: &TestEntry, answer: bool) -> Result<(), AllocError>
-    ensures { OnOk result (string_bytes lines.new ≡ string_bytes lines.old ++ test_line id.now answer test.now) }
-{
-    let name = test.name.as_str();
-    let answer = if answer { "yes" } else { "no" };
-    writeln!(lines, "  test {id} {name}: {answer}")
-}
-
 impl<'a> TestLines<'a> {
     /// Writes the lines of a binary's tests. The only error is out of memory.
     fn new(
@@ -40,11 +31,14 @@ impl<'a> TestLines<'a> {
     ) -> Result<TestLines<'a>, AllocError>
         ensures { IfOk result (λ lines. (lines.binary.now ≡ binary.now) × (lines.answer ≡ answer)) }
     {
+        let id = binary.id.as_str();
         let mut text = String::new(alloc);
         let mut starts = Vec::new(alloc);
         for test in &binary.tests {
             starts.push(text.len())?;
-            push_line(&mut text, binary.id.as_str(), test, answer)?;
+            let name = test.name.as_str();
+            let shown = if answer { "yes" } else { "no" };
+            writeln!(text, "  test {id} {name}: {shown}")?;
         }
         starts.push(text.len())?;
         Ok(TestLines {
@@ -78,25 +72,18 @@ pub struct ListedBinary<'a> {
     ghost no: { (unmatched.binary.now ≡ binary.now) × (unmatched.answer ≡ false) },
 }
 
-/// Lists the names of tests. The only error is out of memory.
-fn names_of_tests(alloc: Global, tests: &[TestEntry]) -> Result<Names<'_>, AllocError>
-    ensures { IfOk result (λ names. map (λ name. name.now) (names_of names) ≡ map (λ t. t.name) tests.now) }
-{
-    let mut names = Names::new(alloc);
-    for test in tests {
-        names.push(&test.name)?;
-    }
-    Ok(names)
-}
-
 impl<'a> ListedBinary<'a> {
     /// Lists the names and the lines of a binary's tests. The only error is out of memory.
     fn new(alloc: Global, binary: &'a BinaryEntry) -> Result<ListedBinary<'a>, AllocError>
         ensures { IfOk result (λ listed. listed.binary.now ≡ binary.now) }
     {
+        let mut names = Names::new(alloc);
+        for test in &binary.tests {
+            names.push(&test.name)?;
+        }
         Ok(ListedBinary {
             binary,
-            names: names_of_tests(alloc, &binary.tests)?,
+            names,
             matched: TestLines::new(alloc, binary, true)?,
             unmatched: TestLines::new(alloc, binary, false)?,
         })

@@ -1,9 +1,7 @@
 //! Looks up the groups of a record's tests.
-ghost use Rattle.std.specs.Prelude.{◌≡◌, ◌↔◌, IfOk, IsSomeAnd, IsTrue, map, option_map};
+ghost use Rattle.std.specs.Prelude.{◌≡◌, IfOk, map, option_map};
 ghost use Rattle.std.specs.List.{find};
 ghost use Rattle.std.specs.Str.{bytes_eq};
-ghost use Rattle.filterset_matchers.specs.Matcher.{MatchesName};
-ghost use Rattle.filterset_matchers.specs.Matchers.{matcher_of};
 ghost use Rattle.filterset_report.specs.Index.{group_with, HasFirsts, HaveGroups, IsIndexOf};
 ghost use Rattle.filterset_report.specs.Lookup.{matches_recorded_group, recorded_group};
 ghost use Rattle.filterset_report.specs.Rows.{binary_row};
@@ -82,21 +80,14 @@ fn group_tests<'a>(
 }
 
 impl IndexedBinary<'_> {
-    /// Looks up the first test with a name.
-    fn test_with(&self, name: &TestCaseName) -> Option<&TestEntry>
-        ensures { option_map (λ t. t.now) result ≡ find (λ t. bytes_eq t.name name.now) self.now.binary.now.tests.items }
-    {
-        match self.by_name.get(name.as_str()) {
-            Some(test) => Some(*test),
-            None => self.binary.tests.iter().find(|test| test.name == *name),
-        }
-    }
-
     /// Looks up the group of the first test with a name.
     fn group_with(&self, name: &TestCaseName) -> Option<&str>
         ensures { option_map (λ group. group.now) result ≡ group_with name.now self.now.binary.now.tests.items }
     {
-        let test = self.test_with(name)?;
+        if let Some(test) = self.by_name.get(name.as_str()) {
+            return Some(test.group.as_str());
+        }
+        let test = self.binary.tests.iter().find(|test| test.name == *name)?;
         Some(test.group.as_str())
     }
 }
@@ -177,22 +168,6 @@ impl<'a> RecordLookup<'a> {
     }
 }
 
-/// Returns whether a test in this group, if it is in one, is in a group that the matcher matches. The only error is out of
-/// memory.
-fn is_in_group(
-    alloc: Global,
-    matcher: &NameMatcher,
-    group: Option<&str>,
-) -> Result<bool, AllocError>
-    ensures { IfOk result (λ answer. IsTrue answer
-        ↔ IsSomeAnd (option_map (λ g. g.now) group.entry) (MatchesName (matcher_of matcher.now))) }
-{
-    match group {
-        Some(group) => matcher.is_match(alloc, group),
-        None => Ok(false),
-    }
-}
-
 impl PlacedLookup for RecordLookup<'_> {
     ghost matches_group = { λ lookup. matches_recorded_group (map binary_row lookup.binaries.now) };
 
@@ -209,6 +184,9 @@ impl PlacedLookup for RecordLookup<'_> {
         test: &TestQuery<'_>,
         matcher: &NameMatcher,
     ) -> Result<bool, AllocError> {
-        is_in_group(alloc, matcher, self.group_of(test))
+        match self.group_of(test) {
+            Some(group) => matcher.is_match(alloc, group),
+            None => Ok(false),
+        }
     }
 }

@@ -1,15 +1,11 @@
 //! Writes the report of a record.
-ghost use Rattle.std.specs.Prelude.{◌≡◌, ◌++◌, Bool, IfErr, IfOk, List, codes, map, string_bytes};
-ghost use Rattle.serde_json.specs.View.{view};
-ghost use Rattle.filterset_json.specs.Refusals.{Refuses};
-ghost use Rattle.filterset_report.specs.Record.{IsRecord, RecordRow};
+ghost use Rattle.std.specs.Prelude.{◌≡◌, IfOk, List, map, string_bytes};
 ghost use Rattle.filterset_graph.specs.Packages.{AllDiffer, LinksKnown, ids};
 ghost use Rattle.filterset_graph.specs.Refusals.{IsRefusalOf};
 ghost use Rattle.filterset_graph.specs.declared.package.PackageMetadata.{PackageMetadata};
 ghost use Rattle.nextest_filtering.specs.Groups.{AreGroups, IsKnown};
-ghost use Rattle.filterset_report.specs.Library.{background_of};
 ghost use Rattle.filterset_json.specs.Shape.{Text};
-ghost use Rattle.filterset_report.specs.Report.{PackagesLine, RecordReport, Report, Sections, faults_text, outcome_of};
+ghost use Rattle.filterset_report.specs.Report.{PackagesLine, RecordReport, Report};
 ghost use Rattle.filterset_report.specs.Rows.{binary_row, filterset_row, record_row};
 
 use crate::lookup::RecordLookup;
@@ -19,15 +15,13 @@ use faults::push_faults;
 use filterset_json::{Entry, EntryRefusal};
 use nextest_filtering::{
     EvalContext, Filterset, FiltersetKind, GraphRefusal, KnownGroups, PackageGraph, ParseContext,
-    ParseSingleError,
 };
-use sections::push_sections;
+use sections::report_sections;
 use serde_json::Value;
 use setting::Setting;
 use std::alloc::{AllocError, Global};
 
 mod faults;
-mod lines;
 mod sections;
 mod setting;
 
@@ -40,19 +34,14 @@ pub fn report_of(alloc: Global, input: &[u8]) -> Result<(String, ReportOutcome),
         Err(error) if error.is_memory() => return Err(AllocError),
         Err(_) => return refusal(alloc, "record refused: not JSON\n"),
     };
-    match read_record(alloc, value) {
-        Ok(record) => report_record(alloc, record),
+    match Record::read(alloc, &value) {
+        Ok(record) => {
+            drop(value);
+            report_record(alloc, record)
+        }
         Err(EntryRefusal::Wrong(_)) => refusal(alloc, "record refused: not a record\n"),
         Err(EntryRefusal::OutOfMemory(refused)) => Err(refused),
     }
-}
-
-/// Reads a record from its JSON value, and lets go of the value.
-fn read_record(alloc: Global, value: Value) -> Result<Record, EntryRefusal>
-    ensures read { IfOk result (λ entries. IsRecord (view value) (record_row entries)) }
-    ensures refused { IfErr result (Refuses ((row : RecordRow) × IsRecord (view value) row)) }
-{
-    Record::read(alloc, &value)
 }
 
 /// Refuses the record by a report of one line.
@@ -106,24 +95,6 @@ fn packages_line(alloc: Global, refusal: GraphRefusal) -> Result<String, AllocEr
     }
 }
 
-/// Writes the refusal of the default filter: how many faults it has, and their lines.
-fn default_refusal(alloc: Global, faults: &[ParseSingleError]) -> Result<String, AllocError>
-    ensures { IfOk result (λ lines. string_bytes lines ≡ codes "default refused: " ++ faults_text faults.now) }
-{
-    let mut lines = String::from_str(alloc, "default refused: ")?;
-    push_faults(&mut lines, faults)?;
-    Ok(lines)
-}
-
-/// Returns whether a filterset may ask for the groups of tests: there are binaries to ask about, and its text has the
-/// word.
-fn may_ask_for_groups(binaries: &[BinaryEntry], filtersets: &[FiltersetEntry]) -> bool {
-    !binaries.is_empty()
-        && filtersets
-            .iter()
-            .any(|filterset| filterset.text.contains("group"))
-}
-
 /// Writes the report of filtersets, or the refusal of the default filter if it has faults.
 fn report_filtersets(
     alloc: Global,
@@ -149,11 +120,12 @@ fn report_filtersets(
     let kind = FiltersetKind::DefaultFilter;
     match Filterset::parse(alloc, default_filter, &parse_context, kind, &known_groups) {
         Ok(default_filter) => {
-            let lookup = RecordLookup::new(
-                alloc,
-                binaries,
-                may_ask_for_groups(binaries, &filtersets),
-            )?;
+            // A filterset may ask for the groups of tests if there are binaries, and its text has the word.
+            let may_ask = !binaries.is_empty()
+                && filtersets
+                    .iter()
+                    .any(|filterset| filterset.text.contains("group"));
+            let lookup = RecordLookup::new(alloc, binaries, may_ask)?;
             let setting = Setting {
                 command,
                 parse_context,
@@ -165,30 +137,9 @@ fn report_filtersets(
         }
         Err(refusal) => {
             let refused = refusal.into_faults()?;
-            let lines = default_refusal(alloc, refused.errors.as_slice())?;
+            let mut lines = String::from_str(alloc, "default refused: ")?;
+            push_faults(&mut lines, refused.errors.as_slice())?;
             Ok((lines, ReportOutcome::RecordRefused))
         }
     }
-}
-
-/// Writes the section of each filterset.
-fn report_sections(
-    alloc: Global,
-    setting: &Setting<'_, '_>,
-    filtersets: Vec<FiltersetEntry>,
-) -> Result<(String, ReportOutcome), AllocError>
-    requires { IsKnown setting.now.known_groups }
-    ensures { IfOk result (λ made. (all : Bool)
-        × Sections setting.now.command (background_of setting.now) 0 (map filterset_row filtersets.items) all
-        (string_bytes made.0)
-        × (made.1 ≡ outcome_of all)) }
-{
-    let mut lines = String::new(alloc);
-    let all_accepted = push_sections(&mut lines, alloc, setting, filtersets)?;
-    let outcome = if all_accepted {
-        ReportOutcome::AllAccepted
-    } else {
-        ReportOutcome::SomeRefused
-    };
-    Ok((lines, outcome))
 }

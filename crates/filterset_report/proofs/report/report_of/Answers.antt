@@ -6,10 +6,10 @@ use Rattle.filterset_report.specs.Rows.{record_row}
 use Rattle.filterset_report.proofs.ReportLemmas.{no_entry}
 use Rattle.filterset_report.proofs.report.report_of.Goals as goal
 
-pub returns-in-Ok-read_record : goal.returns-in-Ok-read_record
-returns-in-Ok-read_record c =
+pub returns-in-Ok-read : goal.returns-in-Ok-read
+returns-in-Ok-read c =
     IfOk-weaker c.report_record.result _ _ (λ made report.
-    of_record (view c.in-Ok.value) (record_row c.in-Ok-read_record.record) c.in-Ok.ensures.ok c.in-Ok-read_record.ensures.read report) c.report_record.ensures
+    of_record (view c.in-Ok.value) (record_row c.in-Ok-read.record) c.in-Ok.ensures.ok c.in-Ok-read.ensures.read report) c.report_record.ensures
 
 pub returns-in-Err-Wrong : goal.returns-in-Err-Wrong
 returns-in-Err-Wrong c =

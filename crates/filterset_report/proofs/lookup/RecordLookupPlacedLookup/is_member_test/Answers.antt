@@ -1,10 +1,21 @@
+use Rattle.std.proofs.Common.{Option, subst, sym}
+use Rattle.std.specs.Prelude.{IsSomeAnd}
+use Rattle.std.proofs.lemmas.Bool.{false≢true}
 use Rattle.std.proofs.lemmas.Result.{IfOk-weaker}
+use Rattle.filterset_json.specs.Shape.{Text}
+use Rattle.filterset_matchers.specs.Matcher.{MatchesName}
 use Rattle.filterset_matchers.specs.Matchers.{matcher_of}
 use Rattle.filterset_report.proofs.LookupLemmas.{recorded}
 use Rattle.filterset_report.proofs.lookup.RecordLookupPlacedLookup.is_member_test.Goals as goal
 
-pub returns : goal.returns
-returns c =
+pub returns-in-Some : goal.returns-in-Some
+returns-in-Some c =
     let same = recorded c.args.self.now.binaries.now c.args.test.now (matcher_of c.args.matcher.now) in
-    IfOk-weaker c.is_in_group.result _ _ (λ answer h.
-    let own = rw c.group_of.ensures at h in (λ yes. same.0 (own.0 yes), λ is. own.1 (same.1 is))) c.is_in_group.ensures
+    let Has = λ (group : Option Text). IsSomeAnd group (MatchesName (matcher_of c.args.matcher.now)) in
+    IfOk-weaker c.is_match.result _ _ (λ answer own. (λ yes. same.0 (subst Has c.in-Some.ensures (own.0 yes)), λ is. own.1 (subst Has (sym c.in-Some.ensures) (same.1 is)))) c.is_match.ensures.matches
+
+pub returns-in-None : goal.returns-in-None
+returns-in-None c =
+    let same = recorded c.args.self.now.binaries.now c.args.test.now (matcher_of c.args.matcher.now) in
+    let Has = λ (group : Option Text). IsSomeAnd group (MatchesName (matcher_of c.args.matcher.now)) in
+    (λ yes. absurd (false≢true yes), λ is. absurd (subst Has (sym c.in-None.ensures) (same.1 is)))

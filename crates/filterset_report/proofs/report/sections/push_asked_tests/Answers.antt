@@ -1,6 +1,7 @@
 use Rattle.std.proofs.Common.{arith, ◌≡◌, ◌↔◌, ◌<◌, ◌≤◌, ◌+◌, ◌-◌, ◌++◌, ◌∙◌, ℕ, Bool, IsTrue, List, [], ap, drop, length, map, refl, string_bytes, subst, sym, take}
 use Rattle.std.proofs.lemmas.List.{append-nil}
-use Rattle.filterset_columns.specs.Columns.{answer_of, IsAt}
+use Rattle.filterset_columns.specs.Columns.{answer_of, default_filter_of, names_of, test_of, Answered, IsAt}
+use Rattle.filterset_expression.specs.Expression.{Lookup}
 use Rattle.filterset_expression.specs.Meaning.{Meaning}
 use Rattle.filterset_expression.specs.declared.query.BinaryQuery.{BinaryQuery}
 use Rattle.filterset_json.specs.Pieces.{Pieces, no_pieces}
@@ -12,8 +13,10 @@ use Rattle.filterset_report.specs.Record.{TestRow}
 use Rattle.filterset_report.specs.Report.{TestLine}
 use Rattle.filterset_report.specs.Rows.{binary_row, test_row}
 use Rattle.filterset_report.specs.declared.record.binaries.TestEntry.{TestEntry}
+use Rattle.filterset_report.proofs.ColumnAnswers.{answered_test, counted_tests}
 use Rattle.filterset_report.proofs.ListedLemmas.{Pieces-run}
 use Rattle.filterset_report.proofs.ReportLemmas.{taken_all}
+use Rattle.filterset_report.proofs.report.sections.push_asked_tests.OwnLists.{reads-PlacedLookup-matches_group-1-1}
 use Rattle.filterset_report.proofs.report.sections.push_asked_tests.Goals as goal
 
 pub loop-position-init : goal.loop-position-init
@@ -29,7 +32,9 @@ loop-position-preserved c =
     let end = c.run_end-end.result in
     let n = end - i in
     let answer = c.get.result in
-    let within : end ≤ length tests = omega (arith, c.run_end-end.ensures.within, c.in_ok-column.ensures.answers.0) in
+    let means = c.in_ok-column.ensures.meaning in
+    let counted = counted_tests c.args.listed.now c.in_ok-column.column c.in_ok-column.ensures.holds.counted in
+    let within : end ≤ length tests = omega (arith, c.run_end-end.ensures.within, counted) in
     let same : i + n ≡ end = omega (arith, c.run_end-end.ensures.later) in
     let run = lines_of binary.id answer (take n (drop i tests)) in
     let added = c.in_ok-push_str.ensures.bytes ∙ ap (λ xs. string_bytes c.loop-position.lines ++ xs) c.lines_between.ensures in (
@@ -38,7 +43,9 @@ loop-position-preserved c =
       λ background tree is of_default of_binaries.
           let each : (k : ℕ) (test : TestEntry) → i ≤ k → k < i + n → IsAt tests k test → TestLine background tree row (test_row test) (test_line binary.id answer test) =
           λ k test low high at.
-          let answered = c.in_ok-column.ensures.answers.1 background tree is of_default of_binaries k test at in
+          let answered = answered_test c.args.columns.now c.args.asked.now c.args.listed.now c.args.lookup.now c.in_ok-column.column background tree
+          (subst (λ (lookup : Lookup). Answered c.in_ok-column.column (names_of c.args.listed.now.names) (λ name. Meaning tree background.packages (test_of c.args.asked.now name) (default_filter_of c.args.columns.now) lookup))
+          (reads-PlacedLookup-matches_group-1-1 _ c.args.lookup) (means background.packages tree is)) of_default of_binaries k test at in
           let about = subst (λ (query : BinaryQuery). IsAboutBinary query row) (sym answered.1) c.requires.about in
           let alike : answer_of c.in_ok-column.column k ≡ answer = c.run_end-end.ensures.same k low (omega (arith, high, same)) ∙ sym c.get.ensures in
           let says = subst (λ (b : Bool). IsTrue b ↔ Meaning tree background.packages answered.0 background.default (matches_recorded_group background.binaries)) alike answered.3 in
@@ -54,7 +61,7 @@ returns-clause-lines c =
     let row = binary_row binary in
     let others = c.loop-position.invariant in
     let tests = binary.tests.items in
-    let end : c.loop-position.position ≡ length tests = omega (arith, c.loop-position-test.false, others.3, c.in_ok-column.ensures.answers.0) in
+    let end : c.loop-position.position ≡ length tests = omega (arith, c.loop-position-test.false, others.3, counted_tests c.args.listed.now c.in_ok-column.column c.in_ok-column.ensures.holds.counted) in
     let all = taken_all test_row tests c.loop-position.position end in (
       others.0,
       others.1,

@@ -1,15 +1,16 @@
 use Rattle.std.proofs.Common.{◌≡◌, ◌++◌, map, string_bytes, take}
-use Rattle.filterset_report.specs.Asking.{ForItsColumns, IsLookupOf, IsSameExpr}
-use Rattle.filterset_json.specs.Shape.{Text}
 use Rattle.filterset_json.specs.Pieces.{Pieces}
+use Rattle.filterset_json.specs.Shape.{Text}
+use Rattle.filterset_language.specs.Views.{tree_of}
+use Rattle.filterset_report.specs.Asking.{IsSameExpr}
+use Rattle.filterset_report.specs.Library.{background_of}
 use Rattle.filterset_report.specs.Report.{BinaryLines}
 use Rattle.filterset_report.specs.Rows.{binary_row}
-use Rattle.filterset_report.proofs.report.sections.push_answers.Given as goal
+use Rattle.filterset_report.proofs.report.sections.push_asked.Given as goal
 
 -- the lines of the binaries so far were added
 abbrev pub invariant-loop-listed : goal.invariant-loop-listed
 invariant-loop-listed l =
     (text : Text) × (string_bytes l.lines ≡ string_bytes l.initial.lines ++ text)
-    × ForItsColumns l.flat l.initial.columns (λ background tree. IsLookupOf background.binaries l.lookup
-    → Pieces (BinaryLines background tree) (map (λ b. binary_row b.binary.now) (take l.listed-index l.lookup.listed.items)) text)
+    × Pieces (BinaryLines (background_of l.setting) (tree_of l.filterset.parsed)) (map (λ b. binary_row b.binary.now) (take l.listed-index l.setting.lookup.listed.items)) text
     × IsSameExpr l.initial.columns l.columns
