@@ -6,7 +6,7 @@ use Rattle.std.specs.Char.{is_ascii_digit}
 use Rattle.std.specs.List.{slice_get}
 use Rattle.std.specs.Option.{option_map_or}
 use Rattle.std.specs.Str.{IsTrimStart, trim_start}
-use Rattle.std.proofs.lemmas.Bool.{false≢true}
+use Rattle.std.proofs.lemmas.Bool.{or_right, false≢true}
 use Rattle.std.proofs.lemmas.Bool.Decides.{nat_tests}
 use Rattle.std.proofs.Math.Seq.{get_or-append_seam}
 use Rattle.std.proofs.lemmas.List.{get_or_default, length-append, take-append-drop}
@@ -40,10 +40,6 @@ word_boundary t utf8 = at (word_len t) refl
         let short : n < length t = omega arith in
         let ascii = word_is_ascii (get_or t n 0) (prefix_len_passes is_word_byte t n 0 lt) in
         rw (← add-one) (IsCharBoundary-after_ascii t n utf8 short ascii)
-
-or_right : (a b : Bool) → b ≡ true → (a || b) ≡ true
-or_right true b e = refl
-or_right false b e = e
 
 -- a word has a letter at least
 pub word_len-some : (s : Text) → begins_word s ≡ true → 0 < word_len s

@@ -6,6 +6,7 @@ use Rattle.std.proofs.lemmas.Bool.{false≢true}
 use Rattle.std.proofs.lemmas.List.{take_more}
 use Rattle.std.proofs.lemmas.List.Elements.{All-from_recursion, All-get_or}
 use Rattle.std.specs.List.{AllByRecursion}
+use Rattle.std.proofs.lemmas.Option.{none-some as none_some, same_Some as some_same}
 use Rattle.filterset_expression.specs.Expression as leaf
 use Rattle.filterset_expression.specs.Expression.{CompiledLeaf, leaf_matcher}
 use Rattle.filterset_expression.specs.FlatSteps.{Step, Push, Negate, Combine, step_of}
@@ -81,12 +82,6 @@ agrees_of_all test (q ∷ branch) on = (
     constants = on.constants.1;
   }),
 )
-
-some_same : {A : Type 0} (x y : A) → Some x ≡ Some y → x ≡ y
-some_same x y e = cc
-
-none_some : {A : Type 0} (x : A) → None ≡ Some x → ⊥
-none_some x e = cc
 
 -- a leaf of a text says of a test that its matcher matches the text
 pub says_matches : (test : AnyTest) (field : TestField) (l : CompiledLeaf) (m : Matcher) → IsOfField field l → leaf_matcher l ≡ Some m

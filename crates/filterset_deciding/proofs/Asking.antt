@@ -1,6 +1,6 @@
 -- The answers of filtersets that are laid out.
 use Rattle.std.proofs.Common.{◌≡◌, ◌∙◌, ◌↔◌, ◌<◌, ◌+◌, ℕ, suc, Bool, true, false, List, [], ◌∷◌, ◌++◌, IsTrue, arith, ap, drop, get_or, length, map, refl, sym, take}
-use Rattle.std.proofs.lemmas.Bool.{false≢true}
+use Rattle.std.proofs.lemmas.Bool.{or_parts as neither, false≢true}
 use Rattle.std.proofs.lemmas.List.{take_more}
 use Rattle.std.proofs.lemmas.List.Elements.{All-contains, All-map, All-push}
 use Rattle.std.proofs.Math.Seq.{split_at}
@@ -86,11 +86,6 @@ first_unmet question given default exprs tests groups asked i query possible ans
 }
 
 -- ---- filtersets that ask for no group
-
-neither : (a b : Bool) → (a || b) ≡ false → (a ≡ false) × (b ≡ false)
-neither false false e = (refl, refl)
-neither false true e = absurd (false≢true (sym e))
-neither true b e = absurd (false≢true (sym e))
 
 module _ (query : TestQuery) (default : CompiledExpr) (one other : List ℕ) where
   same_pick : (flat : FlatExpr) (expr : CompiledExpr) → IsFlat flat expr default → has_step is_group flat ≡ false

@@ -4,7 +4,7 @@ use Rattle.std.specs.Borrow.{Bor}
 use Rattle.std.specs.List.{AllByRecursion, AllZip}
 use Rattle.std.specs.declared.vec.Vec.{Vec}
 use Rattle.std.specs.declared.alloc.Global.{Global}
-use Rattle.std.proofs.lemmas.Bool.{false≢true}
+use Rattle.std.proofs.lemmas.Bool.{true_from_ne_false as true_unless_false, false≢true}
 use Rattle.std.proofs.lemmas.List.{map-append, take_more}
 use Rattle.std.proofs.lemmas.List.Elements.{All-from_recursion, All-get_or}
 use Rattle.filterset_expression.specs.Expression.{CompiledLeaf, with_default}
@@ -113,10 +113,6 @@ are_of_formulas default test [] [] are = tt
 are_of_formulas default test [] (x ∷ answers) are = absurd are
 are_of_formulas default test (e ∷ exprs) [] are = absurd are
 are_of_formulas default test (e ∷ exprs) (x ∷ answers) are = (are.0, are_of_formulas default test exprs answers are.1)
-
-true_unless_false : (b : Bool) → (b ≡ false → ⊥) → b ≡ true
-true_unless_false true h = refl
-true_unless_false false h = absurd (h refl)
 
 -- where nothing is missed the answer is yes
 pub always : (question : Question) (given default : CompiledExpr) (exprs : List (Bor CompiledExpr)) (steps : List (Step CompiledLeaf))

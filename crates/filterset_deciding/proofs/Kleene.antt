@@ -4,6 +4,7 @@ use mathlib.Core.List.{reverse, reverse_aux}
 use Rattle.std.specs.List.{AllZip}
 use Rattle.std.proofs.lemmas.Bool.{false≢true}
 use Rattle.std.proofs.lemmas.List.{append-nil, reverse-reverse}
+use Rattle.std.proofs.lemmas.Option.{none-some as no_stack, same_Some as same_stack}
 use Rattle.filterset_expression.specs.Connectives.{Connects, kleene, kleene_not}
 use Rattle.filterset_expression.specs.declared.logic.Connective.{Connective}
 use Rattle.filterset_expression.specs.declared.logic.Connective.TheVariants.{Conjunction, Disjunction, ExclusiveDisjunction}
@@ -47,12 +48,6 @@ kleene_known ExclusiveDisjunction (Some x) (Some y) P Q j k = connected_decides 
 -- each value is known of the formula at its position
 abbrev pub AreKnown : AnyTest → List (Formula CompiledLeaf) → List (Option Bool) → Type 0
 AreKnown test formulas values = AllZip (λ f v. IsKnown v (TrueWhere (Says test) f)) formulas values
-
-same_stack : {A : Type 0} (x y : A) → Some x ≡ Some y → x ≡ y
-same_stack x y e = cc
-
-no_stack : {A : Type 0} (x : A) → None ≡ Some x → ⊥
-no_stack x e = cc
 
 module _ (test : AnyTest) where
   -- what a step leaves, for the steps after it

@@ -2,7 +2,7 @@
 use Rattle.std.proofs.Common.{◌≡◌, ℕ, ◌+◌, ◌-◌, ◌<◌, ◌≤◌, Bool, true, false, nat_le, max, not, List, [], ◌∷◌, ◌++◌, Contains, drop, length, get_or, map, take, refl, sym, ap, ap₂, subst, ◌∙◌, append_assoc, arith, zero-add, inl, inr, ⊎_elim, Some}
 use Rattle.std.specs.List.Sorted.{IsNonDecreasingBy, IsPartitionPoint, IsPartitionedBy}
 use Rattle.std.proofs.Math.Nat.{le-max_left}
-use Rattle.std.proofs.lemmas.Bool.{cases_lt, leb-false, leb-true, lt-leb}
+use Rattle.std.proofs.lemmas.Bool.{not-false as rises, not-true as falls, cases_lt, leb-false, leb-true, lt-leb}
 use Rattle.std.proofs.lemmas.List.{get_or-drop, get_or-map, get_or-take, get_or_at, length-append, length-drop, length-map, length-take}
 use Rattle.std.proofs.lemmas.List.Sorted.{IsNonDecreasingBy-take}
 use Rattle.filterset_drawing.specs.Columns.{Text}
@@ -95,14 +95,6 @@ met text lines from to count first d cut within below begun behind missed reache
           ap (λ l. l.number) (at j e (omega arith) ∙ line-at text lines (first + j) d cut (omega arith)) in
           omega arith;
     }
-
-falls : (b : Bool) → not b ≡ true → b ≡ false
-falls false e = refl
-falls true e = sym e
-
-rises : (b : Bool) → not b ≡ false → b ≡ true
-rises false e = sym e
-rises true e = refl
 
 -- lines begin in their order
 pub starts-rise : (text : Text) (lines : List Line) → map line_row lines ≡ lines_of text → IsNonDecreasingBy (λ (line : Line). line.start) lines

@@ -7,6 +7,7 @@ use Rattle.std.proofs.lemmas.List.{get_or-set_same, get_or-set_other, get_or_pas
 use Rattle.std.proofs.lemmas.List.FromFn.{length-map-range_with_len, get_or-map-range_with_len, fill_by_all}
 use Rattle.std.proofs.lemmas.Nat.Bits.{bit_at-zero, bit_at-lt, bit_at_or, bit_at-pow_same, bit_at-pow_other}
 use Rattle.std.proofs.lemmas.Simd.{length-replicate}
+pub use Rattle.std.proofs.lemmas.List.{nil_from_length as no_words}
 use Rattle.filterset_glob.specs.Positions.{Holds}
 use Rattle.filterset_glob.specs.Words.{Has, positions_of}
 
@@ -183,10 +184,6 @@ none_in ws zeroes i h =
     omega arith
 
 -- ---- sets of one word
-
-pub no_words : (ws : List ℕ) → length ws ≡ 0 → ws ≡ []
-no_words [] none = refl
-no_words (w ∷ ws) none = absurd (omega arith)
 
 -- a set whose words are this one alone
 pub word_is : (count w : ℕ) (ws : List ℕ) (positions : List Bool) → positions_of count (w ∷ ws) ≡ positions → length ws ≡ 0 → positions ≡ positions_of (length positions) (w ∷ [])

@@ -8,6 +8,7 @@ use Rattle.std.proofs.lemmas.Bool.{lt-ltb, ne_eqb, eqb-true}
 use Rattle.std.proofs.lemmas.Bool.Decides.{eqb_tells, nat_tests}
 use Rattle.std.proofs.lemmas.Str.{IsCharBoundary-after_ascii}
 use Rattle.std.proofs.Math.Seq.{get_or-append_seam}
+pub use Rattle.std.proofs.lemmas.Option.{none-some as none_some, same_Some as some_same}
 use Rattle.filterset_grammar.specs.Text.{hex_value, HexDigits, Letter, line_feed, carriage_return, tab, backspace, form_feed, backslash, slash, close, comma, Escape, letter, hexadecimal}
 use Rattle.filterset_language.specs.Parsing.Escapes.{letter_at, digit_at, named, code_from, escape_at}
 
@@ -20,12 +21,6 @@ and_then_is None f y e = absurd cc
 pub map_is : {A B : Type 0} (o : Option A) (f : A → B) (y : B) → option_map f o ≡ Some y → (x : A) × (o ≡ Some x) × (f x ≡ y)
 map_is (Some x) f y e = (x, refl, let d : f x ≡ y = cc in d)
 map_is None f y e = absurd cc
-
-pub none_some : {A : Type 0} (x : A) → None ≡ Some x → ⊥
-none_some x e = cc
-
-pub some_same : {A : Type 0} (x y : A) → Some x ≡ Some y → x ≡ y
-some_same x y e = cc
 
 -- ---- digits
 

@@ -3,6 +3,7 @@ use Rattle.std.proofs.Common.{◌≡◌, ℕ, ◌+◌, Bool, true, false, cond, 
 use Rattle.std.specs.Prelude.{codes, ◌&&◌, ◌||◌}
 use Rattle.std.proofs.lemmas.Bool.Decides.{eqb_tells}
 use Rattle.std.specs.Option.{option_map, option_and_then}
+pub use Rattle.std.proofs.lemmas.Option.{same_Some as is_some}
 use Rattle.filterset_language.specs.Parsing.Front.{blank_len}
 use Rattle.filterset_grammar.specs.Text.{ends_word}
 use Rattle.filterset_language.specs.Parsing.Position.{Position, position, skip_from, after, after_word, behind, if_ends}
@@ -33,9 +34,6 @@ bind_is None f y e = absurd cc
 pub choose_is : {A B : Type 0} (o : Option A) (f : A → Option B) (d : Option B) (y : B) → choose o f d ≡ Some y → ((x : A) × (o ≡ Some x) × (f x ≡ Some y)) ⊎ ((o ≡ None) × (d ≡ Some y))
 choose_is (Some x) f d y e = inl (x, refl, e)
 choose_is None f d y e = inr (refl, e)
-
-pub is_some : {A : Type 0} (x y : A) → Some x ≡ Some y → x ≡ y
-is_some x y e = cc
 
 -- the text between two positions
 pub record Takes (p : Position) (t : List ℕ) (q : Position) : Type 0 where

@@ -3,7 +3,7 @@ use Rattle.std.proofs.Common.{◌≡◌, ◌≢◌, ℕ, suc, true, false, Bool,
 use Rattle.std.specs.Prelude.{All, IsTrue, ◌&&◌, chars, encode_utf8, encode_utf8_all}
 use Rattle.std.specs.Char.{IsScalar, is_whitespace, is_not_whitespace}
 use Rattle.std.specs.Str.{is_utf8, all_scalars, skip_leading_whitespace, trim_start, NonePass}
-use Rattle.std.proofs.lemmas.Bool.{ne_eqb, eqb-true}
+use Rattle.std.proofs.lemmas.Bool.{and_parts as both_true, ne_eqb, eqb-true}
 use Rattle.std.proofs.lemmas.Bool.Decides.{nat_tests}
 use Rattle.std.proofs.lemmas.List.{append-nil}
 use Rattle.std.proofs.lemmas.List.Elements.{All-cons, All-nil, All-head, All-tail, All-from_get_or}
@@ -16,10 +16,6 @@ IsWhite c = IsScalar c × IsTrue (is_whitespace c)
 
 scalar_white : (c : ℕ) → is_whitespace c ≡ true → IsScalar c
 scalar_white c h = grind (arith, nat_tests)
-
-both_true : (a b : Bool) → (a && b) ≡ true → (a ≡ true) × (b ≡ true)
-both_true true b h = (refl, h)
-both_true false b h = absurd cc
 
 -- what is skipped to the end is white
 skipped_white : (cs : List ℕ) → length (encode_utf8_all (skip_leading_whitespace cs)) ≡ 0 → All IsWhite cs

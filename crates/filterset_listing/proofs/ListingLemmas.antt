@@ -4,6 +4,7 @@ use Rattle.std.specs.Prelude.{◌↔◌, Option, Some, None}
 use Rattle.std.specs.List.{AllZip}
 use Rattle.std.proofs.lemmas.Bool.{false≢true}
 use Rattle.std.proofs.lemmas.List.{take_more}
+pub use Rattle.std.proofs.lemmas.Slice.Zip.{all_zipped_more as AllZip-push}
 use Rattle.filterset_expression.specs.Expression.{IsDefinite, IsUndecided}
 use Rattle.filterset_expression.specs.declared.expression.CompiledExpr.{CompiledExpr}
 use Rattle.filterset_expression.specs.declared.query.BinaryQuery.{BinaryQuery}
@@ -43,13 +44,6 @@ is_no_alone (Some false) = (λ e. refl, λ e. refl)
 -- one more element of a list
 pub one_more : {A : Type 0} (xs : List A) (i : ℕ) (x : A) → i < length xs → get_or xs i x ≡ x → take (i + 1) xs ≡ take i xs ++ x ∷ []
 one_more xs i x lt at = take_more xs i x lt ∙ ap (λ y. take i xs ++ y ∷ []) at
-
--- one more pair
-pub AllZip-push : {A B : Type 0} (R : A → B → Type 0) (xs : List A) (ys : List B) (x : A) (y : B) → AllZip R xs ys → R x y → AllZip R (xs ++ x ∷ []) (ys ++ y ∷ [])
-AllZip-push R [] [] x y all one = (one, tt)
-AllZip-push R [] (b ∷ ys) x y all one = absurd all
-AllZip-push R (a ∷ xs) [] x y all one = absurd all
-AllZip-push R (a ∷ xs) (b ∷ ys) x y all one = (all.0, AllZip-push R xs ys x y all.1 one)
 
 -- one more test
 pub Picked-push : (Says : Text → TestAnswer → Type 0) (tests : List Text) (test : Text) (picked : List Text) (unknown : List (Text × Text)) (answer : TestAnswer)

@@ -3,7 +3,7 @@ use Rattle.std.proofs.Common.{arith, ◌≡◌, ◌∙◌, ◌&&◌, ◌⊎◌, 
 use Rattle.std.specs.Prelude.{◌↔◌, All, Contains, IsTrue, MatchBool, is_none, not}
 use Rattle.std.specs.Borrow.{Bor}
 use Rattle.std.specs.List.{AllZip, list_all}
-use Rattle.std.proofs.lemmas.Bool.{and_parts, false≢true, or_cases}
+use Rattle.std.proofs.lemmas.Bool.{not-true as not_true, and_parts, false≢true, or_cases}
 use Rattle.std.proofs.lemmas.List.Elements.{All-cons, All-head, All-nil, All-tail, Contains-append_right}
 use Rattle.filterset_faults.specs.declared.span.SourceSpan.{SourceSpan}
 use Rattle.filterset_grammar.specs.Tree.{Tree}
@@ -25,10 +25,6 @@ use Rattle.filterset_listing.specs.declared.groups.TestAnswer.TheVariants.{Known
 use Rattle.filterset_listing.specs.declared.subjects.Subject.{Subject}
 use Rattle.filterset_listing.proofs.NodeLemmas.{explained_weaker}
 use Rattle.filterset_listing.proofs.SubjectLemmas.{groups_of}
-
-not_true : (x : Bool) → not x ≡ true → x ≡ false
-not_true false e = refl
-not_true true e = absurd (false≢true e)
 
 not_both : (x y : Bool) → (not x && y) ≡ false → (x ≡ true) ⊎ (y ≡ false)
 not_both true y e = inl refl

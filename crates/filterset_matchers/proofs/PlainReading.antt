@@ -5,6 +5,7 @@ use Rattle.std.proofs.lemmas.Bool.{cases_Bool, cond-false, and_left, and_right, 
 use Rattle.std.proofs.lemmas.Bool.Decides.{nat_tests}
 use Rattle.std.proofs.lemmas.Str.{scalars-chars}
 use Rattle.std.specs.Char.{is_digit, is_ascii, is_ascii_alphanumeric}
+use Rattle.std.proofs.lemmas.Option.{same_Some as some_same}
 use lib.Utf8.{scalars, encodes}
 use Rattle.regex_hir.specs.Meaning.{cat_all, alt_all}
 use Rattle.regex_hir.specs.Re.{Re, literal}
@@ -53,9 +54,6 @@ record Pieces (escaped : Bool) (cs text : Text) : Type 0 where
   pub fit : AreFit pieces
   pub are : (if escaped then 0x5C ∷ cs else cs) ≡ written pieces
   pub mean : text ≡ meant pieces
-
-some_same : {A : Type 0} (a b : A) → Some a ≡ Some b → a ≡ b
-some_same a b e = cc
 
 -- what an option that is mapped comes from
 mapped : {A B : Type 0} (f : A → B) (o : Option A) (b : B) → option_map f o ≡ Some b → (a : A) × (o ≡ Some a) × (f a ≡ b)

@@ -10,6 +10,7 @@ use Rattle.std.proofs.lemmas.Nat.{leading_length}
 use Rattle.std.proofs.lemmas.Bool.{cases_lt}
 use Rattle.std.proofs.lemmas.Simd.{bitmask_splat, bit_mask_l}
 use Rattle.std.specs.Str.Iter.{HasSubslice}
+pub use Rattle.std.proofs.lemmas.List.{nil_from_length as empty_of}
 use Rattle.filterset_matchers.specs.Substring.{StandsAt}
 
 tells : (b : Bool) → (cond {A = ℕ} b 1 0 ≡ 1) ↔ (b ≡ true)
@@ -40,10 +41,6 @@ pub somewhere_stands : (text needle : List ℕ) → HasSubslice text needle → 
 somewhere_stands text needle (a, b, e) =
     let long : length text ≡ length a + (length needle + length b) = rw (e, length-append, length-append) refl in
     (length a, omega arith, rw (e, drop-append_seam) (take-append_seam needle b))
-
-pub empty_of : (text : List ℕ) → length text ≡ 0 → text ≡ []
-empty_of [] e = refl
-empty_of (c ∷ cs) e = absurd (omega (arith, e))
 
 -- a bit that is set stands between the lowest and the highest
 pub between_zeros : (n j : ℕ) → n < 2 ^ 64 → bit_at n j ≡ 1 → (trailing_zeros w64 n ≤ j) × (j < 64 - leading_zeros w64 n)

@@ -3,6 +3,7 @@ use Rattle.std.proofs.Common.{◌≡◌, ℕ, ◌+◌, ◌<◌, suc, List, [], �
 use Rattle.std.specs.List.{AllZip, flat_map, zip}
 use Rattle.std.proofs.lemmas.List.{append-nil, flat_map_more, take_more, take-append-drop}
 use Rattle.std.proofs.Math.Seq.{drop-cons}
+pub use Rattle.std.proofs.lemmas.Slice.Zip.{all_zipped_more as AllZip-push}
 use Rattle.filterset_overrides.specs.Counting.{EachAfter}
 
 -- one more element of a list
@@ -62,13 +63,6 @@ AllZip-length R (x ∷ xs) (y ∷ ys) all = ap suc (AllZip-length R xs ys all.1)
 pub AllZip-replicate : {A B : Type 0} (R : A → B → Type 0) (y : B) → ((x : A) → R x y) → (xs : List A) → AllZip R xs (replicate (length xs) y)
 AllZip-replicate R y gives [] = tt
 AllZip-replicate R y gives (x ∷ xs) = (gives x, AllZip-replicate R y gives xs)
-
--- one more pair
-pub AllZip-push : {A B : Type 0} (R : A → B → Type 0) (xs : List A) (ys : List B) (x : A) (y : B) → AllZip R xs ys → R x y → AllZip R (xs ++ x ∷ []) (ys ++ y ∷ [])
-AllZip-push R [] [] x y all one = (one, tt)
-AllZip-push R [] (b ∷ ys) x y all one = absurd all
-AllZip-push R (a ∷ xs) [] x y all one = absurd all
-AllZip-push R (a ∷ xs) (b ∷ ys) x y all one = (all.0, AllZip-push R xs ys x y all.1 one)
 
 -- one more of a mapped list
 pub map_more : {A B : Type 0} (f : A → B) (xs : List A) (i : ℕ) (x : A) → i < length xs → get_or xs i x ≡ x → map f (take (i + 1) xs) ≡ map f (take i xs) ++ f x ∷ []

@@ -1,7 +1,7 @@
 -- What is left of a tree has nothing to leave out, and a tree that has nothing to leave out is left as it is.
 use Rattle.std.proofs.Common.{◌≡◌, ◌⊎◌, ℕ, zero, suc, ◌<◌, Bool, true, false, List, [], ◌∷◌, ◌++◌, length, get_or, refl, sym, ◌∙◌, ap, subst, arith, inl, inr, ⊎_elim}
 use Rattle.std.specs.Prelude.{◌||◌, Contains, Option, Some, None}
-use Rattle.std.proofs.lemmas.Bool.{or_parts}
+use Rattle.std.proofs.lemmas.Bool.{or_from as or_none, or_parts}
 use Rattle.std.proofs.lemmas.List.Elements.{Contains-append_left, Contains-append_right, Contains-append_cases}
 use Rattle.filterset_grammar.specs.AddedParens.{IsEnclosedUnless, stands, enclosed, IsWithParens, negation, union, join, parens, leaf}
 use Rattle.filterset_grammar.specs.Tree as tree
@@ -38,9 +38,6 @@ not_in_nothing x p = omega (arith, p.1)
 
 only : {X : Type 0} (one x : X) → Contains (one ∷ []) x → one ≡ x
 only one x p = ⊎_elim (λ e. e) (λ none. absurd (not_in_nothing x none)) (first_or_behind one x [] p)
-
-or_none : (x y : Bool) → x ≡ false → y ≡ false → (x || y) ≡ false
-or_none x y e k = ap (λ b. b || y) e ∙ k
 
 -- ---- what is kept
 

@@ -3,6 +3,7 @@ use Rattle.std.proofs.Common.{◌≡◌, ◌↔◌, ◌⊎◌, Bool, true, false
 use Rattle.std.specs.Prelude.{◌&&◌, ◌||◌, not}
 use Rattle.std.proofs.lemmas.Bool.{false≢true, and_parts, or_parts}
 use Rattle.std.proofs.Math.Bool.{and-false, not-not, or-true}
+pub use Rattle.std.proofs.lemmas.Bool.{or_cases}
 use Rattle.filterset_expression.specs.Connectives.{exclusive_or}
 use Rattle.filterset_grammar.specs.Tree.{Leaf, Tree, Not, Union, Join, Parens, Set}
 use Rattle.filterset_grammar.specs.declared.operators.Joiner.{Joiner}
@@ -12,10 +13,6 @@ use Rattle.filterset_rewriting.specs.Simplifying.Implying.{says, admits, implies
 use Rattle.filterset_rewriting.proofs.Later.{Later, at_once, bind}
 
 -- ---- truth values
-
-pub or_cases : (x y : Bool) → (x || y) ≡ true → (x ≡ true) ⊎ (y ≡ true)
-or_cases true y e = inl refl
-or_cases false y e = inr e
 
 -- what an operator of the level of `and` makes of two values
 abbrev pub joined_values : Joiner → Bool → Bool → Bool
